@@ -1,0 +1,43 @@
+-- The limits of document 01, each in this one place ('Refused surveys and plans', 'What a plan holds').
+use Prim.Native.Nat.{ℕ, _+_, _*_, _-_}
+
+-- junctions, at most
+abbrev pub maxVertices : ℕ
+maxVertices = 256
+
+-- tracks, at most
+abbrev pub maxEdges : ℕ
+maxEdges = 2048
+
+-- a track's price, at most
+abbrev pub maxWeight : ℕ
+maxWeight = 1000000
+
+-- a moat's amount, at most, in half units
+abbrev pub maxValue : ℕ
+maxValue = 2000000
+
+-- group numbers lie below this; 0 means no group
+abbrev pub groupNumbers : ℕ
+groupNumbers = 256
+
+-- bytes of a moat record: its amount, its members, the whole
+abbrev pub valueBytes : ℕ
+valueBytes = 8
+
+abbrev pub memberBytes : ℕ
+memberBytes = 32
+
+abbrev pub recordBytes : ℕ
+recordBytes = valueBytes + memberBytes
+
+-- moats that a survey of n junctions can have, and moats, at most
+abbrev pub dualsOf : ℕ → ℕ
+dualsOf n = 2 * n - 1
+
+abbrev pub maxDuals : ℕ
+maxDuals = dualsOf maxVertices
+
+-- digits of a number in a text, at most
+abbrev pub maxDigits : ℕ
+maxDigits = 7

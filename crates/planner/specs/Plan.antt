@@ -1,0 +1,64 @@
+-- Planning (document 01, 'What a plan holds' and 'Refused surveys and plans').
+use Prim.Native.Nat.{ℕ, _*_}
+use mathlib.Core.Bool.{true, _||_}
+use mathlib.Core.List.{List, [], _∷_, _++_}
+use lib.ListN.{length, drop}
+use lib.Dec.{ltb}
+use Rattle.finite.specs.Below.{tabulate}
+use Rattle.limits.specs.Limits.{recordBytes, dualsOf}
+use Rattle.limits.specs.Verdict.{refuseIf, _before_, Outcome, outcome, written}
+use Rattle.limits.specs.declared.Verdict.{Verdict}
+use Rattle.records.specs.Record.{recordOf}
+use Rattle.steiner.specs.Problem.{Problem, terminals, cost}
+use Rattle.steiner.specs.Growth.{grown}
+use Rattle.steiner.specs.Dual.{Dual}
+use Rattle.steiner.specs.Dual.{dualsOf as grownDuals}
+use Rattle.steiner.specs.Pruning.{kept, mark, dualBound}
+use Rattle.survey.specs.Survey.{Survey, vertexCount, edgeCount, problemOf}
+use Rattle.survey.specs.Refusal.{surveyRefusal, groupRefusal}
+
+-- What planning answers and draws. Document 01: k, cost, bound, rounds, the marks and the moats.
+pub record Plan : Type 0 where
+  pub terminals : ℕ
+  pub cost : ℕ
+  pub bound : ℕ
+  pub rounds : ℕ
+  pub marks : List ℕ
+  pub duals : List Dual
+
+unfoldable pub planOf : Problem → Plan
+planOf p =
+    let s = grown p in
+    record {
+      terminals = terminals p;
+      cost = cost p (kept p);
+      bound = dualBound p s;
+      rounds = s .rounds;
+      marks = tabulate (p .edges) (mark p);
+      duals = grownDuals p s;
+    }
+
+-- 1, 2, 3, then 4, 5, 6 by track, then 7, then 8. The lengths are those of the buffers lent for marks and records.
+unfoldable pub planRefusal : Survey → (marksLength recordsLength : ℕ) → Verdict
+planRefusal s marksLength recordsLength =
+    surveyRefusal s
+    before refuseIf (ltb marksLength (edgeCount s) || ltb recordsLength (recordBytes * dualsOf (vertexCount s))) 7 0
+    before groupRefusal s 8 (λ e. true)
+
+unfoldable pub planning : Survey → (marksLength recordsLength : ℕ) → Outcome Plan
+planning s marksLength recordsLength = outcome (planRefusal s marksLength recordsLength) (planOf (problemOf s))
+
+-- Records one after another.
+unfoldable pub recordsOf : List Dual → List ℕ
+recordsOf [] = []
+recordsOf (d ∷ ds) = recordOf (d .value) (d .holds) ++ recordsOf ds
+
+-- What the two lent buffers hold at the end: bytes after the last mark and the last record keep their values.
+unfoldable pub marksAfter : Survey → (marks records : List ℕ) → List ℕ
+marksAfter s marks records =
+    written (planRefusal s (length marks) (length records)) (planOf (problemOf s) .marks ++ drop (edgeCount s) marks) marks
+
+unfoldable pub recordsAfter : Survey → (marks records : List ℕ) → List ℕ
+recordsAfter s marks records =
+    let new = recordsOf (planOf (problemOf s) .duals) in
+    written (planRefusal s (length marks) (length records)) (new ++ drop (length new) records) records

@@ -1,0 +1,4 @@
+pub mod Problem
+pub mod Growth
+pub mod Dual
+pub mod Pruning
