@@ -1,1 +1,3 @@
 pub mod Linked
+pub mod Component
+pub mod Forest
