@@ -2,3 +2,4 @@ pub mod Problem
 pub mod Growth
 pub mod Dual
 pub mod Pruning
+pub mod Laws
