@@ -1,3 +1,6 @@
 pub mod Joined
 pub mod Round
 pub mod Winner
+pub mod Partition
+pub mod Weighed
+pub mod Feasible

@@ -29,6 +29,10 @@ lt-or-ge i n = by (decLt i n)
 
 -- ---- sums
 
+pub sum-suc : (n : ℕ) (f : ℕ → ℕ) → sumBelow (suc n) f ≡ sumBelow n f + f n
+unfolding sumBelow
+sum-suc n f = refl
+
 pub sum-cong : (n : ℕ) (f g : ℕ → ℕ) → ((i : ℕ) → i < n → f i ≡ g i) → sumBelow n f ≡ sumBelow n g
 unfolding sumBelow
 sum-cong zero f g h = refl
@@ -104,6 +108,13 @@ sum-member (suc n) f x h =
     (λ e. let t : f x ≡ f n = ap f e in omega arith)
     (below-suc x n h)
 
+-- A sum with one term that counts.
+pub sum-only : (n : ℕ) (f : ℕ → ℕ) (x : ℕ) → x < n → ((i : ℕ) → i < n → (i ≡ x → ⊥) → f i ≡ 0) → sumBelow n f ≡ f x
+sum-only n f x h k =
+    let e : sumBelow n f + 0 ≡ sumBelow n (λ i. 0) + f x = sum-at n f (λ i. 0) x h k in
+    let z : sumBelow n (λ i. 0) ≡ 0 = sum-zero n (λ i. 0) (λ i b. refl) in
+    omega arith
+
 pub sum-const : (n k : ℕ) → sumBelow n (λ i. k) ≡ n * k
 unfolding sumBelow
 sum-const zero k = omega arith
@@ -128,6 +139,16 @@ pub counted-mono : (s t : Bool) (x : ℕ) → (s ≡ true → t ≡ true) → co
 unfolding counted
 counted-mono false t x h = omega arith
 counted-mono true t x h = rw (h refl) (omega arith)
+
+pub counted-zero : (t : Bool) → counted t 0 ≡ 0
+unfolding counted
+counted-zero true = refl
+counted-zero false = refl
+
+pub counted-add : (t : Bool) (x y : ℕ) → counted t (x + y) ≡ counted t x + counted t y
+unfolding counted
+counted-add true x y = refl
+counted-add false x y = refl
 
 pub counted-scale : (t : Bool) (k x : ℕ) → counted t (k * x) ≡ k * counted t x
 unfolding counted

@@ -59,13 +59,13 @@ unfolding joined
 joined-intro p F bounded h =
     all-intro (p .vertices) (λ u. allBelow (p .vertices) (λ v. not (p .required u v) || eqb (labelOf p F u) (labelOf p F v)))
     (λ u bu.
-        all-intro (p .vertices) (λ v. not (p .required u v) || eqb (labelOf p F u) (labelOf p F v))
-        (λ v bv.
-            ⊎-elim
-            (λ r. or-right (not (p .required u v)) (eqb (labelOf p F u) (labelOf p F v))
-                (eq-eqb (labelOf p F u) (labelOf p F v) (linked-label p F bounded u v (h u v bu bv r))))
-            (λ r. or-left (not (p .required u v)) (eqb (labelOf p F u) (labelOf p F v)) (not-of-false (p .required u v) r))
-            (either (p .required u v))))
+    all-intro (p .vertices) (λ v. not (p .required u v) || eqb (labelOf p F u) (labelOf p F v))
+    (λ v bv.
+    ⊎-elim
+    (λ r. or-right (not (p .required u v)) (eqb (labelOf p F u) (labelOf p F v))
+    (eq-eqb (labelOf p F u) (labelOf p F v) (linked-label p F bounded u v (h u v bu bv r))))
+    (λ r. or-left (not (p .required u v)) (eqb (labelOf p F u) (labelOf p F v)) (not-of-false (p .required u v) r))
+    (either (p .required u v))))
 
 -- Every required pair has a path of F exactly if the labels say so.
 pub joined-iff : (p : Problem) (F : ℕ → Bool) → Bounded p F → (joined p F ≡ true) ↔ Joins p F
@@ -88,15 +88,15 @@ unfolding separates
 separates-elim p S h =
     let f : Found (p .vertices) (λ u. S u && anyBelow (p .vertices) (λ v. not (S v) && p .required u v)) = any-elim (p .vertices) _ h in
     let g : Found (p .vertices) (λ v. not (S v) && p .required (f .at) v) =
-        any-elim (p .vertices) _ (and-right (S (f .at)) (anyBelow (p .vertices) (λ v. not (S v) && p .required (f .at) v)) (f .passes)) in
+    any-elim (p .vertices) _ (and-right (S (f .at)) (anyBelow (p .vertices) (λ v. not (S v) && p .required (f .at) v)) (f .passes)) in
     record {
-        u = f .at;
-        v = g .at;
-        u-below = f .below;
-        v-below = g .below;
-        required = and-right (not (S (g .at))) (p .required (f .at) (g .at)) (g .passes);
-        inside = and-left (S (f .at)) (anyBelow (p .vertices) (λ v. not (S v) && p .required (f .at) v)) (f .passes);
-        outside = not-true (S (g .at)) (and-left (not (S (g .at))) (p .required (f .at) (g .at)) (g .passes))
+      u = f .at;
+      v = g .at;
+      u-below = f .below;
+      v-below = g .below;
+      required = and-right (not (S (g .at))) (p .required (f .at) (g .at)) (g .passes);
+      inside = and-left (S (f .at)) (anyBelow (p .vertices) (λ v. not (S v) && p .required (f .at) v)) (f .passes);
+      outside = not-true (S (g .at)) (and-left (not (S (g .at))) (p .required (f .at) (g .at)) (g .passes));
     }
 
 pub separates-intro : (p : Problem) (S : ℕ → Bool) → Split p S → separates p S ≡ true

@@ -11,7 +11,20 @@ use Rattle.finite.specs.Laws.Test.{either, and-left, and-right, and-both, not-o
 use Rattle.finite.specs.Laws.Below.{below-suc}
 use Rattle.steiner.specs.Problem.{Problem}
 use Rattle.steiner.specs.Growth.{
-  State, active, slack, Delay, never, after, delayOf, delay, Winner, nobody, edge, better, winnerBelow, winner
+  State,
+  active,
+  slack,
+  Delay,
+  never,
+  after,
+  delayOf,
+  delay,
+  Winner,
+  nobody,
+  edge,
+  better,
+  winnerBelow,
+  winner,
 }
 
 -- What remains decides by how many ends are active.
@@ -52,15 +65,17 @@ delay-elim p s e d h = by (p .usable e && not (eqb x y)) refl h
   where
     x : ℕ
     x = s .label (p .first e)
+
     y : ℕ
     y = s .label (p .second e)
+
     by : (t : Bool) → (p .usable e && not (eqb x y)) ≡ t →
         cond (p .usable e && not (eqb x y)) (delayOf (active p (s .label) x) (active p (s .label) y) (slack p s e)) never ≡ after d → Candidate p s e d
     by true t k =
         record {
-            usable = and-left (p .usable e) (not (eqb x y)) t;
-            apart = eqb-false x y (not-true (eqb x y) (and-right (p .usable e) (not (eqb x y)) t));
-            waits = waits-of (active p (s .label) x) (active p (s .label) y) (slack p s e) d (rw t at k)
+          usable = and-left (p .usable e) (not (eqb x y)) t;
+          apart = eqb-false x y (not-true (eqb x y) (and-right (p .usable e) (not (eqb x y)) t));
+          waits = waits-of (active p (s .label) x) (active p (s .label) y) (slack p s e) d (rw t at k);
         }
     by false t k = never-after d (rw t at k)
 
@@ -75,6 +90,7 @@ delay-never p s e h u apart =
   where
     x : ℕ
     x = s .label (p .first e)
+
     y : ℕ
     y = s .label (p .second e)
 
@@ -97,10 +113,10 @@ module _ (p : Problem) (s : State) (k : ℕ) where
   passed (one {e = g} {d = b} w) e =
       one {e = g} {d = b}
       (record {
-          below = omega arith;
-          delayed = w .delayed;
-          least = λ f c b t. ⊎-elim (λ l. w .least f c l t) (λ same. never-after c (sym e ∙ ap (delay p s) (sym same) ∙ t)) (below-suc f k b);
-          lowest = w .lowest
+        below = omega arith;
+        delayed = w .delayed;
+        least = λ f c b t. ⊎-elim (λ l. w .least f c l t) (λ same. never-after c (sym e ∙ ap (delay p s) (sym same) ∙ t)) (below-suc f k b);
+        lowest = w .lowest;
       })
 
   -- Number k is the first candidate.
@@ -108,14 +124,14 @@ module _ (p : Problem) (s : State) (k : ℕ) where
   opened d h e =
       one {e = k} {d = d}
       (record {
-          below = omega arith;
-          delayed = e;
-          least = λ f c b t.
-              ⊎-elim
-              (λ l. never-after c (sym (h f l) ∙ t))
-              (λ same. let q : c ≡ d = after-same d c (sym e ∙ ap (delay p s) (sym same) ∙ t) in omega arith)
-              (below-suc f k b);
-          lowest = λ f c l t. never-after c (sym (h f l) ∙ t)
+        below = omega arith;
+        delayed = e;
+        least = λ f c b t.
+            ⊎-elim
+            (λ l. never-after c (sym (h f l) ∙ t))
+            (λ same. let q : c ≡ d = after-same d c (sym e ∙ ap (delay p s) (sym same) ∙ t) in omega arith)
+            (below-suc f k b);
+        lowest = λ f c l t. never-after c (sym (h f l) ∙ t);
       })
 
   -- Number k has a smaller delay, or not.
@@ -124,27 +140,27 @@ module _ (p : Problem) (s : State) (k : ℕ) where
       let smaller : d < c = ltb-true d c t in
       one {e = k} {d = d}
       (record {
-          below = omega arith;
-          delayed = e;
-          least = λ g b l q.
-              ⊎-elim
-              (λ m. let r : c ≤ b = w .least g b m q in omega arith)
-              (λ same. let r : b ≡ d = after-same d b (sym e ∙ ap (delay p s) (sym same) ∙ q) in omega arith)
-              (below-suc g k l);
-          lowest = λ g b l q. let r : c ≤ b = w .least g b l q in omega arith
+        below = omega arith;
+        delayed = e;
+        least = λ g b l q.
+            ⊎-elim
+            (λ m. let r : c ≤ b = w .least g b m q in omega arith)
+            (λ same. let r : b ≡ d = after-same d b (sym e ∙ ap (delay p s) (sym same) ∙ q) in omega arith)
+            (below-suc g k l);
+        lowest = λ g b l q. let r : c ≤ b = w .least g b l q in omega arith;
       })
   contest {f} {c} d w e false t =
       let larger : c ≤ d = ltb-false d c t in
       one {e = f} {d = c}
       (record {
-          below = let b : f < k = w .below in omega arith;
-          delayed = w .delayed;
-          least = λ g b l q.
-              ⊎-elim
-              (λ m. w .least g b m q)
-              (λ same. let r : b ≡ d = after-same d b (sym e ∙ ap (delay p s) (sym same) ∙ q) in omega arith)
-              (below-suc g k l);
-          lowest = w .lowest
+        below = let b : f < k = w .below in omega arith;
+        delayed = w .delayed;
+        least = λ g b l q.
+            ⊎-elim
+            (λ m. w .least g b m q)
+            (λ same. let r : b ≡ d = after-same d b (sym e ∙ ap (delay p s) (sym same) ∙ q) in omega arith)
+            (below-suc g k l);
+        lowest = w .lowest;
       })
 
   decided-step : {w : Winner} → Decided p s k w → (t : Delay) → delay p s k ≡ t → Decided p s (suc k) (better w k t)
