@@ -4,3 +4,5 @@ pub mod Winner
 pub mod Partition
 pub mod Weighed
 pub mod Feasible
+pub mod Rounds
+pub mod Finish

@@ -7,6 +7,8 @@ use mathlib.Core.Path.{_≡_, refl, ap, sym, _∙_}
 use mathlib.Core.Logic.{_⊎_, inl, inr, ⊎-elim}
 use mathlib.Core.Bool.{Bool, true, false, _&&_, _||_, cond, true≢false, false≢true}
 use mathlib.Core.List.{List, [], _∷_, _++_}
+use lib.Dec.{eqb}
+use borrow.Author.Tests.{eq-eqb, ne-eqb}
 use lib.ListN.{length, getD, length-append, List·getD-append}
 use lib.Seq.{getD-append-seam}
 use Rattle.finite.specs.Below.{counted, sumBelow, countBelow, anyBelow, allBelow, tabulate, lookup, memo}
@@ -98,6 +100,33 @@ sum-at (suc n) f g x h k =
     let t : g x ≡ g n = ap g e in
     omega arith)
     (below-suc x n h)
+
+-- Two functions that differ at x and y alone.
+pub sum-at-two : (n : ℕ) (f g : ℕ → ℕ) (x y : ℕ) → x < n → y < n → (x ≡ y → ⊥) →
+    ((i : ℕ) → i < n → (i ≡ x → ⊥) → (i ≡ y → ⊥) → f i ≡ g i) → sumBelow n f + g x + g y ≡ sumBelow n g + f x + f y
+sum-at-two n f g x y bx by apart h = omega (arith, from-f, to-g, at-x, at-y)
+  where
+    mid : ℕ → ℕ
+    mid i = cond (eqb i y) (g i) (f i)
+
+    elsewhere : (i : ℕ) → (i ≡ y → ⊥) → mid i ≡ f i
+    elsewhere i other = rw (ne-eqb i y other)
+
+    at-y : mid y ≡ g y
+    at-y = rw (eq-eqb y y refl)
+
+    at-x : mid x ≡ f x
+    at-x = elsewhere x apart
+
+    from-f : sumBelow n f + mid y ≡ sumBelow n mid + f y
+    from-f = sum-at n f mid y by (λ i b other. sym (elsewhere i other))
+
+    same : (i : ℕ) → i < n → (i ≡ x → ⊥) → Dec (i ≡ y) → mid i ≡ g i
+    same i b other (yes e) = rw (eq-eqb i y e)
+    same i b other (no d) = elsewhere i d ∙ h i b other d
+
+    to-g : sumBelow n mid + g x ≡ sumBelow n g + mid x
+    to-g = sum-at n mid g x bx (λ i b other. same i b other (ℕ-discrete i y))
 
 pub sum-member : (n : ℕ) (f : ℕ → ℕ) (x : ℕ) → x < n → f x ≤ sumBelow n f
 unfolding sumBelow
@@ -225,6 +254,13 @@ pub count-le : (n : ℕ) (t : ℕ → Bool) → countBelow n t ≤ n
 unfolding countBelow
 count-le n t =
     let h : sumBelow n (λ i. counted (t i) 1) ≤ sumBelow n (λ i. 1) = sum-le n _ _ (λ i b. counted-le (t i) 1) in
+    let k : sumBelow n (λ i. 1) ≡ n * 1 = sum-const n 1 in
+    omega arith
+
+pub count-all : (n : ℕ) (t : ℕ → Bool) → ((i : ℕ) → i < n → t i ≡ true) → countBelow n t ≡ n
+unfolding countBelow
+count-all n t h =
+    let e : sumBelow n (λ i. counted (t i) 1) ≡ sumBelow n (λ i. 1) = sum-cong n _ _ (λ i b. counted-true (h i b) 1) in
     let k : sumBelow n (λ i. 1) ≡ n * 1 = sum-const n 1 in
     omega arith
 

@@ -32,7 +32,7 @@ weighed-start : (p : Problem) (t : (ℕ → Bool) → Bool) → weighed p start 
 unfolding weighed start
 weighed-start p t = sum-zero (numbers p start) _ (λ c b. counted-zero (t (λ v. eqb v c)))
 
-load-start : (p : Problem) (v : ℕ) → load p start v ≡ 0
+pub load-start : (p : Problem) (v : ℕ) → load p start v ≡ 0
 load-start p v = load-weighed p start v ∙ weighed-start p (λ S. S v)
 
 feels-start : (p : Problem) (e : ℕ) → feels p start e ≡ 0
