@@ -3,7 +3,7 @@
 use Prim.Native.Nat.{ℕ, _<_}
 use mathlib.Core.Path.{_≡_}
 use mathlib.Core.Bool.{Bool, true, false, _&&_, _||_, not}
-use lib.Dec.{eqb}
+use lib.Dec.{eqb, ltb}
 use Rattle.finite.specs.Below.{counted, sumBelow, countBelow, anyBelow, allBelow}
 use Rattle.graph.specs.Path.{Linked}
 use Rattle.graph.specs.Component.{components}
@@ -28,6 +28,10 @@ pub record Sound (p : Problem) : Type 0 where
 -- F is a set of numbers of edges that may be used.
 abbrev pub EdgeSet : Problem → (ℕ → Bool) → Type 0
 EdgeSet p F = (e : ℕ) → F e ≡ true → (e < p .edges) × (p .usable e ≡ true)
+
+-- The usable edges, as a set.
+unfoldable pub allUsable : Problem → ℕ → Bool
+allUsable p e = ltb e (p .edges) && p .usable e
 
 -- F has a path for each required pair (document 01: 'joins every group').
 abbrev pub Joins : Problem → (ℕ → Bool) → Type 0
