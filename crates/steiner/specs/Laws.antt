@@ -6,3 +6,5 @@ pub mod Weighed
 pub mod Feasible
 pub mod Rounds
 pub mod Finish
+pub mod Dual
+pub mod WeakDuality
