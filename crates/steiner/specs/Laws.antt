@@ -8,3 +8,5 @@ pub mod Rounds
 pub mod Finish
 pub mod Dual
 pub mod WeakDuality
+pub mod Degree
+pub mod Accuracy

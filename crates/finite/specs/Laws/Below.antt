@@ -5,14 +5,14 @@ use native.Mathlib.Nat.{mul-add, mul-zero}
 use native.Mathlib.Decide.{ℕ-discrete, decLt}
 use mathlib.Core.Path.{_≡_, refl, ap, sym, _∙_}
 use mathlib.Core.Logic.{_⊎_, inl, inr, ⊎-elim}
-use mathlib.Core.Bool.{Bool, true, false, _&&_, _||_, cond, true≢false, false≢true}
+use mathlib.Core.Bool.{Bool, true, false, _&&_, _||_, cond, and-false, true≢false, false≢true}
 use mathlib.Core.List.{List, [], _∷_, _++_}
 use lib.Dec.{eqb}
 use borrow.Author.Tests.{eq-eqb, ne-eqb}
 use lib.ListN.{length, getD, length-append, List·getD-append}
 use lib.Seq.{getD-append-seam}
 use Rattle.finite.specs.Below.{counted, sumBelow, countBelow, anyBelow, allBelow, tabulate, lookup, memo}
-use Rattle.finite.specs.Laws.Test.{and-left, and-right, and-both, or-cases, or-left, or-right, or-false-left, or-false-right}
+use Rattle.finite.specs.Laws.Test.{either, and-left, and-right, and-both, or-cases, or-left, or-right, or-false-left, or-false-right}
 
 -- A number below suc n is below n, or is n.
 pub below-suc : (i n : ℕ) → i < suc n → (i < n) ⊎ (i ≡ n)
@@ -278,6 +278,69 @@ count-positive n t i h k =
 pub count-none : (n : ℕ) (t : ℕ → Bool) → ((i : ℕ) → i < n → t i ≡ false) → countBelow n t ≡ 0
 unfolding countBelow
 count-none n t h = sum-zero n _ (λ i b. counted-false (h i b) 1)
+
+pub count-elim : (n : ℕ) (t : ℕ → Bool) → 1 ≤ countBelow n t → Found n t
+count-elim n t h =
+    ⊎-elim (any-elim n t) (λ k. absurd (omega (arith, count-none n t (any-none n t k)))) (either (anyBelow n t))
+
+-- Two different numbers that pass.
+pub count-two : (n : ℕ) (t : ℕ → Bool) (i j : ℕ) → i < n → j < n → (j ≡ i → ⊥) → t i ≡ true → t j ≡ true → 2 ≤ countBelow n t
+unfolding countBelow
+count-two n t i j bi bj apart hi hj =
+    omega (
+      arith,
+      sum-at n (λ k. counted (t k) 1) others i bi (λ k b other. sym (elsewhere k other)),
+      sum-member n others j bj,
+      counted-true hi 1,
+      counted-true hj 1,
+      at-i,
+      elsewhere j apart,
+    )
+  where
+    others : ℕ → ℕ
+    others k = cond (eqb k i) 0 (counted (t k) 1)
+
+    at-i : others i ≡ 0
+    at-i = rw (eq-eqb i i refl)
+
+    elsewhere : (k : ℕ) → (k ≡ i → ⊥) → others k ≡ counted (t k) 1
+    elsewhere k other = rw (ne-eqb k i other)
+
+pub counted-or-le : (s t : Bool) (x : ℕ) → counted (s || t) x ≤ counted s x + counted t x
+unfolding counted
+counted-or-le true t x = omega arith
+counted-or-le false t x = omega arith
+
+-- Of the numbers below n, at most one is l.
+pub count-equal-le : (n l : ℕ) (t : Bool) → sumBelow n (λ c. counted (t && eqb l c) 1) ≤ counted t 1
+count-equal-le n l t = ⊎-elim in-range out-of-range (lt-or-ge l n)
+  where
+    off : (c : ℕ) → (c ≡ l → ⊥) → counted (t && eqb l c) 1 ≡ 0
+    off c other = counted-false (rw (ne-eqb l c (λ e. other (sym e))) (and-false t)) 1
+
+    in-range : l < n → sumBelow n (λ c. counted (t && eqb l c) 1) ≤ counted t 1
+    in-range b =
+        omega
+        (arith, sum-only n (λ c. counted (t && eqb l c) 1) l b (λ c bc other. off c other), counted-mono (t && eqb l l) t 1 (and-left t (eqb l l)))
+
+    out-of-range : n ≤ l → sumBelow n (λ c. counted (t && eqb l c) 1) ≤ counted t 1
+    out-of-range g = omega (arith, sum-zero n (λ c. counted (t && eqb l c) 1) (λ c bc. off c (λ e. omega arith)))
+
+-- There are no more labels of passing numbers than passing numbers.
+pub count-labels : (n k : ℕ) (X : ℕ → Bool) (label : ℕ → ℕ) → countBelow n (λ c. anyBelow k (λ v. X v && eqb (label v) c)) ≤ countBelow k X
+unfolding countBelow anyBelow
+count-labels n zero X label = omega (arith, sum-zero n (λ c. counted false 1) (λ c b. counted-false refl 1))
+count-labels n (suc k) X label =
+    omega (
+      arith,
+      count-labels n k X label,
+      count-equal-le n (label k) (X k),
+      sum-suc k (λ v. counted (X v) 1),
+      sum-le n (λ c. counted (anyBelow k (λ v. X v && eqb (label v) c) || X k && eqb (label k) c) 1)
+          (λ c. counted (anyBelow k (λ v. X v && eqb (label v) c)) 1 + counted (X k && eqb (label k) c) 1)
+          (λ c b. counted-or-le (anyBelow k (λ v. X v && eqb (label v) c)) (X k && eqb (label k) c) 1),
+      sum-add n (λ c. counted (anyBelow k (λ v. X v && eqb (label v) c)) 1) (λ c. counted (X k && eqb (label k) c) 1),
+    )
 
 -- ---- tables
 

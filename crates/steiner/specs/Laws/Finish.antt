@@ -96,6 +96,11 @@ resting-joined p label rest u v bu bv r = by (ℕ-discrete (label u) (label v))
         }))
         (rest (label u)))
 
+-- The ends of a picked edge are in one component at the end.
+pub grown-ends : (p : Problem) (ok : Sound p) (e : ℕ) → picked p e ≡ true → grown p .label (p .first e) ≡ grown p .label (p .second e)
+unfolding picked
+grown-ends p ok e h = partition p ok (grown-reached p) .ends e h
+
 module _ (p : Problem) (ok : Sound p) (some : 0 < p .vertices) (joinable : Joins p (allUsable p)) where
   -- At the end no component is active.
   pub grown-resting : (c : ℕ) → active p (grown p .label) c ≡ false
@@ -111,7 +116,7 @@ module _ (p : Problem) (ok : Sound p) (some : 0 < p .vertices) (joinable : Joins
   unfolding picked
   picked-edges = picked-usable p (grown-reached p)
 
-  picked-acyclic : Forest (p .first) (p .second) (picked p)
+  pub picked-acyclic : Forest (p .first) (p .second) (picked p)
   unfolding picked
   picked-acyclic = picked-forest p ok (grown-reached p)
 
@@ -128,7 +133,7 @@ module _ (p : Problem) (ok : Sound p) (some : 0 < p .vertices) (joinable : Joins
       (λ u v k. picked-joins u v (k .0) (k .1) (k .2)) (λ e f n u v k. spare e f n u v (k .0) (k .1) (k .2)) u v (bu, bv, r)
 
   -- A kept edge is one without which the picked ones fail.
-  kept-picked : (e : ℕ) → kept p e ≡ true → picked p e ≡ true
+  pub kept-picked : (e : ℕ) → kept p e ≡ true → picked p e ≡ true
   unfolding kept needed
   kept-picked e k = and-left (picked p e) (not (joined p (without (picked p) e))) k
 

@@ -120,7 +120,7 @@ load-pick p ok {s} h e d v b =
 unfoldable pub feels : Problem → State → ℕ → ℕ
 feels p s e = weighed p s (λ S. crosses (p .first) (p .second) S e)
 
-feels-pick : (p : Problem) (ok : Sound p) {s : State} → Reached p s → (e d f : ℕ) → f < p .edges →
+pub feels-pick : (p : Problem) (ok : Sound p) {s : State} → Reached p s → (e d f : ℕ) → f < p .edges →
     feels p (pick p s e d) f
     ≡ feels p s f + sumBelow (numbers p s) (λ c. counted (active p (s .label) c && crosses (p .first) (p .second) (component (s .label) c) f) d)
 unfolding feels
@@ -143,7 +143,7 @@ feels-inside p ok {s} h e d f b same =
     omega arith
 
 -- One of two different numbers is c, or none.
-two-ends : (a : Bool) (x y c d : ℕ) → (x ≡ y → ⊥) → counted (a && xor (eqb x c) (eqb y c)) d ≡ counted (a && eqb x c) d + counted (a && eqb y c) d
+pub two-ends : (a : Bool) (x y c d : ℕ) → (x ≡ y → ⊥) → counted (a && xor (eqb x c) (eqb y c)) d ≡ counted (a && eqb x c) d + counted (a && eqb y c) d
 unfolding counted xor
 two-ends a x y c d apart = by a (eqb x c) (eqb y c) (λ p q. apart (eqb-true x c p ∙ sym (eqb-true y c q)))
   where
