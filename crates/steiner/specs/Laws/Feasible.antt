@@ -35,7 +35,7 @@ weighed-start p t = sum-zero (numbers p start) _ (λ c b. counted-zero (t (λ v.
 pub load-start : (p : Problem) (v : ℕ) → load p start v ≡ 0
 load-start p v = load-weighed p start v ∙ weighed-start p (λ S. S v)
 
-feels-start : (p : Problem) (e : ℕ) → feels p start e ≡ 0
+pub feels-start : (p : Problem) (e : ℕ) → feels p start e ≡ 0
 unfolding feels
 feels-start p e = weighed-start p _
 
