@@ -15,6 +15,10 @@ pub record Survey : Type 0 where
   pub seconds : List ℕ
   pub weights : List ℕ
 
+-- The survey that four buffers are.
+abbrev pub surveyFrom : (groups firsts seconds weights : List ℕ) → Survey
+surveyFrom groups firsts seconds weights = record { groups = groups; firsts = firsts; seconds = seconds; weights = weights }
+
 unfoldable pub vertexCount : Survey → ℕ
 vertexCount s = length (s .groups)
 
