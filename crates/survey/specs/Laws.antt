@@ -1,1 +1,4 @@
+pub mod Store
+pub mod Count
 pub mod Refusal
+pub mod Spread

@@ -1,3 +1,5 @@
+pub mod Store
 pub mod Survey
 pub mod Refusal
+pub mod Spread
 pub mod Laws

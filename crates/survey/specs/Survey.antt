@@ -1,7 +1,7 @@
 -- A survey, its groups, and the Steiner forest problem that it poses (document 01, 'The survey and the plan').
 use Prim.Native.Nat.{ℕ}
 use mathlib.Core.Bool.{Bool, true, _&&_, _||_, not}
-use mathlib.Core.List.{List}
+use mathlib.Core.List.{List, []}
 use lib.ListN.{length, getD}
 use lib.Dec.{eqb}
 use Rattle.finite.specs.Below.{allBelow}
@@ -18,6 +18,10 @@ pub record Survey : Type 0 where
 -- The survey that four buffers are.
 abbrev pub surveyFrom : (groups firsts seconds weights : List ℕ) → Survey
 surveyFrom groups firsts seconds weights = record { groups = groups; firsts = firsts; seconds = seconds; weights = weights }
+
+-- Groups with no track.
+abbrev pub groupsAlone : List ℕ → Survey
+groupsAlone groups = surveyFrom groups [] [] []
 
 unfoldable pub vertexCount : Survey → ℕ
 vertexCount s = length (s .groups)
