@@ -9,7 +9,7 @@ use Rattle.graph.specs.Path.{without}
 use Rattle.graph.specs.Component.{merged, components}
 use Rattle.limits.specs.Limits.{recordBytes, dualsOf}
 use Rattle.limits.specs.Verdict.{refuseIf, _before_, lowestBelow, Outcome, refusal, answer, outcome}
-use Rattle.steiner.specs.Problem.{joined, cost, separates, terminal, terminals}
+use Rattle.steiner.specs.Problem.{allUsable, joined, cost, separates, terminal, terminals}
 use Rattle.steiner.specs.Growth.{start, active, numbers, load, slack, delayOf, delay, better, winnerBelow, winner, pick, advance, stateAt, grown}
 use Rattle.steiner.specs.Dual.{Dual}
 use Rattle.steiner.specs.Dual.{dualsOf as grownDuals}
@@ -149,7 +149,7 @@ examples =
 -- Each survey of the list gets what stands beside it.
 pub examples-hold : map (λ x. planned (surveyOf x)) examples ≡ map (λ x. x .expected) examples
 unfolding counted sumBelow countBelow anyBelow allBelow thoseBelow tabulate lookup memo without merged components refuseIf _before_ lowestBelow outcome
-    joined cost separates terminal terminals start active numbers load slack delayOf delay better winnerBelow winner pick advance stateAt grown grownDuals
+    allUsable joined cost separates terminal terminals start active numbers load slack delayOf delay better winnerBelow winner pick advance stateAt grown grownDuals
     needed picked kept markOf mark dualBound vertexCount edgeCount member sameGroup problemOf groupJoined componentsOf edgeRefusal surveyRefusal
     groupRefusal planOf planRefusal planning drawn figures planned surveyOf examples
 examples-hold = refl

@@ -9,7 +9,7 @@ use Rattle.limits.specs.Limits.{recordBytes, dualsOf}
 use Rattle.limits.specs.Verdict.{refuseIf, _before_, Outcome, outcome, written}
 use Rattle.limits.specs.declared.Verdict.{Verdict}
 use Rattle.records.specs.Record.{recordOf}
-use Rattle.steiner.specs.Problem.{Problem, terminals, cost}
+use Rattle.steiner.specs.Problem.{Problem, allUsable, terminals, cost}
 use Rattle.steiner.specs.Growth.{grown}
 use Rattle.steiner.specs.Dual.{Dual}
 use Rattle.steiner.specs.Dual.{dualsOf as grownDuals}
@@ -43,7 +43,7 @@ unfoldable pub planRefusal : Survey → (marksLength recordsLength : ℕ) → Ve
 planRefusal s marksLength recordsLength =
     surveyRefusal s
     before refuseIf (ltb marksLength (edgeCount s) || ltb recordsLength (recordBytes * dualsOf (vertexCount s))) 7 0
-    before groupRefusal s 8 (λ e. true)
+    before groupRefusal s 8 (allUsable (problemOf s))
 
 unfoldable pub planning : Survey → (marksLength recordsLength : ℕ) → Outcome Plan
 planning s marksLength recordsLength = outcome (planRefusal s marksLength recordsLength) (planOf (problemOf s))

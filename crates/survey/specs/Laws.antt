@@ -1,4 +1,5 @@
 pub mod Store
 pub mod Count
 pub mod Refusal
+pub mod Group
 pub mod Spread

@@ -154,3 +154,9 @@ components-right n a b F (suc m) = by (components-right n a b F m) (F m) refl
 pub components-iff : (n : ℕ) (a b : ℕ → ℕ) (F : ℕ → Bool) (m u v : ℕ) →
     (components n a b F m u ≡ components n a b F m v) ↔ Linked a b (below F m) u v
 components-iff n a b F m u v = labels-iff (components-right n a b F m) u v tt tt
+
+-- Only the edges below m matter.
+pub components-cong : (n : ℕ) (a b : ℕ → ℕ) (F G : ℕ → Bool) (m : ℕ) → ((e : ℕ) → e < m → F e ≡ G e) → components n a b F m ≡ components n a b G m
+unfolding components
+components-cong n a b F G zero h = refl
+components-cong n a b F G (suc m) h = rw (h m (omega arith), components-cong n a b F G m (λ e k. h e (omega arith)))

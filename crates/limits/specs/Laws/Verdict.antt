@@ -81,3 +81,27 @@ pub lowest-cong : (n : ℕ) (f g : ℕ → Verdict) → ((i : ℕ) → i < n →
 unfolding lowestBelow
 lowest-cong zero f g h = refl
 lowest-cong (suc n) f g h = rw (lowest-cong n f g (λ i b. h i (omega arith)), h n (omega arith))
+
+-- Where a finding comes from: the lowest number that has one.
+pub record Lowest (n : ℕ) (f : ℕ → Verdict) (number place : ℕ) : Type 0 where
+  pub at : ℕ
+  pub below : at < n
+  pub found : f at ≡ Refused number place
+  pub none-before : (i : ℕ) → i < at → f i ≡ Fine
+
+pub lowest-elim : (n : ℕ) (f : ℕ → Verdict) (number place : ℕ) → lowestBelow n f ≡ Refused number place → Lowest n f number place
+unfolding lowestBelow _before_
+lowest-elim zero f number place h = absurd (let z : _≡_ {A = ℕ} 0 1 = cc in omega arith)
+lowest-elim (suc n) f number place h = by (lowest-elim n f number place) (lowestBelow n f) refl
+  where
+    by : (lowestBelow n f ≡ Refused number place → Lowest n f number place) → (v : Verdict) → lowestBelow n f ≡ v → Lowest (suc n) f number place
+    by ih Fine k = record { at = n; below = omega arith; found = sym (before-fine k (f n)) ∙ h; none-before = none-lowest n f k }
+    by ih (Refused a b) k =
+        let same : lowestBelow n f ≡ Refused number place = k ∙ sym (before-refused k (f n)) ∙ h in
+        let l : Lowest n f number place = ih same in
+        record { at = l .at; below = let b = l .below in omega arith; found = l .found; none-before = l .none-before }
+
+pub refused-refuse : (t : Bool) (number place a b : ℕ) → refuseIf t number place ≡ Refused a b → (t ≡ true) × ((number ≡ a) × (place ≡ b))
+unfolding refuseIf
+refused-refuse true number place a b h = (refl, ((cc), (cc)))
+refused-refuse false number place a b h = absurd (let z : _≡_ {A = ℕ} 0 1 = cc in omega arith)
