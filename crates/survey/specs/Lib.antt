@@ -1,5 +1,6 @@
 pub mod Store
 pub mod Survey
 pub mod Refusal
+pub mod Accuracy
 pub mod Spread
 pub mod Laws
