@@ -3,3 +3,4 @@ pub mod Count
 pub mod Refusal
 pub mod Group
 pub mod Spread
+pub mod Labels

@@ -3,4 +3,5 @@ pub mod Survey
 pub mod Refusal
 pub mod Accuracy
 pub mod Spread
+pub mod Labels
 pub mod Laws

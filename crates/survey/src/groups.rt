@@ -43,31 +43,33 @@ fn note(table: &mut [u64], group: u8, label: u64)
 }
 
 // The table of all groups under given labels.
-pub fn spreads(groups: &[u8], labels: &[u32], table: &mut [u64])
-    requires { ⌜ now table ≡ tabulate groupNumbers (λ g. 0) ⌝ }
-    ensures { λ r. ⌜ now (table .exit) ≡ tabulate groupNumbers (λ g. spread (groupsAlone (now (groups .entry))) (λ v. getD (now (labels .entry)) v 0) g (length (now (groups .entry)))) ⌝ }
+pub fn spreads(groups: &[u8], labels: &[u32]) -> [u64; 256]
+    ensures { λ r. ⌜ r ≡ tabulate groupNumbers (λ g. spread (groupsAlone (now (groups .entry))) (λ v. getD (now (labels .entry)) v 0) g (length (now (groups .entry)))) ⌝ }
 {
+    let mut table = [0u64; 256];
     let mut v = 0;
     while v < groups.len() {
         note(
-            table,
+            &mut table,
             reads::at8(groups, v),
             reads::wide32(reads::at32(labels, v)),
         );
         v += 1;
     }
+    table
 }
 
 // The table of all groups where each vertex has its own label.
-fn own_spreads(groups: &[u8], table: &mut [u64])
-    requires { ⌜ now table ≡ tabulate groupNumbers (λ g. 0) ⌝ }
-    ensures { λ r. ⌜ now (table .exit) ≡ tabulate groupNumbers (λ g. spread (groupsAlone (now (groups .entry))) (λ v. v) g (length (now (groups .entry)))) ⌝ }
+fn own_spreads(groups: &[u8]) -> [u64; 256]
+    ensures { λ r. ⌜ r ≡ tabulate groupNumbers (λ g. spread (groupsAlone (now (groups .entry))) (λ v. v) g (length (now (groups .entry)))) ⌝ }
 {
+    let mut table = [0u64; 256];
     let mut v = 0;
     while v < groups.len() {
-        note(table, reads::at8(groups, v), reads::wide(v));
+        note(&mut table, reads::at8(groups, v), reads::wide(v));
         v += 1;
     }
+    table
 }
 
 // The lowest group that a table says is split.
@@ -88,8 +90,7 @@ fn first_split(table: &[u64], number: u64) -> Verdict
 pub fn split_refusal(groups: &[u8], labels: &[u32], number: u64) -> Verdict
     ensures { λ r. ⌜ r ≡ lowestBelow groupNumbers (λ g. refuseIf (not (groupJoined (groupsAlone (now (groups .entry))) (λ v. getD (now (labels .entry)) v 0) g)) number g) ⌝ }
 {
-    let mut table = [0u64; 256];
-    spreads(groups, labels, &mut table);
+    let table = spreads(groups, labels);
     first_split(&table, number)
 }
 
@@ -120,7 +121,6 @@ fn count_split(groups: &[u8], table: &[u64]) -> u64
 pub fn terminals(groups: &[u8]) -> u64
     ensures { λ r. ⌜ r ≡ terminals (problemOf (groupsAlone (now (groups .entry)))) ⌝ }
 {
-    let mut table = [0u64; 256];
-    own_spreads(groups, &mut table);
+    let table = own_spreads(groups);
     count_split(groups, &table)
 }

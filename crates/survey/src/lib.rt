@@ -8,6 +8,7 @@ use limits::MAX_VERTICES;
 use limits::MAX_WEIGHT;
 
 pub mod groups;
+pub mod labels;
 pub mod store;
 
 use limits::Verdict;

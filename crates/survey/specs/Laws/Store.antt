@@ -45,6 +45,10 @@ remade-more f i l now x h k =
     let e : x ≡ f i (getD l i 0) = k ∙ ap (λ t. f i (getD t i 0)) h ∙ ap (f i) (remade-ahead f i l i (omega arith)) in
     rw (h, e, add-one i) (remade-suc f i l)
 
+-- The loop has come to the end.
+pub remade-end : (f : ℕ → ℕ → ℕ) (n i : ℕ) (l : List ℕ) → i ≤ n → n ≤ i → remade f i l ≡ remade f n l
+remade-end f n i l b c = let e : i ≡ n = omega arith in rw e
+
 -- A table filled or changed throughout.
 pub remade-table : (f : ℕ → ℕ → ℕ) (n : ℕ) (l : List ℕ) (g : ℕ → ℕ) → length l ≡ n → ((k : ℕ) → k < n → f k (getD l k 0) ≡ g k) → remade f n l ≡ tabulate n g
 remade-table f n l g long h =

@@ -8,6 +8,7 @@ use Rattle.limits.specs.Limits.{groupNumbers}
 use Rattle.survey.specs.Survey.{groupsAlone}
 use Rattle.survey.specs.Spread.{spread}
 use Rattle.survey.specs.Laws.Spread.{spread-step, spread-none, spread-end}
+use Rattle.survey.specs.Laws.Store.{replicate-table}
 use native.Mathlib.Omega.{arith}
 use borrow.Author.Needs.{needs}
 use Rattle.survey.proofs.groups.spreads.Statement.{statement}
@@ -21,7 +22,10 @@ abbrev μ-loop : tie.MeasureT-loop
 μ-loop groups labels table₀ v₀ table v = length groups - v
 
 loop-holds : tie.Need-loop-holds Inv-loop μ-loop
-loop-holds c = (omega arith, c .before .before .before .pre ∙ spread-none _ _)
+loop-holds c = (omega arith, replicate-table groupNumbers 0 ∙ spread-none _ _)
+
+slice-aggregate-note : tie.Need-slice-aggregate-note Inv-loop μ-loop
+slice-aggregate-note c = sym (ap length (c .before .before .loop .inv .1) ∙ length-tabulate groupNumbers _)
 
 at8-requires : tie.Need-at8-requires Inv-loop μ-loop
 at8-requires c κs = search needs
@@ -43,11 +47,7 @@ loop-less c = omega arith
 
 loop-again : tie.Need-loop-again Inv-loop μ-loop
 loop-again c =
-    (omega arith, spread-step _ _ _ (c .before .before .before .before .before .before .before .before .loop .inv .1) (c .before .before .note .ensures) (c .before .before .before .before .before .at8 .ensures) (c .before .before .before .wide32 .ensures ∙ c .before .before .before .before .at32 .ensures) (omega arith))
-
-same-length : tie.Need-same-length Inv-loop μ-loop
-same-length c =
-    ap length (c .before .loop .inv .1) ∙ length-tabulate groupNumbers _ ∙ sym (ap length (c .before .before .before .before .before .pre) ∙ length-tabulate groupNumbers _)
+    (omega arith, spread-step _ _ _ (c .before .before .before .before .before .before .before .loop .inv .1) (c .before .note .ensures) (c .before .before .before .before .at8 .ensures) (c .before .before .wide32 .ensures ∙ c .before .before .before .at32 .ensures) (omega arith))
 
 returns : tie.Need-returns Inv-loop μ-loop
 returns c = c .before .loop .inv .1 ∙ spread-end _ _ _ _ (omega arith) (omega arith)
@@ -59,6 +59,7 @@ spreads-spec =
     Inv-loop
     μ-loop
     loop-holds
+    slice-aggregate-note
     at8-requires
     at32-requires
     wide32-requires
@@ -66,5 +67,4 @@ spreads-spec =
     add-v
     loop-less
     loop-again
-    same-length
     returns)
