@@ -1,0 +1,3 @@
+pub mod Members
+pub mod Ready
+pub mod Passes
