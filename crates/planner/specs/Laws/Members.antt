@@ -20,6 +20,7 @@ members-below p ok (next {s = s} {e = e} {d = d} h w) c v b k = by (ℕ-discrete
   where
     Old : Type 0
     Old = (c : ℕ) → c < numbers p s → s .holds c v ≡ true → v < p .vertices
+
     by : Dec (c ≡ numbers p s) → Old → v < p .vertices
     by (yes new) ih =
         ⊎-elim

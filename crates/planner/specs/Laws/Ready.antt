@@ -32,19 +32,18 @@ all-bounded : (s : Survey) (e : ℕ) → allUsable (problemOf s) e ≡ true → 
 all-bounded s e h = allUsable-edges (problemOf s) e h .0
 
 module _ (s : Survey) (numbered : Numbered s) (marksLength recordsLength : ℕ) where
-
   pub fine-ready : planRefusal s marksLength recordsLength ≡ Fine → Ready s marksLength recordsLength
   unfolding planRefusal
   fine-ready h =
       let h7 = fine-right _ _ h in
       let short : (ltb marksLength (edgeCount s) || ltb recordsLength (recordBytes * dualsOf (vertexCount s))) ≡ false = fine-refuse _ 7 0 (fine-left _ _ h7) in
       record {
-          survey = fine-survey s (fine-left _ _ h);
-          marks-fit = ltb-false marksLength (edgeCount s) (or-false-left (ltb marksLength (edgeCount s)) _ short);
-          records-fit =
-              ltb-false recordsLength (recordBytes * dualsOf (vertexCount s))
-              (or-false-right (ltb marksLength (edgeCount s)) (ltb recordsLength (recordBytes * dualsOf (vertexCount s))) short);
-          joinable = group-fine s 8 (allUsable (problemOf s)) (all-bounded s) numbered (fine-right _ _ h7)
+        survey = fine-survey s (fine-left _ _ h);
+        marks-fit = ltb-false marksLength (edgeCount s) (or-false-left (ltb marksLength (edgeCount s)) _ short);
+        records-fit =
+            ltb-false recordsLength (recordBytes * dualsOf (vertexCount s))
+            (or-false-right (ltb marksLength (edgeCount s)) (ltb recordsLength (recordBytes * dualsOf (vertexCount s))) short);
+        joinable = group-fine s 8 (allUsable (problemOf s)) (all-bounded s) numbered (fine-right _ _ h7);
       }
 
   pub ready-fine : Ready s marksLength recordsLength → planRefusal s marksLength recordsLength ≡ Fine
