@@ -1,3 +1,2 @@
-pub mod Members
 pub mod Ready
 pub mod Passes

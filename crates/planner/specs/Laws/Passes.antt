@@ -26,6 +26,7 @@ use Rattle.steiner.specs.Dual.{Dual, weigh, total, felt}
 use Rattle.steiner.specs.Dual.{dualsOf as grownDuals}
 use Rattle.steiner.specs.Pruning.{picked, kept, markOf, mark, dualBound}
 use Rattle.steiner.specs.Laws.Joined.{separates-cong}
+use Rattle.steiner.specs.Laws.Partition.{members-below}
 use Rattle.steiner.specs.Laws.Weighed.{Local, value-fresh}
 use Rattle.steiner.specs.Laws.Rounds.{grown-reached}
 use Rattle.steiner.specs.Laws.Finish.{kept-joins, kept-picked, kept-edges}
@@ -39,7 +40,6 @@ use Rattle.checker.specs.Check.{Checked, dualAt, dualsIn, keptBy, checkedOf, ch
 use Rattle.checker.specs.Laws.Meaning.{DualSound, Passing, passing-check}
 use Rattle.checker.specs.Laws.Accuracy.{passing-accurate}
 use Rattle.planner.specs.Plan.{Plan, planOf, recordsOf}
-use Rattle.planner.specs.Laws.Members.{members-below}
 
 -- ---- duals by their place in a list
 

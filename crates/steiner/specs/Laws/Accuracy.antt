@@ -34,7 +34,7 @@ use Rattle.steiner.specs.Problem.{Problem, Sound, EdgeSet, Joins, separa
 use Rattle.steiner.specs.Growth.{State, start, active, numbers, slack, Winner, nobody, edge, winner, pick, stateAt, grown}
 use Rattle.steiner.specs.Dual.{Dual, total, felt, dualsOf}
 use Rattle.steiner.specs.Pruning.{picked, kept, dualBound}
-use Rattle.steiner.specs.Laws.Joined.{Split, separates-elim}
+use Rattle.steiner.specs.Laws.Joined.{Split, separates-elim, terminal-intro}
 use Rattle.steiner.specs.Laws.Round.{Reached, stateAt-reached}
 use Rattle.steiner.specs.Laws.Winner.{Waits, one-first, one-second, both, Candidate}
 use Rattle.steiner.specs.Laws.Partition.{label-below, winner-candidate, winner-below}
@@ -49,12 +49,14 @@ use Rattle.steiner.specs.Laws.Degree.{degree, activeDegree, degree-bound
 -- ---- active components hold terminals
 
 split-terminal : (p : Problem) (ok : Sound p) (S : ℕ → Bool) (s : Split p S) → terminal p (s .u) ≡ true
-unfolding terminal
 split-terminal p ok S s =
-    any-intro (p .vertices) (λ w. not (eqb w (s .u)) && p .required w (s .u)) (s .v) (s .v-below)
-    (and-both (not (eqb (s .v) (s .u))) (p .required (s .v) (s .u))
-    (not-of-false (eqb (s .v) (s .u)) (ne-eqb (s .v) (s .u) (λ same. true-not-false (S (s .u)) (s .inside) (ap S (sym same) ∙ s .outside))))
-    (ok .symmetric (s .u) (s .v) (s .required)))
+    terminal-intro p (s .u)
+    (record {
+      vertex = s .v;
+      below = s .v-below;
+      other = λ same. true-not-false (S (s .u)) (s .inside) (ap S (sym same) ∙ s .outside);
+      required = ok .symmetric (s .u) (s .v) (s .required);
+    })
 
 -- Each active component holds a terminal, and components share none: A is at most k.
 pub active-le-terminals : (p : Problem) (ok : Sound p) (s : State) → activeCount p s ≤ terminals p
@@ -178,8 +180,7 @@ pub within-factor : (p : Problem) (F : ℕ → Bool) → EdgeSet p F → Joins p
     k * c ≤ (2 * k - 2) * cost p F
 within-factor p F set joins ds separating fits k c rule =
     let twice : 2 * k - 2 ≡ 2 * (k - 1) = omega arith in
-    rw twice
-    (omega (arith, mul-le-mul-left (k - 1) (weak-duality p F set joins ds separating fits)))
+    omega (arith, ap (λ x. x * cost p F) twice, mul-le-mul-left (k - 1) (weak-duality p F set joins ds separating fits))
 
 grown-tight : (p : Problem) (ok : Sound p) (e : ℕ) → picked p e ≡ true → feels p (grown p) e ≡ 2 * p .weight e
 unfolding picked

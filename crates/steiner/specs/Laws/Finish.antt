@@ -33,7 +33,7 @@ use Rattle.graph.specs.Laws.Forest.{Forest, needed-joins}
 use Rattle.steiner.specs.Problem.{Problem, Sound, EdgeSet, Joins, joined, separates, allUsable}
 use Rattle.steiner.specs.Growth.{State, active, numbers, never, delay, Winner, nobody, edge, winner, stateAt, grown}
 use Rattle.steiner.specs.Pruning.{needed, picked, kept}
-use Rattle.steiner.specs.Laws.Joined.{Bounded, joined-elim, joined-intro, Split, separates-elim, separates-intro}
+use Rattle.steiner.specs.Laws.Joined.{joined-elim, Split, separates-elim, separates-intro, needed-iff}
 use Rattle.steiner.specs.Laws.Round.{Reached, stateAt-reached}
 use Rattle.steiner.specs.Laws.Winner.{winner-none, delay-never}
 use Rattle.steiner.specs.Laws.Partition.{partition, picked-usable, picked-forest}
@@ -134,15 +134,12 @@ module _ (p : Problem) (ok : Sound p) (some : 0 < p .vertices) (joinable : Joins
 
   -- A kept edge is one without which the picked ones fail.
   pub kept-picked : (e : ℕ) → kept p e ≡ true → picked p e ≡ true
-  unfolding kept needed
-  kept-picked e k = and-left (picked p e) (not (joined p (without (picked p) e))) k
+  unfolding kept
+  kept-picked e k = needed-iff p (picked p) (λ f h. picked-edges f h .0) e .0 k .0
 
   kept-fails : (e : ℕ) → kept p e ≡ true → Joins p (without (picked p) e) → ⊥
-  unfolding kept needed
-  kept-fails e k joins =
-      true-not-false (joined p (without (picked p) e))
-      (joined-intro p (without (picked p) e) (λ f h. picked-edges f (without-elim (picked p) e f h .0) .0) joins)
-      (not-true (joined p (without (picked p) e)) (and-right (picked p e) (not (joined p (without (picked p) e))) k))
+  unfolding kept
+  kept-fails e k = needed-iff p (picked p) (λ f h. picked-edges f h .0) e .0 k .1
 
   pub kept-edges : EdgeSet p (kept p)
   kept-edges e k = picked-edges e (kept-picked e k)

@@ -8,11 +8,12 @@ use borrow.Author.Tests.{eqb-true, eqb-false, eq-eqb, ne-eqb, lt-ltb, not-true}
 use Rattle.finite.specs.Below.{anyBelow, allBelow}
 use Rattle.finite.specs.Laws.Test.{either, and-left, and-right, and-both, or-cases, or-left, or-right, not-of-false, not-true-false, true-not-false}
 use Rattle.finite.specs.Laws.Below.{any-intro, any-elim, any-none, any-cong, all-intro, all-elim, Found}
-use Rattle.graph.specs.Path.{Linked}
+use Rattle.graph.specs.Path.{Linked, without}
 use Rattle.graph.specs.Component.{components}
-use Rattle.graph.specs.Laws.Linked.{linked-mono}
+use Rattle.graph.specs.Laws.Linked.{linked-mono, without-elim}
 use Rattle.graph.specs.Laws.Component.{below, components-iff}
 use Rattle.steiner.specs.Problem.{Problem, Joins, joined, separates, terminal}
+use Rattle.steiner.specs.Pruning.{needed}
 
 -- A set of edge numbers below the count.
 abbrev pub Bounded : Problem → (ℕ → Bool) → Type 0
@@ -31,16 +32,7 @@ linked-label p F bounded u v h =
     components-iff (p .vertices) (p .first) (p .second) F (p .edges) u v .1
     (linked-mono (λ e k. and-both (ltb e (p .edges)) (F e) (lt-ltb e (p .edges) (bounded e k)) k) h)
 
--- ---- a test over required pairs, for any labels
-
--- A required pair with different labels.
-pub record Apart (p : Problem) (label : ℕ → ℕ) : Type 0 where
-  pub u : ℕ
-  pub v : ℕ
-  pub u-below : u < p .vertices
-  pub v-below : v < p .vertices
-  pub required : p .required u v ≡ true
-  pub differ : label u ≡ label v → ⊥
+-- ---- a test over required pairs
 
 pub joined-elim : (p : Problem) (F : ℕ → Bool) → joined p F ≡ true → Joins p F
 unfolding joined
@@ -113,3 +105,47 @@ unfolding separates
 separates-cong p S R h =
     any-cong (p .vertices) _ _
     (λ u bu. rw (h u bu, any-cong (p .vertices) (λ v. not (S v) && p .required u v) (λ v. not (R v) && p .required u v) (λ v bv. rw (h v bv))))
+
+-- ---- what a terminal and a needed edge are
+
+-- A terminal has another vertex that it must be linked with: a member that is alone in its group is none.
+pub record Partner (p : Problem) (v : ℕ) : Type 0 where
+  pub vertex : ℕ
+  pub below : vertex < p .vertices
+  pub other : vertex ≡ v → ⊥
+  pub required : p .required vertex v ≡ true
+
+pub terminal-elim : (p : Problem) (v : ℕ) → terminal p v ≡ true → Partner p v
+unfolding terminal
+terminal-elim p v h =
+    let f : Found (p .vertices) (λ u. not (eqb u v) && p .required u v) = any-elim (p .vertices) _ h in
+    record {
+      vertex = f .at;
+      below = f .below;
+      other = eqb-false (f .at) v (not-true (eqb (f .at) v) (and-left (not (eqb (f .at) v)) (p .required (f .at) v) (f .passes)));
+      required = and-right (not (eqb (f .at) v)) (p .required (f .at) v) (f .passes);
+    }
+
+pub terminal-intro : (p : Problem) (v : ℕ) → Partner p v → terminal p v ≡ true
+unfolding terminal
+terminal-intro p v h =
+    any-intro (p .vertices) (λ u. not (eqb u v) && p .required u v) (h .vertex) (h .below)
+    (and-both (not (eqb (h .vertex) v)) (p .required (h .vertex) v) (not-of-false (eqb (h .vertex) v) (ne-eqb (h .vertex) v (h .other))) (h .required))
+
+without-bounded : (p : Problem) (F : ℕ → Bool) → Bounded p F → (e : ℕ) → Bounded p (without F e)
+without-bounded p F bounded e f h = bounded f (without-elim F e f h .0)
+
+-- An edge of F is needed exactly if the others of F, all of them, fail some required pair.
+pub needed-iff : (p : Problem) (F : ℕ → Bool) → Bounded p F → (e : ℕ) → (needed p F e ≡ true) ↔ ((F e ≡ true) × (Joins p (without F e) → ⊥))
+unfolding needed
+needed-iff p F bounded e = (
+  λ h. (
+    and-left (F e) (not (joined p (without F e))) h,
+    λ joins.
+        true-not-false (joined p (without F e)) (joined-intro p (without F e) (without-bounded p F bounded e) joins)
+        (not-true (joined p (without F e)) (and-right (F e) (not (joined p (without F e))) h)),
+  ),
+  λ h.
+      and-both (F e) (not (joined p (without F e))) (h .0)
+      (not-of-false (joined p (without F e)) (not-true-false (joined p (without F e)) (λ k. h .1 (joined-elim p (without F e) k)))),
+)
