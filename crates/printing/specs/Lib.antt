@@ -4,4 +4,5 @@ pub mod Text
 pub mod Examples
 pub mod Wrote
 pub mod Print
+pub mod Room
 pub mod Laws

@@ -15,6 +15,13 @@ pub enum Printed {
     Refused { number: u64, place: usize },
 }
 
+// Bytes that hold every moat line, every plan within the limits, and every refusal (specs/Room.antt, with laws).
+pub const DUAL_ROOM: usize = 1024;
+
+pub const PLAN_ROOM: usize = 500928;
+
+pub const REFUSAL_ROOM: usize = 56;
+
 // A place past the length of every buffer.
 const FARTHEST: usize = 9223372036854775808;
 

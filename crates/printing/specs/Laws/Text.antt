@@ -11,7 +11,7 @@ use Rattle.printing.specs.Decimal.{decimal}
 use Rattle.printing.specs.Text.{lineOf, listed, textBelow, keptLine}
 use Rattle.printing.specs.Wrote.{isNone, itemOf, memberText}
 
-listed-snoc : (xs : List ℕ) (v : ℕ) → listed (xs ++ (v ∷ [])) ≡ listed xs ++ itemOf (isNone xs) v
+pub listed-snoc : (xs : List ℕ) (v : ℕ) → listed (xs ++ (v ∷ [])) ≡ listed xs ++ itemOf (isNone xs) v
 unfolding listed isNone itemOf
 listed-snoc [] v = refl
 listed-snoc (x ∷ []) v = append-assoc (decimal x) (comma ∷ []) (decimal v)

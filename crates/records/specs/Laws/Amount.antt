@@ -76,7 +76,8 @@ number-down n i bytes pos le =
     ∙ number-at (n - i) (i - 1) bytes
     ∙ ap (λ k. getD bytes (i - 1) 0 + 256 * numberOf (take (n - i) (drop k bytes))) next
 
-bytes-part : (n i : ℕ) (bytes : List ℕ) → Bytes bytes → Bytes (take n (drop i bytes))
+-- A part of bytes is bytes.
+pub bytes-part : (n i : ℕ) (bytes : List ℕ) → Bytes bytes → Bytes (take n (drop i bytes))
 bytes-part n i bytes h j =
     ⊎-elim
     (λ (l : j < n). rw (getD-take n (drop i bytes) j 0 l, getD-drop i bytes j 0) (h (i + j)))

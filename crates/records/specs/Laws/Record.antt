@@ -10,10 +10,10 @@ use lib.Seq.{length-take-le, take-all, take-nil, sets-eq, length-sets, take-at, 
 use lib.Dec.{eqb}
 use Rattle.finite.specs.Below.{thoseBelow}
 use Rattle.limits.specs.Limits.{valueBytes, memberBytes, recordBytes}
-use Rattle.records.specs.Bits.{bytesOf, memberAt, withMember, withBit, lowBytes, numberOf}
+use Rattle.records.specs.Bits.{Bytes, bytesOf, memberAt, withMember, withBit, lowBytes, numberOf}
 use Rattle.records.specs.Record.{recordOf, valueIn, memberIn, recordAt, overwritten, withValue, withMemberIn, startedAs}
 use Rattle.records.specs.Laws.Bits.{length-bytes, member-of-bytes, member-past, bytes-add, those-cong}
-use Rattle.records.specs.Laws.Amount.{length-low, number-of-low, low-append, bytes-of-none}
+use Rattle.records.specs.Laws.Amount.{length-low, number-of-low, number-part-lt, bytes-part, low-append, bytes-of-none}
 
 pub length-record : (value : ℕ) (S : ℕ → Bool) → length (recordOf value S) ≡ recordBytes
 unfolding recordOf
@@ -45,6 +45,15 @@ unfolding memberIn
 member-past-record r v h k =
     let l : length (drop valueBytes r) ≡ length r - valueBytes = length-drop valueBytes r in
     member-past (drop valueBytes r) v (omega arith)
+
+-- The value of a record of bytes fits its bytes.
+pub value-lt : (r : List ℕ) → Bytes r → valueIn r < 256 ^ valueBytes
+unfolding valueIn
+value-lt r h = number-part-lt valueBytes 0 r h
+
+pub bytes-record-at : (records : List ℕ) (i : ℕ) → Bytes records → Bytes (recordAt records i)
+unfolding recordAt
+bytes-record-at records i h = bytes-part recordBytes (recordBytes * i) records h
 
 -- ---- writing
 
