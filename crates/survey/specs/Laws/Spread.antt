@@ -360,7 +360,7 @@ spread-end s label n v b c = let e : v ≡ n = omega arith in rw e
 
 -- ---- what the table says
 
-split-read : (s : Survey) (label : ℕ → ℕ) {table : List ℕ} → table ≡ tabulate groupNumbers (λ g. spread s label g (vertexCount s))
+pub split-read : (s : Survey) (label : ℕ → ℕ) {table : List ℕ} → table ≡ tabulate groupNumbers (λ g. spread s label g (vertexCount s))
     → (g : ℕ) → g < groupNumbers → eqb (getD table g 0) 1 ≡ split s label g
 unfolding split
 split-read s label t g b = ap (λ x. eqb x 1) (ap (λ l. getD l g 0) t ∙ getD-tabulate groupNumbers _ g 0 b)
