@@ -1,7 +1,7 @@
 -- The checker (document 01, 'What a plan holds' and 'Refused surveys and plans'): any marks, any moat records.
-use Prim.Native.Nat.{ℕ, zero, suc, _+_, _*_, _-_, _/_, _%_}
-use mathlib.Core.Bool.{Bool, true, false, _&&_, _||_, not}
-use mathlib.Core.List.{List, [], _∷_, _++_}
+use Prim.Native.Nat.{ℕ, _*_, _-_, _/_, _%_}
+use mathlib.Core.Bool.{Bool, _&&_, _||_, not}
+use mathlib.Core.List.{List}
 use lib.ListN.{length, getD}
 use lib.Dec.{eqb, ltb, leb}
 use Rattle.finite.specs.Below.{anyBelow, tabulate}
@@ -9,7 +9,7 @@ use Rattle.limits.specs.Limits.{maxValue, memberBytes, recordBytes, maxDuals}
 use Rattle.limits.specs.Verdict.{refuseIf, _before_, lowestBelow, Outcome, outcome}
 use Rattle.limits.specs.declared.Verdict.{Verdict}
 use Rattle.records.specs.Record.{valueIn, memberIn, recordAt}
-use Rattle.steiner.specs.Problem.{Problem, separates, terminals, cost}
+use Rattle.steiner.specs.Problem.{separates, terminals, cost}
 use Rattle.steiner.specs.Dual.{Dual, total, felt}
 use Rattle.survey.specs.Survey.{Survey, vertexCount, edgeCount, problemOf}
 use Rattle.survey.specs.Refusal.{surveyRefusal, groupRefusal}

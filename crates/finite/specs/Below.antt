@@ -2,7 +2,7 @@
 -- keeps `.. i f` while it runs.
 use Prim.Native.Nat.{ℕ, zero, suc, _+_}
 use mathlib.Core.Bool.{Bool, true, false, _&&_, _||_, cond}
-use mathlib.Core.List.{List, [], _∷_, _++_}
+use mathlib.Core.List.{[], List, _∷_, _++_}
 
 -- The number, where the test holds, and otherwise 0.
 unfoldable pub counted : Bool → ℕ → ℕ

@@ -1,9 +1,7 @@
 -- The surveys worked by hand (document 01), P1 to P12: one list, and one claim about it, proved by computation.
 use Prim.Native.Nat.{ℕ, _*_}
 use mathlib.Core.Path.{_≡_, refl}
-use mathlib.Core.Bool.{Bool}
 use mathlib.Core.List.{List, [], _∷_, map}
-use lib.ListN.{length}
 use Rattle.finite.specs.Below.{counted, sumBelow, countBelow, anyBelow, allBelow, thoseBelow, tabulate, lookup, memo}
 use Rattle.graph.specs.Path.{without}
 use Rattle.graph.specs.Component.{merged, components}

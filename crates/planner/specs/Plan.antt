@@ -1,6 +1,6 @@
 -- Planning (document 01, 'What a plan holds' and 'Refused surveys and plans').
 use Prim.Native.Nat.{ℕ, _*_}
-use mathlib.Core.Bool.{true, _||_}
+use mathlib.Core.Bool.{_||_}
 use mathlib.Core.List.{List, [], _∷_, _++_}
 use lib.ListN.{length, drop}
 use lib.Dec.{ltb}

@@ -1,7 +1,7 @@
 -- Duals as a list: cuts with values, whoever drew them (source 001, section 22.1: y_S). Document 01's word is moats. Values are in half units.
-use Prim.Native.Nat.{ℕ, zero, suc, _+_}
+use Prim.Native.Nat.{ℕ, _+_}
 use mathlib.Core.Bool.{Bool, true}
-use mathlib.Core.List.{List, [], _∷_, map}
+use mathlib.Core.List.{[], List, _∷_, map}
 use lib.Dec.{ltb}
 use Rattle.finite.specs.Below.{counted, thoseBelow}
 use Rattle.graph.specs.Path.{crosses}

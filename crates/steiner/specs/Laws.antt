@@ -1,4 +1,5 @@
 pub mod Joined
+pub mod Cut
 pub mod Round
 pub mod Winner
 pub mod Partition

@@ -2,7 +2,7 @@
 -- with overlapping lists, with all its tracks or with one closed, is an instance.
 use Prim.Native.Nat.{ℕ, _<_}
 use mathlib.Core.Path.{_≡_}
-use mathlib.Core.Bool.{Bool, true, false, _&&_, _||_, not}
+use mathlib.Core.Bool.{Bool, true, _&&_, _||_, not}
 use lib.Dec.{eqb, ltb}
 use Rattle.finite.specs.Below.{counted, sumBelow, countBelow, anyBelow, allBelow}
 use Rattle.graph.specs.Path.{Linked}

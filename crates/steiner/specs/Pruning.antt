@@ -1,6 +1,6 @@
 -- Dropping what is not needed (source 001, Algorithm 22.3, step 3), and the figures of a plan.
-use Prim.Native.Nat.{ℕ, zero, suc}
-use mathlib.Core.Bool.{Bool, true, false, _&&_, not, cond}
+use Prim.Native.Nat.{ℕ}
+use mathlib.Core.Bool.{Bool, true, false, _&&_, not}
 use Rattle.finite.specs.Below.{sumBelow}
 use Rattle.graph.specs.Path.{without}
 use Rattle.steiner.specs.Problem.{Problem, joined}

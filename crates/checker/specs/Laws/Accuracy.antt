@@ -1,22 +1,20 @@
 -- The accuracy rule of whatever passes the checker (the buyer's demand 3): for any set of tracks that joins every group, 2k - 2 times its cost is at least k times the kept cost; and with
 -- k = 0 the kept cost is 0. Nothing is said of who drew the marks and the moats.
-use Prim.Native.Nat.{ℕ, zero, suc, _+_, _*_, _-_, _/_, _≤_, _<_}
-use mathlib.Core.Path.{_≡_, refl, ap, sym, _∙_, subst}
-use mathlib.Core.Bool.{Bool, true}
+use Prim.Native.Nat.{ℕ, zero, suc, _/_, _<_}
+use mathlib.Core.Path.{_≡_, refl, subst}
 use mathlib.Core.List.{List, [], _∷_, _++_}
 use native.Mathlib.Omega.{arith}
 use lib.ListN.{length}
 use Rattle.finite.specs.Below.{tabulate}
 use Rattle.limits.specs.Limits.{recordBytes}
-use Rattle.limits.specs.Verdict.{Outcome, refusal, answer, outcome}
+use Rattle.limits.specs.Verdict.{answer, outcome}
 use Rattle.limits.specs.declared.Verdict.{Verdict}
 use Rattle.limits.specs.declared.Verdict.the-variants.{Fine, Refused}
-use Rattle.steiner.specs.Problem.{Problem, EdgeSet, Joins, separates, terminals, cost}
-use Rattle.steiner.specs.Dual.{Dual, total, felt}
+use Rattle.steiner.specs.Problem.{terminals, cost}
+use Rattle.steiner.specs.Dual.{Dual}
 use Rattle.steiner.specs.Laws.Dual.{Each, none, more}
-use Rattle.steiner.specs.Laws.WeakDuality.{Separating}
 use Rattle.steiner.specs.Laws.Accuracy.{within-factor}
-use Rattle.survey.specs.Survey.{Survey, edgeCount, problemOf}
+use Rattle.survey.specs.Survey.{Survey, problemOf}
 use Rattle.survey.specs.Accuracy.{Accurate}
 use Rattle.survey.specs.Laws.Group.{Numbered}
 use Rattle.checker.specs.Check.{Checked, dualAt, dualsIn, keptBy, checkedOf, checkRefusal, checking}

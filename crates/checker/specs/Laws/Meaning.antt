@@ -1,43 +1,26 @@
 -- What passing the checker means, refusal by refusal, in terms of the survey: sound (1 to 6), marks and records of the right shape (9), marks up to 2 (10), duals
 -- with values in range and members that are vertices (11), each with a group's members on both sides (12), no track's moats over twice its price (13),
 -- every group joined by paths of kept tracks (14), and the rule (15).
-use Prim.Native.Nat.{ℕ, zero, suc, _+_, _*_, _-_, _/_, _%_, _≤_, _<_}
-use mathlib.Core.Path.{_≡_, refl, ap, sym, _∙_, subst}
-use mathlib.Core.Logic.{_⊎_, inl, inr, ⊎-elim, _↔_}
-use mathlib.Core.Bool.{Bool, true, false, _&&_, _||_, not}
-use mathlib.Core.List.{List, [], _∷_, _++_}
+use Prim.Native.Nat.{ℕ, _*_, _-_, _/_, _%_, _≤_, _<_}
+use mathlib.Core.Path.{_≡_, sym, _∙_, subst}
+use mathlib.Core.Logic.{⊎-elim, _↔_}
+use mathlib.Core.Bool.{true, false, _&&_, _||_, not}
+use mathlib.Core.List.{List}
 use native.Mathlib.Omega.{arith}
 use native.Mathlib.Nat.{not-le-of-lt}
 use lib.ListN.{length, getD, List·getD-eq-default}
 use lib.Dec.{eqb, ltb, leb}
-use borrow.Author.Tests.{eqb-true, eqb-false, eq-eqb, ne-eqb, ltb-true, ltb-false, le-ltb, lt-ltb, le-leb, lt-leb, leb-true, leb-false, not-true, not-false}
-use Rattle.finite.specs.Below.{anyBelow, tabulate}
-use Rattle.finite.specs.Laws.Test.{
-  either,
-  and-left,
-  and-right,
-  and-both,
-  or-cases,
-  or-left,
-  or-right,
-  or-false-left,
-  or-false-right,
-  not-of-false,
-  not-true-false,
-  true-not-false,
-  and-false-cases,
-}
+use borrow.Author.Tests.{eqb-true, eqb-false, eq-eqb, ne-eqb, ltb-false, le-ltb, leb-true, leb-false, not-true, not-false}
+use Rattle.finite.specs.Below.{anyBelow}
+use Rattle.finite.specs.Laws.Test.{and-left, and-right, or-false-left, or-false-right, not-true-false, true-not-false, and-false-cases}
 use Rattle.finite.specs.Laws.Below.{any-none, any-elim, Found, lt-or-ge}
 use Rattle.limits.specs.Limits.{maxValue, memberBytes, recordBytes, maxDuals}
-use Rattle.limits.specs.Verdict.{refuseIf, _before_, lowestBelow}
-use Rattle.limits.specs.declared.Verdict.{Verdict}
-use Rattle.limits.specs.declared.Verdict.the-variants.{Fine, Refused}
+use Rattle.limits.specs.declared.Verdict.the-variants.{Fine}
 use Rattle.limits.specs.Laws.Verdict.{before-fine, fine-left, fine-right, refuse-false, fine-refuse, lowest-none, none-lowest}
-use Rattle.steiner.specs.Problem.{Problem, Joins, separates, terminals, cost}
+use Rattle.steiner.specs.Problem.{Joins, separates, terminals, cost}
 use Rattle.steiner.specs.Dual.{Dual, total, felt}
 use Rattle.steiner.specs.Laws.Joined.{Bounded}
 use Rattle.survey.specs.Survey.{Survey, vertexCount, edgeCount, problemOf}
-use Rattle.survey.specs.Refusal.{surveyRefusal, groupRefusal}
 use Rattle.survey.specs.Laws.Refusal.{SurveySound, survey-fine, fine-survey}
 use Rattle.survey.specs.Laws.Group.{Numbered, group-fine, joins-fine}
 use Rattle.checker.specs.Check.{

@@ -3,14 +3,14 @@
 use Prim.Native.Nat.{ℕ, zero, suc, _<_}
 use mathlib.Core.Path.{_≡_, refl, ap, sym, _∙_, subst}
 use mathlib.Core.Logic.{_⊎_, inl, inr, ⊎-elim, _↔_}
-use mathlib.Core.Bool.{Bool, true, false, _&&_, _||_, cond, true≢false, false≢true}
+use mathlib.Core.Bool.{Bool, true, false, _&&_, cond, false≢true}
 use native.Mathlib.Omega.{arith}
 use lib.Dec.{eqb, ltb}
 use borrow.Author.Tests.{eqb-true, eqb-false, eq-eqb, ne-eqb, lt-ltb, ltb-true}
 use Rattle.finite.specs.Below.{memo}
 use Rattle.finite.specs.Laws.Below.{memo-is, below-suc}
-use Rattle.finite.specs.Laws.Test.{either, and-left, and-right, and-both, or-cases, or-left, or-right, or-false-left, or-false-right}
-use Rattle.graph.specs.Path.{Leads, forth, back, Linked, here, step}
+use Rattle.finite.specs.Laws.Test.{and-left, and-right, and-both, or-right}
+use Rattle.graph.specs.Path.{forth, back, Linked, here, step}
 use Rattle.graph.specs.Component.{merged, components}
 use Rattle.graph.specs.Laws.Linked.{linked-trans, linked-sym, linked-mono, linked-ends}
 

@@ -1,15 +1,15 @@
 -- Forests: an edge between two components keeps a forest one, and the edges of a forest that no required pair needs can all be
 -- dropped at once (source 001, Lemma 22.6).
 use Prim.Native.Nat.{ℕ, zero, suc, _<_, _≤_}
-use mathlib.Core.Path.{_≡_, refl, ap, sym, _∙_, subst}
+use mathlib.Core.Path.{_≡_, ap, sym, _∙_, subst}
 use mathlib.Core.Logic.{_⊎_, inl, inr, ⊎-elim}
-use mathlib.Core.Bool.{Bool, true, false, _&&_, _||_, not, false≢true}
+use mathlib.Core.Bool.{Bool, true, false, _&&_, _||_, false≢true}
 use native.Mathlib.Omega.{arith}
 use native.Mathlib.Decide.{ℕ-discrete}
 use lib.Dec.{leb}
-use borrow.Author.Tests.{le-leb, lt-leb, leb-true}
+use borrow.Author.Tests.{le-leb, leb-true}
 use Rattle.finite.specs.Laws.Test.{either, and-left, and-right, and-both, or-cases, or-left, or-right}
-use Rattle.graph.specs.Path.{Linked, here, step, without}
+use Rattle.graph.specs.Path.{Linked, without}
 use Rattle.graph.specs.Laws.Linked.{
   Through,
   spared,

@@ -1,13 +1,13 @@
 -- Laws of paths: they compose and reverse, they grow with the edge set, one more edge adds one passage, and a path that leaves a
 -- set crosses its cut. Sources 001 (sections 22.1 and 22.3) and 003 use them unsaid; every graph fact above rests on them.
 use Prim.Native.Nat.{ℕ}
-use mathlib.Core.Path.{_≡_, refl, ap, sym, _∙_, subst}
+use mathlib.Core.Path.{_≡_, refl, sym, _∙_, subst}
 use mathlib.Core.Logic.{_⊎_, inl, inr, ⊎-elim}
-use mathlib.Core.Bool.{Bool, true, false, _&&_, _||_, not, xor, true≢false, false≢true}
+use mathlib.Core.Bool.{Bool, true, false, not, xor, false≢true}
 use native.Mathlib.Decide.{ℕ-discrete}
 use lib.Dec.{eqb}
-use borrow.Author.Tests.{eqb-true, eqb-false, eq-eqb, ne-eqb, not-true}
-use Rattle.finite.specs.Laws.Test.{either, and-left, and-right, and-both, or-cases, not-of-false, true-not-false}
+use borrow.Author.Tests.{eqb-false, ne-eqb, not-true}
+use Rattle.finite.specs.Laws.Test.{either, and-left, and-right, and-both, not-of-false, true-not-false}
 use Rattle.graph.specs.Path.{Leads, forth, back, Linked, here, step, without, crosses}
 
 pub leads-sym : {a b : ℕ → ℕ} {e u v : ℕ} → Leads a b e u v → Leads a b e v u

@@ -1,27 +1,25 @@
 -- Every finished plan passes the checker, with the same k, cost and bound (document 01, 'What a plan holds'), and so obeys the accuracy rule.
-use Prim.Native.Nat.{ℕ, zero, suc, _+_, _*_, _-_, _/_, _%_, _^_, _≤_, _<_}
+use Prim.Native.Nat.{ℕ, zero, suc, _+_, _*_, _/_, _%_, _≤_, _<_}
 use mathlib.Core.Path.{_≡_, refl, ap, ap₂, sym, _∙_, subst}
-use mathlib.Core.Logic.{_⊎_, inl, inr, ⊎-elim}
-use mathlib.Core.Bool.{Bool, true, false, _&&_, false≢true}
-use mathlib.Core.List.{List, [], _∷_, _++_}
+use mathlib.Core.Logic.{⊎-elim}
+use mathlib.Core.Bool.{Bool, true, false, false≢true}
+use mathlib.Core.List.{[], List, _∷_, _++_}
 use native.Mathlib.Nat.{mul-div-cancel-left, mul-mod-right, lt-of-le-of-lt, lt-of-lt-of-le}
 use native.Mathlib.Numerals.{one-add}
 use native.Mathlib.Omega.{arith}
 use lib.ListN.{length, getD, length-append, List·getD-eq-default}
 use lib.Dec.{eqb, lit<, lit≤}
-use borrow.Author.Tests.{eqb-true, eq-eqb, ne-eqb}
 use Rattle.finite.specs.Below.{counted, sumBelow, tabulate}
 use Rattle.finite.specs.Laws.Test.{not-true-false}
-use Rattle.finite.specs.Laws.Below.{sum-suc, sum-cong, lt-or-ge, length-tabulate, getD-tabulate}
+use Rattle.finite.specs.Laws.Below.{sum-cong, lt-or-ge, length-tabulate, getD-tabulate}
 use Rattle.graph.specs.Path.{crosses}
 use Rattle.graph.specs.Laws.Linked.{linked-mono, crosses-cong}
-use Rattle.limits.specs.Limits.{maxVertices, maxWeight, maxValue, valueBytes, memberBytes, recordBytes, maxDuals}
-use Rattle.limits.specs.Verdict.{Outcome, answer, outcome}
-use Rattle.limits.specs.declared.Verdict.the-variants.{Fine}
+use Rattle.limits.specs.Limits.{maxWeight, maxValue, memberBytes, recordBytes, maxDuals}
+use Rattle.limits.specs.Verdict.{answer, outcome}
 use Rattle.records.specs.Record.{recordOf, valueIn, memberIn, recordAt}
 use Rattle.records.specs.Laws.Record.{length-record, value-of-record, member-of-record, record-at-first, record-at-right}
-use Rattle.steiner.specs.Problem.{Problem, Sound, EdgeSet, Joins, separates, terminals, cost, allUsable}
-use Rattle.steiner.specs.Growth.{State, numbers, grown}
+use Rattle.steiner.specs.Problem.{Problem, Sound, Joins, separates, terminals, cost, allUsable}
+use Rattle.steiner.specs.Growth.{numbers, grown}
 use Rattle.steiner.specs.Dual.{Dual, weigh, total, felt}
 use Rattle.steiner.specs.Dual.{dualsOf as grownDuals}
 use Rattle.steiner.specs.Pruning.{picked, kept, markOf, mark, dualBound}
@@ -30,16 +28,16 @@ use Rattle.steiner.specs.Laws.Partition.{members-below}
 use Rattle.steiner.specs.Laws.Weighed.{Local, value-fresh}
 use Rattle.steiner.specs.Laws.Rounds.{grown-reached}
 use Rattle.steiner.specs.Laws.Finish.{kept-joins, kept-picked, kept-edges}
-use Rattle.steiner.specs.Laws.Dual.{Each, none, more, dualOf, weigh-append, each-dual, value-separates, value-fits, duals-count, total-duals}
+use Rattle.steiner.specs.Laws.Dual.{Each, none, more, weigh-append, each-dual, value-separates, value-fits, duals-count, total-duals}
 use Rattle.steiner.specs.Laws.Accuracy.{kept-accurate, no-terminal-free, grown-feasible}
 use Rattle.survey.specs.Survey.{Survey, vertexCount, edgeCount, problemOf}
 use Rattle.survey.specs.Accuracy.{Accurate}
 use Rattle.survey.specs.Laws.Refusal.{SurveySound, survey-sound}
 use Rattle.survey.specs.Laws.Group.{Numbered}
-use Rattle.checker.specs.Check.{Checked, dualAt, dualsIn, keptBy, checkedOf, checkRefusal, checking}
+use Rattle.checker.specs.Check.{dualAt, dualsIn, keptBy, checkedOf, checking}
 use Rattle.checker.specs.Laws.Meaning.{DualSound, Passing, passing-check}
 use Rattle.checker.specs.Laws.Accuracy.{passing-accurate}
-use Rattle.planner.specs.Plan.{Plan, planOf, recordsOf}
+use Rattle.planner.specs.Plan.{planOf, recordsOf}
 
 -- ---- duals by their place in a list
 

@@ -1,24 +1,20 @@
 -- When planning finishes: exactly if none of 1 to 8 applies. Then the survey is sound, the buffers are long enough, and all tracks together join every group; 8 names the
 -- lowest group that no set of tracks joins (the buyer's demands 1 and 2).
 use Prim.Native.Nat.{ℕ, _*_, _≤_, _<_}
-use mathlib.Core.Path.{_≡_, refl, sym, _∙_}
+use mathlib.Core.Path.{_≡_, _∙_}
 use mathlib.Core.Logic.{_↔_}
-use mathlib.Core.Bool.{Bool, true, false, _||_}
-use native.Mathlib.Omega.{arith}
+use mathlib.Core.Bool.{true, false, _||_}
 use lib.Dec.{ltb}
 use borrow.Author.Tests.{ltb-false, le-ltb}
 use Rattle.finite.specs.Laws.Test.{or-false-left, or-false-right}
 use Rattle.limits.specs.Limits.{recordBytes, dualsOf}
-use Rattle.limits.specs.Verdict.{refuseIf, _before_}
-use Rattle.limits.specs.declared.Verdict.{Verdict}
-use Rattle.limits.specs.declared.Verdict.the-variants.{Fine, Refused}
+use Rattle.limits.specs.declared.Verdict.the-variants.{Fine}
 use Rattle.limits.specs.Laws.Verdict.{before-fine, fine-left, fine-right, refuse-false, fine-refuse}
-use Rattle.steiner.specs.Problem.{Problem, Sound, EdgeSet, Joins, allUsable}
+use Rattle.steiner.specs.Problem.{Joins, allUsable}
 use Rattle.steiner.specs.Laws.Finish.{allUsable-edges}
 use Rattle.survey.specs.Survey.{Survey, vertexCount, edgeCount, problemOf}
-use Rattle.survey.specs.Refusal.{surveyRefusal, groupRefusal}
-use Rattle.survey.specs.Laws.Refusal.{SurveySound, survey-fine, fine-survey, survey-sound}
-use Rattle.survey.specs.Laws.Group.{Numbered, JoinsGroup, LowestUnjoined, group-fine, joins-fine, group-refused, unjoinable-iff}
+use Rattle.survey.specs.Laws.Refusal.{SurveySound, survey-fine, fine-survey}
+use Rattle.survey.specs.Laws.Group.{Numbered, group-fine, joins-fine}
 use Rattle.planner.specs.Plan.{planRefusal}
 
 -- None of 1 to 8 applies.

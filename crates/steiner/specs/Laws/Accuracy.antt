@@ -1,47 +1,29 @@
 -- The accuracy of a grown and pruned set (source 001, Lemma 22.8 and Theorem 22.9, with source 003's factor 2 - 2/k): k times its cost is at most
 -- k - 1 times the dual bound, so (2k - 2) times the cost of any set that joins every required pair is at least k times its cost.
 use Prim.Native.Nat.{ℕ, zero, suc, _+_, _*_, _-_, _≤_, _<_}
-use mathlib.Core.Path.{_≡_, refl, ap, ap₂, sym, _∙_, subst}
-use mathlib.Core.Logic.{_⊎_, inl, inr, ⊎-elim}
-use mathlib.Core.Bool.{Bool, true, false, _&&_, _||_, not, false≢true}
+use mathlib.Core.Path.{_≡_, refl, ap, sym, _∙_, subst}
+use mathlib.Core.Bool.{Bool, true, false, _&&_}
 use mathlib.Core.List.{List}
 use native.Mathlib.Nat.{mul-le-mul-left}
 use native.Mathlib.Omega.{arith}
 use lib.Dec.{eqb}
-use borrow.Author.Tests.{eqb-true, eqb-false, eq-eqb, ne-eqb}
-use Rattle.finite.specs.Below.{counted, sumBelow, countBelow, anyBelow}
-use Rattle.finite.specs.Laws.Test.{either, and-both, not-of-false, true-not-false}
-use Rattle.finite.specs.Laws.Below.{
-  sum-suc,
-  sum-le,
-  sum-cong,
-  sum-add,
-  sum-zero,
-  sum-swap,
-  sum-scale,
-  counted-true,
-  counted-false,
-  counted-zero,
-  counted-add,
-  counted-mono,
-  counted-sum,
-  count-positive,
-  count-labels,
-  any-intro,
-}
+use borrow.Author.Tests.{eqb-true}
+use Rattle.finite.specs.Below.{counted, sumBelow, countBelow}
+use Rattle.finite.specs.Laws.Test.{true-not-false}
+use Rattle.finite.specs.Laws.Below.{sum-le, sum-cong, sum-add, sum-zero, sum-swap, sum-scale, counted-true, counted-false, counted-zero, counted-add, counted-mono, counted-sum, count-positive, count-labels}
 use Rattle.graph.specs.Path.{crosses}
-use Rattle.steiner.specs.Problem.{Problem, Sound, EdgeSet, Joins, separates, cost, terminal, terminals, allUsable}
+use Rattle.steiner.specs.Problem.{Problem, Sound, EdgeSet, Joins, cost, terminal, terminals, allUsable}
 use Rattle.steiner.specs.Growth.{State, start, active, numbers, slack, Winner, nobody, edge, winner, pick, stateAt, grown}
 use Rattle.steiner.specs.Dual.{Dual, total, felt, dualsOf}
 use Rattle.steiner.specs.Pruning.{picked, kept, dualBound}
 use Rattle.steiner.specs.Laws.Joined.{Split, separates-elim, terminal-intro}
 use Rattle.steiner.specs.Laws.Round.{Reached, stateAt-reached}
-use Rattle.steiner.specs.Laws.Winner.{Waits, one-first, one-second, both, Candidate}
+use Rattle.steiner.specs.Laws.Winner.{Waits, one-first, one-second, both}
 use Rattle.steiner.specs.Laws.Partition.{label-below, winner-candidate, winner-below}
 use Rattle.steiner.specs.Laws.Weighed.{component, activeCount, feels, feels-pick}
 use Rattle.steiner.specs.Laws.Feasible.{feels-start, picked-tight, not-overtight}
 use Rattle.steiner.specs.Laws.Rounds.{meets, meets-intro, stateAt-pick, stateAt-still, grown-reached, delayIn, roundDelay, bound-by-rounds}
-use Rattle.steiner.specs.Laws.Finish.{kept-picked, kept-edges}
+use Rattle.steiner.specs.Laws.Finish.{kept-picked}
 use Rattle.steiner.specs.Laws.Dual.{Each, each-dual, value-separates, total-duals, felt-duals}
 use Rattle.steiner.specs.Laws.WeakDuality.{Separating, weak-duality}
 use Rattle.steiner.specs.Laws.Degree.{degree, activeDegree, degree-bound}

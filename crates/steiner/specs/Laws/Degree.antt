@@ -1,16 +1,16 @@
 -- The degrees of active components (source 001, Lemma 22.8, with the finer count behind source 003's factor 2 - 2/k): in a round, the kept
 -- edges at the active components number at most twice the active components less 2.
 use Prim.Native.Nat.{ℕ, zero, suc, _+_, _*_, _-_, _≤_, _<_}
-use mathlib.Core.Path.{_≡_, refl, ap, ap₂, sym, _∙_, subst}
+use mathlib.Core.Path.{_≡_, refl, ap, sym, _∙_, subst}
 use mathlib.Core.Logic.{_⊎_, inl, inr, ⊎-elim}
-use mathlib.Core.Bool.{Bool, true, false, _&&_, _||_, not, xor, and-true, and-false, false≢true}
+use mathlib.Core.Bool.{Bool, true, false, _&&_, _||_, not, xor, and-true, and-false}
 use native.Mathlib.Nat.{add-zero, add-suc, add-sub-of-le, le-of-eq}
 use native.Mathlib.Omega.{arith}
 use native.Mathlib.Decide.{ℕ-discrete}
 use lib.Dec.{eqb, ltb}
-use borrow.Author.Tests.{eqb-true, eqb-false, eq-eqb, ne-eqb, lt-ltb, ltb-true, ltb-false, not-true}
-use Rattle.finite.specs.Below.{counted, sumBelow, countBelow, anyBelow}
-use Rattle.finite.specs.Laws.Test.{either, same-test, and-left, and-right, and-both, or-left, or-right, or-cases, not-true-false, not-of-false, true-not-false}
+use borrow.Author.Tests.{eqb-true, eq-eqb, ne-eqb, lt-ltb, ltb-true, not-true}
+use Rattle.finite.specs.Below.{counted, sumBelow, countBelow}
+use Rattle.finite.specs.Laws.Test.{either, same-test, and-left, and-right, and-both, or-left, or-right, not-true-false, true-not-false}
 use Rattle.finite.specs.Laws.Below.{
   sum-le,
   sum-cong,
@@ -32,17 +32,16 @@ use Rattle.finite.specs.Laws.Below.{
   Found,
   lt-or-ge,
 }
-use Rattle.graph.specs.Path.{Linked, without, crosses}
-use Rattle.graph.specs.Laws.Linked.{Crossing, crosses-elim, crosses-not, linked-mono, without-intro}
+use Rattle.graph.specs.Path.{crosses}
+use Rattle.graph.specs.Laws.Linked.{crosses-not, linked-mono, without-intro}
 use Rattle.graph.specs.Laws.Component.{merged-cong}
-use Rattle.steiner.specs.Problem.{Problem, Sound, Joins, separates, allUsable}
+use Rattle.steiner.specs.Problem.{Problem, Sound, Joins, allUsable}
 use Rattle.steiner.specs.Growth.{State, active, numbers, slack, Winner, nobody, edge, winner, pick, stateAt, grown}
 use Rattle.steiner.specs.Pruning.{picked, kept}
 use Rattle.steiner.specs.Laws.Round.{Reached, next, stateAt-reached, pick-label, pick-more, pick-new, pick-only}
-use Rattle.steiner.specs.Laws.Winner.{Waits, one-first, one-second, both, Candidate}
-use Rattle.steiner.specs.Laws.Partition.{label-below, winner-candidate, winner-below, partition, picked-forest, Inhabited, active-inhabited}
+use Rattle.steiner.specs.Laws.Winner.{Waits, one-first, one-second, both}
+use Rattle.steiner.specs.Laws.Partition.{label-below, winner-candidate, winner-below, partition}
 use Rattle.steiner.specs.Laws.Weighed.{component, activeCount, two-ends}
-use Rattle.steiner.specs.Laws.Feasible.{apart-before}
 use Rattle.steiner.specs.Laws.Rounds.{meets, Met, meets-intro, meets-elim, meets-count, stateAt-pick, stateAt-still, grown-reached}
 use Rattle.steiner.specs.Laws.Finish.{kept-edges, kept-picked, picked-acyclic, grown-ends, no-inactive-leaf}
 

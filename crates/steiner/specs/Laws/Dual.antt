@@ -4,7 +4,7 @@ use Prim.Native.Nat.{ℕ, zero, suc, _+_, _*_, _-_, _≤_, _<_}
 use mathlib.Core.Path.{_≡_, refl, ap, sym, _∙_, subst}
 use mathlib.Core.Logic.{_⊎_, inl, inr, ⊎-elim}
 use mathlib.Core.Bool.{Bool, true, false, cond}
-use mathlib.Core.List.{List, [], _∷_, _++_, map}
+use mathlib.Core.List.{[], List, _∷_, _++_, map}
 use native.Mathlib.Omega.{arith}
 use native.Mathlib.Decide.{ℕ-discrete}
 use lib.ListN.{length, length-append, length-map}
@@ -16,7 +16,7 @@ use Rattle.finite.specs.Laws.Below.{lt-or-ge, sum-member, counted-true, counted
 use Rattle.graph.specs.Path.{crosses}
 use Rattle.graph.specs.Laws.Linked.{Crossing, cut-crossed}
 use Rattle.steiner.specs.Problem.{Problem, Sound, Joins, separates, allUsable}
-use Rattle.steiner.specs.Growth.{State, start, active, numbers, edge, winner, pick}
+use Rattle.steiner.specs.Growth.{State, start, active, numbers, edge, pick}
 use Rattle.steiner.specs.Dual.{Dual, weigh, total, felt, dualsOf}
 use Rattle.steiner.specs.Pruning.{dualBound}
 use Rattle.steiner.specs.Laws.Joined.{Split, separates-elim, separates-cong}

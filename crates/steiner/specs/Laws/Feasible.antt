@@ -1,15 +1,14 @@
 -- No usable edge is overtight and every picked edge is tight (source 001, Lemma 22.6); and where both ends are active what remains is even, so
 -- that half of it is a whole number of half units (document 01, 'How moats grow').
-use Prim.Native.Nat.{ℕ, zero, suc, _+_, _*_, _-_, _/_, _%_, _≤_, _<_}
-use mathlib.Core.Path.{_≡_, refl, ap, ap₂, sym, _∙_, subst}
+use Prim.Native.Nat.{ℕ, _+_, _*_, _-_, _/_, _%_, _≤_, _<_}
+use mathlib.Core.Path.{_≡_, refl, ap, sym, _∙_, subst}
 use mathlib.Core.Logic.{_⊎_, inl, inr, ⊎-elim}
-use mathlib.Core.Bool.{Bool, true, false, _&&_, false≢true}
+use mathlib.Core.Bool.{Bool, true, false≢true}
 use native.Mathlib.Omega.{arith}
 use native.Mathlib.Decide.{ℕ-discrete}
 use lib.Dec.{eqb}
-use borrow.Author.Tests.{eqb-true, eqb-false, eq-eqb, ne-eqb}
-use Rattle.finite.specs.Below.{counted, sumBelow}
-use Rattle.finite.specs.Laws.Test.{either, same-test}
+use borrow.Author.Tests.{ne-eqb}
+use Rattle.finite.specs.Below.{counted}
 use Rattle.finite.specs.Laws.Below.{sum-zero, counted-true, counted-false, counted-zero}
 use Rattle.graph.specs.Component.{merged}
 use Rattle.graph.specs.Laws.Component.{Merging, inside, outside, merged-cong}
@@ -17,7 +16,7 @@ use Rattle.steiner.specs.Problem.{Problem, Sound}
 use Rattle.steiner.specs.Growth.{State, start, active, numbers, load, slack, Delay, never, after, delay, edge, winner, pick}
 use Rattle.steiner.specs.Laws.Joined.{separates-cong}
 use Rattle.steiner.specs.Laws.Round.{Reached, first, next, pick-label, pick-only}
-use Rattle.steiner.specs.Laws.Winner.{Waits, one-first, one-second, both, Candidate, delay-elim, delay-never, Wins, winner-wins}
+use Rattle.steiner.specs.Laws.Winner.{Waits, one-first, one-second, both, Candidate, delay-elim, delay-never, winner-wins}
 use Rattle.steiner.specs.Laws.Partition.{
   label-merging,
   label-fresh,

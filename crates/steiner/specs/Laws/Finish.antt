@@ -1,40 +1,21 @@
 -- How growing ends and what pruning leaves (source 001, Lemma 22.6). While the usable edges can join every required pair, a round in which some
 -- component is active has a winner; so at the end none is, the picked edges join every required pair, the kept ones still do, and none of those can be spared.
-use Prim.Native.Nat.{ℕ, zero, suc, _+_, _*_, _-_, _≤_, _<_}
-use mathlib.Core.Path.{_≡_, refl, ap, sym, _∙_, subst}
-use mathlib.Core.Logic.{_⊎_, inl, inr, ⊎-elim}
-use mathlib.Core.Bool.{Bool, true, false, _&&_, _||_, not, false≢true, true≢false}
-use native.Mathlib.Omega.{arith}
+use Prim.Native.Nat.{ℕ, _<_}
+use mathlib.Core.Path.{_≡_, refl, ap, sym, _∙_}
+use mathlib.Core.Logic.{_⊎_, inl, inr}
+use mathlib.Core.Bool.{Bool, true, false, not}
 use native.Mathlib.Decide.{ℕ-discrete}
 use lib.Dec.{eqb, ltb}
-use borrow.Author.Tests.{eqb-true, eqb-false, eq-eqb, ne-eqb, not-true, not-false, ltb-true, lt-ltb}
-use Rattle.finite.specs.Laws.Test.{either, and-left, and-right, and-both, not-true-false, not-of-false, true-not-false}
-use Rattle.graph.specs.Path.{Linked, without, crosses}
-use Rattle.graph.specs.Laws.Linked.{
-  Through,
-  spared,
-  forwards,
-  backwards,
-  linked-mono,
-  linked-sym,
-  linked-trans,
-  Crossing,
-  cut-crossed,
-  crosses-elim,
-  crosses-not,
-  without-elim,
-  without-intro,
-  without-mono,
-  through-without,
-  side-kept,
-}
-use Rattle.graph.specs.Laws.Component.{Labels}
+use borrow.Author.Tests.{eqb-true, eqb-false, eq-eqb, ne-eqb, not-false, ltb-true, lt-ltb}
+use Rattle.finite.specs.Laws.Test.{and-left, and-right, and-both, not-true-false, true-not-false}
+use Rattle.graph.specs.Path.{without, crosses}
+use Rattle.graph.specs.Laws.Linked.{linked-mono, Crossing, cut-crossed, crosses-elim, without-mono}
 use Rattle.graph.specs.Laws.Forest.{Forest, needed-joins}
 use Rattle.steiner.specs.Problem.{Problem, Sound, EdgeSet, Joins, joined, separates, allUsable}
-use Rattle.steiner.specs.Growth.{State, active, numbers, never, delay, Winner, nobody, edge, winner, stateAt, grown}
+use Rattle.steiner.specs.Growth.{State, active, nobody, edge, winner, grown}
 use Rattle.steiner.specs.Pruning.{needed, picked, kept}
 use Rattle.steiner.specs.Laws.Joined.{joined-elim, Split, separates-elim, separates-intro, needed-iff}
-use Rattle.steiner.specs.Laws.Round.{Reached, stateAt-reached}
+use Rattle.steiner.specs.Laws.Cut.{unseparated-joins}
 use Rattle.steiner.specs.Laws.Winner.{winner-none, delay-never}
 use Rattle.steiner.specs.Laws.Partition.{partition, picked-usable, picked-forest}
 use Rattle.steiner.specs.Laws.Rounds.{grown-reached, grown-still}
@@ -159,32 +140,5 @@ module _ (p : Problem) (ok : Sound p) (some : 0 < p .vertices) (joinable : Joins
   -- Source 001, Lemma 22.7: a cut that separates no required pair is not crossed by exactly one kept edge.
   pub no-inactive-leaf : (S : ℕ → Bool) → separates p S ≡ false → (e : ℕ) → kept p e ≡ true → crosses (p .first) (p .second) S e ≡ true →
       ((f : ℕ) → kept p f ≡ true → crosses (p .first) (p .second) S f ≡ true → f ≡ e) → ⊥
-  no-inactive-leaf S rest e k x alone = kept-fails e k (λ u v bu bv r. by u v bu bv r (through-without e (kept-joins u v bu bv r)))
-    where
-      side : {u w : ℕ} → Linked (p .first) (p .second) (without (kept p) e) u w → S u ≡ S w
-      side l =
-          side-kept S
-          (λ f h c. without-elim (kept p) e f h .1 (alone f (without-elim (kept p) e f h .0) c)) l
-
-      parted : (u v : ℕ) → u < p .vertices → v < p .vertices → p .required u v ≡ true → (S u ≡ S v → ⊥) → ⊥
-      parted u v bu bv r apart = go (either (S u)) (either (S v))
-        where
-          go : (S u ≡ true) ⊎ (S u ≡ false) → (S v ≡ true) ⊎ (S v ≡ false) → ⊥
-          go (inl a) (inl b) = apart (a ∙ sym b)
-          go (inr a) (inr b) = apart (a ∙ sym b)
-          go (inl a) (inr b) =
-              true-not-false (separates p S)
-              (separates-intro p S (record { u = u; v = v; u-below = bu; v-below = bv; required = r; inside = a; outside = b })) rest
-          go (inr a) (inl b) =
-              true-not-false (separates p S)
-              (separates-intro p S
-              (record { u = v; v = u; u-below = bv; v-below = bu; required = ok .symmetric u v r; inside = b; outside = a })) rest
-
-      ends : S (p .first e) ≡ S (p .second e) → ⊥
-      ends same = true-not-false (crosses (p .first) (p .second) S e) x (crosses-not (p .first) (p .second) S e same)
-
-      by : (u v : ℕ) → u < p .vertices → v < p .vertices → p .required u v ≡ true →
-          Through (p .first) (p .second) (without (kept p) e) e u v → Linked (p .first) (p .second) (without (picked p) e) u v
-      by u v bu bv r (spared l) = linked-mono (without-mono e kept-picked) l
-      by u v bu bv r (forwards l m) = absurd (parted u v bu bv r (λ same. ends (sym (side l) ∙ same ∙ sym (side m))))
-      by u v bu bv r (backwards l m) = absurd (parted u v bu bv r (λ same. ends (side m ∙ sym same ∙ side l)))
+  no-inactive-leaf S rest e k x alone =
+      kept-spares-none e k (unseparated-joins p ok (kept p) kept-joins e S x (λ f kf xf. alone f kf xf) rest)

@@ -1,13 +1,13 @@
 -- The tests of a problem mean what source 001 says in words: `joined` that every required pair has a path, `separates` that a cut parts one.
 use Prim.Native.Nat.{ℕ, _<_}
-use mathlib.Core.Path.{_≡_, refl, ap, sym, _∙_}
-use mathlib.Core.Logic.{_⊎_, inl, inr, ⊎-elim, _↔_}
-use mathlib.Core.Bool.{Bool, true, false, _&&_, _||_, not, false≢true}
+use mathlib.Core.Path.{_≡_}
+use mathlib.Core.Logic.{⊎-elim, _↔_}
+use mathlib.Core.Bool.{Bool, true, false, _&&_, _||_, not}
 use lib.Dec.{eqb, ltb}
 use borrow.Author.Tests.{eqb-true, eqb-false, eq-eqb, ne-eqb, lt-ltb, not-true}
 use Rattle.finite.specs.Below.{anyBelow, allBelow}
 use Rattle.finite.specs.Laws.Test.{either, and-left, and-right, and-both, or-cases, or-left, or-right, not-of-false, not-true-false, true-not-false}
-use Rattle.finite.specs.Laws.Below.{any-intro, any-elim, any-none, any-cong, all-intro, all-elim, Found}
+use Rattle.finite.specs.Laws.Below.{any-intro, any-elim, any-cong, all-intro, all-elim, Found}
 use Rattle.graph.specs.Path.{Linked, without}
 use Rattle.graph.specs.Component.{components}
 use Rattle.graph.specs.Laws.Linked.{linked-mono, without-elim}

@@ -1,14 +1,14 @@
 -- After every round: labels are equal exactly if the picked edges link, the picked edges are a forest of usable edges (source 001, proof of
 -- Lemma 22.6), and a component number that is in use has just the vertices with that label.
-use Prim.Native.Nat.{ℕ, zero, suc, _+_, _≤_, _<_}
-use mathlib.Core.Path.{_≡_, refl, ap, sym, _∙_, subst}
+use Prim.Native.Nat.{ℕ, suc, _<_}
+use mathlib.Core.Path.{_≡_, refl, sym, _∙_, subst}
 use mathlib.Core.Logic.{_⊎_, inl, inr, ⊎-elim, _↔_}
-use mathlib.Core.Bool.{Bool, true, false, _&&_, _||_, not, false≢true, true≢false}
+use mathlib.Core.Bool.{true, false, _||_, false≢true}
 use native.Mathlib.Omega.{arith}
 use native.Mathlib.Decide.{ℕ-discrete}
 use lib.Dec.{eqb}
-use borrow.Author.Tests.{eqb-true, eqb-false, eq-eqb, ne-eqb}
-use Rattle.finite.specs.Laws.Test.{or-cases, or-left, or-right, same-test}
+use borrow.Author.Tests.{eqb-true, eq-eqb, ne-eqb}
+use Rattle.finite.specs.Laws.Test.{or-cases, or-left, or-right}
 use Rattle.graph.specs.Path.{Linked}
 use Rattle.graph.specs.Component.{merged}
 use Rattle.graph.specs.Laws.Linked.{linked-refl}
@@ -30,7 +30,7 @@ use Rattle.steiner.specs.Laws.Round.{
   pick-new,
   pick-only,
 }
-use Rattle.steiner.specs.Laws.Winner.{Candidate, delay-elim, Wins, winner-wins}
+use Rattle.steiner.specs.Laws.Winner.{Candidate, delay-elim, winner-wins}
 
 abbrev pub Vertex : Problem → ℕ → Type 0
 Vertex p v = v < p .vertices

@@ -1,13 +1,13 @@
 -- What one round does to each part of the state, and the states that rounds reach. Laws of growth go by recursion over `Reached`.
-use Prim.Native.Nat.{ℕ, zero, suc, _+_, _<_}
-use mathlib.Core.Path.{_≡_, refl, ap, sym, _∙_, subst}
-use mathlib.Core.Bool.{Bool, true, false, _&&_, _||_, cond}
+use Prim.Native.Nat.{ℕ, zero, suc, _+_}
+use mathlib.Core.Path.{_≡_, refl}
+use mathlib.Core.Bool.{true, _||_}
 use native.Mathlib.Omega.{arith}
 use mathlib.Core.Logic.{_⊎_, inl, inr, ⊎-elim}
 use lib.Dec.{eqb}
 use borrow.Author.Tests.{eqb-true, eq-eqb, ne-eqb}
 use Rattle.finite.specs.Laws.Test.{or-cases, or-left, or-right}
-use Rattle.finite.specs.Below.{counted, memo}
+use Rattle.finite.specs.Below.{counted}
 use Rattle.finite.specs.Laws.Below.{memo-is}
 use Rattle.graph.specs.Component.{merged}
 use Rattle.steiner.specs.Problem.{Problem}

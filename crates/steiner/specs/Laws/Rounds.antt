@@ -1,31 +1,15 @@
 -- How many rounds there are: each lowers the number of components by one, so at most n - 1 (document 01, 'How moats grow'), each picks one
 -- edge, and the n steps of the definition are enough. The bound is the sum over rounds of the delay times the active components.
-use Prim.Native.Nat.{ℕ, zero, suc, _+_, _*_, _-_, _≤_, _<_}
+use Prim.Native.Nat.{ℕ, zero, suc, _+_, _*_, _≤_, _<_}
 use mathlib.Core.Path.{_≡_, refl, ap, sym, _∙_, subst}
 use mathlib.Core.Logic.{_⊎_, inl, inr, ⊎-elim}
-use mathlib.Core.Bool.{Bool, true, false, _&&_, _||_, false≢true}
+use mathlib.Core.Bool.{Bool, true, false, _&&_, _||_}
 use native.Mathlib.Omega.{arith}
-use native.Mathlib.Nat.{mul-le-mul-left, mul-le-mul-right}
 use lib.Dec.{eqb}
-use borrow.Author.Tests.{eqb-true, eq-eqb, ne-eqb}
+use borrow.Author.Tests.{eqb-true, eq-eqb}
 use Rattle.finite.specs.Below.{counted, sumBelow, countBelow, anyBelow}
 use Rattle.finite.specs.Laws.Test.{same-test, not-true-false, and-left, and-right, and-both, or-left, or-right, or-cases}
-use Rattle.finite.specs.Laws.Below.{
-  sum-suc,
-  sum-zero,
-  sum-le,
-  sum-cong,
-  sum-at,
-  sum-at-two,
-  counted-true,
-  counted-false,
-  counted-le,
-  any-intro,
-  any-elim,
-  Found,
-  count-all,
-  count-positive,
-}
+use Rattle.finite.specs.Laws.Below.{sum-suc, sum-zero, sum-at, sum-at-two, counted-true, counted-false, counted-le, any-intro, any-elim, Found, count-all, count-positive}
 use Rattle.graph.specs.Component.{merged}
 use Rattle.graph.specs.Laws.Component.{Merging, inside, outside, merged-in}
 use Rattle.steiner.specs.Problem.{Problem, Sound}
@@ -47,9 +31,9 @@ use Rattle.steiner.specs.Growth.{
 }
 use Rattle.steiner.specs.Pruning.{dualBound}
 use Rattle.steiner.specs.Laws.Round.{Reached, first, next, stateAt-reached, pick-rounds, pick-numbers, pick-label, pick-value, pick-more, pick-new, pick-only}
-use Rattle.steiner.specs.Laws.Winner.{Waits, one-first, one-second, both, Candidate, winner-none}
-use Rattle.steiner.specs.Laws.Partition.{label-merging, label-below, label-fresh, winner-candidate, winner-below, partition, picked-usable}
-use Rattle.steiner.specs.Laws.Weighed.{weighed, activeCount, bound-pick, bound-weighed, load-pick}
+use Rattle.steiner.specs.Laws.Winner.{Waits, one-first, one-second, both}
+use Rattle.steiner.specs.Laws.Partition.{label-merging, label-below, label-fresh, winner-candidate, winner-below, partition}
+use Rattle.steiner.specs.Laws.Weighed.{activeCount, bound-pick, load-pick}
 use Rattle.steiner.specs.Laws.Feasible.{load-start}
 
 -- ---- components are counted by the labels in use

@@ -1,13 +1,12 @@
 -- Weak duality (source 003, Lemma 3.2; the exchange of sums of source 001, Lemma 22.8): duals that each separate a required pair and overload no edge of F
 -- come to at most twice the cost of F, whenever F joins every required pair. Who drew the duals does not matter.
-use Prim.Native.Nat.{ℕ, zero, suc, _+_, _*_, _≤_, _<_}
-use mathlib.Core.Path.{_≡_, refl, ap, sym, _∙_}
+use Prim.Native.Nat.{ℕ, _+_, _*_, _≤_, _<_}
+use mathlib.Core.Path.{_≡_, refl}
 use mathlib.Core.Bool.{Bool, true, false}
-use mathlib.Core.List.{List, [], _∷_}
+use mathlib.Core.List.{[], List, _∷_}
 use native.Mathlib.Omega.{arith}
 use Rattle.finite.specs.Below.{counted, sumBelow}
-use Rattle.finite.specs.Laws.Below.{sum-le, sum-cong, sum-add, sum-member, sum-scale, counted-true, counted-false, counted-add, counted-scale}
-use Rattle.finite.specs.Laws.Test.{either}
+use Rattle.finite.specs.Laws.Below.{sum-le, sum-cong, sum-add, sum-member, sum-scale, counted-true, counted-false, counted-add}
 use Rattle.graph.specs.Path.{crosses}
 use Rattle.graph.specs.Laws.Linked.{Crossing, cut-crossed}
 use Rattle.steiner.specs.Problem.{Problem, EdgeSet, Joins, separates, cost}

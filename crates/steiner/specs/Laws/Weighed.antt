@@ -1,20 +1,19 @@
 -- What a round adds to a sum over the duals: the delay for each active component whose set passes the test. The load of a vertex, what an edge
 -- feels and the dual bound are three such sums.
-use Prim.Native.Nat.{ℕ, zero, suc, _+_, _*_, _≤_, _<_}
-use mathlib.Core.Path.{_≡_, refl, ap, ap₂, sym, _∙_, subst}
-use mathlib.Core.Logic.{_⊎_, inl, inr, ⊎-elim}
-use mathlib.Core.Bool.{Bool, true, false, _&&_, _||_, not, xor, and-true, and-false}
+use Prim.Native.Nat.{ℕ, suc, _+_, _*_, _≤_, _<_}
+use mathlib.Core.Path.{_≡_, refl, ap, ap₂, sym, _∙_}
+use mathlib.Core.Bool.{Bool, true, false, _&&_, xor, and-true, and-false}
 use native.Mathlib.Nat.{mul-one}
 use native.Mathlib.Omega.{arith}
 use lib.Dec.{eqb}
-use borrow.Author.Tests.{eqb-true, eqb-false, eq-eqb, ne-eqb}
+use borrow.Author.Tests.{eqb-true, eq-eqb}
 use Rattle.finite.specs.Below.{counted, sumBelow, countBelow}
-use Rattle.finite.specs.Laws.Test.{either, not-true-false, and-left, and-right}
-use Rattle.finite.specs.Laws.Below.{sum-suc, sum-cong, sum-add, sum-zero, sum-only, sum-scale, counted-true, counted-false, counted-zero, counted-add, counted-scale}
+use Rattle.finite.specs.Laws.Test.{not-true-false, and-right}
+use Rattle.finite.specs.Laws.Below.{sum-suc, sum-cong, sum-add, sum-zero, sum-only, sum-scale, counted-false, counted-zero, counted-add, counted-scale}
 use Rattle.graph.specs.Path.{crosses}
 use Rattle.graph.specs.Laws.Linked.{crosses-cong, crosses-not}
-use Rattle.steiner.specs.Problem.{Problem, Sound, separates}
-use Rattle.steiner.specs.Growth.{State, start, active, numbers, load, edge, winner, pick}
+use Rattle.steiner.specs.Problem.{Problem, Sound}
+use Rattle.steiner.specs.Growth.{State, start, active, numbers, load, pick}
 use Rattle.steiner.specs.Pruning.{dualBound}
 use Rattle.steiner.specs.Laws.Round.{Reached, first, next, pick-numbers, pick-value, pick-holds-old}
 use Rattle.steiner.specs.Laws.Partition.{label-below, active-below, active-members}

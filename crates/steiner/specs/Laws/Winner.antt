@@ -1,13 +1,13 @@
 -- The winner of a round: an edge with a delay, none of the candidates has a smaller one, and none of a lower number an equal one. With no winner
 -- there is no candidate. And what a delay says of its edge.
-use Prim.Native.Nat.{ℕ, zero, suc, _+_, _*_, _-_, _/_, _≤_, _<_}
+use Prim.Native.Nat.{ℕ, zero, suc, _/_, _≤_, _<_}
 use mathlib.Core.Path.{_≡_, refl, ap, sym, _∙_, subst}
-use mathlib.Core.Logic.{_⊎_, inl, inr, ⊎-elim}
-use mathlib.Core.Bool.{Bool, true, false, _&&_, _||_, not, cond}
+use mathlib.Core.Logic.{⊎-elim}
+use mathlib.Core.Bool.{Bool, true, false, _&&_, not, cond}
 use native.Mathlib.Omega.{arith}
 use lib.Dec.{eqb, ltb}
-use borrow.Author.Tests.{eqb-true, eqb-false, ne-eqb, not-true, ltb-true, ltb-false, eq-eqb}
-use Rattle.finite.specs.Laws.Test.{either, and-left, and-right, and-both, not-of-false}
+use borrow.Author.Tests.{eqb-false, ne-eqb, not-true, ltb-true, ltb-false}
+use Rattle.finite.specs.Laws.Test.{and-left, and-right, and-both, not-of-false}
 use Rattle.finite.specs.Laws.Below.{below-suc}
 use Rattle.steiner.specs.Problem.{Problem}
 use Rattle.steiner.specs.Growth.{

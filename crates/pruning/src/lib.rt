@@ -1,0 +1,1 @@
+// Pruning: which picked edges are kept. Definitions in specs/.
