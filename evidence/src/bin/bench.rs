@@ -1,0 +1,98 @@
+//! Nanoseconds per plan on seeded surveys of 64, 128 and 256 junctions with 2,048 tracks:
+//!
+//!     bench [--seed S] [--surveys N] [--repeats R]
+//!
+//! Each survey is planned R times; a line gives the medians and the least times, each as the mean over the surveys. On
+//! a busy machine the least times are the steadier ones. With the feature `native` the outside planner is timed in turn
+//! with ours, on the same surveys, after its answer has been compared.
+
+use evidence::gen::{timed, Rng};
+use evidence::plan::{owned, record_room, reference, Counts, Workspace};
+use evidence::{Refusal, Survey, View};
+use std::process::ExitCode;
+use std::time::Instant;
+
+type Timed<'a> = &'a mut dyn FnMut(View, &mut [u8], &mut [u8]) -> Result<Counts, Refusal>;
+
+/// The median and the least of R timings of each planner, in turn, in nanoseconds.
+fn times(survey: &Survey, planners: &mut [Timed], repeats: usize) -> Vec<[u64; 2]> {
+    let (mut marks, mut records) = (vec![0; survey.first.len()], vec![0; record_room(survey.groups.len())]);
+    let mut times = vec![Vec::with_capacity(repeats); planners.len()];
+    for _ in 0..repeats {
+        for (planner, times) in planners.iter_mut().zip(times.iter_mut()) {
+            let start = Instant::now();
+            let answer = planner(std::hint::black_box(survey.view()), &mut marks, &mut records);
+            times.push(start.elapsed().as_nanos() as u64);
+            assert!(std::hint::black_box(answer).is_ok());
+        }
+    }
+    times
+        .into_iter()
+        .map(|mut times| {
+            times.sort_unstable();
+            [times[times.len() / 2], times[0]]
+        })
+        .collect()
+}
+
+/// Does a planner draw the plain planner's plan?
+fn sound(survey: &Survey, planner: Timed) -> bool {
+    let plan = owned(reference, survey.view()).expect("it can be joined");
+    let (mut marks, mut records) = (vec![0; survey.first.len()], vec![0; record_room(survey.groups.len())]);
+    planner(survey.view(), &mut marks, &mut records) == Ok(plan.counts)
+        && marks == plan.marks
+        && records[..plan.records.len()] == plan.records
+}
+
+fn main() -> ExitCode {
+    let (mut seed, mut surveys, mut repeats) = (1u64, 12usize, 31usize);
+    let mut words = std::env::args().skip(1);
+    while let Some(word) = words.next() {
+        let value = words.next().and_then(|value| value.parse::<u64>().ok());
+        match (word.as_str(), value) {
+            ("--seed", Some(number)) => seed = number,
+            ("--surveys", Some(number)) => surveys = number.max(1) as usize,
+            ("--repeats", Some(number)) => repeats = number.max(1) as usize,
+            _ => {
+                eprintln!("bench [--seed S] [--surveys N] [--repeats R]");
+                return ExitCode::from(2);
+            }
+        }
+    }
+
+    let mut workspace = Box::new(Workspace::NEW);
+    let mut ours = |survey: View, marks: &mut [u8], records: &mut [u8]| workspace.plan(survey, marks, records);
+    #[cfg(feature = "native")]
+    let mut outside = evidence::native::plan;
+
+    for n in [64, 128, 256] {
+        let mut sums: Vec<[u64; 2]> = Vec::new();
+        let mut rounds = 0;
+        for i in 0..surveys {
+            let survey = timed(&mut Rng::of_case(seed, (1_000 * n + i) as u64), n, i);
+            let mut planners: Vec<Timed> = vec![&mut ours];
+            #[cfg(feature = "native")]
+            planners.push(&mut outside);
+            for planner in planners.iter_mut() {
+                if !sound(&survey, planner) {
+                    println!("a planner differs on {survey:?}");
+                    return ExitCode::FAILURE;
+                }
+            }
+            rounds += owned(reference, survey.view()).expect("it can be joined").counts.rounds;
+            let times = times(&survey, &mut planners, repeats);
+            sums.resize(times.len(), [0; 2]);
+            for (sum, time) in sums.iter_mut().zip(times) {
+                *sum = [sum[0] + time[0], sum[1] + time[1]];
+            }
+        }
+        let mean: Vec<[u64; 2]> = sums.iter().map(|sum| sum.map(|time| time / surveys as u64)).collect();
+        let line = |name: &str, [median, least]: [u64; 2]| format!("{name} {median} ns per plan (least {least})");
+        print!("{n} junctions, 2048 tracks, {} rounds: {}", rounds / surveys as u64, line("fast", mean[0]));
+        if let Some(outside) = mean.get(1) {
+            print!(", {}, {:.2} times", line("native", *outside), outside[1] as f64 / mean[0][1] as f64);
+        }
+        println!();
+    }
+    ExitCode::SUCCESS
+}

@@ -1,0 +1,11 @@
+//! Seeded inputs. A seed and a case number name an input for good; no case depends on another.
+
+mod plans;
+mod rng;
+mod surveys;
+mod texts;
+
+pub use plans::{damaged_plan, damaged_plan_of, moat_case, Damage, PlanCase, DAMAGES};
+pub use rng::Rng;
+pub use surveys::{full, refused_survey, survey, timed, tiny, Size, WORKED};
+pub use texts::{directed_texts, text_case};

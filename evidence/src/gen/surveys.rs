@@ -1,0 +1,394 @@
+//! Surveys: a shape gives the ends, a scheme the prices, another the groups.
+
+use super::Rng;
+use crate::{Survey, MAX_JUNCTIONS, MAX_PRICE, MAX_TRACKS};
+
+/// Groups by junction, then tracks (end, end, price).
+pub type Worked = (&'static [u8], &'static [(u32, u32, u32)]);
+
+/// P1 to P12 of 01.
+pub const WORKED: [Worked; 12] = [
+    (&[0], &[]),
+    (&[1, 1], &[(0, 1, 5)]),
+    (&[1, 0, 1], &[(0, 1, 3), (1, 2, 4)]),
+    (&[1, 1, 1], &[(0, 1, 1), (1, 2, 1), (0, 2, 1)]),
+    (&[1, 1, 0, 0], &[(0, 1, 3), (0, 2, 1), (0, 3, 1)]),
+    (&[1, 1], &[(0, 1, 5), (0, 1, 5)]),
+    (&[1, 2], &[(0, 1, 4)]),
+    (&[1, 1], &[(0, 1, 0)]),
+    (&[0, 1, 1, 1], &[(0, 1, 3), (0, 2, 3), (0, 3, 3), (1, 2, 5), (1, 3, 5), (2, 3, 5)]),
+    (&[1, 2, 1, 2], &[(0, 1, 4), (1, 2, 2), (2, 3, 4)]),
+    (&[1, 1, 2, 2], &[(0, 1, 1), (0, 2, 3), (1, 3, 3)]),
+    (&[1, 1], &[]),
+];
+
+/// How many junctions and tracks a survey may have.
+#[derive(Clone, Copy, Debug, PartialEq, Eq)]
+pub enum Size {
+    /// Few enough tracks for `brute`.
+    Tiny,
+    Small,
+    Middle,
+    Large,
+    /// 256 junctions and 2,048 tracks.
+    Full,
+}
+
+#[derive(Clone, Copy)]
+enum Shape {
+    Random,
+    Path,
+    Cycle,
+    Star,
+    Wheel,
+    Grid,
+    Tree,
+    Complete,
+    /// Two dense halves with a bridge or two between.
+    Dumbbell,
+    /// Parts without a track between them.
+    Islands,
+    /// A tree whose every track is doubled or more.
+    Bundles,
+    /// Hardly a track.
+    Sparse,
+}
+
+const SHAPES: [Shape; 12] = [
+    Shape::Random,
+    Shape::Path,
+    Shape::Cycle,
+    Shape::Star,
+    Shape::Wheel,
+    Shape::Grid,
+    Shape::Tree,
+    Shape::Complete,
+    Shape::Dumbbell,
+    Shape::Islands,
+    Shape::Bundles,
+    Shape::Sparse,
+];
+
+type Ends = Vec<(u32, u32)>;
+
+/// A track between two different junctions of a run.
+fn anywhere(rng: &mut Rng, start: usize, end: usize, ends: &mut Ends) {
+    if end - start >= 2 {
+        let u = rng.between(start, end - 1);
+        let v = start + (u - start + rng.between(1, end - start - 1)) % (end - start);
+        ends.push((u as u32, v as u32));
+    }
+}
+
+/// Tracks that link a run of junctions, each with an earlier one.
+fn tree(rng: &mut Rng, start: usize, end: usize, ends: &mut Ends) {
+    let near = rng.chance(1, 2);
+    for v in start + 1..end {
+        let lowest = if near { v.saturating_sub(4).max(start) } else { start };
+        ends.push((rng.between(lowest, v - 1) as u32, v as u32));
+    }
+}
+
+fn ends_of(rng: &mut Rng, shape: Shape, n: usize, most: usize) -> Ends {
+    let mut ends = Ends::new();
+    let last = n - 1;
+    match shape {
+        Shape::Random => {
+            tree(rng, 0, n, &mut ends);
+            for _ in 0..rng.between(0, 3 * n) {
+                anywhere(rng, 0, n, &mut ends);
+            }
+        }
+        Shape::Path => ends.extend((0..last).map(|v| (v as u32, v as u32 + 1))),
+        Shape::Cycle => {
+            ends.extend((0..last).map(|v| (v as u32, v as u32 + 1)));
+            if n > 2 {
+                ends.push((last as u32, 0));
+            }
+        }
+        Shape::Star => ends.extend((1..n).map(|v| (0, v as u32))),
+        Shape::Wheel => {
+            ends.extend((1..n).map(|v| (0, v as u32)));
+            ends.extend((1..last).map(|v| (v as u32, v as u32 + 1)));
+            if n > 3 {
+                ends.push((last as u32, 1));
+            }
+        }
+        Shape::Grid => {
+            let square = (1..=n).find(|w| w * w >= n).unwrap_or(1);
+            let wide = if rng.chance(1, 2) { square } else { rng.between(2, 4) };
+            for v in 0..n {
+                if (v + 1) % wide != 0 && v + 1 < n {
+                    ends.push((v as u32, v as u32 + 1));
+                }
+                if v + wide < n {
+                    ends.push((v as u32, (v + wide) as u32));
+                }
+            }
+        }
+        Shape::Tree => tree(rng, 0, n, &mut ends),
+        Shape::Complete => {
+            for v in 1..n {
+                ends.extend((0..v).map(|u| (u as u32, v as u32)));
+            }
+        }
+        Shape::Dumbbell => {
+            let cut = n / 2;
+            for (start, end) in [(0, cut), (cut, n)] {
+                if start < end {
+                    tree(rng, start, end, &mut ends);
+                    for _ in 0..end - start {
+                        anywhere(rng, start, end, &mut ends);
+                    }
+                }
+            }
+            if cut > 0 {
+                for _ in 0..rng.between(1, 2) {
+                    ends.push((rng.below(cut) as u32, rng.between(cut, last) as u32));
+                }
+            }
+        }
+        Shape::Islands => {
+            let mut start = 0;
+            while start < n {
+                let end = n.min(start + rng.between(1, n.div_ceil(2)));
+                tree(rng, start, end, &mut ends);
+                for _ in 0..rng.below(end - start + 1) {
+                    anywhere(rng, start, end, &mut ends);
+                }
+                start = end;
+            }
+        }
+        Shape::Bundles => {
+            tree(rng, 0, n, &mut ends);
+            for track in ends.clone() {
+                for _ in 0..rng.between(1, 3) {
+                    ends.push(track);
+                }
+            }
+        }
+        Shape::Sparse => {
+            for _ in 0..rng.below(n + 1) {
+                anywhere(rng, 0, n, &mut ends);
+            }
+        }
+    }
+    ends.truncate(most);
+    ends
+}
+
+/// A price scheme, as the prices it draws from.
+fn prices_of(rng: &mut Rng, m: usize) -> Vec<u32> {
+    let high = MAX_PRICE as usize;
+    let scheme = rng.below(12);
+    let few: Vec<u32> = match scheme {
+        0 => vec![1],
+        1 => vec![0],
+        2 => vec![0, 1],
+        3 => vec![1, 2],
+        4 => vec![2, 3, 4],
+        5 => vec![0, rng.between(1, 9) as u32, rng.between(1, 9) as u32],
+        6 => vec![MAX_PRICE],
+        7 => vec![rng.between(0, high) as u32, rng.between(0, high) as u32],
+        _ => Vec::new(),
+    };
+    (0..m)
+        .map(|_| match scheme {
+            8 => rng.between(0, 10) as u32,
+            9 => rng.between(1, 100) as u32,
+            10 => rng.between(0, high) as u32,
+            11 => rng.between(high - 3, high) as u32,
+            _ => rng.pick(&few),
+        })
+        .collect()
+}
+
+fn groups_of(rng: &mut Rng, n: usize) -> Vec<u8> {
+    // Group numbers need not be dense: a scheme's number g stands for one of the 255.
+    let mut names: Vec<u8> = (1..=255).collect();
+    if rng.chance(1, 2) {
+        rng.shuffle(&mut names);
+    }
+    let name = |g: usize| names[g % 255];
+    let mut groups = vec![0; n];
+    // The first and the fourth scheme leave no sites, so they come seldom.
+    match rng.pick(&[0, 1, 1, 2, 2, 3, 4, 4, 4, 5, 5, 5, 6, 6, 6, 7, 7, 7, 8, 8, 8, 9, 9, 9]) {
+        // No group.
+        0 => {}
+        // All in one group.
+        1 => groups.fill(name(0)),
+        // Two sites.
+        2 => {
+            let one = rng.below(n);
+            let other = (one + rng.between(n.min(2) - 1, n - 1)) % n;
+            (groups[one], groups[other]) = (name(0), name(0));
+        }
+        // Every junction alone in its group, as far as there are groups.
+        3 => {
+            for (v, group) in groups.iter_mut().enumerate() {
+                *group = name(v);
+            }
+        }
+        // Pairs, side by side or far apart.
+        4 => {
+            let mut order: Vec<usize> = (0..n).collect();
+            if rng.chance(1, 2) {
+                rng.shuffle(&mut order);
+            }
+            for (i, v) in order.into_iter().enumerate() {
+                groups[v] = name(i / 2);
+            }
+        }
+        // Groups that take turns.
+        5 => {
+            let turns = rng.between(2, 4);
+            for (v, group) in groups.iter_mut().enumerate() {
+                *group = name(v % turns);
+            }
+        }
+        // One group of some.
+        6 => {
+            let part = rng.between(1, 9);
+            for group in groups.iter_mut().filter(|_| rng.chance(part, 10)) {
+                *group = name(0);
+            }
+        }
+        // Many groups, many junctions without one, some lone members.
+        7 => {
+            let many = rng.between(1, n);
+            for group in groups.iter_mut() {
+                if rng.chance(2, 3) {
+                    *group = name(rng.below(many));
+                }
+            }
+        }
+        // Runs.
+        8 => {
+            let long = rng.between(1, 5);
+            for (v, group) in groups.iter_mut().enumerate() {
+                *group = name(v / long);
+            }
+        }
+        // A few groups.
+        _ => {
+            let many = rng.between(1, 5);
+            for group in groups.iter_mut() {
+                *group = if rng.chance(1, 2) { name(rng.below(many)) } else { 0 };
+            }
+        }
+    }
+    groups
+}
+
+fn assemble(rng: &mut Rng, n: usize, mut ends: Ends) -> Survey {
+    if rng.chance(2, 3) {
+        rng.shuffle(&mut ends);
+    }
+    for track in ends.iter_mut() {
+        if rng.chance(1, 2) {
+            *track = (track.1, track.0);
+        }
+    }
+    // Junction numbers need not follow the shape.
+    if rng.chance(1, 2) {
+        let mut place: Vec<u32> = (0..n as u32).collect();
+        rng.shuffle(&mut place);
+        for track in ends.iter_mut() {
+            *track = (place[track.0 as usize], place[track.1 as usize]);
+        }
+    }
+    let prices = prices_of(rng, ends.len());
+    Survey {
+        groups: groups_of(rng, n),
+        first: ends.iter().map(|track| track.0).collect(),
+        second: ends.iter().map(|track| track.1).collect(),
+        prices,
+    }
+}
+
+/// A survey that escapes 1 to 6. Some can't be joined, and few have no sites.
+pub fn survey(rng: &mut Rng, size: Size) -> Survey {
+    loop {
+        let survey = any_survey(rng, size);
+        if survey.view().sites() > 0 || rng.chance(1, 4) {
+            return survey;
+        }
+    }
+}
+
+fn any_survey(rng: &mut Rng, size: Size) -> Survey {
+    let (low, high, most) = match size {
+        Size::Tiny => (1, 7, 12),
+        Size::Small => (1, 12, MAX_TRACKS),
+        Size::Middle => (8, 40, MAX_TRACKS),
+        Size::Large => (41, MAX_JUNCTIONS, MAX_TRACKS),
+        Size::Full => return full(rng, MAX_JUNCTIONS),
+    };
+    let n = rng.between(low, high);
+    let shape = rng.pick(&SHAPES);
+    let ends = ends_of(rng, shape, n, most);
+    assemble(rng, n, ends)
+}
+
+/// A tiny survey whose groups can all be joined: the first that comes.
+pub fn tiny(rng: &mut Rng) -> Survey {
+    loop {
+        let survey = survey(rng, Size::Tiny);
+        if survey.view().unjoined(|_| true).is_none() {
+            return survey;
+        }
+    }
+}
+
+/// A survey of n junctions and 2,048 tracks that can be joined, n 2 or more.
+pub fn full(rng: &mut Rng, n: usize) -> Survey {
+    let mut ends = Ends::new();
+    tree(rng, 0, n, &mut ends);
+    while ends.len() < MAX_TRACKS {
+        anywhere(rng, 0, n, &mut ends);
+    }
+    assemble(rng, n, ends)
+}
+
+/// A survey to time: n junctions, 2,048 tracks with prices all over their range, and sites by one of three schemes:
+/// all in one group, pairs, or half of the junctions in eight groups.
+pub fn timed(rng: &mut Rng, n: usize, scheme: usize) -> Survey {
+    let mut survey = full(rng, n);
+    for price in survey.prices.iter_mut() {
+        *price = rng.between(1, MAX_PRICE as usize) as u32;
+    }
+    let mut order: Vec<usize> = (0..n).collect();
+    rng.shuffle(&mut order);
+    for (i, v) in order.into_iter().enumerate() {
+        survey.groups[v] = match scheme % 3 {
+            0 => 1,
+            1 => 1 + (i / 2) as u8,
+            _ if i < n / 2 => 1 + (i % 8) as u8,
+            _ => 0,
+        };
+    }
+    survey
+}
+
+/// Damages a survey so that one of 4, 5, 6 is due, or several at different tracks.
+pub fn refused_survey(rng: &mut Rng, survey: &mut Survey) {
+    let (n, m) = (survey.groups.len() as u32, survey.first.len());
+    if m == 0 {
+        return;
+    }
+    for _ in 0..rng.between(1, 3) {
+        let t = rng.below(m);
+        match rng.below(6) {
+            0 => survey.first[t] = n,
+            1 => survey.second[t] = rng.pick(&[n, n + 1, 256, 9_999_999]).max(n),
+            2 => survey.second[t] = survey.first[t],
+            3 => survey.prices[t] = MAX_PRICE + 1,
+            4 => survey.prices[t] = 9_999_999,
+            _ => {
+                survey.first[t] = n;
+                survey.second[t] = n;
+                survey.prices[t] = MAX_PRICE + 1;
+            }
+        }
+    }
+}

@@ -1,0 +1,174 @@
+//! Track planning by moats, a second time: every operation of document 01 ("01" below), written from that paper
+//! alone, in its words and its order. The product is held against what stands here.
+//!
+//! | module  | what it answers |
+//! |---------|-----------------|
+//! | `read`  | a survey text |
+//! | `plan`  | the plan of a survey, by `reference` (slow, plain) and by `fast` |
+//! | `check` | a plan drawn by anyone |
+//! | `print` | a moat line, a printed plan, a refusal, and the whole program's answer |
+//! | `brute` | the cheapest joining set of a tiny survey |
+//! | `gen`   | seeded surveys, texts and plans, sound and damaged |
+//! | `blunder` | planners with a fault each, which the generated inputs have to tell from a sound one |
+
+pub mod blunder;
+pub mod brute;
+pub mod check;
+pub mod gen;
+#[cfg(feature = "native")]
+pub mod native;
+pub mod plan;
+pub mod print;
+pub mod read;
+
+/// 01, refusal 1: more junctions are refused.
+pub const MAX_JUNCTIONS: usize = 256;
+/// 01, refusal 3: more tracks are refused.
+pub const MAX_TRACKS: usize = 2_048;
+/// 01, refusal 6: a higher price is refused.
+pub const MAX_PRICE: u32 = 1_000_000;
+/// 01, refusal 11: a larger amount is refused.
+pub const MAX_AMOUNT: u64 = 2_000_000;
+/// 01, refusal 9: more records are refused.
+pub const MAX_RECORDS: usize = 511;
+/// 01, refusal 17: a higher group number is refused.
+pub const MAX_GROUP: u32 = 255;
+/// Bytes of a moat record, of which the first `AMOUNT_BYTES` are the amount.
+pub const RECORD_BYTES: usize = 40;
+/// Bytes of a record's amount, lowest first.
+pub const AMOUNT_BYTES: usize = 8;
+/// No well-formed text whose counts escape 1 and 3 is longer.
+pub const MAX_TEXT: usize = 62_741;
+/// The program reads no more of its standard input.
+pub const MAX_INPUT: usize = 65_536;
+
+/// A refusal's number and place.
+#[derive(Clone, Copy, Debug, PartialEq, Eq)]
+pub struct Refusal {
+    pub number: u32,
+    pub place: u64,
+}
+
+/// The refusal with this number at this place.
+pub fn refuse<T>(number: u32, place: usize) -> Result<T, Refusal> {
+    Err(Refusal { number, place: place as u64 })
+}
+
+/// The buffers that describe a survey in a call; n is the length of `groups`, m that of `first`.
+#[derive(Clone, Copy, Debug, PartialEq, Eq)]
+pub struct View<'a> {
+    pub groups: &'a [u8],
+    pub first: &'a [u32],
+    pub second: &'a [u32],
+    pub prices: &'a [u32],
+}
+
+/// A survey that owns its buffers.
+#[derive(Clone, Debug, Default, PartialEq, Eq)]
+pub struct Survey {
+    pub groups: Vec<u8>,
+    pub first: Vec<u32>,
+    pub second: Vec<u32>,
+    pub prices: Vec<u32>,
+}
+
+impl Survey {
+    /// A survey from its groups and its tracks (end, end, price).
+    pub fn new(groups: &[u8], tracks: &[(u32, u32, u32)]) -> Survey {
+        Survey {
+            groups: groups.to_vec(),
+            first: tracks.iter().map(|t| t.0).collect(),
+            second: tracks.iter().map(|t| t.1).collect(),
+            prices: tracks.iter().map(|t| t.2).collect(),
+        }
+    }
+
+    pub fn view(&self) -> View<'_> {
+        View { groups: &self.groups, first: &self.first, second: &self.second, prices: &self.prices }
+    }
+}
+
+impl View<'_> {
+    /// The number of junctions.
+    pub fn n(&self) -> usize {
+        self.groups.len()
+    }
+
+    /// The number of tracks.
+    pub fn m(&self) -> usize {
+        self.first.len()
+    }
+
+    /// Refusals 1 to 6: the counts and lengths, then the tracks rising, each with 4, 5, 6 in that order.
+    pub fn sound(&self) -> Result<(), Refusal> {
+        let (n, m) = (self.n(), self.m());
+        if n == 0 || n > MAX_JUNCTIONS {
+            return refuse(1, 0);
+        }
+        if self.second.len() != m || self.prices.len() != m {
+            return refuse(2, 0);
+        }
+        if m > MAX_TRACKS {
+            return refuse(3, 0);
+        }
+        for t in 0..m {
+            if self.first[t] as usize >= n || self.second[t] as usize >= n {
+                return refuse(4, t);
+            }
+            if self.first[t] == self.second[t] {
+                return refuse(5, t);
+            }
+            if self.prices[t] > MAX_PRICE {
+                return refuse(6, t);
+            }
+        }
+        Ok(())
+    }
+
+    /// The members of a group, rising.
+    pub fn members(&self, group: u8) -> Vec<usize> {
+        (0..self.n()).filter(|&v| self.groups[v] == group).collect()
+    }
+
+    /// The sites: the members of groups with two or more members. Group 0 is no group.
+    pub fn sites(&self) -> u64 {
+        (1..=255u8).map(|g| self.members(g).len() as u64).filter(|&members| members >= 2).sum()
+    }
+
+    /// For each junction the lowest junction that tracks of the set link with it, each walked either way.
+    /// `holds` tells whether the set holds a track.
+    pub fn components(&self, holds: impl Fn(usize) -> bool) -> Vec<usize> {
+        let mut beside = vec![Vec::new(); self.n()];
+        for t in (0..self.m()).filter(|&t| holds(t)) {
+            let (u, v) = (self.first[t] as usize, self.second[t] as usize);
+            beside[u].push(v);
+            beside[v].push(u);
+        }
+        let mut lowest = vec![usize::MAX; self.n()];
+        for start in 0..self.n() {
+            if lowest[start] != usize::MAX {
+                continue;
+            }
+            lowest[start] = start;
+            let mut open = vec![start];
+            while let Some(u) = open.pop() {
+                for &v in &beside[u] {
+                    if lowest[v] == usize::MAX {
+                        lowest[v] = start;
+                        open.push(v);
+                    }
+                }
+            }
+        }
+        lowest
+    }
+
+    /// The lowest group that the set of tracks doesn't join, if there is one.
+    pub fn unjoined(&self, holds: impl Fn(usize) -> bool) -> Option<u8> {
+        let component = self.components(holds);
+        (1..=255u8).find(|&g| {
+            let members = self.members(g);
+            members.iter().any(|&v| component[v] != component[members[0]])
+        })
+    }
+}

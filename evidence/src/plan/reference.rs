@@ -1,0 +1,134 @@
+//! The plain planner: each round starts afresh from the picked tracks and the moats so far. It follows the paper's
+//! sentences and spares no work.
+
+use super::{admitted, Counts, DROPPED, KEPT, NOT_PICKED};
+use crate::{Refusal, View, AMOUNT_BYTES, RECORD_BYTES};
+
+/// A set of junctions and its amount, in halves.
+#[derive(Clone, Debug, PartialEq, Eq)]
+pub struct Moat {
+    pub holds: Vec<bool>,
+    pub amount: u64,
+}
+
+/// What one round did.
+#[derive(Clone, Copy, Debug, PartialEq, Eq)]
+pub struct Round {
+    pub winner: usize,
+    pub wait: u64,
+    /// The number of growing components.
+    pub growing: u64,
+}
+
+/// All rounds, and all components in the order in which they arose, those with amount 0 too.
+#[derive(Clone, Debug, PartialEq, Eq)]
+pub struct Growth {
+    pub rounds: Vec<Round>,
+    /// Whether a round picked the track.
+    pub picked: Vec<bool>,
+    pub moats: Vec<Moat>,
+}
+
+/// Is the set growing: has some group members inside and outside?
+fn is_growing(survey: View, holds: &[bool]) -> bool {
+    (0..survey.n()).any(|inside| {
+        survey.groups[inside] != 0
+            && holds[inside]
+            && (0..survey.n()).any(|outside| !holds[outside] && survey.groups[outside] == survey.groups[inside])
+    })
+}
+
+/// The rounds of a survey whose groups can all be joined.
+pub fn growth(survey: View) -> Growth {
+    let (n, m) = (survey.n(), survey.m());
+    let single = |v: usize| Moat { holds: (0..n).map(|w| w == v).collect(), amount: 0 };
+    let mut moats: Vec<Moat> = (0..n).map(single).collect();
+    let mut rounds: Vec<Round> = Vec::new();
+    let mut picked = vec![false; m];
+    loop {
+        // `component[v]` is the lowest junction of v's component.
+        let component = survey.components(|t| picked[t]);
+        let set_of = |c: usize| -> Vec<bool> { (0..n).map(|v| component[v] == c).collect() };
+        let growing: Vec<bool> = (0..n).map(|c| component[c] == c && is_growing(survey, &set_of(c))).collect();
+        if !growing.contains(&true) {
+            return Growth { rounds, picked, moats };
+        }
+
+        // The load of a junction: the amounts of all moats that hold it.
+        let mut load = vec![0; n];
+        for moat in &moats {
+            for v in (0..n).filter(|&v| moat.holds[v]) {
+                load[v] += moat.amount;
+            }
+        }
+
+        // The smallest wait, and among equals the lowest track number.
+        let mut best: Option<(u64, usize)> = None;
+        for t in 0..m {
+            let (u, v) = (survey.first[t] as usize, survey.second[t] as usize);
+            if component[u] == component[v] {
+                continue;
+            }
+            let remains = (2 * u64::from(survey.prices[t])).checked_sub(load[u] + load[v]).expect("loads stay below");
+            let wait = match (growing[component[u]], growing[component[v]]) {
+                (false, false) => continue,
+                (true, true) => {
+                    assert!(remains.is_multiple_of(2), "half of what remains is a whole number of halves");
+                    remains / 2
+                }
+                _ => remains,
+            };
+            if best.is_none_or(|(smallest, _)| wait < smallest) {
+                best = Some((wait, t));
+            }
+        }
+        let (wait, winner) = best.expect("a growing component of a joinable survey has a way out");
+
+        // Raise every growing component, then make the winner's two components one.
+        // Of the moats that hold a junction the last to arise is its component's.
+        for c in (0..n).filter(|&c| growing[c]) {
+            let moat = moats.iter_mut().rev().find(|moat| moat.holds[c]).expect("each component has arisen");
+            moat.amount += wait;
+        }
+        rounds.push(Round { winner, wait, growing: growing.iter().filter(|&&g| g).count() as u64 });
+        picked[winner] = true;
+        let ends = [component[survey.first[winner] as usize], component[survey.second[winner] as usize]];
+        moats.push(Moat { holds: (0..n).map(|v| ends.contains(&component[v])).collect(), amount: 0 });
+    }
+}
+
+/// Plans by the letter of 01.
+pub fn reference(survey: View, marks: &mut [u8], records: &mut [u8]) -> Result<Counts, Refusal> {
+    admitted(survey, marks.len(), records.len())?;
+    if let Some(group) = survey.unjoined(|_| true) {
+        return Err(Refusal { number: 8, place: u64::from(group) });
+    }
+
+    let Growth { rounds, picked, moats } = growth(survey);
+    let mut counts = Counts { sites: survey.sites(), rounds: rounds.len() as u64, ..Counts::default() };
+
+    for t in 0..survey.m() {
+        marks[t] = if !picked[t] {
+            NOT_PICKED
+        } else if survey.unjoined(|other| other != t && picked[other]).is_some() {
+            counts.cost += u64::from(survey.prices[t]);
+            KEPT
+        } else {
+            DROPPED
+        };
+    }
+
+    for moat in moats.iter().filter(|moat| moat.amount != 0) {
+        let start = RECORD_BYTES * counts.moats as usize;
+        let mut record = [0; RECORD_BYTES];
+        record[..AMOUNT_BYTES].copy_from_slice(&moat.amount.to_le_bytes());
+        for v in (0..survey.n()).filter(|&v| moat.holds[v]) {
+            record[AMOUNT_BYTES + v / 8] |= 1 << (v % 8);
+        }
+        records[start..start + RECORD_BYTES].copy_from_slice(&record);
+        counts.moats += 1;
+        counts.bound += moat.amount;
+    }
+    assert_eq!(counts.bound, rounds.iter().map(|r| r.wait * r.growing).sum::<u64>(), "the bound, counted both ways");
+    Ok(counts)
+}

@@ -1,0 +1,173 @@
+//! The reader against a second statement of "first offset whose byte no well-formed text could have after the bytes
+//! before it": prefixes are judged whole, line by line, with nothing carried over.
+
+use evidence::gen::{directed_texts, text_case, Rng};
+use evidence::read::{parse, Lengths};
+use evidence::Refusal;
+
+/// What a line may hold: its key, and how many numbers with commas between.
+fn kind(line: usize, n: usize, m: usize) -> Option<(&'static str, usize)> {
+    match line {
+        0 => Some(("nodes=", 1)),
+        1 => Some(("links=", 1)),
+        _ if line - 2 < n => Some(("node=", 1)),
+        _ if line - 2 - n < m => Some(("link=", 3)),
+        _ => None,
+    }
+}
+
+/// The numbers of a line without its line end, if they are well-formed.
+fn numbers(line: &[u8], key: &str, many: usize) -> Option<Vec<u64>> {
+    let rest = line.strip_prefix(key.as_bytes())?;
+    let fields: Vec<&[u8]> = rest.split(|&byte| byte == b',').collect();
+    if fields.len() != many {
+        return None;
+    }
+    fields
+        .into_iter()
+        .map(|field| {
+            let digits = (1..=7).contains(&field.len()) && field.iter().all(u8::is_ascii_digit);
+            let leading = field.len() > 1 && field[0] == b'0';
+            if digits && !leading {
+                std::str::from_utf8(field).ok()?.parse().ok()
+            } else {
+                None
+            }
+        })
+        .collect()
+}
+
+/// Can bytes follow so that the line is well-formed?
+fn begins(line: &[u8], key: &str, many: usize) -> bool {
+    key.as_bytes().starts_with(line)
+        || (0..many).any(|commas| {
+            // Completing a line means: a number if none has begun, then the numbers that are missing.
+            ["", "1"].iter().any(|number| {
+                let mut whole = line.to_vec();
+                whole.extend_from_slice(number.as_bytes());
+                whole.extend_from_slice(",1".repeat(commas).as_bytes());
+                numbers(&whole, key, many).is_some()
+            })
+        })
+}
+
+/// The finding in a prefix that has none before its last byte; `None` if it can go on.
+fn finding(prefix: &[u8], lengths: Lengths) -> Option<Refusal> {
+    let refuse = |number, place: usize| Some(Refusal { number, place: place as u64 });
+    let malformed = refuse(16, prefix.len().saturating_sub(1));
+    let (mut n, mut m) = (0, 0);
+    let mut lines: Vec<&[u8]> = prefix.split(|&byte| byte == b'\n').collect();
+    let open = lines.pop().unwrap_or(&[]);
+    for (i, line) in lines.iter().enumerate() {
+        let Some((key, many)) = kind(i, n, m) else { return malformed };
+        let Some(values) = numbers(line, key, many) else { return malformed };
+        match i {
+            0 if values[0] == 0 || values[0] > 256 => return refuse(1, 0),
+            0 if values[0] > lengths.groups as u64 => return refuse(7, 0),
+            0 => n = values[0] as usize,
+            1 if values[0] > 2_048 => return refuse(3, 0),
+            1 if values[0] > lengths.first.min(lengths.second).min(lengths.prices) as u64 => return refuse(7, 0),
+            1 => m = values[0] as usize,
+            _ if i - 2 < n && values[0] > 255 => return refuse(17, i - 2),
+            _ => {}
+        }
+    }
+    let goes_on = open.is_empty() || kind(lines.len(), n, m).is_some_and(|(key, many)| begins(open, key, many));
+    if goes_on {
+        None
+    } else {
+        malformed
+    }
+}
+
+/// Is a text without findings complete?
+fn complete(text: &[u8]) -> bool {
+    let lines: Vec<&[u8]> = text.split(|&byte| byte == b'\n').collect();
+    let count = |line: usize, key: &str| lines.get(line).and_then(|line| numbers(line, key, 1)).map(|values| values[0]);
+    let (Some(n), Some(m)) = (count(0, "nodes="), count(1, "links=")) else { return false };
+    lines.len() as u64 == 2 + n + m + 1 && lines.last().is_some_and(|last| last.is_empty())
+}
+
+fn expected(text: &[u8], lengths: Lengths) -> Option<Refusal> {
+    let early = (1..=text.len()).find_map(|length| finding(&text[..length], lengths));
+    let stops = Refusal { number: 16, place: text.len() as u64 };
+    early.or(if complete(text) { None } else { Some(stops) })
+}
+
+fn agree(text: &[u8], lengths: Lengths) {
+    let found = parse(text, lengths).err();
+    assert_eq!(found, expected(text, lengths), "{lengths:?} {}", text.escape_ascii());
+}
+
+#[test]
+fn directed() {
+    for text in directed_texts().iter().filter(|text| text.len() < 200) {
+        agree(text, Lengths::ENOUGH);
+    }
+}
+
+#[test]
+fn every_byte_of_p3() {
+    let p3 = b"nodes=3\nlinks=2\nnode=1\nnode=0\nnode=1\nlink=0,1,3\nlink=1,2,4\n";
+    for at in 0..p3.len() {
+        for byte in 0..=255 {
+            let mut text = p3.to_vec();
+            text[at] = byte;
+            agree(&text, Lengths::ENOUGH);
+        }
+    }
+}
+
+#[test]
+fn every_short_end() {
+    // All texts that follow some beginnings by up to three bytes of the classes that count.
+    let beginnings = [
+        "",
+        "nodes=",
+        "nodes=1\n",
+        "nodes=1\nlinks=",
+        "nodes=1\nlinks=0\n",
+        "nodes=1\nlinks=0\nnode=0",
+        "nodes=1\nlinks=1\nnode=25",
+        "nodes=1\nlinks=1\nnode=0\nlink=",
+        "nodes=1\nlinks=1\nnode=0\nlink=999999",
+        "nodes=1\nlinks=1\nnode=0\nlink=1,1,",
+        "nodes=256\nlinks=204",
+        "nodes=999999",
+        "nodes=9999999",
+    ];
+    let classes = b"\n0159,=nlx";
+    for beginning in beginnings {
+        for tail in 0..(classes.len() + 1).pow(3) {
+            let mut text = beginning.as_bytes().to_vec();
+            let mut rest = tail;
+            while rest > 0 {
+                text.extend(classes.get(rest % (classes.len() + 1)));
+                rest /= classes.len() + 1;
+            }
+            agree(&text, Lengths::ENOUGH);
+        }
+    }
+}
+
+#[test]
+fn generated() {
+    let mut many = 0;
+    for case in 0.. {
+        let text = text_case(11, 5_000 + case);
+        if text.len() > 400 {
+            continue;
+        }
+        agree(&text, Lengths::ENOUGH);
+        let mut rng = Rng::of_case(12, case);
+        let mut length = |enough: usize| if rng.chance(1, 2) { enough } else { rng.below(20) };
+        agree(
+            &text,
+            Lengths { groups: length(256), first: length(2_048), second: length(2_048), prices: length(2_048) },
+        );
+        many += 1;
+        if many == 3_000 {
+            break;
+        }
+    }
+}
