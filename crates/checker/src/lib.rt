@@ -1,1 +1,5 @@
-// The checker: definitions in specs/.
+// The checker of plans: definitions in specs/.
+mod cuts;
+mod duals;
+mod marks;
+mod rule;

@@ -1,0 +1,59 @@
+-- `sides` meets its contract: while it runs, the labels below v are the sides.
+use Rattle.checker.specs.Laws.Scan.{remade-end}
+use Rattle.survey.specs.Laws.Store.{remade-more}
+use Rattle.survey.specs.Store.{remade}
+use Rattle.records.specs.Record.{memberIn}
+use Rattle.finite.specs.Below.{counted}
+use lib.ListN.{length-replicate}
+use mathlib.Core.Path.{_≡_, refl}
+use Prim.Native.Nat.{ℕ, _≤_, _-_}
+use borrow.Author.Needs.{needs}
+use native.Mathlib.Omega.{arith}
+use Rattle.checker.proofs.cuts.sides.Statement.{statement}
+use Rattle.checker.proofs.cuts.sides.Tie as tie
+
+abbrev Inv-loop : tie.InvT-loop
+Inv-loop part labels₀ v₀ labels v = (v ≤ 256) × (labels ≡ remade (λ v x. counted (memberIn part v) 1) v labels₀)
+
+abbrev μ-loop : tie.MeasureT-loop
+μ-loop part labels₀ v₀ labels v = 256 - v
+
+loop-holds : tie.Need-loop-holds Inv-loop μ-loop
+unfolding remade
+loop-holds c = (omega arith, refl)
+
+side-requires : tie.Need-side-requires Inv-loop μ-loop
+side-requires c κs = search needs
+
+mul-labels : tie.Need-mul-labels Inv-loop μ-loop
+mul-labels c = search needs
+
+array-write-labels : tie.Need-array-write-labels Inv-loop μ-loop
+array-write-labels c = search needs
+
+add-v : tie.Need-add-v Inv-loop μ-loop
+add-v c = search needs
+
+loop-less : tie.Need-loop-less Inv-loop μ-loop
+loop-less c = search needs
+
+loop-again : tie.Need-loop-again Inv-loop μ-loop
+loop-again c = (omega arith, remade-more _ _ _ _ _ (c .before .before .loop .inv .1) (c .side .ensures))
+
+returns : tie.Need-returns Inv-loop μ-loop
+returns c = remade-end _ 256 (c .before .loop .v) _ _ (omega arith) (omega arith) (length-replicate {A = ℕ} 256 0) (λ k b. refl) (c .before .loop .inv .1)
+
+pub sides-spec : {M : Type 1} → statement M
+sides-spec =
+    tie.close
+    (tie.spec
+    Inv-loop
+    μ-loop
+    loop-holds
+    side-requires
+    mul-labels
+    array-write-labels
+    add-v
+    loop-less
+    loop-again
+    returns)

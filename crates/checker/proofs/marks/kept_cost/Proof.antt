@@ -1,0 +1,74 @@
+-- `kept_cost` meets its contract: while it runs, the sum is that of the kept edges below e.
+use lib.Dec.{eqb}
+use mathlib.Core.Path.{ap₂}
+use Prim.Native.Nat.{_*_}
+use Rattle.checker.specs.Laws.Scan.{sum-limit}
+use Rattle.finite.specs.Laws.Below.{counted-le}
+use Rattle.survey.specs.Survey.{problemOf, edgeCount}
+use Rattle.steiner.specs.Problem.{cost}
+use Prim.Native.Nat.{_≤_, _-_}
+use mathlib.Core.Path.{_≡_, refl, ap, sym, _∙_}
+use lib.ListN.{length, getD}
+use Rattle.finite.specs.Below.{counted, sumBelow}
+use Rattle.survey.specs.Laws.Count.{sum-more, sum-end}
+use Rattle.checker.specs.Check.{keptBy}
+use borrow.Author.Needs.{needs}
+use native.Mathlib.Omega.{arith}
+use Rattle.checker.proofs.marks.kept_cost.Statement.{statement}
+use Rattle.checker.proofs.marks.kept_cost.Tie as tie
+
+abbrev Inv-loop : tie.InvT-loop
+Inv-loop firsts weights marks cost₀ e₀ cost e = (e ≤ length firsts) × (cost ≡ sumBelow e (λ e. counted (keptBy marks e) (getD weights e 0)))
+
+abbrev μ-loop : tie.MeasureT-loop
+μ-loop firsts weights marks cost₀ e₀ cost e = length firsts - e
+
+loop-holds : tie.Need-loop-holds Inv-loop μ-loop
+unfolding sumBelow
+loop-holds c = (omega arith, refl)
+
+at8-requires : tie.Need-at8-requires Inv-loop μ-loop
+at8-requires c κs = search needs
+
+at32-requires : tie.Need-at32-requires Inv-loop μ-loop
+at32-requires c κs = search needs
+
+kept-weight-requires : tie.Need-kept-weight-requires Inv-loop μ-loop
+kept-weight-requires c κs = search needs
+
+add-cost : tie.Need-add-cost Inv-loop μ-loop
+add-cost c = let l = c .before .before .before .before .loop in
+    let args = c .before .before .before .before .before .before .before .before .args in
+    let small : l .cost ≤ l .e * 4294967295 =
+    rw (l .inv .1) (sum-limit (l .e) 4294967295 (λ e. counted (keptBy (args .marks .now) e) (getD (args .weights .now) e 0)) (λ i b. omega (arith, counted-le (keptBy (args .marks .now) i) (getD (args .weights .now) i 0), c .before .before .before .before .before .before .shared-slice-known2 .given i))) in
+    omega (arith, counted-le (eqb (c .before .before .at8 .result) 2) (c .before .at32 .result), c .kept-weight .ensures)
+
+add-e : tie.Need-add-e Inv-loop μ-loop
+add-e c = search needs
+
+loop-less : tie.Need-loop-less Inv-loop μ-loop
+loop-less c = search needs
+
+loop-again : tie.Need-loop-again Inv-loop μ-loop
+unfolding keptBy
+loop-again c = (omega arith, sum-more _ _ (c .before .before .before .before .loop .inv .1) (c .kept-weight .ensures ∙ ap₂ (λ m w. counted (eqb m 2) w) (c .before .before .at8 .ensures) (c .before .at32 .ensures)))
+
+returns : tie.Need-returns Inv-loop μ-loop
+unfolding cost problemOf edgeCount
+returns c = sum-end _ (c .before .loop .e) _ (omega arith) (omega arith) (c .before .loop .inv .1)
+
+pub kept-cost-spec : {M : Type 1} → statement M
+kept-cost-spec =
+    tie.close
+    (tie.spec
+    Inv-loop
+    μ-loop
+    loop-holds
+    at8-requires
+    at32-requires
+    kept-weight-requires
+    add-cost
+    add-e
+    loop-less
+    loop-again
+    returns)

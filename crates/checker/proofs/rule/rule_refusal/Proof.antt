@@ -1,0 +1,33 @@
+-- `rule_refusal` meets its contract: each return by the law of its case; the products fit.
+use Rattle.checker.specs.Laws.Refusal.{rule-none, rule-cost, rule-exceeded, rule-met}
+use Rattle.checker.specs.Laws.Duals.{bound-product, cost-product}
+use mathlib.Core.Path.{sym}
+use native.Mathlib.Omega.{arith}
+use borrow.Author.Needs.{needs}
+use Rattle.checker.proofs.rule.rule_refusal.Statement.{statement}
+use Rattle.checker.proofs.rule.rule_refusal.Tie as tie
+
+returns : tie.Need-returns
+returns c = sym (rule-none _ (c .before .if1 .taken) (c .if2 .taken))
+
+returns-2 : tie.Need-returns-2
+returns-2 c = sym (rule-cost _ (c .before .if1 .taken) (c .if2 .left))
+
+sub-if3 : tie.Need-sub-if3
+sub-if3 c = search needs
+
+mul-if3 : tie.Need-mul-if3
+mul-if3 c = record { fits = bound-product (c .before .pre) }
+
+mul-if3-2 : tie.Need-mul-if3-2
+mul-if3-2 c = record { fits = cost-product (c .before .pre) }
+
+returns-3 : tie.Need-returns-3
+returns-3 c = sym (rule-exceeded _ (c .before .if1 .left) (c .if3 .taken))
+
+returns-4 : tie.Need-returns-4
+returns-4 c = sym (rule-met _ (c .before .if1 .left) (c .if3 .left))
+
+pub rule-refusal-spec : {M : Type 1} → statement M
+rule-refusal-spec =
+    tie.close (tie.spec returns returns-2 sub-if3 mul-if3 mul-if3-2 returns-3 returns-4)

@@ -1,0 +1,96 @@
+// Marks: 0 not picked, 1 picked and dropped, 2 kept. The lengths of a plan, its marks, and what the kept edges cost.
+ghost use mathlib.Core.Path.{_≡_};
+ghost use mathlib.Core.List.{[]};
+ghost use Prim.Native.Nat.{_≤_};
+ghost use lib.ListN.{getD, length};
+ghost use lib.Dec.{eqb, ltb};
+ghost use Rattle.finite.specs.Below.{counted};
+ghost use Rattle.limits.specs.Limits.{maxEdges};
+ghost use Rattle.limits.specs.Verdict.{refuseIf, lowestBelow};
+ghost use Rattle.steiner.specs.Problem.{cost};
+ghost use Rattle.survey.specs.Survey.{surveyFrom, problemOf};
+ghost use Rattle.checker.specs.Check.{keptBy, shapeRefusal};
+use limits::MAX_DUALS;
+use limits::RECORD_BYTES;
+use limits::Verdict;
+
+// 9: lengths that fit no plan.
+pub fn shape_refusal(firsts: &[u32], marks: &[u8], records: &[u8]) -> Verdict
+    ensures { λ r. ⌜ r ≡ shapeRefusal (surveyFrom [] (now (firsts .entry)) [] []) (now (marks .entry)) (now (records .entry)) ⌝ }
+{
+    if marks.len() != firsts.len() {
+        return Verdict::Refused {
+            number: 9,
+            place: 0,
+        };
+    }
+    if records.len() % RECORD_BYTES != 0 {
+        return Verdict::Refused {
+            number: 9,
+            place: 0,
+        };
+    }
+    if MAX_DUALS < records.len() / RECORD_BYTES {
+        return Verdict::Refused {
+            number: 9,
+            place: 0,
+        };
+    }
+    Verdict::Fine
+}
+
+// 10: a mark above 2.
+fn mark_refusal(mark: u8, e: usize) -> Verdict
+    ensures { λ r. ⌜ r ≡ refuseIf (ltb 2 mark) 10 e ⌝ }
+{
+    match mark {
+        0 => Verdict::Fine,
+        1 => Verdict::Fine,
+        2 => Verdict::Fine,
+        _ => Verdict::Refused {
+            number: 10,
+            place: e,
+        },
+    }
+}
+
+// The lowest edge below m with a mark above 2.
+pub fn marks_refusal(m: usize, marks: &[u8]) -> Verdict
+    ensures { λ r. ⌜ r ≡ lowestBelow m (λ e. refuseIf (ltb 2 (getD (now (marks .entry)) e 0)) 10 e) ⌝ }
+{
+    let mut e = 0;
+    while e < m {
+        let found = mark_refusal(reads::at8(marks, e), e);
+        if let Verdict::Refused { number, place } = found {
+            return Verdict::Refused { number, place };
+        }
+        e += 1;
+    }
+    Verdict::Fine
+}
+
+// The weight of a kept edge, else 0.
+fn kept_weight(mark: u8, weight: u32) -> u64
+    ensures { λ r. ⌜ r ≡ counted (eqb mark 2) weight ⌝ }
+{
+    match mark {
+        0 => 0,
+        1 => 0,
+        2 => reads::wide32(weight),
+        _ => 0,
+    }
+}
+
+// What the kept edges cost.
+pub fn kept_cost(firsts: &[u32], weights: &[u32], marks: &[u8]) -> u64
+    requires { ⌜ length (now firsts) ≤ maxEdges ⌝ }
+    ensures { λ r. ⌜ r ≡ cost (problemOf (surveyFrom [] (now (firsts .entry)) [] (now (weights .entry)))) (keptBy (now (marks .entry))) ⌝ }
+{
+    let mut cost: u64 = 0;
+    let mut e = 0;
+    while e < firsts.len() {
+        cost += kept_weight(reads::at8(marks, e), reads::at32(weights, e));
+        e += 1;
+    }
+    cost
+}
