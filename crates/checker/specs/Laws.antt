@@ -4,3 +4,4 @@ pub mod Scan
 pub mod Refusal
 pub mod Duals
 pub mod Cut
+pub mod Stage

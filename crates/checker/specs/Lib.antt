@@ -1,3 +1,3 @@
 pub mod Check
-pub mod Part
+pub mod Stage
 pub mod Laws

@@ -12,7 +12,7 @@ ghost use Rattle.records.specs.Record.{valueIn, memberIn};
 ghost use Rattle.steiner.specs.Dual.{total, felt};
 ghost use Rattle.survey.specs.Survey.{surveyFrom, groupsAlone, problemOf};
 ghost use Rattle.checker.specs.Check.{dualAt, dualsIn, dualRefusal};
-ghost use Rattle.checker.specs.Part.{dualOf, feltBetween, DualsFit};
+ghost use Rattle.checker.specs.Stage.{dualOf, feltBetween, DualsFit};
 use limits::MAX_VALUE;
 use limits::RECORD_BYTES;
 use limits::Verdict;
@@ -68,7 +68,7 @@ fn dual_refusal(groups: &[u8], part: &[u8], i: usize) -> Verdict
 }
 
 // The lowest record that 11 refuses.
-fn values_refusal(groups: &[u8], records: &[u8]) -> Verdict
+pub fn values_refusal(groups: &[u8], records: &[u8]) -> Verdict
     ensures { λ r. ⌜ r ≡ lowestBelow (length (now (records .entry)) / recordBytes) (λ i. dualRefusal (groupsAlone (now (groups .entry))) (dualAt (now (records .entry)) i) i) ⌝ }
 {
     let mut i = 0;
@@ -122,7 +122,7 @@ fn felt_refusal(records: &[u8], first: u32, second: u32, weight: u32, e: usize) 
 }
 
 // The lowest edge that 13 refuses.
-fn felts_refusal(firsts: &[u32], seconds: &[u32], weights: &[u32], records: &[u8]) -> Verdict
+pub fn felts_refusal(firsts: &[u32], seconds: &[u32], weights: &[u32], records: &[u8]) -> Verdict
     requires { ⌜ DualsFit (now records) ⌝ }
     ensures { λ r. ⌜ r ≡ lowestBelow (length (now (firsts .entry))) (λ e. refuseIf (ltb (2 * getD (now (weights .entry)) e 0) (felt (problemOf (surveyFrom [] (now (firsts .entry)) (now (seconds .entry)) (now (weights .entry)))) (dualsIn (now (records .entry))) e)) 13 e) ⌝ }
 {

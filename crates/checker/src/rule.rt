@@ -1,7 +1,7 @@
 // The accuracy rule's premise over counts.
 ghost use mathlib.Core.Path.{_≡_};
 ghost use Rattle.checker.specs.Check.{ruleRefusal};
-ghost use Rattle.checker.specs.Part.{checkedAs, CountsFit};
+ghost use Rattle.checker.specs.Stage.{checkedAs, CountsFit};
 use limits::Verdict;
 
 // 15: k is 0 and the cost is not, or k times cost exceeds k - 1 times bound.

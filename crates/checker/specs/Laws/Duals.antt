@@ -3,13 +3,13 @@ use Prim.Native.Nat.{ℕ, zero, suc, _+_, _*_, _-_, _/_, _<_, _≤_, _^_}
 use native.Mathlib.Omega.{arith}
 use native.Mathlib.Nat.{mul-le-mul}
 use mathlib.Core.Path.{_≡_, refl, ap, ap₂, sym, _∙_}
-use mathlib.Core.Bool.{Bool, true, false}
+use mathlib.Core.Bool.{Bool, true}
 use mathlib.Core.List.{List, [], _∷_}
 use lib.ListN.{length, getD}
 use lib.Dec.{ltb}
-use Rattle.finite.specs.Below.{counted, sumBelow, countBelow, tabulate}
+use Rattle.finite.specs.Below.{counted, sumBelow, tabulate}
 use Rattle.finite.specs.Laws.Below.{counted-le, count-le}
-use Rattle.limits.specs.Limits.{maxVertices, maxEdges, maxWeight, maxValue, recordBytes, maxDuals}
+use Rattle.limits.specs.Limits.{maxVertices, maxWeight, maxValue, recordBytes, maxDuals}
 use Rattle.graph.specs.Path.{crosses}
 use Rattle.limits.specs.Verdict.{refuseIf, lowestBelow}
 use Rattle.limits.specs.declared.Verdict.{Verdict}
@@ -22,10 +22,10 @@ use Rattle.steiner.specs.Laws.Dual.{weigh-append}
 use Rattle.survey.specs.Survey.{Survey, vertexCount, edgeCount, problemOf}
 use Rattle.survey.specs.Laws.Count.{sum-end}
 use Rattle.survey.specs.Laws.Refusal.{SurveySound}
-use Rattle.checker.specs.Check.{dualAt, dualsIn, keptBy, shapeRefusal, dualRefusal}
-use Rattle.checker.specs.Part.{feltBetween, DualsFit, CountsFit}
+use Rattle.checker.specs.Check.{dualAt, dualsIn, keptBy, dualRefusal}
+use Rattle.checker.specs.Stage.{feltBetween, DualsFit, CountsFit}
 use Rattle.checker.specs.Laws.Scan.{sum-limit}
-use Rattle.checker.specs.Laws.Refusal.{fine-shape, fine-dual}
+use Rattle.checker.specs.Laws.Refusal.{fine-dual}
 
 -- What record i adds to the duals that pass the test.
 abbrev pub weighedAt : List ℕ → ((ℕ → Bool) → Bool) → ℕ → ℕ

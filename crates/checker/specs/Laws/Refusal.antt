@@ -1,18 +1,18 @@
 -- What the refusals 9, 11 and 15 find, case by case. The code's decisions use it.
-use Prim.Native.Nat.{ℕ, _+_, _*_, _-_, _/_, _%_, _<_, _≤_}
+use Prim.Native.Nat.{ℕ, _*_, _-_, _/_, _%_, _<_, _≤_}
 use native.Mathlib.Omega.{arith}
-use mathlib.Core.Path.{_≡_, refl, sym, _∙_}
+use mathlib.Core.Path.{_≡_}
 use mathlib.Core.Bool.{Bool, true, false, _&&_, _||_, not}
 use mathlib.Core.List.{List}
-use lib.ListN.{length, getD}
+use lib.ListN.{length}
 use lib.Dec.{eqb, ltb, leb}
-use borrow.Author.Tests.{eq-eqb, ne-eqb, le-leb, lt-leb, le-ltb, lt-ltb, eqb-true, eqb-false, ltb-false, leb-false, not-false}
+use borrow.Author.Tests.{eq-eqb, ne-eqb, le-ltb, lt-ltb, ltb-false}
 use Rattle.finite.specs.Below.{anyBelow}
 use Rattle.finite.specs.Laws.Test.{or-false-left, or-false-right}
 use Rattle.limits.specs.Limits.{maxValue, memberBytes, recordBytes, maxDuals}
 use Rattle.limits.specs.Verdict.{refuseIf}
 use Rattle.limits.specs.declared.Verdict.the-variants.{Fine, Refused}
-use Rattle.limits.specs.Laws.Verdict.{refuse-true, refuse-false, fine-refuse}
+use Rattle.limits.specs.Laws.Verdict.{fine-refuse}
 use Rattle.steiner.specs.Dual.{Dual}
 use Rattle.survey.specs.Survey.{Survey, vertexCount, edgeCount}
 use Rattle.checker.specs.Check.{Checked, shapeRefusal, dualRefusal, ruleRefusal}

@@ -1,13 +1,13 @@
 -- `cut_refusal` meets its contract: a cut separates exactly if its sides, as labels, split a group.
-use Rattle.checker.specs.Laws.Cut.{cut-refused, cut-fine}
-use Rattle.survey.specs.Survey.{groupsAlone}
-use Rattle.records.specs.Record.{memberIn}
-use Rattle.limits.specs.Limits.{maxVertices}
-use Rattle.finite.specs.Laws.Below.{getD-tabulate}
-use lib.ListN.{getD}
-use mathlib.Core.Path.{ap, sym, _∙_}
 use native.Mathlib.Omega.{arith}
+use mathlib.Core.Path.{ap, sym, _∙_}
+use lib.ListN.{getD}
 use borrow.Author.Needs.{needs}
+use Rattle.finite.specs.Laws.Below.{getD-tabulate}
+use Rattle.limits.specs.Limits.{maxVertices}
+use Rattle.records.specs.Record.{memberIn}
+use Rattle.survey.specs.Survey.{groupsAlone}
+use Rattle.checker.specs.Laws.Cut.{cut-refused, cut-fine}
 use Rattle.checker.proofs.cuts.cut_refusal.Statement.{statement}
 use Rattle.checker.proofs.cuts.cut_refusal.Tie as tie
 

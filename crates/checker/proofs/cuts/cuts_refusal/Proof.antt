@@ -1,18 +1,18 @@
 -- `cuts_refusal` meets its contract: while it runs, every record below i separates some group.
-use Rattle.checker.specs.Check.{dualAt}
-use Rattle.survey.specs.Survey.{groupsAlone, problemOf}
-use Rattle.steiner.specs.Problem.{separates}
-use Rattle.records.specs.Record.{memberIn}
+use Prim.Native.Nat.{_≤_, _-_, _/_}
+use native.Mathlib.Omega.{arith}
+use mathlib.Core.Bool.{not}
+use mathlib.Core.Path.{_≡_, refl, ap, sym, _∙_}
+use lib.ListN.{length}
+use borrow.Author.Needs.{needs}
 use Rattle.limits.specs.Laws.Verdict.{lowest-more, lowest-found, lowest-end}
 use Rattle.limits.specs.declared.Verdict.the-variants.{Fine}
 use Rattle.limits.specs.Verdict.{refuseIf, lowestBelow}
 use Rattle.limits.specs.Limits.{recordBytes}
-use lib.ListN.{length}
-use mathlib.Core.Bool.{not}
-use mathlib.Core.Path.{_≡_, refl, ap, sym, _∙_}
-use Prim.Native.Nat.{_≤_, _-_, _/_}
-use borrow.Author.Needs.{needs}
-use native.Mathlib.Omega.{arith}
+use Rattle.records.specs.Record.{memberIn}
+use Rattle.steiner.specs.Problem.{separates}
+use Rattle.survey.specs.Survey.{groupsAlone, problemOf}
+use Rattle.checker.specs.Check.{dualAt}
 use Rattle.checker.proofs.cuts.cuts_refusal.Statement.{statement}
 use Rattle.checker.proofs.cuts.cuts_refusal.Tie as tie
 

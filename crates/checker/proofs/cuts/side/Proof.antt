@@ -1,8 +1,7 @@
 -- `side` meets its contract.
-use Rattle.finite.specs.Laws.Below.{counted-true, counted-false}
 use mathlib.Core.Path.{sym, _∙_}
-use native.Mathlib.Omega.{arith}
 use borrow.Author.Needs.{needs}
+use Rattle.finite.specs.Laws.Below.{counted-true, counted-false}
 use Rattle.checker.proofs.cuts.side.Statement.{statement}
 use Rattle.checker.proofs.cuts.side.Tie as tie
 

@@ -1,14 +1,14 @@
 -- `sides` meets its contract: while it runs, the labels below v are the sides.
-use Rattle.checker.specs.Laws.Scan.{remade-end}
+use Prim.Native.Nat.{ℕ, _≤_, _-_}
+use native.Mathlib.Omega.{arith}
+use mathlib.Core.Path.{_≡_, refl}
+use lib.ListN.{length-replicate}
+use borrow.Author.Needs.{needs}
+use Rattle.finite.specs.Below.{counted}
+use Rattle.records.specs.Record.{memberIn}
 use Rattle.survey.specs.Laws.Store.{remade-more}
 use Rattle.survey.specs.Store.{remade}
-use Rattle.records.specs.Record.{memberIn}
-use Rattle.finite.specs.Below.{counted}
-use lib.ListN.{length-replicate}
-use mathlib.Core.Path.{_≡_, refl}
-use Prim.Native.Nat.{ℕ, _≤_, _-_}
-use borrow.Author.Needs.{needs}
-use native.Mathlib.Omega.{arith}
+use Rattle.checker.specs.Laws.Scan.{remade-end}
 use Rattle.checker.proofs.cuts.sides.Statement.{statement}
 use Rattle.checker.proofs.cuts.sides.Tie as tie
 

@@ -1,17 +1,16 @@
 -- `bound` meets its contract: while it runs, the sum is that of the records below i.
-use Rattle.steiner.specs.Dual.{total}
-use Rattle.records.specs.Record.{valueIn}
-use Rattle.finite.specs.Below.{counted}
-use mathlib.Core.Bool.{true}
-use Rattle.checker.specs.Laws.Duals.{weighedAt, weigh-end, weighed-fits}
-use Rattle.survey.specs.Laws.Count.{sum-more}
-use Rattle.finite.specs.Below.{sumBelow}
-use Rattle.limits.specs.Limits.{recordBytes}
-use lib.ListN.{length}
-use mathlib.Core.Path.{_≡_, refl, ap, sym, _∙_}
 use Prim.Native.Nat.{_≤_, _-_, _/_}
-use borrow.Author.Needs.{needs}
 use native.Mathlib.Omega.{arith}
+use mathlib.Core.Bool.{true}
+use mathlib.Core.Path.{_≡_, refl, ap, _∙_}
+use lib.ListN.{length}
+use borrow.Author.Needs.{needs}
+use Rattle.finite.specs.Below.{counted, sumBelow}
+use Rattle.limits.specs.Limits.{recordBytes}
+use Rattle.records.specs.Record.{valueIn}
+use Rattle.steiner.specs.Dual.{total}
+use Rattle.survey.specs.Laws.Count.{sum-more}
+use Rattle.checker.specs.Laws.Duals.{weighedAt, weigh-end, weighed-fits}
 use Rattle.checker.proofs.duals.bound.Statement.{statement}
 use Rattle.checker.proofs.duals.bound.Tie as tie
 

@@ -1,9 +1,8 @@
 -- `crossing_value` meets its contract: the value counts exactly if the two vertices lie on different sides.
-use Rattle.finite.specs.Laws.Below.{counted-true, counted-false}
 use mathlib.Core.Bool.{xor}
 use mathlib.Core.Path.{ap₂, sym, _∙_}
-use native.Mathlib.Omega.{arith}
 use borrow.Author.Needs.{needs}
+use Rattle.finite.specs.Laws.Below.{counted-true, counted-false}
 use Rattle.checker.proofs.duals.crossing_value.Statement.{statement}
 use Rattle.checker.proofs.duals.crossing_value.Tie as tie
 

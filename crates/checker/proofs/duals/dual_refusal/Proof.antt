@@ -1,8 +1,8 @@
 -- `dual_refusal` meets its contract: each return by the law of its case.
-use Rattle.checker.specs.Laws.Refusal.{dual-zero, dual-large, dual-stray, dual-fine}
-use mathlib.Core.Path.{sym, _∙_}
 use native.Mathlib.Omega.{arith}
+use mathlib.Core.Path.{sym, _∙_}
 use borrow.Author.Needs.{needs}
+use Rattle.checker.specs.Laws.Refusal.{dual-zero, dual-large, dual-stray, dual-fine}
 use Rattle.checker.proofs.duals.dual_refusal.Statement.{statement}
 use Rattle.checker.proofs.duals.dual_refusal.Tie as tie
 

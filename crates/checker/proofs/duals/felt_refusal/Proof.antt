@@ -1,11 +1,11 @@
 -- `felt_refusal` meets its contract: the test is the definition's.
-use Rattle.checker.specs.Part.{feltBetween}
-use Rattle.limits.specs.Laws.Verdict.{refuse-true, refuse-false}
-use borrow.Author.Tests.{le-ltb, lt-ltb}
-use mathlib.Core.Path.{_≡_, ap₂, sym, _∙_}
 use Prim.Native.Nat.{_*_}
 use native.Mathlib.Omega.{arith}
+use mathlib.Core.Path.{_≡_, ap₂, sym, _∙_}
+use borrow.Author.Tests.{le-ltb, lt-ltb}
 use borrow.Author.Needs.{needs}
+use Rattle.limits.specs.Laws.Verdict.{refuse-true, refuse-false}
+use Rattle.checker.specs.Stage.{feltBetween}
 use Rattle.checker.proofs.duals.felt_refusal.Statement.{statement}
 use Rattle.checker.proofs.duals.felt_refusal.Tie as tie
 

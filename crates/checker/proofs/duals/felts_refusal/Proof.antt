@@ -1,18 +1,18 @@
 -- `felts_refusal` meets its contract: while it runs, no edge below e feels too much.
-use Rattle.checker.specs.Laws.Duals.{felt-item}
-use Rattle.checker.specs.Check.{dualsIn}
-use Rattle.survey.specs.Survey.{surveyFrom, problemOf}
-use Rattle.steiner.specs.Dual.{felt}
+use Prim.Native.Nat.{_≤_, _-_, _*_}
+use native.Mathlib.Omega.{arith}
+use mathlib.Core.List.{[]}
+use mathlib.Core.Path.{_≡_, refl, sym, _∙_}
+use lib.Dec.{ltb}
+use lib.ListN.{length, getD}
+use borrow.Author.Needs.{needs}
 use Rattle.limits.specs.Laws.Verdict.{lowest-more, lowest-found, lowest-end}
 use Rattle.limits.specs.declared.Verdict.the-variants.{Fine}
 use Rattle.limits.specs.Verdict.{refuseIf, lowestBelow}
-use lib.Dec.{ltb}
-use lib.ListN.{length, getD}
-use mathlib.Core.List.{[]}
-use mathlib.Core.Path.{_≡_, refl, sym, _∙_}
-use Prim.Native.Nat.{_≤_, _-_, _*_}
-use borrow.Author.Needs.{needs}
-use native.Mathlib.Omega.{arith}
+use Rattle.steiner.specs.Dual.{felt}
+use Rattle.survey.specs.Survey.{surveyFrom, problemOf}
+use Rattle.checker.specs.Check.{dualsIn}
+use Rattle.checker.specs.Laws.Duals.{felt-item}
 use Rattle.checker.proofs.duals.felts_refusal.Statement.{statement}
 use Rattle.checker.proofs.duals.felts_refusal.Tie as tie
 

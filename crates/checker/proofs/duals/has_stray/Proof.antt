@@ -1,14 +1,14 @@
 -- `has_stray` meets its contract: while it runs, nothing below v is stray.
 use Prim.Native.Nat.{_≤_, _-_}
+use native.Mathlib.Omega.{arith}
 use mathlib.Core.Path.{_≡_, refl, sym, _∙_}
 use mathlib.Core.Bool.{_&&_, false}
 use lib.Dec.{leb}
+use borrow.Author.Needs.{needs}
 use Rattle.finite.specs.Below.{anyBelow}
 use Rattle.finite.specs.Laws.Below.{any-intro}
 use Rattle.records.specs.Record.{memberIn}
 use Rattle.checker.specs.Laws.Scan.{any-more, any-end}
-use borrow.Author.Needs.{needs}
-use native.Mathlib.Omega.{arith}
 use Rattle.checker.proofs.duals.has_stray.Statement.{statement}
 use Rattle.checker.proofs.duals.has_stray.Tie as tie
 

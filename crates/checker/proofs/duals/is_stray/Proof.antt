@@ -1,6 +1,5 @@
 -- `is_stray` meets its contract: below n nothing is stray.
 use borrow.Author.Tests.{le-leb, lt-leb}
-use native.Mathlib.Omega.{arith}
 use borrow.Author.Needs.{needs}
 use Rattle.checker.proofs.duals.is_stray.Statement.{statement}
 use Rattle.checker.proofs.duals.is_stray.Tie as tie

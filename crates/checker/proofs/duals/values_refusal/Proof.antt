@@ -1,16 +1,16 @@
 -- `values_refusal` meets its contract: while it runs, 11 refuses no record below i.
-use Rattle.checker.specs.Part.{dualOf}
-use Rattle.checker.specs.Check.{dualAt, dualRefusal}
-use Rattle.survey.specs.Survey.{groupsAlone}
+use Prim.Native.Nat.{_≤_, _-_, _/_}
+use native.Mathlib.Omega.{arith}
+use mathlib.Core.Path.{_≡_, refl, ap, sym, _∙_}
+use lib.ListN.{length}
+use borrow.Author.Needs.{needs}
 use Rattle.limits.specs.Laws.Verdict.{lowest-more, lowest-found, lowest-end}
 use Rattle.limits.specs.declared.Verdict.the-variants.{Fine}
 use Rattle.limits.specs.Verdict.{lowestBelow}
 use Rattle.limits.specs.Limits.{recordBytes}
-use lib.ListN.{length}
-use mathlib.Core.Path.{_≡_, refl, ap, sym, _∙_}
-use Prim.Native.Nat.{_≤_, _-_, _/_}
-use borrow.Author.Needs.{needs}
-use native.Mathlib.Omega.{arith}
+use Rattle.survey.specs.Survey.{groupsAlone}
+use Rattle.checker.specs.Stage.{dualOf}
+use Rattle.checker.specs.Check.{dualAt, dualRefusal}
 use Rattle.checker.proofs.duals.values_refusal.Statement.{statement}
 use Rattle.checker.proofs.duals.values_refusal.Tie as tie
 

@@ -1,19 +1,17 @@
 -- `kept_cost` meets its contract: while it runs, the sum is that of the kept edges below e.
+use Prim.Native.Nat.{_*_, _≤_, _-_}
+use native.Mathlib.Omega.{arith}
+use mathlib.Core.Path.{ap₂, _≡_, refl, _∙_}
 use lib.Dec.{eqb}
-use mathlib.Core.Path.{ap₂}
-use Prim.Native.Nat.{_*_}
-use Rattle.checker.specs.Laws.Scan.{sum-limit}
-use Rattle.finite.specs.Laws.Below.{counted-le}
-use Rattle.survey.specs.Survey.{problemOf, edgeCount}
-use Rattle.steiner.specs.Problem.{cost}
-use Prim.Native.Nat.{_≤_, _-_}
-use mathlib.Core.Path.{_≡_, refl, ap, sym, _∙_}
 use lib.ListN.{length, getD}
+use borrow.Author.Needs.{needs}
+use Rattle.finite.specs.Laws.Below.{counted-le}
 use Rattle.finite.specs.Below.{counted, sumBelow}
+use Rattle.steiner.specs.Problem.{cost}
+use Rattle.survey.specs.Survey.{problemOf, edgeCount}
 use Rattle.survey.specs.Laws.Count.{sum-more, sum-end}
 use Rattle.checker.specs.Check.{keptBy}
-use borrow.Author.Needs.{needs}
-use native.Mathlib.Omega.{arith}
+use Rattle.checker.specs.Laws.Scan.{sum-limit}
 use Rattle.checker.proofs.marks.kept_cost.Statement.{statement}
 use Rattle.checker.proofs.marks.kept_cost.Tie as tie
 

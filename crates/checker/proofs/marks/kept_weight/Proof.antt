@@ -1,9 +1,9 @@
 -- `kept_weight` meets its contract: the weight counts exactly at mark 2.
+use native.Mathlib.Omega.{arith}
 use mathlib.Core.Path.{sym, _∙_}
 use borrow.Author.Tests.{eq-eqb, ne-eqb}
-use Rattle.finite.specs.Laws.Below.{counted-true, counted-false}
-use native.Mathlib.Omega.{arith}
 use borrow.Author.Needs.{needs}
+use Rattle.finite.specs.Laws.Below.{counted-true, counted-false}
 use Rattle.checker.proofs.marks.kept_weight.Statement.{statement}
 use Rattle.checker.proofs.marks.kept_weight.Tie as tie
 

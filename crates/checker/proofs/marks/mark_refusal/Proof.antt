@@ -1,9 +1,8 @@
 -- `mark_refusal` meets its contract: 0, 1 and 2 are not above 2.
+use native.Mathlib.Omega.{arith}
 use mathlib.Core.Path.{sym}
 use borrow.Author.Tests.{le-ltb, lt-ltb}
 use Rattle.limits.specs.Laws.Verdict.{refuse-true, refuse-false}
-use borrow.Author.Needs.{needs}
-use native.Mathlib.Omega.{arith}
 use Rattle.checker.proofs.marks.mark_refusal.Statement.{statement}
 use Rattle.checker.proofs.marks.mark_refusal.Tie as tie
 

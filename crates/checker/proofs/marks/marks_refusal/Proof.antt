@@ -1,13 +1,13 @@
 -- `marks_refusal` meets its contract: while it runs, no edge below e has a mark above 2.
 use Prim.Native.Nat.{_≤_, _-_}
+use native.Mathlib.Omega.{arith}
 use mathlib.Core.Path.{_≡_, refl, ap, sym, _∙_}
 use lib.ListN.{getD}
 use lib.Dec.{ltb}
+use borrow.Author.Needs.{needs}
 use Rattle.limits.specs.Verdict.{refuseIf, lowestBelow}
 use Rattle.limits.specs.declared.Verdict.the-variants.{Fine}
 use Rattle.limits.specs.Laws.Verdict.{lowest-more, lowest-found, lowest-end}
-use borrow.Author.Needs.{needs}
-use native.Mathlib.Omega.{arith}
 use Rattle.checker.proofs.marks.marks_refusal.Statement.{statement}
 use Rattle.checker.proofs.marks.marks_refusal.Tie as tie
 

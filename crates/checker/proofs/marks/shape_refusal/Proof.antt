@@ -1,8 +1,7 @@
 -- `shape_refusal` meets its contract: each return by the law of its case.
+use native.Mathlib.Omega.{arith}
 use mathlib.Core.Path.{sym}
 use Rattle.checker.specs.Laws.Refusal.{shape-marks, shape-uneven, shape-many, shape-fine}
-use borrow.Author.Needs.{needs}
-use native.Mathlib.Omega.{arith}
 use Rattle.checker.proofs.marks.shape_refusal.Statement.{statement}
 use Rattle.checker.proofs.marks.shape_refusal.Tie as tie
 

@@ -1,9 +1,8 @@
 -- `rule_refusal` meets its contract: each return by the law of its case; the products fit.
+use mathlib.Core.Path.{sym}
+use borrow.Author.Needs.{needs}
 use Rattle.checker.specs.Laws.Refusal.{rule-none, rule-cost, rule-exceeded, rule-met}
 use Rattle.checker.specs.Laws.Duals.{bound-product, cost-product}
-use mathlib.Core.Path.{sym}
-use native.Mathlib.Omega.{arith}
-use borrow.Author.Needs.{needs}
 use Rattle.checker.proofs.rule.rule_refusal.Statement.{statement}
 use Rattle.checker.proofs.rule.rule_refusal.Tie as tie
 

@@ -1,0 +1,108 @@
+-- The stages of the checker, one after the other, come to the definition, and each leaves what the next requires.
+use Prim.Native.Nat.{ℕ, _*_, _/_, _≤_}
+use mathlib.Core.Path.{_≡_, refl, ap, sym, _∙_}
+use mathlib.Core.Bool.{not}
+use mathlib.Core.List.{List, []}
+use lib.ListN.{length, getD}
+use lib.Dec.{ltb}
+use Rattle.limits.specs.Limits.{recordBytes, maxDuals}
+use Rattle.limits.specs.Verdict.{refuseIf, _before_, lowestBelow, refusal, answer, outcome}
+use Rattle.limits.specs.declared.Verdict.{Verdict}
+use Rattle.limits.specs.declared.Verdict.the-variants.{Fine, Refused}
+use Rattle.limits.specs.Laws.Verdict.{before-fine, before-refused, before-assoc, fine-left, fine-right}
+use Rattle.steiner.specs.Problem.{separates, terminal, terminals, cost}
+use Rattle.steiner.specs.Dual.{felt}
+use Rattle.survey.specs.Survey.{Survey, surveyFrom, vertexCount, edgeCount, member, sameGroup, problemOf}
+use Rattle.survey.specs.Refusal.{surveyRefusal, groupRefusal}
+use Rattle.survey.specs.Labels.{chosenMark, chosen}
+use Rattle.survey.specs.declared.labels.Chosen.the-variants.{Kept}
+use Rattle.survey.specs.Laws.Refusal.{SurveySound, fine-survey}
+use Rattle.checker.specs.Check.{Checked, dualAt, dualsIn, keptBy, shapeRefusal, dualRefusal, ruleRefusal, checkedOf, checkRefusal, checking}
+use Rattle.checker.specs.Stage.{checkedAs, inputRefusal, dualsRefusal, PlanFits}
+use Rattle.checker.specs.Laws.Refusal.{fine-shape}
+use Rattle.checker.specs.Laws.Duals.{duals-fit, counts-fit}
+
+module _ (s : Survey) (marks records : List ℕ) where
+  check-stages : checkRefusal s marks records
+      ≡ (inputRefusal s marks records
+      before dualsRefusal s records
+      before groupRefusal s 14 (keptBy marks)
+      before ruleRefusal (checkedOf s marks records))
+  unfolding checkRefusal inputRefusal dualsRefusal
+  check-stages =
+      let p = problemOf s in
+      let duals = length records / recordBytes in
+      let rest = groupRefusal s 14 (keptBy marks) before ruleRefusal (checkedOf s marks records) in
+      let nine = shapeRefusal s marks records in
+      let ten = lowestBelow (edgeCount s) (λ e. refuseIf (ltb 2 (getD marks e 0)) 10 e) in
+      let eleven = lowestBelow duals (λ i. dualRefusal s (dualAt records i) i) in
+      let twelve = lowestBelow duals (λ i. refuseIf (not (separates p (dualAt records i .holds))) 12 i) in
+      let thirteen = lowestBelow (edgeCount s) (λ e. refuseIf (ltb (2 * p .weight e) (felt p (dualsIn records) e)) 13 e) in
+      sym
+      (before-assoc (surveyRefusal s) (nine before ten) _
+      ∙ ap (λ v. surveyRefusal s before v)
+      (before-assoc nine ten _
+      ∙ ap (λ v. nine before ten before v) (before-assoc eleven (twelve before thirteen) rest ∙ ap (λ v. eleven before v) (before-assoc twelve thirteen rest))))
+
+  pub input-stops : {number place : ℕ} → inputRefusal s marks records ≡ Refused number place → checking s marks records ≡ refusal number place
+  unfolding checking outcome
+  input-stops h = rw (check-stages, before-refused h _)
+
+  pub input-sound : inputRefusal s marks records ≡ Fine → SurveySound s
+  unfolding inputRefusal
+  input-sound h = fine-survey s (fine-left _ _ h)
+
+  pub input-few : inputRefusal s marks records ≡ Fine → length records / recordBytes ≤ maxDuals
+  unfolding inputRefusal
+  input-few h = fine-shape s marks records (fine-left _ _ (fine-right _ _ h))
+
+  module _ (input : inputRefusal s marks records ≡ Fine) where
+    pub duals-stop : {number place : ℕ} → dualsRefusal s records ≡ Refused number place → checking s marks records ≡ refusal number place
+    unfolding checking outcome
+    duals-stop h = rw (check-stages, before-fine input _, before-refused h _)
+
+    module _ (fine : dualsRefusal s records ≡ Fine) where
+      pub group-stops : {number place : ℕ} → groupRefusal s 14 (keptBy marks) ≡ Refused number place → checking s marks records ≡ refusal number place
+      unfolding checking outcome
+      group-stops h = rw (check-stages, before-fine input _, before-fine fine _, before-refused h _)
+
+      pub rule-decides : groupRefusal s 14 (keptBy marks) ≡ Fine
+          → checking s marks records ≡ outcome (ruleRefusal (checkedOf s marks records)) (checkedOf s marks records)
+      unfolding checking
+      rule-decides h = rw (check-stages, before-fine input _, before-fine fine _, before-fine h _)
+
+      pub plan-fits : PlanFits (s .groups) (s .firsts) (s .weights) marks records
+      unfolding dualsRefusal terminals terminal cost problemOf vertexCount edgeCount sameGroup member
+      plan-fits =
+          let sound = input-sound input in
+          let duals = duals-fit s records (input-few input) (fine-left _ _ fine) in
+          record { edges-few = sound .edges-few; duals = duals; counts = counts-fit s marks records sound duals }
+
+  -- The call for 14 repeats 1 to 6.
+  pub group-found : inputRefusal s marks records ≡ Fine → {found : Verdict} → found ≡ (surveyRefusal s before groupRefusal s 14 (chosen Kept marks))
+      → groupRefusal s 14 (keptBy marks) ≡ found
+  unfolding inputRefusal chosen chosenMark keptBy
+  group-found input h = sym (h ∙ before-fine (fine-left _ _ input) _)
+
+-- The counts do not depend on the second ends.
+pub checked-seconds : (groups firsts seconds weights marks records : List ℕ)
+    → checkedOf (surveyFrom groups firsts [] weights) marks records ≡ checkedOf (surveyFrom groups firsts seconds weights) marks records
+unfolding checkedOf terminals terminal cost problemOf vertexCount edgeCount sameGroup member
+checked-seconds groups firsts seconds weights marks records = refl
+
+module _ (c : Checked) {k kept bound : ℕ} (sites : k ≡ c .terminals) (price : kept ≡ c .cost) (sum : bound ≡ c .bound) where
+  same-counts : checkedAs k kept bound ≡ c
+  same-counts = rw (sites, price, sum)
+
+  pub judged-passed : {found : Verdict} → found ≡ ruleRefusal (checkedAs k kept bound) → found ≡ Fine → answer (checkedAs k kept bound) ≡ outcome (ruleRefusal c) c
+  unfolding outcome
+  judged-passed h f =
+      let r : ruleRefusal c ≡ Fine = ap ruleRefusal (sym same-counts) ∙ sym h ∙ f in
+      rw r (ap answer same-counts)
+
+  pub judged-refused : {found : Verdict} {number place : ℕ} → found ≡ ruleRefusal (checkedAs k kept bound) → found ≡ Refused number place
+      → refusal number place ≡ outcome (ruleRefusal c) c
+  unfolding outcome
+  judged-refused {found} {number} {place} h f =
+      let r : ruleRefusal c ≡ Refused number place = ap ruleRefusal (sym same-counts) ∙ sym h ∙ f in
+      rw r
