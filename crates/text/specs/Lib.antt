@@ -1,0 +1,4 @@
+pub mod Step
+pub mod Number
+pub mod Reading
+pub mod Answer

@@ -1,0 +1,147 @@
+-- Reading a survey text (document 01, 'Survey text and printed plan', and 1, 3, 7, 16 and 17 of 'Refused surveys and plans').
+use Prim.Native.Nat.{ℕ, zero, suc, _+_}
+use mathlib.Core.Bool.{Bool, _||_, cond}
+use mathlib.Core.List.{List, [], _∷_, _++_, map}
+use lib.ListN.{length, drop}
+use lib.Dec.{eqb, ltb, leb}
+use Rattle.limits.specs.Limits.{maxVertices, maxEdges, groupNumbers, maxDigits}
+use Rattle.limits.specs.Verdict.{refuseIf, _before_, Outcome, refusal, answer}
+use Rattle.limits.specs.declared.Verdict.{Verdict}
+use Rattle.text.specs.Step.{Step, found, refused, _then_, checked, Lines, linesFrom}
+use Rattle.text.specs.Number.{fixedAt, numberTo, lineEnd, comma}
+
+-- nodes=
+abbrev pub nodesKey : List ℕ
+nodesKey = 110 ∷ 111 ∷ 100 ∷ 101 ∷ 115 ∷ 61 ∷ []
+
+-- links=
+abbrev pub linksKey : List ℕ
+linksKey = 108 ∷ 105 ∷ 110 ∷ 107 ∷ 115 ∷ 61 ∷ []
+
+-- node=
+abbrev pub nodeKey : List ℕ
+nodeKey = 110 ∷ 111 ∷ 100 ∷ 101 ∷ 61 ∷ []
+
+-- link=
+abbrev pub linkKey : List ℕ
+linkKey = 108 ∷ 105 ∷ 110 ∷ 107 ∷ 61 ∷ []
+
+-- The lengths of the lent buffers.
+pub record Lent : Type 0 where
+  pub groups : ℕ
+  pub firsts : ℕ
+  pub seconds : ℕ
+  pub weights : ℕ
+
+-- What is tested when a line is complete: a count, and the group of vertex v.
+pub record Tests : Type 0 where
+  pub vertices : ℕ → Verdict
+  pub edges : ℕ → Verdict
+  pub group : (v g : ℕ) → Verdict
+
+-- 1 or 3, then 7 where the buffers for that count are short; 17 at the vertex.
+unfoldable pub testsOf : Lent → Tests
+testsOf lent =
+    record {
+      vertices =
+        λ n. refuseIf (eqb n 0 || ltb maxVertices n) 1 0
+        before refuseIf (ltb (lent .groups) n) 7 0;
+      edges =
+        λ m. refuseIf (ltb maxEdges m) 3 0
+        before refuseIf (ltb (lent .firsts) m || ltb (lent .seconds) m || ltb (lent .weights) m) 7 0;
+      group = λ v g. refuseIf (leb groupNumbers g) 17 v;
+    }
+
+-- A line of a key and one number.
+unfoldable pub numberLine : (key t : List ℕ) → (at : ℕ) → Step ℕ
+numberLine key t at = fixedAt key t at then λ z p. numberTo maxDigits lineEnd t p
+
+unfoldable pub countLine : (key : List ℕ) → (ℕ → Verdict) → List ℕ → (at : ℕ) → Step ℕ
+countLine key test t at = numberLine key t at then λ n p. checked (test n) n p
+
+unfoldable pub groupLine : (ℕ → ℕ → Verdict) → List ℕ → (v at : ℕ) → Step ℕ
+groupLine test t v at = numberLine nodeKey t at then λ g p. checked (test v g) g p
+
+-- A track's two ends and its price.
+pub record Edge : Type 0 where
+  pub first : ℕ
+  pub second : ℕ
+  pub weight : ℕ
+
+unfoldable pub edgeLine : List ℕ → (e at : ℕ) → Step Edge
+edgeLine t e at =
+    fixedAt linkKey t at then λ z a.
+    numberTo maxDigits comma t a then λ u b.
+    numberTo maxDigits comma t b then λ v c.
+    numberTo maxDigits lineEnd t c then λ w d.
+    found (record { first = u; second = v; weight = w }) d
+
+-- The text ends here.
+unfoldable pub endAt : List ℕ → (at : ℕ) → Step ℕ
+endAt t at = cond (leb (length t) at) (found 0 at) (refused 16 at)
+
+pub record Counts : Type 0 where
+  pub vertices : ℕ
+  pub edges : ℕ
+
+unfoldable pub countsAt : Tests → List ℕ → Step Counts
+countsAt tests t =
+    countLine nodesKey (tests .vertices) t 0 then λ n p.
+    countLine linksKey (tests .edges) t p then λ m q.
+    found (record { vertices = n; edges = m }) q
+
+unfoldable pub groupLines : Tests → List ℕ → (count at : ℕ) → Lines ℕ
+groupLines tests t count at = linesFrom (groupLine (tests .group) t) count 0 at
+
+unfoldable pub edgeLines : List ℕ → (count at : ℕ) → Lines Edge
+edgeLines t count at = linesFrom (edgeLine t) count 0 at
+
+-- What the lines after the counts say.
+pub record Content : Type 0 where
+  pub groups : List ℕ
+  pub edges : List Edge
+
+unfoldable pub contentAt : Tests → List ℕ → Counts → (at : ℕ) → Step Content
+contentAt tests t counts at =
+    let gs = groupLines tests t (counts .vertices) at in
+    gs .end then λ z p.
+    let es = edgeLines t (counts .edges) p in
+    es .end then λ z q.
+    endAt t q then λ z r.
+    found (record { groups = gs .values; edges = es .values }) r
+
+-- What a text says: n and m, and the first n groups and m ends and prices.
+pub record Survey : Type 0 where
+  pub vertices : ℕ
+  pub edges : ℕ
+  pub groups : List ℕ
+  pub firsts : List ℕ
+  pub seconds : List ℕ
+  pub weights : List ℕ
+
+unfoldable pub surveyOf : Counts → Content → Survey
+surveyOf counts content =
+    record {
+      vertices = counts .vertices;
+      edges = counts .edges;
+      groups = content .groups;
+      firsts = map (λ e. e .first) (content .edges);
+      seconds = map (λ e. e .second) (content .edges);
+      weights = map (λ e. e .weight) (content .edges);
+    }
+
+unfoldable pub surveyAt : Tests → List ℕ → Step Survey
+surveyAt tests t =
+    countsAt tests t then λ counts p. contentAt tests t counts p then λ content q. found (surveyOf counts content) q
+
+unfoldable pub outcomeOf : {A : Type 0} → Step A → Outcome A
+outcomeOf (found a next) = answer a
+outcomeOf (refused number place) = refusal number place
+
+unfoldable pub reading : Lent → List ℕ → Outcome Survey
+reading lent t = outcomeOf (surveyAt (testsOf lent) t)
+
+-- What a lent buffer holds at the end: the values read and, behind them, what it held; a refusal writes nothing.
+unfoldable pub filled : Outcome Survey → (Survey → List ℕ) → (old : List ℕ) → List ℕ
+filled (refusal number place) values old = old
+filled (answer survey) values old = values survey ++ drop (length (values survey)) old
