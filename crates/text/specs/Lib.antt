@@ -2,3 +2,4 @@ pub mod Step
 pub mod Number
 pub mod Reading
 pub mod Answer
+pub mod Laws

@@ -44,11 +44,11 @@ unfoldable pub testsOf : Lent → Tests
 testsOf lent =
     record {
       vertices =
-        λ n. refuseIf (eqb n 0 || ltb maxVertices n) 1 0
-        before refuseIf (ltb (lent .groups) n) 7 0;
+          λ n. refuseIf (eqb n 0 || ltb maxVertices n) 1 0
+          before refuseIf (ltb (lent .groups) n) 7 0;
       edges =
-        λ m. refuseIf (ltb maxEdges m) 3 0
-        before refuseIf (ltb (lent .firsts) m || ltb (lent .seconds) m || ltb (lent .weights) m) 7 0;
+          λ m. refuseIf (ltb maxEdges m) 3 0
+          before refuseIf (ltb (lent .firsts) m || ltb (lent .seconds) m || ltb (lent .weights) m) 7 0;
       group = λ v g. refuseIf (leb groupNumbers g) 17 v;
     }
 

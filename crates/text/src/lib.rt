@@ -5,8 +5,9 @@ ghost use Prim.Native.Nat.{_-_, _≤_};
 ghost use lib.ListN.{length};
 ghost use Rattle.text.specs.Number.{classOf, digitsEnd, numeralEnd, numeralAt, decimalFrom, numberAt};
 ghost use Rattle.text.specs.Answer.{numberStep};
-
-use limits::{MAX_DIGITS, MAX_EDGES, MAX_VERTICES};
+use limits::MAX_DIGITS;
+use limits::MAX_EDGES;
+use limits::MAX_VERTICES;
 use reads::at8;
 
 pub struct Cursor {

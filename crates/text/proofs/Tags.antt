@@ -1,0 +1,27 @@
+-- What an arm of a `match` or the `else` of a `let` says of the enum: which constructors it can be.
+use Prim.Native.Nat.{ℕ}
+use native.Mathlib.Omega.{arith}
+use mathlib.Core.Path.{_≡_, refl}
+use mathlib.Core.Bool.{false}
+use mathlib.Core.List.{[], _∷_}
+use mathlib.Core.Logic.{⊎-elim}
+use denote.Enum.Declared.{tagOf}
+use types.Run.{OneOf}
+use Rattle.text.specs.Number.{isDigit}
+use Rattle.text.specs.declared.Class.{Class}
+use Rattle.text.specs.declared.Class.the-variants.{Digit, LineEnd, Comma, Other}
+use Rattle.text.specs.declared.Number.{Number}
+use Rattle.text.specs.declared.Number.the-variants.{Value, Refused}
+use Rattle.text.proofs.Class as class
+use Rattle.text.proofs.Number as number
+
+pub no-digit : (k : Class) → OneOf (1 ∷ 2 ∷ 3 ∷ []) (tagOf class.the-type k) → isDigit k ≡ false
+unfolding isDigit
+no-digit Digit e = absurd (⊎-elim (λ z. omega arith) (λ e. ⊎-elim (λ z. omega arith) (λ z. omega arith) e) e)
+no-digit LineEnd e = refl
+no-digit Comma e = refl
+no-digit Other e = refl
+
+pub number-refused : (r : Number) → tagOf number.the-type r ≡ 1 → (n : ℕ) × (p : ℕ) × (r ≡ Refused n p)
+number-refused (Value v next) e = absurd (omega arith)
+number-refused (Refused n p) e = (n, p, refl)
