@@ -1,2 +1,3 @@
 pub mod Byte
 pub mod Number
+pub mod Step

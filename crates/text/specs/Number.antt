@@ -63,6 +63,11 @@ numberAt limit t at =
     (refused 16 at)
     (found (decimalFrom 0 (numeralAt limit t at)) (at + length (numeralAt limit t at)))
 
+-- The byte that ends a number.
+unfoldable pub stopOf : (isComma : Bool) → ℕ
+stopOf true = comma
+stopOf false = lineEnd
+
 -- A number, and the byte that ends it.
 unfoldable pub numberTo : (limit stop : ℕ) → List ℕ → (at : ℕ) → Step ℕ
 numberTo limit stop t at = numberAt limit t at then λ n p. fixedAt (stop ∷ []) t p then λ z q. found n q

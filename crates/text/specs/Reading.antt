@@ -39,17 +39,25 @@ pub record Tests : Type 0 where
   pub edges : ℕ → Verdict
   pub group : (v g : ℕ) → Verdict
 
--- 1 or 3, then 7 where the buffers for that count are short; 17 at the vertex.
+-- 1, then 7 where the group buffer is short.
+unfoldable pub verticesTest : (lent n : ℕ) → Verdict
+verticesTest lent n = refuseIf (eqb n 0 || ltb maxVertices n) 1 0 before refuseIf (ltb lent n) 7 0
+
+-- 3, then 7 where one of the three others is short.
+unfoldable pub edgesTest : (firsts seconds weights m : ℕ) → Verdict
+edgesTest firsts seconds weights m =
+    refuseIf (ltb maxEdges m) 3 0 before refuseIf (ltb firsts m || ltb seconds m || ltb weights m) 7 0
+
+-- 17 at the vertex.
+unfoldable pub groupTest : (v g : ℕ) → Verdict
+groupTest v g = refuseIf (leb groupNumbers g) 17 v
+
 unfoldable pub testsOf : Lent → Tests
 testsOf lent =
     record {
-      vertices =
-          λ n. refuseIf (eqb n 0 || ltb maxVertices n) 1 0
-          before refuseIf (ltb (lent .groups) n) 7 0;
-      edges =
-          λ m. refuseIf (ltb maxEdges m) 3 0
-          before refuseIf (ltb (lent .firsts) m || ltb (lent .seconds) m || ltb (lent .weights) m) 7 0;
-      group = λ v g. refuseIf (leb groupNumbers g) 17 v;
+      vertices = verticesTest (lent .groups);
+      edges = edgesTest (lent .firsts) (lent .seconds) (lent .weights);
+      group = groupTest;
     }
 
 -- A line of a key and one number.

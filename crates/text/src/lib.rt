@@ -3,7 +3,8 @@
 ghost use mathlib.Core.Path.{_≡_};
 ghost use Prim.Native.Nat.{_-_, _≤_};
 ghost use lib.ListN.{length};
-ghost use Rattle.text.specs.Number.{classOf, digitsEnd, numeralEnd, numeralAt, decimalFrom, numberAt};
+ghost use Rattle.text.specs.Number.{classOf, digitsEnd, numeralEnd, numeralAt, decimalFrom, numberAt, byteIs, stopOf, fixedAt, numberTo};
+ghost use Rattle.text.specs.Reading.{nodesKey, verticesTest, numberLine, countLine};
 ghost use Rattle.text.specs.Answer.{numberStep};
 use limits::MAX_DIGITS;
 use limits::MAX_EDGES;
@@ -149,4 +150,99 @@ fn number_at(text: &[u8], cursor: Cursor, limit: usize) -> Number
         value: value(part),
         next: Cursor { at: at + width },
     }
+}
+
+// The number at an offset has ended there, with a comma where one is wanted and otherwise with byte 10.
+fn ends(text: &[u8], at: usize, comma: bool) -> bool
+    ensures { λ r. ⌜ r ≡ byteIs (now (text .entry)) at (stopOf comma) ⌝ }
+{
+    let kind = class_of(at8(text, at));
+    match kind {
+        Class::Digit => false,
+        Class::LineEnd => !comma,
+        Class::Comma => comma,
+        Class::Other => false,
+    }
+}
+
+// A number, and the byte that ends it.
+fn number_to(text: &[u8], cursor: Cursor, limit: usize, comma: bool) -> Number
+    requires { ⌜ (1 ≤ limit) × (limit ≤ 9) ⌝ }
+    ensures { λ r. ⌜ numberStep r ≡ numberTo limit (stopOf comma) (now (text .entry)) (cursor .at) ⌝ }
+{
+    let step = number_at(text, cursor, limit);
+    let Number::Value { value, next } = step else {
+        return step;
+    };
+    let end = next.at;
+    if ends(text, end, comma) {
+        return Number::Value {
+            value,
+            next: Cursor { at: end + 1 },
+        };
+    }
+    Number::Refused {
+        number: 16,
+        place: end,
+    }
+}
+
+// Fixed bytes.
+fn fixed(text: &[u8], cursor: Cursor, bytes: &[u8]) -> Number
+    ensures { λ r. ⌜ numberStep r ≡ fixedAt (now (bytes .entry)) (now (text .entry)) (cursor .at) ⌝ }
+{
+    let mut at = cursor.at;
+    let mut i = 0;
+    while i < bytes.len() {
+        if text.len() <= at {
+            return Number::Refused {
+                number: 16,
+                place: at,
+            };
+        }
+        if text[at] != bytes[i] {
+            return Number::Refused {
+                number: 16,
+                place: at,
+            };
+        }
+        at += 1;
+        i += 1;
+    }
+    Number::Value {
+        value: 0,
+        next: Cursor { at },
+    }
+}
+
+// A line of a key and one number.
+fn number_line(text: &[u8], cursor: Cursor, key: &[u8]) -> Number
+    ensures { λ r. ⌜ numberStep r ≡ numberLine (now (key .entry)) (now (text .entry)) (cursor .at) ⌝ }
+{
+    let step = fixed(text, cursor, key);
+    let Number::Value { value: _, next } = step else {
+        return step;
+    };
+    number_to(text, next, MAX_DIGITS, false)
+}
+
+// `nodes=n`: 1, then 7 where the group buffer, of length lent, is short.
+fn vertices_line(text: &[u8], cursor: Cursor, lent: usize) -> Number
+    ensures { λ r. ⌜ numberStep r ≡ countLine nodesKey (verticesTest lent) (now (text .entry)) (cursor .at) ⌝ }
+{
+    let step = number_line(text, cursor, b"nodes=");
+    let Number::Value { value, next: _ } = step else {
+        return step;
+    };
+    let count = value as usize;
+    if count == 0 {
+        return Number::Refused { number: 1, place: 0 };
+    }
+    if MAX_VERTICES < count {
+        return Number::Refused { number: 1, place: 0 };
+    }
+    if lent < count {
+        return Number::Refused { number: 7, place: 0 };
+    }
+    step
 }

@@ -2,12 +2,12 @@
 use Prim.Native.Nat.{ℕ, zero, suc, _+_, _≤_, _<_}
 use native.Mathlib.Omega.{arith}
 use mathlib.Core.Path.{_≡_, refl, ap, sym, _∙_}
-use mathlib.Core.Bool.{Bool, true, false, _&&_, cond}
+use mathlib.Core.Bool.{Bool, true, false, not, _&&_, cond}
 use mathlib.Core.List.{List}
 use lib.ListN.{length, getD, List·getD-eq-default}
 use lib.Dec.{eqb, ltb, leb}
-use borrow.Author.Tests.{leb-true, leb-false, eqb-true, eqb-false, ltb-true, ltb-false, le-leb, lt-leb, ne-eqb, eq-eqb, lt-ltb}
-use Rattle.text.specs.Number.{classOf, isDigit, byteIs}
+use borrow.Author.Tests.{leb-true, leb-false, eqb-true, eqb-false, ltb-true, ltb-false, le-leb, lt-leb, ne-eqb, eq-eqb, lt-ltb, le-ltb}
+use Rattle.text.specs.Number.{classOf, byteIs, stopOf}
 use Rattle.text.specs.declared.Class.{Class}
 use Rattle.text.specs.declared.Class.the-variants.{Digit, LineEnd, Comma, Other}
 
@@ -81,3 +81,33 @@ byte-inside t at b e = by-end (ltb at (length t)) (eqb (getD t at 0) b) refl ref
 pub byte-is : (t : List ℕ) (at b : ℕ) → at < length t → getD t at 0 ≡ b → byteIs t at b ≡ true
 unfolding byteIs
 byte-is t at b h e = simp (lt-ltb at (length t) h, eq-eqb (getD t at 0) b e)
+
+pub byte-short : (t : List ℕ) (at b : ℕ) → length t ≤ at → byteIs t at b ≡ false
+unfolding byteIs
+byte-short t at b h = simp (le-ltb at (length t) h)
+
+pub byte-not : (t : List ℕ) (at b : ℕ) → (getD t at 0 ≡ b → ⊥) → byteIs t at b ≡ false
+unfolding byteIs
+byte-not t at b n = by-end (ltb at (length t))
+  where
+    by-end : (p : Bool) → (p && eqb (getD t at 0) b) ≡ false
+    by-end true = ne-eqb (getD t at 0) b n
+    by-end false = refl
+
+-- A number has ended, by the class of the byte after it.
+unfoldable pub stopClass : Class → (isComma : Bool) → Bool
+stopClass Digit isComma = false
+stopClass LineEnd isComma = not isComma
+stopClass Comma isComma = isComma
+stopClass Other isComma = false
+
+pub stop-class : (t : List ℕ) (at : ℕ) (isComma : Bool) (k : Class) → classOf (getD t at 0) ≡ k → byteIs t at (stopOf isComma) ≡ stopClass k isComma
+unfolding stopOf stopClass
+stop-class t at true Digit e = byte-not t at 44 (λ z. no-class (cc (class-comma z)))
+stop-class t at true LineEnd e = byte-not t at 44 (λ z. no-class (cc (class-comma z)))
+stop-class t at true Comma e = let b = class-facts (getD t at 0) .comma e in byte-is t at 44 (read-inside t at (omega arith)) b
+stop-class t at true Other e = byte-not t at 44 (λ z. no-class (cc (class-comma z)))
+stop-class t at false Digit e = byte-not t at 10 (λ z. no-class (cc (class-line-end z)))
+stop-class t at false LineEnd e = let b = class-facts (getD t at 0) .end e in byte-is t at 10 (read-inside t at (omega arith)) b
+stop-class t at false Comma e = byte-not t at 10 (λ z. no-class (cc (class-line-end z)))
+stop-class t at false Other e = byte-not t at 10 (λ z. no-class (cc (class-line-end z)))

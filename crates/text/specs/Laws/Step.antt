@@ -1,0 +1,58 @@
+-- Laws of steps: what follows a value and what follows a refusal; and fixed bytes, read one at a time.
+use Prim.Native.Nat.{ℕ, zero, suc, _+_, _≤_, _<_}
+use native.Mathlib.Numerals.{add-one}
+use mathlib.Core.Path.{_≡_, refl, ap, sym, _∙_}
+use mathlib.Core.Bool.{true, false}
+use mathlib.Core.List.{List, [], _∷_}
+use lib.ListN.{length, getD, drop, drop-of-length-le}
+use lib.Seq.{drop-cons}
+use Rattle.text.specs.Step.{Step, found, refused, _then_}
+use Rattle.text.specs.Number.{byteIs, fixedAt}
+use Rattle.text.specs.Answer.{numberStep}
+use Rattle.text.specs.Laws.Byte.{byte-is, byte-not, byte-short}
+use Rattle.text.specs.declared.Cursor.{Cursor}
+use Rattle.text.specs.declared.Number.{Number}
+use Rattle.text.specs.declared.Number.the-variants.{Value, Refused}
+
+pub then-found : {A B : Type 0} {s : Step A} {a : A} {next : ℕ} (k : A → ℕ → Step B) → s ≡ found a next → (s then k) ≡ k a next
+unfolding _then_
+then-found k e = ap (λ s. s then k) e
+
+pub then-refused : {A B : Type 0} {s : Step A} {number place : ℕ} (k : A → ℕ → Step B) → s ≡ refused number place → (s then k) ≡ refused number place
+unfolding _then_
+then-refused k e = ap (λ s. s then k) e
+
+-- The same of the code's answers.
+pub value-goes : {B : Type 0} {r : Number} {s : Step ℕ} {v : ℕ} {c : Cursor} (k : ℕ → ℕ → Step B) → numberStep r ≡ s → r ≡ Value v c → (s then k) ≡ k v (c .at)
+unfolding numberStep
+value-goes k e told = then-found k (sym e ∙ ap numberStep told)
+
+pub refusal-stays : {r : Number} {s : Step ℕ} {n p : ℕ} (k : ℕ → ℕ → Step ℕ) → numberStep r ≡ s → r ≡ Refused n p → numberStep r ≡ (s then k)
+unfolding numberStep
+refusal-stays {r} {s} {n} {p} k e told = ap numberStep told ∙ sym (then-refused k (sym e ∙ ap numberStep told))
+
+module _ (bytes t : List ℕ) (i at : ℕ) where
+  pub fixed-more : i < length bytes → at < length t → getD t at 0 ≡ getD bytes i 0 → fixedAt (drop i bytes) t at ≡ fixedAt (drop (i + 1) bytes) t (at + 1)
+  unfolding fixedAt
+  fixed-more h k e = rw (add-one i, drop-cons bytes i 0 h, byte-is t at (getD bytes i 0) k e)
+
+  pub fixed-short : i < length bytes → length t ≤ at → fixedAt (drop i bytes) t at ≡ refused 16 at
+  unfolding fixedAt
+  fixed-short h k = rw (drop-cons bytes i 0 h, byte-short t at (getD bytes i 0) k)
+
+  pub fixed-other : i < length bytes → (getD t at 0 ≡ getD bytes i 0 → ⊥) → fixedAt (drop i bytes) t at ≡ refused 16 at
+  unfolding fixedAt
+  fixed-other h n = rw (drop-cons bytes i 0 h, byte-not t at (getD bytes i 0) n)
+
+  pub fixed-done : length bytes ≤ i → fixedAt (drop i bytes) t at ≡ found 0 at
+  unfolding fixedAt
+  fixed-done h = rw (drop-of-length-le bytes h)
+
+-- A number's end.
+pub stop-found : (t : List ℕ) (b v at : ℕ) → byteIs t at b ≡ true → (fixedAt (b ∷ []) t at then λ z q. found v q) ≡ found v (at + 1)
+unfolding fixedAt _then_
+stop-found t b v at e = rw e
+
+pub stop-refused : (t : List ℕ) (b v at : ℕ) → byteIs t at b ≡ false → (fixedAt (b ∷ []) t at then λ z q. found v q) ≡ refused 16 at
+unfolding fixedAt _then_
+stop-refused t b v at e = rw e
