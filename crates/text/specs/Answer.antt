@@ -25,6 +25,11 @@ unfoldable pub countsStep : Head → Step Counts
 countsStep (CountsRead n m next) = found (record { vertices = n; edges = m }) (next .at)
 countsStep (HeadRefused number place) = refused number place
 
+-- A refusal, whatever value was read for; a value leaves nothing that may follow it.
+unfoldable pub stopped : {A B : Type 0} → Step A → Step B
+stopped (found a next) = refused 16 next
+stopped (refused number place) = refused number place
+
 -- The answer of reading: n and m.
 unfoldable pub countsOutcome : Reading → Outcome Counts
 countsOutcome (SurveyRead n m) = answer (record { vertices = n; edges = m })

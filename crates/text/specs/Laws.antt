@@ -1,3 +1,6 @@
 pub mod Byte
 pub mod Number
 pub mod Step
+pub mod Tests
+pub mod Lines
+pub mod Digits

@@ -7,7 +7,7 @@ use lib.Dec.{eqb, ltb, leb}
 use Rattle.limits.specs.Limits.{maxVertices, maxEdges, groupNumbers, maxDigits}
 use Rattle.limits.specs.Verdict.{refuseIf, _before_, Outcome, refusal, answer}
 use Rattle.limits.specs.declared.Verdict.{Verdict}
-use Rattle.text.specs.Step.{Step, found, refused, _then_, checked, Lines, linesFrom}
+use Rattle.text.specs.Step.{Step, found, refused, _then_, checked, Lines, linesFrom, linesAfter}
 use Rattle.text.specs.Number.{fixedAt, numberTo, lineEnd, comma}
 
 -- nodes=
@@ -25,13 +25,6 @@ nodeKey = 110 ∷ 111 ∷ 100 ∷ 101 ∷ 61 ∷ []
 -- link=
 abbrev pub linkKey : List ℕ
 linkKey = 108 ∷ 105 ∷ 110 ∷ 107 ∷ 61 ∷ []
-
--- The lengths of the lent buffers.
-pub record Lent : Type 0 where
-  pub groups : ℕ
-  pub firsts : ℕ
-  pub seconds : ℕ
-  pub weights : ℕ
 
 -- What is tested when a line is complete: a count, and the group of vertex v.
 pub record Tests : Type 0 where
@@ -52,13 +45,9 @@ edgesTest firsts seconds weights m =
 unfoldable pub groupTest : (v g : ℕ) → Verdict
 groupTest v g = refuseIf (leb groupNumbers g) 17 v
 
-unfoldable pub testsOf : Lent → Tests
-testsOf lent =
-    record {
-      vertices = verticesTest (lent .groups);
-      edges = edgesTest (lent .firsts) (lent .seconds) (lent .weights);
-      group = groupTest;
-    }
+unfoldable pub testsFor : (groups firsts seconds weights : ℕ) → Tests
+testsFor groups firsts seconds weights =
+    record { vertices = verticesTest groups; edges = edgesTest firsts seconds weights; group = groupTest }
 
 -- A line of a key and one number.
 unfoldable pub numberLine : (key t : List ℕ) → (at : ℕ) → Step ℕ
@@ -98,25 +87,23 @@ countsAt tests t =
     countLine linksKey (tests .edges) t p then λ m q.
     found (record { vertices = n; edges = m }) q
 
-unfoldable pub groupLines : Tests → List ℕ → (count at : ℕ) → Lines ℕ
-groupLines tests t count at = linesFrom (groupLine (tests .group) t) count 0 at
+unfoldable pub groupLines : (ℕ → ℕ → Verdict) → List ℕ → (count at : ℕ) → Lines ℕ
+groupLines test t count at = linesFrom (groupLine test t) count 0 at
 
 unfoldable pub edgeLines : List ℕ → (count at : ℕ) → Lines Edge
 edgeLines t count at = linesFrom (edgeLine t) count 0 at
 
--- What the lines after the counts say.
-pub record Content : Type 0 where
+-- The lines after the counts: what they say up to the first refusal, and where they end.
+pub record Body : Type 0 where
   pub groups : List ℕ
   pub edges : List Edge
+  pub end : Step ℕ
 
-unfoldable pub contentAt : Tests → List ℕ → Counts → (at : ℕ) → Step Content
-contentAt tests t counts at =
-    let gs = groupLines tests t (counts .vertices) at in
-    gs .end then λ z p.
-    let es = edgeLines t (counts .edges) p in
-    es .end then λ z q.
-    endAt t q then λ z r.
-    found (record { groups = gs .values; edges = es .values }) r
+unfoldable pub bodyAt : Tests → List ℕ → Counts → (at : ℕ) → Body
+bodyAt tests t counts at =
+    let gs = groupLines (tests .group) t (counts .vertices) at in
+    let es = linesAfter (gs .end) (edgeLines t (counts .edges)) in
+    record { groups = gs .values; edges = es .values; end = es .end then λ z p. endAt t p }
 
 -- What a text says: n and m, and the first n groups and m ends and prices.
 pub record Survey : Type 0 where
@@ -127,27 +114,30 @@ pub record Survey : Type 0 where
   pub seconds : List ℕ
   pub weights : List ℕ
 
-unfoldable pub surveyOf : Counts → Content → Survey
-surveyOf counts content =
+unfoldable pub surveyOf : Counts → Body → Survey
+surveyOf counts body =
     record {
       vertices = counts .vertices;
       edges = counts .edges;
-      groups = content .groups;
-      firsts = map (λ e. e .first) (content .edges);
-      seconds = map (λ e. e .second) (content .edges);
-      weights = map (λ e. e .weight) (content .edges);
+      groups = body .groups;
+      firsts = map (λ e. e .first) (body .edges);
+      seconds = map (λ e. e .second) (body .edges);
+      weights = map (λ e. e .weight) (body .edges);
     }
 
 unfoldable pub surveyAt : Tests → List ℕ → Step Survey
 surveyAt tests t =
-    countsAt tests t then λ counts p. contentAt tests t counts p then λ content q. found (surveyOf counts content) q
+    countsAt tests t then λ counts p.
+    let body = bodyAt tests t counts p in
+    body .end then λ z q. found (surveyOf counts body) q
 
 unfoldable pub outcomeOf : {A : Type 0} → Step A → Outcome A
 outcomeOf (found a next) = answer a
 outcomeOf (refused number place) = refusal number place
 
-unfoldable pub reading : Lent → List ℕ → Outcome Survey
-reading lent t = outcomeOf (surveyAt (testsOf lent) t)
+-- The lengths are those of the lent buffers.
+unfoldable pub reading : (groups firsts seconds weights : ℕ) → List ℕ → Outcome Survey
+reading groups firsts seconds weights t = outcomeOf (surveyAt (testsFor groups firsts seconds weights) t)
 
 -- What a lent buffer holds at the end: the values read and, behind them, what it held; a refusal writes nothing.
 unfoldable pub filled : Outcome Survey → (Survey → List ℕ) → (old : List ℕ) → List ℕ

@@ -32,3 +32,8 @@ more (refused number place) rest = record { values = []; end = refused number pl
 unfoldable pub linesFrom : {A : Type 0} → (line : ℕ → ℕ → Step A) → (count i at : ℕ) → Lines A
 linesFrom line zero i at = record { values = []; end = found 0 at }
 linesFrom line (suc count) i at = more (line i at) (λ next. linesFrom line count (i + 1) next)
+
+-- Lines that follow: none where what stands before them is refused.
+unfoldable pub linesAfter : {A : Type 0} → Step ℕ → (ℕ → Lines A) → Lines A
+linesAfter (found a next) rest = rest next
+linesAfter (refused number place) rest = record { values = []; end = refused number place }

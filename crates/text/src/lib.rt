@@ -1,13 +1,15 @@
 // Reads a survey text: lines of key=value, from the first byte towards the last. Each step answers a value with the next cursor, or
 // a refusal.
 ghost use mathlib.Core.Path.{_≡_};
-ghost use Prim.Native.Nat.{_-_, _≤_};
-ghost use lib.ListN.{length};
+ghost use Prim.Native.Nat.{_-_, _≤_, _<_};
+ghost use lib.ListN.{length, set};
+ghost use lib.Seq.{sets};
 ghost use Rattle.text.specs.Number.{classOf, digitsEnd, numeralEnd, numeralAt, decimalFrom, numberAt, byteIs, stopOf, fixedAt, numberTo};
-ghost use Rattle.text.specs.Reading.{nodesKey, verticesTest, numberLine, countLine};
-ghost use Rattle.text.specs.Answer.{numberStep};
+ghost use Rattle.text.specs.Reading.{nodesKey, linksKey, testsFor, countsAt, groupLines,  verticesTest, edgesTest, groupTest, numberLine, countLine, groupLine, edgeLine};
+ghost use Rattle.text.specs.Answer.{numberStep, edgeStep, countsStep, stopped};
 use limits::MAX_DIGITS;
 use limits::MAX_EDGES;
+use limits::GROUP_NUMBERS;
 use limits::MAX_VERTICES;
 use reads::at8;
 
@@ -245,4 +247,156 @@ fn vertices_line(text: &[u8], cursor: Cursor, lent: usize) -> Number
         return Number::Refused { number: 7, place: 0 };
     }
     step
+}
+
+// `links=m`: 3, then 7 where one of the other three buffers is short.
+fn edges_line(text: &[u8], cursor: Cursor, firsts: usize, seconds: usize, weights: usize) -> Number
+    ensures { λ r. ⌜ numberStep r ≡ countLine linksKey (edgesTest firsts seconds weights) (now (text .entry)) (cursor .at) ⌝ }
+{
+    let step = number_line(text, cursor, b"links=");
+    let Number::Value { value, next: _ } = step else {
+        return step;
+    };
+    let count = value as usize;
+    if MAX_EDGES < count {
+        return Number::Refused { number: 3, place: 0 };
+    }
+    if firsts < count {
+        return Number::Refused { number: 7, place: 0 };
+    }
+    if seconds < count {
+        return Number::Refused { number: 7, place: 0 };
+    }
+    if weights < count {
+        return Number::Refused { number: 7, place: 0 };
+    }
+    step
+}
+
+// `node=g` of a vertex: 17 where the group is over 255.
+fn group_line(text: &[u8], cursor: Cursor, vertex: usize) -> Number
+    ensures { λ r. ⌜ numberStep r ≡ groupLine groupTest (now (text .entry)) vertex (cursor .at) ⌝ }
+{
+    let step = number_line(text, cursor, b"node=");
+    let Number::Value { value, next: _ } = step else {
+        return step;
+    };
+    let group = value as usize;
+    if GROUP_NUMBERS <= group {
+        return Number::Refused {
+            number: 17,
+            place: vertex,
+        };
+    }
+    step
+}
+
+// A refused step, as the answer of an edge's line.
+fn stopped_edge(step: Number) -> EdgeLine
+    ensures { λ r. ⌜ edgeStep r ≡ stopped (numberStep step) ⌝ }
+{
+    match step {
+        Number::Refused { number, place } => EdgeLine::Refused { number, place },
+        Number::Value { value: _, next } => {
+            let place = next.at;
+            EdgeLine::Refused { number: 16, place }
+        }
+    }
+}
+
+// `link=u,v,price`.
+fn edge_line(text: &[u8], cursor: Cursor, edge: usize) -> EdgeLine
+    ensures { λ r. ⌜ edgeStep r ≡ edgeLine (now (text .entry)) edge (cursor .at) ⌝ }
+{
+    let key = fixed(text, cursor, b"link=");
+    let Number::Value { value: _, next: a } = key else {
+        return stopped_edge(key);
+    };
+    let one = number_to(text, a, MAX_DIGITS, true);
+    let Number::Value { value: first, next: b } = one else {
+        return stopped_edge(one);
+    };
+    let two = number_to(text, b, MAX_DIGITS, true);
+    let Number::Value { value: second, next: c } = two else {
+        return stopped_edge(two);
+    };
+    let three = number_to(text, c, MAX_DIGITS, false);
+    let Number::Value { value: weight, next } = three else {
+        return stopped_edge(three);
+    };
+    EdgeLine::Edge {
+        first,
+        second,
+        weight,
+        next,
+    }
+}
+
+// A refused step, as the answer of the two count lines.
+fn stopped_head(step: Number) -> Head
+    ensures { λ r. ⌜ countsStep r ≡ stopped (numberStep step) ⌝ }
+{
+    match step {
+        Number::Refused { number, place } => Head::Refused { number, place },
+        Number::Value { value: _, next } => {
+            let place = next.at;
+            Head::Refused { number: 16, place }
+        }
+    }
+}
+
+// The two count lines, with which a text begins; the lengths are those of the lent buffers.
+fn counts(text: &[u8], groups: usize, firsts: usize, seconds: usize, weights: usize) -> Head
+    ensures { λ r. ⌜ countsStep r ≡ countsAt (testsFor groups firsts seconds weights) (now (text .entry)) ⌝ }
+{
+    let one = vertices_line(text, Cursor { at: 0 }, groups);
+    let Number::Value { value: vertices, next: after } = one else {
+        return stopped_head(one);
+    };
+    let two = edges_line(text, after, firsts, seconds, weights);
+    let Number::Value { value: edges, next } = two else {
+        return stopped_head(two);
+    };
+    Head::Counts {
+        vertices: vertices as usize,
+        edges: edges as usize,
+        next,
+    }
+}
+
+// Stores where the buffer reaches.
+fn store8(buffer: &mut [u8], at: usize, value: u64)
+    requires { ⌜ value < 256 ⌝ }
+    ensures { λ r. ⌜ now (buffer .exit) ≡ set (now (buffer .entry)) at value ⌝ }
+{
+    if at < buffer.len() {
+        buffer[at] = value as u8;
+    }
+}
+
+fn store32(buffer: &mut [u32], at: usize, value: u64)
+    requires { ⌜ value < 4294967296 ⌝ }
+    ensures { λ r. ⌜ now (buffer .exit) ≡ set (now (buffer .entry)) at value ⌝ }
+{
+    if at < buffer.len() {
+        buffer[at] = value as u32;
+    }
+}
+
+// So many lines `node=g`; the groups up to the first refusal go into the buffer, as far as it reaches.
+fn group_lines(text: &[u8], cursor: Cursor, count: usize, groups: &mut [u8]) -> Number
+    ensures { λ r. ⌜ (numberStep r ≡ groupLines groupTest (now (text .entry)) count (cursor .at) .end) × (now (groups .exit) ≡ sets (now (groups .entry)) 0 (groupLines groupTest (now (text .entry)) count (cursor .at) .values)) ⌝ }
+{
+    let mut next = cursor;
+    let mut vertex = 0;
+    while vertex < count {
+        let step = group_line(text, next, vertex);
+        let Number::Value { value, next: after } = step else {
+            return step;
+        };
+        store8(groups, vertex, value);
+        next = after;
+        vertex += 1;
+    }
+    Number::Value { value: 0, next }
 }

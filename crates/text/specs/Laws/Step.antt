@@ -6,9 +6,11 @@ use mathlib.Core.Bool.{true, false}
 use mathlib.Core.List.{List, [], _∷_}
 use lib.ListN.{length, getD, drop, drop-of-length-le}
 use lib.Seq.{drop-cons}
-use Rattle.text.specs.Step.{Step, found, refused, _then_}
+use Rattle.limits.specs.declared.Verdict.{Verdict}
+use Rattle.limits.specs.declared.Verdict.the-variants.{Fine, Refused as Verdict-refused}
+use Rattle.text.specs.Step.{Step, found, refused, _then_, checked}
 use Rattle.text.specs.Number.{byteIs, fixedAt}
-use Rattle.text.specs.Answer.{numberStep}
+use Rattle.text.specs.Answer.{numberStep, stopped}
 use Rattle.text.specs.Laws.Byte.{byte-is, byte-not, byte-short}
 use Rattle.text.specs.declared.Cursor.{Cursor}
 use Rattle.text.specs.declared.Number.{Number}
@@ -56,3 +58,16 @@ stop-found t b v at e = rw e
 pub stop-refused : (t : List ℕ) (b v at : ℕ) → byteIs t at b ≡ false → (fixedAt (b ∷ []) t at then λ z q. found v q) ≡ refused 16 at
 unfolding fixedAt _then_
 stop-refused t b v at e = rw e
+
+pub stopped-stays : {B : Type 0} {r : Number} {s : Step ℕ} {n p : ℕ} (k : ℕ → ℕ → Step B) → numberStep r ≡ s → r ≡ Refused n p → stopped (numberStep r) ≡ (s then k)
+unfolding numberStep stopped
+stopped-stays k e told = ap (λ x. stopped (numberStep x)) told ∙ sym (then-refused k (sym e ∙ ap numberStep told))
+
+-- A test of the value that was read.
+pub check-refused : {r : Number} {s : Step ℕ} {v : ℕ} {c : Cursor} {n p : ℕ} (test : ℕ → Verdict) → numberStep r ≡ s → r ≡ Value v c → test v ≡ Verdict-refused n p → refused n p ≡ (s then λ x q. checked (test x) x q)
+unfolding checked
+check-refused {v = v} {c = c} test e told f = sym (value-goes _ e told ∙ ap (λ w. checked w v (c .at)) f)
+
+pub check-fine : {r : Number} {s : Step ℕ} {v : ℕ} {c : Cursor} (test : ℕ → Verdict) → numberStep r ≡ s → r ≡ Value v c → test v ≡ Fine → found v (c .at) ≡ (s then λ x q. checked (test x) x q)
+unfolding checked
+check-fine {v = v} {c = c} test e told f = sym (value-goes _ e told ∙ ap (λ w. checked w v (c .at)) f)

@@ -1,0 +1,81 @@
+-- What each test of a complete line answers.
+use Prim.Native.Nat.{ℕ, _≤_, _<_}
+use native.Mathlib.Omega.{arith}
+use mathlib.Core.Path.{_≡_, refl, ap, subst}
+use mathlib.Core.List.{List}
+use mathlib.Core.Bool.{Bool, true, false, _||_}
+use lib.Dec.{eqb, ltb, leb}
+use borrow.Author.Tests.{ltb-true, ltb-false, eq-eqb, ne-eqb, lt-ltb, le-ltb, le-leb, lt-leb}
+use Rattle.limits.specs.Verdict.{refuseIf, _before_}
+use Rattle.limits.specs.declared.Verdict.{Verdict}
+use Rattle.limits.specs.declared.Verdict.the-variants.{Fine, Refused}
+use Rattle.text.specs.Step.{Step, found, refused, _then_, checked}
+use Rattle.text.specs.Reading.{verticesTest, edgesTest, groupTest, nodeKey, numberLine, groupLine}
+use Rattle.text.specs.Laws.Digits.{then-value}
+
+module _ (lent n : ℕ) where
+  pub vertices-none : n ≡ 0 → verticesTest lent n ≡ Refused 1 0
+  unfolding verticesTest refuseIf _before_
+  vertices-none e = rw (eq-eqb n 0 e)
+
+  pub vertices-many : (n ≡ 0 → ⊥) → 256 < n → verticesTest lent n ≡ Refused 1 0
+  unfolding verticesTest refuseIf _before_
+  vertices-many z h = rw (ne-eqb n 0 z, lt-ltb 256 n h)
+
+  pub vertices-short : (n ≡ 0 → ⊥) → n ≤ 256 → lent < n → verticesTest lent n ≡ Refused 7 0
+  unfolding verticesTest refuseIf _before_
+  vertices-short z h k = rw (ne-eqb n 0 z, le-ltb 256 n h, lt-ltb lent n k)
+
+  pub vertices-fine : (n ≡ 0 → ⊥) → n ≤ 256 → n ≤ lent → verticesTest lent n ≡ Fine
+  unfolding verticesTest refuseIf _before_
+  vertices-fine z h k = rw (ne-eqb n 0 z, le-ltb 256 n h, le-ltb lent n k)
+
+module _ (firsts seconds weights m : ℕ) where
+  pub edges-many : 2048 < m → edgesTest firsts seconds weights m ≡ Refused 3 0
+  unfolding edgesTest refuseIf _before_
+  edges-many h = rw (lt-ltb 2048 m h)
+
+  pub edges-first : m ≤ 2048 → firsts < m → edgesTest firsts seconds weights m ≡ Refused 7 0
+  unfolding edgesTest refuseIf _before_
+  edges-first h a = rw (le-ltb 2048 m h, lt-ltb firsts m a)
+
+  pub edges-second : m ≤ 2048 → m ≤ firsts → seconds < m → edgesTest firsts seconds weights m ≡ Refused 7 0
+  unfolding edgesTest refuseIf _before_
+  edges-second h a b = rw (le-ltb 2048 m h, le-ltb firsts m a, lt-ltb seconds m b)
+
+  pub edges-weight : m ≤ 2048 → m ≤ firsts → m ≤ seconds → weights < m → edgesTest firsts seconds weights m ≡ Refused 7 0
+  unfolding edgesTest refuseIf _before_
+  edges-weight h a b d = rw (le-ltb 2048 m h, le-ltb firsts m a, le-ltb seconds m b, lt-ltb weights m d)
+
+  pub edges-fine : m ≤ 2048 → m ≤ firsts → m ≤ seconds → m ≤ weights → edgesTest firsts seconds weights m ≡ Fine
+  unfolding edgesTest refuseIf _before_
+  edges-fine h a b d = rw (le-ltb 2048 m h, le-ltb firsts m a, le-ltb seconds m b, le-ltb weights m d)
+
+pub group-high : (v g : ℕ) → 256 ≤ g → groupTest v g ≡ Refused 17 v
+unfolding groupTest refuseIf
+group-high v g h = rw (le-leb 256 g h)
+
+pub group-fine : (v g : ℕ) → g < 256 → groupTest v g ≡ Fine
+unfolding groupTest refuseIf
+group-fine v g h = rw (lt-leb 256 g h)
+
+pub checked-fine : {A : Type 0} {b : A} {q : ℕ} (w : Verdict) (a : A) (p : ℕ) → checked w a p ≡ found b q → w ≡ Fine
+unfolding checked
+checked-fine Fine a p e = refl
+checked-fine (Refused n r) a p e = let z : _≡_ {A = ℕ} 0 1 = cc in absurd (omega arith)
+
+pub group-passed : (v g : ℕ) → groupTest v g ≡ Fine → g < 256
+group-passed v g e = by-size (ltb g 256) refl
+  where
+    by-size : (b : Bool) → ltb g 256 ≡ b → g < 256
+    by-size true h = ltb-true g 256 h
+    by-size false h = let z : _≡_ {A = ℕ} 0 1 = cc (group-high v g (ltb-false g 256 h)) in absurd (omega arith)
+
+pub group-below : (t : List ℕ) (v at : ℕ) {g next : ℕ} → groupLine groupTest t v at ≡ found g next → g < 256
+unfolding groupLine checked
+group-below t v at {g} {next} e =
+    let f = then-value (numberLine nodeKey t at) (λ x p. checked (groupTest v x) x p) e in
+    let w = checked-fine (groupTest v (f .0)) (f .0) (f .1) (f .3) in
+    let q : checked (groupTest v (f .0)) (f .0) (f .1) ≡ found (f .0) (f .1) = ap (λ x. checked x (f .0) (f .1)) w in
+    let same : f .0 ≡ g = cc (f .3) in
+    subst (λ (x : ℕ). x < 256) same (group-passed v (f .0) w)
