@@ -65,6 +65,15 @@ pub record Edge : Type 0 where
   pub second : ℕ
   pub weight : ℕ
 
+unfoldable pub firstsOf : List Edge → List ℕ
+firstsOf = map (λ e. e .first)
+
+unfoldable pub secondsOf : List Edge → List ℕ
+secondsOf = map (λ e. e .second)
+
+unfoldable pub weightsOf : List Edge → List ℕ
+weightsOf = map (λ e. e .weight)
+
 unfoldable pub edgeLine : List ℕ → (e at : ℕ) → Step Edge
 edgeLine t e at =
     fixedAt linkKey t at then λ z a.
@@ -99,11 +108,14 @@ pub record Body : Type 0 where
   pub edges : List Edge
   pub end : Step ℕ
 
-unfoldable pub bodyAt : Tests → List ℕ → Counts → (at : ℕ) → Body
-bodyAt tests t counts at =
-    let gs = groupLines (tests .group) t (counts .vertices) at in
+unfoldable pub bodyAt : (ℕ → ℕ → Verdict) → List ℕ → Counts → (at : ℕ) → Body
+bodyAt test t counts at =
+    let gs = groupLines test t (counts .vertices) at in
     let es = linesAfter (gs .end) (edgeLines t (counts .edges)) in
     record { groups = gs .values; edges = es .values; end = es .end then λ z p. endAt t p }
+
+unfoldable pub bodyOf : List ℕ → (vertices edges at : ℕ) → Body
+bodyOf t vertices edges at = bodyAt groupTest t (record { vertices = vertices; edges = edges }) at
 
 -- What a text says: n and m, and the first n groups and m ends and prices.
 pub record Survey : Type 0 where
@@ -120,24 +132,25 @@ surveyOf counts body =
       vertices = counts .vertices;
       edges = counts .edges;
       groups = body .groups;
-      firsts = map (λ e. e .first) (body .edges);
-      seconds = map (λ e. e .second) (body .edges);
-      weights = map (λ e. e .weight) (body .edges);
+      firsts = firstsOf (body .edges);
+      seconds = secondsOf (body .edges);
+      weights = weightsOf (body .edges);
     }
 
 unfoldable pub surveyAt : Tests → List ℕ → Step Survey
 surveyAt tests t =
     countsAt tests t then λ counts p.
-    let body = bodyAt tests t counts p in
+    let body = bodyAt (tests .group) t counts p in
     body .end then λ z q. found (surveyOf counts body) q
 
 unfoldable pub outcomeOf : {A : Type 0} → Step A → Outcome A
 outcomeOf (found a next) = answer a
 outcomeOf (refused number place) = refusal number place
 
--- The lengths are those of the lent buffers.
-unfoldable pub reading : (groups firsts seconds weights : ℕ) → List ℕ → Outcome Survey
-reading groups firsts seconds weights t = outcomeOf (surveyAt (testsFor groups firsts seconds weights) t)
+-- The four lists are what the lent buffers hold; only their lengths matter.
+unfoldable pub reading : (t groups firsts seconds weights : List ℕ) → Outcome Survey
+reading t groups firsts seconds weights =
+    outcomeOf (surveyAt (testsFor (length groups) (length firsts) (length seconds) (length weights)) t)
 
 -- What a lent buffer holds at the end: the values read and, behind them, what it held; a refusal writes nothing.
 unfoldable pub filled : Outcome Survey → (Survey → List ℕ) → (old : List ℕ) → List ℕ

@@ -5,8 +5,8 @@ ghost use Prim.Native.Nat.{_-_, _≤_, _<_};
 ghost use lib.ListN.{length, set};
 ghost use lib.Seq.{sets};
 ghost use Rattle.text.specs.Number.{classOf, digitsEnd, numeralEnd, numeralAt, decimalFrom, numberAt, byteIs, stopOf, fixedAt, numberTo};
-ghost use Rattle.text.specs.Reading.{nodesKey, linksKey, testsFor, countsAt, groupLines,  verticesTest, edgesTest, groupTest, numberLine, countLine, groupLine, edgeLine};
-ghost use Rattle.text.specs.Answer.{numberStep, edgeStep, countsStep, stopped};
+ghost use Rattle.text.specs.Reading.{nodesKey, linksKey, edgeLines, firstsOf, secondsOf, weightsOf, bodyOf,  testsFor, countsAt, groupLines,  verticesTest, edgesTest, groupTest, numberLine, countLine, groupLine, edgeLine};
+ghost use Rattle.text.specs.Answer.{numberStep, edgeStep, countsStep, stopped, Stores, Fills, Reads, countsOutcome};
 use limits::MAX_DIGITS;
 use limits::MAX_EDGES;
 use limits::GROUP_NUMBERS;
@@ -399,4 +399,89 @@ fn group_lines(text: &[u8], cursor: Cursor, count: usize, groups: &mut [u8]) -> 
         vertex += 1;
     }
     Number::Value { value: 0, next }
+}
+
+// So many lines `link=u,v,price`, in the same way.
+fn edge_lines(text: &[u8], cursor: Cursor, count: usize, firsts: &mut [u32], seconds: &mut [u32], weights: &mut [u32]) -> Number
+    ensures { λ r. ⌜ (numberStep r ≡ edgeLines (now (text .entry)) count (cursor .at) .end) × (now (firsts .exit) ≡ sets (now (firsts .entry)) 0 (firstsOf (edgeLines (now (text .entry)) count (cursor .at) .values))) × (now (seconds .exit) ≡ sets (now (seconds .entry)) 0 (secondsOf (edgeLines (now (text .entry)) count (cursor .at) .values))) × (now (weights .exit) ≡ sets (now (weights .entry)) 0 (weightsOf (edgeLines (now (text .entry)) count (cursor .at) .values))) ⌝ }
+{
+    let mut next = cursor;
+    let mut edge = 0;
+    while edge < count {
+        match edge_line(text, next, edge) {
+            EdgeLine::Refused { number, place } => return Number::Refused { number, place },
+            EdgeLine::Edge {
+                first,
+                second,
+                weight,
+                next: after,
+            } => {
+                store32(firsts, edge, first);
+                store32(seconds, edge, second);
+                store32(weights, edge, weight);
+                next = after;
+                edge += 1;
+            }
+        }
+    }
+    Number::Value { value: 0, next }
+}
+
+// The lines after the counts, to the end of the text; the values up to the first refusal go into the buffers, as far as these reach.
+fn body(text: &[u8], cursor: Cursor, vertices: usize, edges: usize, groups: &mut [u8], firsts: &mut [u32], seconds: &mut [u32], weights: &mut [u32]) -> Number
+    ensures { λ r. ⌜ Stores (bodyOf (now (text .entry)) vertices edges (cursor .at)) (numberStep r) (now (groups .entry)) (now (groups .exit)) (now (firsts .entry)) (now (firsts .exit)) (now (seconds .entry)) (now (seconds .exit)) (now (weights .entry)) (now (weights .exit)) ⌝ }
+{
+    let heads = group_lines(text, cursor, vertices, groups);
+    let Number::Value { value: _, next } = heads else {
+        return heads;
+    };
+    let links = edge_lines(text, next, edges, firsts, seconds, weights);
+    let Number::Value { value: _, next: last } = links else {
+        return links;
+    };
+    let end = last.at;
+    if end < text.len() {
+        return Number::Refused {
+            number: 16,
+            place: end,
+        };
+    }
+    Number::Value { value: 0, next: last }
+}
+
+// The two passes over the lines after the counts: the first decides, into buffers of no length, and the second stores.
+fn read_body(text: &[u8], cursor: Cursor, vertices: usize, edges: usize, groups: &mut [u8], firsts: &mut [u32], seconds: &mut [u32], weights: &mut [u32]) -> Number
+    ensures { λ r. ⌜ Fills (bodyOf (now (text .entry)) vertices edges (cursor .at)) (numberStep r) (now (groups .entry)) (now (groups .exit)) (now (firsts .entry)) (now (firsts .exit)) (now (seconds .entry)) (now (seconds .exit)) (now (weights .entry)) (now (weights .exit)) ⌝ }
+{
+    let found = body(
+        text,
+        cursor,
+        vertices,
+        edges,
+        &mut groups[0..0],
+        &mut firsts[0..0],
+        &mut seconds[0..0],
+        &mut weights[0..0],
+    );
+    let Number::Value { value: _, next: _ } = found else {
+        return found;
+    };
+    body(text, cursor, vertices, edges, groups, firsts, seconds, weights)
+}
+
+// Reads a survey text into the lent buffers; a refusal writes nothing.
+pub fn read(text: &[u8], groups: &mut [u8], firsts: &mut [u32], seconds: &mut [u32], weights: &mut [u32]) -> Reading
+    ensures { λ r. ⌜ Reads (now (text .entry)) (countsOutcome r) (now (groups .entry)) (now (groups .exit)) (now (firsts .entry)) (now (firsts .exit)) (now (seconds .entry)) (now (seconds .exit)) (now (weights .entry)) (now (weights .exit)) ⌝ }
+{
+    match counts(text, groups.len(), firsts.len(), seconds.len(), weights.len()) {
+        Head::Refused { number, place } => Reading::Refused { number, place },
+        Head::Counts {
+            vertices,
+            edges,
+            next,
+        } => match read_body(text, next, vertices, edges, groups, firsts, seconds, weights) {
+            Number::Refused { number, place } => Reading::Refused { number, place },
+            Number::Value { value: _, next: _ } => Reading::Survey { vertices, edges },
+        },
+    }
 }

@@ -4,10 +4,13 @@ use native.Mathlib.Omega.{arith}
 use native.Mathlib.Numerals.{add-one}
 use native.Mathlib.Nat.{sub-zero}
 use mathlib.Core.Path.{_≡_, refl, ap, sym, _∙_}
-use mathlib.Core.List.{List, [], _∷_, map}
+use mathlib.Core.List.{List, [], _∷_, _++_, map}
 use lib.ListN.{length, set}
 use lib.Seq.{sets, length-sets}
-use Rattle.text.specs.Step.{Step, found, refused, Lines, more, linesFrom}
+use borrow.Author.Tests.{le-leb, lt-leb}
+use Rattle.text.specs.Step.{Step, found, refused, _then_, Lines, more, linesFrom, linesAfter}
+use Rattle.text.specs.Reading.{groupTest, groupLines, edgeLines, bodyAt, bodyOf, endAt, firstsOf, secondsOf, weightsOf}
+use Rattle.text.specs.Answer.{Stores, storedIf}
 
 one-less : {i n : ℕ} → i < n → n - i ≡ suc (n - (i + 1))
 one-less h = omega arith
@@ -82,3 +85,43 @@ module _ {A : Type 0} (line : ℕ → ℕ → Step A) (whole : Lines A) (count i
 pub map-same : (l : List ℕ) → map (λ x. x) l ≡ l
 map-same [] = refl
 map-same (x ∷ l) = ap (λ (r : List ℕ). x ∷ r) (map-same l)
+
+-- The lines after the counts, by where the group lines end.
+module _ (t : List ℕ) (n m at : ℕ) where
+  pub body-stopped : {number place : ℕ} → groupLines groupTest t n at .end ≡ refused number place → bodyOf t n m at ≡ record { groups = groupLines groupTest t n at .values; edges = []; end = refused number place }
+  unfolding bodyOf bodyAt linesAfter _then_
+  body-stopped e = rw e
+
+  pub body-read : {z p : ℕ} → groupLines groupTest t n at .end ≡ found z p → bodyOf t n m at ≡ record { groups = groupLines groupTest t n at .values; edges = edgeLines t m p .values; end = edgeLines t m p .end then λ x q. endAt t q }
+  unfolding bodyOf bodyAt linesAfter
+  body-read e = rw e
+
+module _ (t : List ℕ) (n m at : ℕ) {groups groups′ firsts firsts′ seconds seconds′ weights weights′ : List ℕ} where
+  pub stores-stopped : {number place : ℕ} → groupLines groupTest t n at .end ≡ refused number place → groups′ ≡ sets groups 0 (groupLines groupTest t n at .values) → firsts′ ≡ firsts → seconds′ ≡ seconds → weights′ ≡ weights → Stores (bodyOf t n m at) (refused number place) groups groups′ firsts firsts′ seconds seconds′ weights weights′
+  unfolding firstsOf secondsOf weightsOf
+  stores-stopped e a b c d = rw (body-stopped t n m at e) record { end = refl; intoGroups = a; intoFirsts = b; intoSeconds = c; intoWeights = d }
+
+  pub stores-read : {z p : ℕ} {step : Step ℕ} → groupLines groupTest t n at .end ≡ found z p → step ≡ (edgeLines t m p .end then λ x q. endAt t q) → groups′ ≡ sets groups 0 (groupLines groupTest t n at .values) → firsts′ ≡ sets firsts 0 (firstsOf (edgeLines t m p .values)) → seconds′ ≡ sets seconds 0 (secondsOf (edgeLines t m p .values)) → weights′ ≡ sets weights 0 (weightsOf (edgeLines t m p .values)) → Stores (bodyOf t n m at) step groups groups′ firsts firsts′ seconds seconds′ weights weights′
+  stores-read e s a b c d = rw (body-read t n m at e) record { end = s; intoGroups = a; intoFirsts = b; intoSeconds = c; intoWeights = d }
+
+pub end-here : (t : List ℕ) (at : ℕ) → length t ≤ at → endAt t at ≡ found 0 at
+unfolding endAt
+end-here t at h = rw (le-leb (length t) at h)
+
+pub end-later : (t : List ℕ) (at : ℕ) → at < length t → endAt t at ≡ refused 16 at
+unfolding endAt
+end-later t at h = rw (lt-leb (length t) at h)
+
+-- A pass over buffers of no length stores nothing, and where it is refused, that is all.
+pub sets-nil : (i : ℕ) (vs : List ℕ) → sets [] i vs ≡ []
+sets-nil i [] = refl
+sets-nil i (v ∷ vs) = sets-nil (suc i) vs
+
+module _ (values : List ℕ) (old : List ℕ) {new : List ℕ} {end : Step ℕ} where
+  pub pass-refused : {n p : ℕ} → end ≡ refused n p → new ≡ sets [] 0 values → new ++ old ≡ storedIf end values old
+  unfolding storedIf
+  pass-refused e h = ap (λ (l : List ℕ). l ++ old) (h ∙ sets-nil 0 values) ∙ sym (ap (λ x. storedIf x values old) e)
+
+  pub pass-found : {z p : ℕ} {last : List ℕ} → end ≡ found z p → new ≡ sets [] 0 values → last ≡ sets (new ++ old) 0 values → last ≡ storedIf end values old
+  unfolding storedIf
+  pass-found e h k = k ∙ ap (λ (l : List ℕ). sets (l ++ old) 0 values) (h ∙ sets-nil 0 values) ∙ sym (ap (λ x. storedIf x values old) e)

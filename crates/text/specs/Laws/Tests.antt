@@ -1,17 +1,19 @@
--- What each test of a complete line answers.
-use Prim.Native.Nat.{ℕ, _≤_, _<_}
+-- What each test of a complete line answers, and how large the values of a line are.
+use Prim.Native.Nat.{ℕ, _^_, _≤_, _<_}
 use native.Mathlib.Omega.{arith}
 use mathlib.Core.Path.{_≡_, refl, ap, subst}
 use mathlib.Core.List.{List}
 use mathlib.Core.Bool.{Bool, true, false, _||_}
 use lib.Dec.{eqb, ltb, leb}
 use borrow.Author.Tests.{ltb-true, ltb-false, eq-eqb, ne-eqb, lt-ltb, le-ltb, le-leb, lt-leb}
+use Rattle.limits.specs.Limits.{maxDigits}
 use Rattle.limits.specs.Verdict.{refuseIf, _before_}
 use Rattle.limits.specs.declared.Verdict.{Verdict}
 use Rattle.limits.specs.declared.Verdict.the-variants.{Fine, Refused}
 use Rattle.text.specs.Step.{Step, found, refused, _then_, checked}
-use Rattle.text.specs.Reading.{verticesTest, edgesTest, groupTest, nodeKey, numberLine, groupLine}
-use Rattle.text.specs.Laws.Digits.{then-value}
+use Rattle.text.specs.Reading.{verticesTest, edgesTest, groupTest, nodeKey, linkKey, numberLine, groupLine, Edge, edgeLine}
+use Rattle.text.specs.Number.{fixedAt, numberTo, comma, lineEnd}
+use Rattle.text.specs.Laws.Digits.{then-value, number-to-below}
 
 module _ (lent n : ℕ) where
   pub vertices-none : n ≡ 0 → verticesTest lent n ≡ Refused 1 0
@@ -79,3 +81,24 @@ group-below t v at {g} {next} e =
     let q : checked (groupTest v (f .0)) (f .0) (f .1) ≡ found (f .0) (f .1) = ap (λ x. checked x (f .0) (f .1)) w in
     let same : f .0 ≡ g = cc (f .3) in
     subst (λ (x : ℕ). x < 256) same (group-passed v (f .0) w)
+
+-- The numbers of an edge are below the power of ten of their digit limit.
+pub record Below (x : Edge) : Type 0 where
+  pub first : x .first < 10 ^ maxDigits
+  pub second : x .second < 10 ^ maxDigits
+  pub weight : x .weight < 10 ^ maxDigits
+
+pub edge-below : (t : List ℕ) (e at : ℕ) {x : Edge} {next : ℕ} → edgeLine t e at ≡ found x next → Below x
+unfolding edgeLine
+edge-below t e at {x} {next} q =
+    let k = then-value (fixedAt linkKey t at) _ q in
+    let u = then-value (numberTo maxDigits comma t (k .1)) _ (k .3) in
+    let v = then-value (numberTo maxDigits comma t (u .1)) _ (u .3) in
+    let w = then-value (numberTo maxDigits lineEnd t (v .1)) _ (v .3) in
+    let same : _≡_ {A = Edge} (record { first = u .0; second = v .0; weight = w .0 }) x = cc (w .3) in
+    subst Below same
+    record {
+      first = number-to-below t maxDigits comma (k .1) (u .0) (u .1) (omega arith) (u .2);
+      second = number-to-below t maxDigits comma (u .1) (v .0) (v .1) (omega arith) (v .2);
+      weight = number-to-below t maxDigits lineEnd (v .1) (w .0) (w .1) (omega arith) (w .2);
+    }
