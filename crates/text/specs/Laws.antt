@@ -4,3 +4,4 @@ pub mod Step
 pub mod Tests
 pub mod Lines
 pub mod Digits
+pub mod Reading

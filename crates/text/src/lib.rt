@@ -5,11 +5,11 @@ ghost use Prim.Native.Nat.{_-_, _≤_, _<_};
 ghost use lib.ListN.{length, set};
 ghost use lib.Seq.{sets};
 ghost use Rattle.text.specs.Number.{classOf, digitsEnd, numeralEnd, numeralAt, decimalFrom, numberAt, byteIs, stopOf, fixedAt, numberTo};
-ghost use Rattle.text.specs.Reading.{nodesKey, linksKey, edgeLines, firstsOf, secondsOf, weightsOf, bodyOf,  testsFor, countsAt, groupLines,  verticesTest, edgesTest, groupTest, numberLine, countLine, groupLine, edgeLine};
+ghost use Rattle.text.specs.Reading.{nodesKey, linksKey, edgeLines, firstsOf, secondsOf, weightsOf, bodyOf, testsFor, countsAt, groupLines, verticesTest, edgesTest, groupTest, numberLine, countLine, groupLine, edgeLine};
 ghost use Rattle.text.specs.Answer.{numberStep, edgeStep, countsStep, stopped, Stores, Fills, Reads, countsOutcome};
+use limits::GROUP_NUMBERS;
 use limits::MAX_DIGITS;
 use limits::MAX_EDGES;
-use limits::GROUP_NUMBERS;
 use limits::MAX_VERTICES;
 use reads::at8;
 
@@ -238,13 +238,22 @@ fn vertices_line(text: &[u8], cursor: Cursor, lent: usize) -> Number
     };
     let count = value as usize;
     if count == 0 {
-        return Number::Refused { number: 1, place: 0 };
+        return Number::Refused {
+            number: 1,
+            place: 0,
+        };
     }
     if MAX_VERTICES < count {
-        return Number::Refused { number: 1, place: 0 };
+        return Number::Refused {
+            number: 1,
+            place: 0,
+        };
     }
     if lent < count {
-        return Number::Refused { number: 7, place: 0 };
+        return Number::Refused {
+            number: 7,
+            place: 0,
+        };
     }
     step
 }
@@ -259,16 +268,28 @@ fn edges_line(text: &[u8], cursor: Cursor, firsts: usize, seconds: usize, weight
     };
     let count = value as usize;
     if MAX_EDGES < count {
-        return Number::Refused { number: 3, place: 0 };
+        return Number::Refused {
+            number: 3,
+            place: 0,
+        };
     }
     if firsts < count {
-        return Number::Refused { number: 7, place: 0 };
+        return Number::Refused {
+            number: 7,
+            place: 0,
+        };
     }
     if seconds < count {
-        return Number::Refused { number: 7, place: 0 };
+        return Number::Refused {
+            number: 7,
+            place: 0,
+        };
     }
     if weights < count {
-        return Number::Refused { number: 7, place: 0 };
+        return Number::Refused {
+            number: 7,
+            place: 0,
+        };
     }
     step
 }
@@ -313,15 +334,27 @@ fn edge_line(text: &[u8], cursor: Cursor, edge: usize) -> EdgeLine
         return stopped_edge(key);
     };
     let one = number_to(text, a, MAX_DIGITS, true);
-    let Number::Value { value: first, next: b } = one else {
+    let Number::Value {
+        value: first,
+        next: b,
+    } = one
+    else {
         return stopped_edge(one);
     };
     let two = number_to(text, b, MAX_DIGITS, true);
-    let Number::Value { value: second, next: c } = two else {
+    let Number::Value {
+        value: second,
+        next: c,
+    } = two
+    else {
         return stopped_edge(two);
     };
     let three = number_to(text, c, MAX_DIGITS, false);
-    let Number::Value { value: weight, next } = three else {
+    let Number::Value {
+        value: weight,
+        next,
+    } = three
+    else {
         return stopped_edge(three);
     };
     EdgeLine::Edge {
@@ -350,7 +383,11 @@ fn counts(text: &[u8], groups: usize, firsts: usize, seconds: usize, weights: us
     ensures { λ r. ⌜ countsStep r ≡ countsAt (testsFor groups firsts seconds weights) (now (text .entry)) ⌝ }
 {
     let one = vertices_line(text, Cursor { at: 0 }, groups);
-    let Number::Value { value: vertices, next: after } = one else {
+    let Number::Value {
+        value: vertices,
+        next: after,
+    } = one
+    else {
         return stopped_head(one);
     };
     let two = edges_line(text, after, firsts, seconds, weights);
@@ -402,7 +439,14 @@ fn group_lines(text: &[u8], cursor: Cursor, count: usize, groups: &mut [u8]) -> 
 }
 
 // So many lines `link=u,v,price`, in the same way.
-fn edge_lines(text: &[u8], cursor: Cursor, count: usize, firsts: &mut [u32], seconds: &mut [u32], weights: &mut [u32]) -> Number
+fn edge_lines(
+    text: &[u8],
+    cursor: Cursor,
+    count: usize,
+    firsts: &mut [u32],
+    seconds: &mut [u32],
+    weights: &mut [u32],
+) -> Number
     ensures { λ r. ⌜ (numberStep r ≡ edgeLines (now (text .entry)) count (cursor .at) .end) × (now (firsts .exit) ≡ sets (now (firsts .entry)) 0 (firstsOf (edgeLines (now (text .entry)) count (cursor .at) .values))) × (now (seconds .exit) ≡ sets (now (seconds .entry)) 0 (secondsOf (edgeLines (now (text .entry)) count (cursor .at) .values))) × (now (weights .exit) ≡ sets (now (weights .entry)) 0 (weightsOf (edgeLines (now (text .entry)) count (cursor .at) .values))) ⌝ }
 {
     let mut next = cursor;
@@ -428,7 +472,16 @@ fn edge_lines(text: &[u8], cursor: Cursor, count: usize, firsts: &mut [u32], sec
 }
 
 // The lines after the counts, to the end of the text; the values up to the first refusal go into the buffers, as far as these reach.
-fn body(text: &[u8], cursor: Cursor, vertices: usize, edges: usize, groups: &mut [u8], firsts: &mut [u32], seconds: &mut [u32], weights: &mut [u32]) -> Number
+fn body(
+    text: &[u8],
+    cursor: Cursor,
+    vertices: usize,
+    edges: usize,
+    groups: &mut [u8],
+    firsts: &mut [u32],
+    seconds: &mut [u32],
+    weights: &mut [u32],
+) -> Number
     ensures { λ r. ⌜ Stores (bodyOf (now (text .entry)) vertices edges (cursor .at)) (numberStep r) (now (groups .entry)) (now (groups .exit)) (now (firsts .entry)) (now (firsts .exit)) (now (seconds .entry)) (now (seconds .exit)) (now (weights .entry)) (now (weights .exit)) ⌝ }
 {
     let heads = group_lines(text, cursor, vertices, groups);
@@ -436,7 +489,11 @@ fn body(text: &[u8], cursor: Cursor, vertices: usize, edges: usize, groups: &mut
         return heads;
     };
     let links = edge_lines(text, next, edges, firsts, seconds, weights);
-    let Number::Value { value: _, next: last } = links else {
+    let Number::Value {
+        value: _,
+        next: last,
+    } = links
+    else {
         return links;
     };
     let end = last.at;
@@ -446,11 +503,23 @@ fn body(text: &[u8], cursor: Cursor, vertices: usize, edges: usize, groups: &mut
             place: end,
         };
     }
-    Number::Value { value: 0, next: last }
+    Number::Value {
+        value: 0,
+        next: last,
+    }
 }
 
 // The two passes over the lines after the counts: the first decides, into buffers of no length, and the second stores.
-fn read_body(text: &[u8], cursor: Cursor, vertices: usize, edges: usize, groups: &mut [u8], firsts: &mut [u32], seconds: &mut [u32], weights: &mut [u32]) -> Number
+fn read_body(
+    text: &[u8],
+    cursor: Cursor,
+    vertices: usize,
+    edges: usize,
+    groups: &mut [u8],
+    firsts: &mut [u32],
+    seconds: &mut [u32],
+    weights: &mut [u32],
+) -> Number
     ensures { λ r. ⌜ Fills (bodyOf (now (text .entry)) vertices edges (cursor .at)) (numberStep r) (now (groups .entry)) (now (groups .exit)) (now (firsts .entry)) (now (firsts .exit)) (now (seconds .entry)) (now (seconds .exit)) (now (weights .entry)) (now (weights .exit)) ⌝ }
 {
     let found = body(
@@ -466,20 +535,50 @@ fn read_body(text: &[u8], cursor: Cursor, vertices: usize, edges: usize, groups:
     let Number::Value { value: _, next: _ } = found else {
         return found;
     };
-    body(text, cursor, vertices, edges, groups, firsts, seconds, weights)
+    body(
+        text,
+        cursor,
+        vertices,
+        edges,
+        groups,
+        firsts,
+        seconds,
+        weights,
+    )
 }
 
 // Reads a survey text into the lent buffers; a refusal writes nothing.
-pub fn read(text: &[u8], groups: &mut [u8], firsts: &mut [u32], seconds: &mut [u32], weights: &mut [u32]) -> Reading
+pub fn read(
+    text: &[u8],
+    groups: &mut [u8],
+    firsts: &mut [u32],
+    seconds: &mut [u32],
+    weights: &mut [u32],
+) -> Reading
     ensures { λ r. ⌜ Reads (now (text .entry)) (countsOutcome r) (now (groups .entry)) (now (groups .exit)) (now (firsts .entry)) (now (firsts .exit)) (now (seconds .entry)) (now (seconds .exit)) (now (weights .entry)) (now (weights .exit)) ⌝ }
 {
-    match counts(text, groups.len(), firsts.len(), seconds.len(), weights.len()) {
+    match counts(
+        text,
+        groups.len(),
+        firsts.len(),
+        seconds.len(),
+        weights.len(),
+    ) {
         Head::Refused { number, place } => Reading::Refused { number, place },
         Head::Counts {
             vertices,
             edges,
             next,
-        } => match read_body(text, next, vertices, edges, groups, firsts, seconds, weights) {
+        } => match read_body(
+            text,
+            next,
+            vertices,
+            edges,
+            groups,
+            firsts,
+            seconds,
+            weights,
+        ) {
             Number::Refused { number, place } => Reading::Refused { number, place },
             Number::Value { value: _, next: _ } => Reading::Survey { vertices, edges },
         },

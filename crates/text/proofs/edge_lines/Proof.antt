@@ -56,11 +56,12 @@ returns c =
     let a = c .before .before .before .before .before .before .before .before .before .before .args in
     let l = c .before .before .before .before .before .loop in
     let h = c .before .before .before .before .loop-test .taken in
-    let e : edgeLine (a .text .now) (l .edge) (l .next .at) ≡ _ = sym (c .before .before .before .edge-line .ensures) ∙ ap edgeStep (c .before .number .given .1) in
-    ( left-stop _ _ _ _ _ h e (l .inv .left)
-    , stored-stop _ _ _ _ _ _ _ _ h e (l .inv .one)
-    , stored-stop _ _ _ _ _ _ _ _ h e (l .inv .two)
-    , stored-stop _ _ _ _ _ _ _ _ h e (l .inv .three))
+    let e : edgeLine (a .text .now) (l .edge) (l .next .at) ≡ _ = sym (c .before .before .before .edge-line .ensures) ∙ ap edgeStep (c .before .number .given .1) in (
+      left-stop _ _ _ _ _ h e (l .inv .left),
+      stored-stop _ _ _ _ _ _ _ _ h e (l .inv .one),
+      stored-stop _ _ _ _ _ _ _ _ h e (l .inv .two),
+      stored-stop _ _ _ _ _ _ _ _ h e (l .inv .three),
+    )
 
 enum-known-first : tie.Need-enum-known-first Inv-loop μ-loop
 enum-known-first c = search needs
@@ -119,11 +120,12 @@ returns-2 : tie.Need-returns-2 Inv-loop μ-loop
 unfolding numberStep firstsOf secondsOf weightsOf
 returns-2 c =
     let l = c .before .loop in
-    let h = c .loop-test .left in
-    ( left-done _ _ _ _ _ h (l .inv .left)
-    , stored-done _ _ _ _ _ _ _ _ h (l .inv .one)
-    , stored-done _ _ _ _ _ _ _ _ h (l .inv .two)
-    , stored-done _ _ _ _ _ _ _ _ h (l .inv .three))
+    let h = c .loop-test .left in (
+      left-done _ _ _ _ _ h (l .inv .left),
+      stored-done _ _ _ _ _ _ _ _ h (l .inv .one),
+      stored-done _ _ _ _ _ _ _ _ h (l .inv .two),
+      stored-done _ _ _ _ _ _ _ _ h (l .inv .three),
+    )
 
 pub edge-lines-spec : {M : Type 1} → statement M
 edge-lines-spec =

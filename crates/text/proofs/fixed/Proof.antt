@@ -51,9 +51,10 @@ loop-less c = search needs
 loop-again : tie.Need-loop-again Inv-loop μ-loop
 loop-again c =
     let a = c .before .before .before .before .before .before .args in
-    let l = c .before .before .before .before .before .loop in
-    ( search needs
-    , sym (fixed-more (a .bytes .now) (a .text .now) (l .i) (l .at) (c .before .before .before .before .loop-test .taken) (search needs) (c .if2 .left)) ∙ l .inv .1)
+    let l = c .before .before .before .before .before .loop in (
+      search needs,
+      sym (fixed-more (a .bytes .now) (a .text .now) (l .i) (l .at) (c .before .before .before .before .loop-test .taken) (search needs) (c .if2 .left)) ∙ l .inv .1,
+    )
 
 returns-3 : tie.Need-returns-3 Inv-loop μ-loop
 unfolding numberStep

@@ -44,9 +44,10 @@ unfolding numberStep
 returns c =
     let a = c .before .before .before .before .before .before .before .args in
     let l = c .before .before .before .before .loop in
-    let e : groupLine groupTest (a .text .now) (l .vertex) (l .next .at) ≡ _ = sym (c .before .before .group-line .ensures) ∙ ap numberStep (c .enum-told .given .1) in
-    ( ap numberStep (c .enum-told .given .1) ∙ left-stop _ _ _ _ _ (c .before .before .before .loop-test .taken) e (l .inv .0)
-    , stored-stop _ _ _ _ _ _ _ _ (c .before .before .before .loop-test .taken) e (l .inv .1) ∙ ap (sets (a .groups .now) 0) (map-same (groupLines groupTest (a .text .now) (a .count) (a .cursor .at) .values)))
+    let e : groupLine groupTest (a .text .now) (l .vertex) (l .next .at) ≡ _ = sym (c .before .before .group-line .ensures) ∙ ap numberStep (c .enum-told .given .1) in (
+      ap numberStep (c .enum-told .given .1) ∙ left-stop _ _ _ _ _ (c .before .before .before .loop-test .taken) e (l .inv .0),
+      stored-stop _ _ _ _ _ _ _ _ (c .before .before .before .loop-test .taken) e (l .inv .1) ∙ ap (sets (a .groups .now) 0) (map-same (groupLines groupTest (a .text .now) (a .count) (a .cursor .at) .values)),
+    )
 
 store8-requires : tie.Need-store8-requires Inv-loop μ-loop
 unfolding numberStep
@@ -77,9 +78,10 @@ returns-2 : tie.Need-returns-2 Inv-loop μ-loop
 unfolding numberStep
 returns-2 c =
     let a = c .before .before .before .before .args in
-    let l = c .before .loop in
-    ( left-done _ _ _ _ _ (c .loop-test .left) (l .inv .0)
-    , stored-done _ _ _ _ _ _ _ _ (c .loop-test .left) (l .inv .1) ∙ ap (sets (a .groups .now) 0) (map-same (groupLines groupTest (a .text .now) (a .count) (a .cursor .at) .values)))
+    let l = c .before .loop in (
+      left-done _ _ _ _ _ (c .loop-test .left) (l .inv .0),
+      stored-done _ _ _ _ _ _ _ _ (c .loop-test .left) (l .inv .1) ∙ ap (sets (a .groups .now) 0) (map-same (groupLines groupTest (a .text .now) (a .count) (a .cursor .at) .values)),
+    )
 
 pub group-lines-spec : {M : Type 1} → statement M
 group-lines-spec =

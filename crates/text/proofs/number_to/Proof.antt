@@ -37,7 +37,7 @@ returns-2 c =
     let a = c .before .before .before .before .before .before .before .args in
     let s = c .before .before .before .step .given in
     sym (value-goes _ (c .before .before .before .before .before .number-at .ensures) (s .1)
-      ∙ stop-found (a .text .now) (stopOf (a .comma)) (s .0 .0) (s .0 .1 .0 .at) (sym (c .before .ends .ensures) ∙ c .if1 .taken))
+    ∙ stop-found (a .text .now) (stopOf (a .comma)) (s .0 .0) (s .0 .1 .0 .at) (sym (c .before .ends .ensures) ∙ c .if1 .taken))
 
 returns-3 : tie.Need-returns-3
 unfolding numberTo numberStep
@@ -45,7 +45,7 @@ returns-3 c =
     let a = c .before .before .before .before .before .before .before .args in
     let s = c .before .before .before .step .given in
     sym (value-goes _ (c .before .before .before .before .before .number-at .ensures) (s .1)
-      ∙ stop-refused (a .text .now) (stopOf (a .comma)) (s .0 .0) (s .0 .1 .0 .at) (sym (c .before .ends .ensures) ∙ c .if1 .left))
+    ∙ stop-refused (a .text .now) (stopOf (a .comma)) (s .0 .0) (s .0 .1 .0 .at) (sym (c .before .ends .ensures) ∙ c .if1 .left))
 
 pub number-to-spec : {M : Type 1} → statement M
 number-to-spec =

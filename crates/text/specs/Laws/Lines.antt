@@ -69,9 +69,9 @@ module _ {A : Type 0} (line : ℕ → ℕ → Step A) (whole : Lines A) (count i
     stored-more {a} {next} h e s =
         record {
           is =
-            ap (λ (k : ℕ). sets (set buffer i (f a)) k (map f (linesFrom line (count - (i + 1)) (i + 1) next .values))) (add-one i)
-            ∙ sym (ap store-of (lines-more line count i at h e))
-            ∙ s .is
+              ap (λ (k : ℕ). sets (set buffer i (f a)) k (map f (linesFrom line (count - (i + 1)) (i + 1) next .values))) (add-one i)
+              ∙ sym (ap store-of (lines-more line count i at h e))
+              ∙ s .is;
         }
 
     pub stored-stop : {n p : ℕ} → i < count → line i at ≡ refused n p → Stored line whole count i at f old buffer → buffer ≡ sets old 0 (map f (whole .values))

@@ -5,7 +5,7 @@ use mathlib.Core.Path.{_≡_, refl, ap, subst}
 use mathlib.Core.List.{List}
 use mathlib.Core.Bool.{Bool, true, false, _||_}
 use lib.Dec.{eqb, ltb, leb}
-use borrow.Author.Tests.{ltb-true, ltb-false, eq-eqb, ne-eqb, lt-ltb, le-ltb, le-leb, lt-leb}
+use borrow.Author.Tests.{ltb-true, ltb-false, eqb-true, eqb-false, eq-eqb, ne-eqb, lt-ltb, le-ltb, le-leb, lt-leb}
 use Rattle.limits.specs.Limits.{maxDigits}
 use Rattle.limits.specs.Verdict.{refuseIf, _before_}
 use Rattle.limits.specs.declared.Verdict.{Verdict}
@@ -14,6 +14,9 @@ use Rattle.text.specs.Step.{Step, found, refused, _then_, checked}
 use Rattle.text.specs.Reading.{verticesTest, edgesTest, groupTest, nodeKey, linkKey, numberLine, groupLine, Edge, edgeLine}
 use Rattle.text.specs.Number.{fixedAt, numberTo, comma, lineEnd}
 use Rattle.text.specs.Laws.Digits.{then-value, number-to-below}
+
+positive : (n : ℕ) → (n ≡ 0 → ⊥) → 0 < n
+positive n z = omega arith
 
 module _ (lent n : ℕ) where
   pub vertices-none : n ≡ 0 → verticesTest lent n ≡ Refused 1 0
@@ -65,6 +68,47 @@ pub checked-fine : {A : Type 0} {b : A} {q : ℕ} (w : Verdict) (a : A) (p : ℕ
 unfolding checked
 checked-fine Fine a p e = refl
 checked-fine (Refused n r) a p e = let z : _≡_ {A = ℕ} 0 1 = cc in absurd (omega arith)
+
+pub checked-value : {A : Type 0} {b : A} {q : ℕ} (w : Verdict) (a : A) (p : ℕ) → checked w a p ≡ found b q → a ≡ b
+unfolding checked
+checked-value Fine a p e = cc
+checked-value (Refused n r) a p e = let z : _≡_ {A = ℕ} 0 1 = cc in absurd (omega arith)
+
+no-refusal : {n p : ℕ} {w : Verdict} → w ≡ Refused n p → w ≡ Fine → ⊥
+no-refusal e f = let z : _≡_ {A = ℕ} 0 1 = cc in omega arith
+
+-- What a count that passes its test is.
+pub record VerticesPass (lent n : ℕ) : Type 0 where
+  pub some : 0 < n
+  pub most : n ≤ 256
+  pub room : n ≤ lent
+
+pub vertices-passed : (lent n : ℕ) → verticesTest lent n ≡ Fine → VerticesPass lent n
+vertices-passed lent n e = by-tests (eqb n 0) (ltb 256 n) (ltb lent n) refl refl refl
+  where
+    by-tests : (z h s : Bool) → eqb n 0 ≡ z → ltb 256 n ≡ h → ltb lent n ≡ s → VerticesPass lent n
+    by-tests true h s a b c = absurd (no-refusal (vertices-none lent n (eqb-true n 0 a)) e)
+    by-tests false true s a b c = absurd (no-refusal (vertices-many lent n (eqb-false n 0 a) (ltb-true 256 n b)) e)
+    by-tests false false true a b c = absurd (no-refusal (vertices-short lent n (eqb-false n 0 a) (ltb-false 256 n b) (ltb-true lent n c)) e)
+    by-tests false false false a b c =
+        let z = eqb-false n 0 a in
+        record { some = positive n z; most = ltb-false 256 n b; room = ltb-false lent n c }
+
+pub record EdgesPass (firsts seconds weights m : ℕ) : Type 0 where
+  pub most : m ≤ 2048
+  pub first : m ≤ firsts
+  pub second : m ≤ seconds
+  pub weight : m ≤ weights
+
+pub edges-passed : (firsts seconds weights m : ℕ) → edgesTest firsts seconds weights m ≡ Fine → EdgesPass firsts seconds weights m
+edges-passed a b c m e = by-tests (ltb 2048 m) (ltb a m) (ltb b m) (ltb c m) refl refl refl refl
+  where
+    by-tests : (p q r s : Bool) → ltb 2048 m ≡ p → ltb a m ≡ q → ltb b m ≡ r → ltb c m ≡ s → EdgesPass a b c m
+    by-tests true q r s h i j k = absurd (no-refusal (edges-many a b c m (ltb-true 2048 m h)) e)
+    by-tests false true r s h i j k = absurd (no-refusal (edges-first a b c m (ltb-false 2048 m h) (ltb-true a m i)) e)
+    by-tests false false true s h i j k = absurd (no-refusal (edges-second a b c m (ltb-false 2048 m h) (ltb-false a m i) (ltb-true b m j)) e)
+    by-tests false false false true h i j k = absurd (no-refusal (edges-weight a b c m (ltb-false 2048 m h) (ltb-false a m i) (ltb-false b m j) (ltb-true c m k)) e)
+    by-tests false false false false h i j k = record { most = ltb-false 2048 m h; first = ltb-false a m i; second = ltb-false b m j; weight = ltb-false c m k }
 
 pub group-passed : (v g : ℕ) → groupTest v g ≡ Fine → g < 256
 group-passed v g e = by-size (ltb g 256) refl
