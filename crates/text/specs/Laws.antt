@@ -5,3 +5,4 @@ pub mod Tests
 pub mod Lines
 pub mod Digits
 pub mod Reading
+pub mod Decimal

@@ -6,23 +6,18 @@ use mathlib.Core.Bool.{Bool, true, false, _&&_, cond}
 use mathlib.Core.List.{List, [], _∷_}
 use lib.ListN.{length, getD, take, drop}
 use lib.Dec.{eqb, ltb, leb}
+use Rattle.printing.specs.Key.{comma, newline}
 use Rattle.text.specs.Step.{Step, found, refused, _then_}
 use Rattle.text.specs.declared.Class.{Class}
 use Rattle.text.specs.declared.Class.the-variants.{Digit, LineEnd, Comma, Other}
 
--- The bytes that end a number, and the digit 0.
-abbrev pub lineEnd : ℕ
-lineEnd = 10
-
-abbrev pub comma : ℕ
-comma = 44
-
+-- The digit 0.
 abbrev pub zeroDigit : ℕ
 zeroDigit = 48
 
 unfoldable pub classOf : ℕ → Class
 classOf b =
-    cond (leb zeroDigit b && leb b 57) Digit (cond (eqb b lineEnd) LineEnd (cond (eqb b comma) Comma Other))
+    cond (leb zeroDigit b && leb b 57) Digit (cond (eqb b newline) LineEnd (cond (eqb b comma) Comma Other))
 
 unfoldable pub isDigit : Class → Bool
 isDigit Digit = true
@@ -66,7 +61,7 @@ numberAt limit t at =
 -- The byte that ends a number.
 unfoldable pub stopOf : (isComma : Bool) → ℕ
 stopOf true = comma
-stopOf false = lineEnd
+stopOf false = newline
 
 -- A number, and the byte that ends it.
 unfoldable pub numberTo : (limit stop : ℕ) → List ℕ → (at : ℕ) → Step ℕ

@@ -7,24 +7,22 @@ use lib.Dec.{eqb, ltb, leb}
 use Rattle.limits.specs.Limits.{maxVertices, maxEdges, groupNumbers, maxDigits}
 use Rattle.limits.specs.Verdict.{refuseIf, _before_, Outcome, refusal, answer}
 use Rattle.limits.specs.declared.Verdict.{Verdict}
+use Rattle.printing.specs.Key.{ascii, comma, newline}
 use Rattle.text.specs.Step.{Step, found, refused, _then_, checked, Lines, linesFrom, linesAfter}
-use Rattle.text.specs.Number.{fixedAt, numberTo, lineEnd, comma}
+use Rattle.text.specs.Number.{fixedAt, numberTo}
 
--- nodes=
+-- The keys.
 abbrev pub nodesKey : List ℕ
-nodesKey = 110 ∷ 111 ∷ 100 ∷ 101 ∷ 115 ∷ 61 ∷ []
+nodesKey = ascii "nodes="
 
--- links=
 abbrev pub linksKey : List ℕ
-linksKey = 108 ∷ 105 ∷ 110 ∷ 107 ∷ 115 ∷ 61 ∷ []
+linksKey = ascii "links="
 
--- node=
 abbrev pub nodeKey : List ℕ
-nodeKey = 110 ∷ 111 ∷ 100 ∷ 101 ∷ 61 ∷ []
+nodeKey = ascii "node="
 
--- link=
 abbrev pub linkKey : List ℕ
-linkKey = 108 ∷ 105 ∷ 110 ∷ 107 ∷ 61 ∷ []
+linkKey = ascii "link="
 
 -- What is tested when a line is complete: a count, and the group of vertex v.
 pub record Tests : Type 0 where
@@ -51,7 +49,7 @@ testsFor groups firsts seconds weights =
 
 -- A line of a key and one number.
 unfoldable pub numberLine : (key t : List ℕ) → (at : ℕ) → Step ℕ
-numberLine key t at = fixedAt key t at then λ z p. numberTo maxDigits lineEnd t p
+numberLine key t at = fixedAt key t at then λ z p. numberTo maxDigits newline t p
 
 unfoldable pub countLine : (key : List ℕ) → (ℕ → Verdict) → List ℕ → (at : ℕ) → Step ℕ
 countLine key test t at = numberLine key t at then λ n p. checked (test n) n p
@@ -79,7 +77,7 @@ edgeLine t e at =
     fixedAt linkKey t at then λ z a.
     numberTo maxDigits comma t a then λ u b.
     numberTo maxDigits comma t b then λ v c.
-    numberTo maxDigits lineEnd t c then λ w d.
+    numberTo maxDigits newline t c then λ w d.
     found (record { first = u; second = v; weight = w }) d
 
 -- The text ends here.

@@ -10,9 +10,10 @@ use Rattle.limits.specs.Limits.{maxDigits}
 use Rattle.limits.specs.Verdict.{refuseIf, _before_}
 use Rattle.limits.specs.declared.Verdict.{Verdict}
 use Rattle.limits.specs.declared.Verdict.the-variants.{Fine, Refused}
+use Rattle.printing.specs.Key.{comma, newline}
 use Rattle.text.specs.Step.{Step, found, refused, _then_, checked}
 use Rattle.text.specs.Reading.{verticesTest, edgesTest, groupTest, nodeKey, linkKey, numberLine, groupLine, Edge, edgeLine}
-use Rattle.text.specs.Number.{fixedAt, numberTo, comma, lineEnd}
+use Rattle.text.specs.Number.{fixedAt, numberTo}
 use Rattle.text.specs.Laws.Digits.{then-value, number-to-below}
 
 positive : (n : ℕ) → (n ≡ 0 → ⊥) → 0 < n
@@ -138,11 +139,11 @@ edge-below t e at {x} {next} q =
     let k = then-value (fixedAt linkKey t at) _ q in
     let u = then-value (numberTo maxDigits comma t (k .1)) _ (k .3) in
     let v = then-value (numberTo maxDigits comma t (u .1)) _ (u .3) in
-    let w = then-value (numberTo maxDigits lineEnd t (v .1)) _ (v .3) in
+    let w = then-value (numberTo maxDigits newline t (v .1)) _ (v .3) in
     let same : _≡_ {A = Edge} (record { first = u .0; second = v .0; weight = w .0 }) x = cc (w .3) in
     subst Below same
     record {
       first = number-to-below t maxDigits comma (k .1) (u .0) (u .1) (omega arith) (u .2);
       second = number-to-below t maxDigits comma (u .1) (v .0) (v .1) (omega arith) (v .2);
-      weight = number-to-below t maxDigits lineEnd (v .1) (w .0) (w .1) (omega arith) (w .2);
+      weight = number-to-below t maxDigits newline (v .1) (w .0) (w .1) (omega arith) (w .2);
     }
