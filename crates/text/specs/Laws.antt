@@ -6,3 +6,5 @@ pub mod Lines
 pub mod Digits
 pub mod Reading
 pub mod Decimal
+pub mod Stands
+pub mod Spells
