@@ -1,5 +1,5 @@
 -- Decimal digits of a number (document 01, 'Survey text and printed plan'): highest first, no leading zero unless the number is 0.
-use Prim.Native.Nat.{ℕ, zero, suc, _+_, _/_, _%_}
+use Prim.Native.Nat.{ℕ, zero, suc, _+_, _*_, _-_, _/_, _%_}
 use Prim.Native.Char.{code}
 use mathlib.Core.Bool.{cond}
 use mathlib.Core.List.{List, [], _∷_, _++_}
@@ -15,3 +15,11 @@ digitsWithin (suc fuel) x = let more = digitsWithin fuel (x / 10) ++ (digit (x %
 
 unfoldable pub decimal : ℕ → List ℕ
 decimal x = digitsWithin x x
+
+-- The number that digits spell, highest first: after a number already read, and from the start.
+unfoldable pub spelledAfter : ℕ → List ℕ → ℕ
+spelledAfter x [] = x
+spelledAfter x (d ∷ ds) = spelledAfter (x * 10 + (d - digit 0)) ds
+
+unfoldable pub spelled : List ℕ → ℕ
+spelled ds = spelledAfter 0 ds

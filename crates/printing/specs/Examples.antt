@@ -1,8 +1,7 @@
 -- The printout of document 01 ('Survey text and printed plan'), and a moat line with no member, by computation.
-use Prim.Native.Nat.{ℕ}
 use mathlib.Core.Path.{_≡_, refl}
 use mathlib.Core.Bool.{false, _||_}
-use mathlib.Core.List.{List, [], _∷_, _++_}
+use mathlib.Core.List.{[], _∷_, _++_}
 use lib.Dec.{eqb}
 use Rattle.finite.specs.Below.{counted, sumBelow, thoseBelow, tabulate}
 use Rattle.records.specs.Bits.{bitAt, byteOf, bytesOf, memberAt, lowBytes, numberOf}

@@ -1,7 +1,7 @@
 -- A moat record: 8 bytes of amount, then its members (document 01, 'What a plan holds').
 use Prim.Native.Nat.{ℕ, _*_}
 use mathlib.Core.Bool.{Bool, false}
-use mathlib.Core.List.{List, [], _∷_, _++_}
+use mathlib.Core.List.{List, _++_}
 use lib.ListN.{take, drop}
 use lib.Seq.{sets}
 use Rattle.limits.specs.Limits.{valueBytes, memberBytes, recordBytes}

@@ -1,9 +1,9 @@
 -- `put_bytes`: what is written so far are the first bytes.
-use Prim.Native.Nat.{_+_, _-_, _≤_}
+use Prim.Native.Nat.{_-_, _≤_}
 use native.Mathlib.Numerals.{add-one}
 use native.Mathlib.Omega.{arith}
-use mathlib.Core.Path.{_≡_, ap, sym, _∙_}
-use lib.ListN.{length, take, getD}
+use mathlib.Core.Path.{ap, sym, _∙_}
+use lib.ListN.{length, take}
 use lib.Seq.{take-suc, take-all}
 use borrow.Author.Needs.{needs}
 use Rattle.printing.specs.Wrote.{farthest, Wrote}

@@ -1,9 +1,8 @@
 -- `put_counts`: four lines.
 use native.Mathlib.Omega.{arith}
-use mathlib.Core.Path.{_≡_, ap, sym, _∙_}
 use lib.ListN.{length}
 use Rattle.printing.specs.Wrote.{farthest}
-use Rattle.printing.specs.Laws.Wrote.{wrote-none, wrote-length, wrote-then, wrote-as}
+use Rattle.printing.specs.Laws.Wrote.{wrote-then}
 use Prim.Native.Nat.{_≤_}
 use Rattle.printing.specs.Key.{terminalsKey, costKey, boundKey, roundsKey}
 use Rattle.printing.specs.Text.{countLines}

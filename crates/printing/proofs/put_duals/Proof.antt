@@ -1,7 +1,7 @@
 -- `put_duals`: what is written so far are the lines of the records before i.
 use Prim.Native.Nat.{_≤_, _-_, _/_}
 use native.Mathlib.Omega.{arith}
-use mathlib.Core.Path.{_≡_, ap, sym, _∙_}
+use mathlib.Core.Path.{_≡_, ap, sym}
 use lib.ListN.{length}
 use Rattle.printing.specs.Wrote.{farthest}
 use Rattle.printing.specs.Laws.Wrote.{wrote-none, wrote-length, wrote-then, wrote-as}

@@ -1,10 +1,10 @@
 -- `put_item`: a number, after a comma unless it is the first.
 use native.Mathlib.Omega.{arith}
-use mathlib.Core.Path.{_≡_, ap, sym, _∙_}
+use mathlib.Core.Path.{ap, _∙_}
 use mathlib.Core.List.{[], _∷_, _++_}
 use lib.ListN.{length}
 use Rattle.printing.specs.Wrote.{farthest}
-use Rattle.printing.specs.Laws.Wrote.{wrote-none, wrote-length, wrote-then, wrote-as}
+use Rattle.printing.specs.Laws.Wrote.{wrote-then, wrote-as}
 use Prim.Native.Nat.{_≤_}
 use Rattle.printing.specs.Key.{comma}
 use Rattle.printing.specs.Decimal.{decimal}

@@ -1,9 +1,8 @@
 -- `put_line`: the key, the number and the newline.
 use native.Mathlib.Omega.{arith}
-use mathlib.Core.Path.{_≡_, ap, sym, _∙_}
 use lib.ListN.{length}
 use Rattle.printing.specs.Wrote.{farthest}
-use Rattle.printing.specs.Laws.Wrote.{wrote-none, wrote-length, wrote-then, wrote-as}
+use Rattle.printing.specs.Laws.Wrote.{wrote-then}
 use Prim.Native.Nat.{_≤_}
 use Rattle.printing.specs.Text.{lineOf}
 use borrow.Author.Needs.{needs}

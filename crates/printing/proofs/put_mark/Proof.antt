@@ -1,10 +1,7 @@
 -- `put_mark`: a line at mark 2 alone.
 use native.Mathlib.Omega.{arith}
-use mathlib.Core.Path.{_≡_, ap, sym, _∙_}
-use lib.ListN.{length}
-use Rattle.printing.specs.Wrote.{farthest}
-use Rattle.printing.specs.Laws.Wrote.{wrote-none, wrote-length, wrote-then, wrote-as}
-use Prim.Native.Nat.{_≤_}
+use mathlib.Core.Path.{ap, _∙_}
+use Rattle.printing.specs.Laws.Wrote.{wrote-none, wrote-as}
 use Rattle.printing.specs.Key.{keptKey}
 use Rattle.printing.specs.Text.{lineOf}
 use Rattle.printing.specs.Laws.Text.{kept-line, kept-line-none}

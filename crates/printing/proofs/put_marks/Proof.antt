@@ -1,6 +1,6 @@
 -- `put_marks`: what is written so far are the lines of the tracks below e.
 use native.Mathlib.Omega.{arith}
-use mathlib.Core.Path.{_≡_, ap, sym, _∙_}
+use mathlib.Core.Path.{_≡_, ap, sym}
 use lib.ListN.{length, getD}
 use Rattle.printing.specs.Wrote.{farthest}
 use Rattle.printing.specs.Laws.Wrote.{wrote-none, wrote-length, wrote-then, wrote-as}

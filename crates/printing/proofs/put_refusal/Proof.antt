@@ -1,10 +1,10 @@
 -- `put_refusal`: two lines.
 use Prim.Native.Nat.{_≤_}
 use native.Mathlib.Omega.{arith}
-use mathlib.Core.Path.{_≡_, ap, sym, _∙_}
+use mathlib.Core.Path.{ap}
 use lib.ListN.{length}
 use Rattle.printing.specs.Wrote.{farthest}
-use Rattle.printing.specs.Laws.Wrote.{wrote-none, wrote-length, wrote-then, wrote-as}
+use Rattle.printing.specs.Laws.Wrote.{wrote-then, wrote-as}
 use Rattle.printing.specs.Key.{refusedKey, placeKey}
 use Rattle.printing.specs.Text.{lineOf, refusalText}
 use borrow.Author.Needs.{needs}

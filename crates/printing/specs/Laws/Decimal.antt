@@ -1,14 +1,14 @@
 -- Laws of decimal digits, for numbers of any size: the digits are the quotient's and the last, and their number is bounded.
-use Prim.Native.Nat.{ℕ, zero, suc, _+_, _*_, _/_, _%_, _^_, _≤_, _<_}
+use Prim.Native.Nat.{ℕ, zero, suc, _+_, _*_, _-_, _/_, _%_, _^_, _≤_, _<_}
 use native.Mathlib.Omega.{arith}
 use native.Mathlib.Nat.{pow-suc, mod-eq-of-lt}
 use borrow.Author.Tests.{lt-ltb, le-ltb}
 use mathlib.Core.Path.{_≡_, refl, ap, sym, _∙_}
 use mathlib.Core.Logic.{⊎-elim}
 use mathlib.Core.List.{List, [], _∷_, _++_}
-use lib.ListN.{length, length-append}
+use lib.ListN.{length, getD, length-append}
 use Rattle.finite.specs.Laws.Below.{lt-or-ge}
-use Rattle.printing.specs.Decimal.{digit, digitsWithin, decimal}
+use Rattle.printing.specs.Decimal.{digit, digitsWithin, decimal, spelledAfter, spelled}
 
 digits-small : (fuel x : ℕ) → x < 10 → digitsWithin fuel x ≡ digit x ∷ []
 unfolding digitsWithin
@@ -64,3 +64,48 @@ length-decimal (suc n) x h =
     let most : length (decimal (x / 10) ++ (digit (x % 10) ∷ [])) ≤ suc (suc n) = omega arith in
     rw (decimal-more x big) most)
     (lt-or-ge x 10)
+
+-- ---- reading back
+
+spelled-last : (ds : List ℕ) (x d : ℕ) → spelledAfter x (ds ++ (d ∷ [])) ≡ spelledAfter x ds * 10 + (d - digit 0)
+unfolding spelledAfter
+spelled-last [] x d = refl
+spelled-last (e ∷ ds) x d = spelled-last ds (x * 10 + (e - digit 0)) d
+
+digits-spell : (fuel x : ℕ) → x ≤ fuel → spelledAfter 0 (digitsWithin fuel x) ≡ x
+unfolding spelledAfter
+digits-spell zero x h = ap (spelledAfter 0) (digits-small zero x (omega arith)) ∙ omega arith
+digits-spell (suc fuel) x h =
+    ⊎-elim
+    (λ small. ap (spelledAfter 0) (digits-small (suc fuel) x small) ∙ omega arith)
+    (λ big.
+    let ih : spelledAfter 0 (digitsWithin fuel (x / 10)) ≡ x / 10 = digits-spell fuel (x / 10) (omega arith) in
+    let last = spelled-last (digitsWithin fuel (x / 10)) 0 (digit (x % 10)) in
+    ap (spelledAfter 0) (digits-more fuel x big) ∙ omega arith)
+    (lt-or-ge x 10)
+
+-- The digits of a number spell it.
+pub decimal-spells : (x : ℕ) → spelled (decimal x) ≡ x
+unfolding decimal spelled
+decimal-spells x = digits-spell x x (omega arith)
+
+first-of-append : (xs ys : List ℕ) → 0 < getD xs 0 0 → getD (xs ++ ys) 0 0 ≡ getD xs 0 0
+first-of-append [] ys h = absurd (omega arith)
+first-of-append (x ∷ xs) ys h = refl
+
+digits-lead : (fuel x : ℕ) → x ≤ fuel → 0 < x → digit 0 < getD (digitsWithin fuel x) 0 0
+digits-lead zero x h pos = absurd (omega arith)
+digits-lead (suc fuel) x h pos =
+    ⊎-elim
+    (λ small. rw (digits-small (suc fuel) x small) (omega arith))
+    (λ big.
+    let ih : digit 0 < getD (digitsWithin fuel (x / 10)) 0 0 = digits-lead fuel (x / 10) (omega arith) (omega arith) in
+    let first = first-of-append (digitsWithin fuel (x / 10)) (digit (x % 10) ∷ []) (omega arith) in
+    let more : digit 0 < getD (digitsWithin fuel (x / 10) ++ (digit (x % 10) ∷ [])) 0 0 = omega arith in
+    rw (digits-more fuel x big) more)
+    (lt-or-ge x 10)
+
+-- No leading zero, unless the number is 0.
+pub decimal-leads : (x : ℕ) → 0 < x → digit 0 < getD (decimal x) 0 0
+unfolding decimal
+decimal-leads x pos = digits-lead x x (omega arith) pos

@@ -1,14 +1,13 @@
 -- Laws of room: 1,024 bytes hold every moat line, the longest of which has 940, and `planRoom` bytes hold every plan within the limits.
 use Prim.Native.Nat.{ℕ, zero, suc, _+_, _*_, _/_, _^_, _≤_, _<_}
 use native.Mathlib.Omega.{arith}
-use native.Mathlib.Nat.{le-trans}
 use borrow.Author.Tests.{le-ltb, eq-eqb}
-use mathlib.Core.Path.{_≡_, refl, ap, sym, _∙_}
+use mathlib.Core.Path.{_≡_, refl, ap}
 use mathlib.Core.Logic.{⊎-elim}
 use mathlib.Core.Bool.{Bool, true, false, cond}
 use mathlib.Core.List.{List, [], _∷_, _++_, append-nil}
 use lib.ListN.{length, getD, length-append}
-use lib.Dec.{eqb, ltb, lit≤}
+use lib.Dec.{eqb}
 use Rattle.finite.specs.Below.{sumBelow, thoseBelow}
 use Rattle.finite.specs.Laws.Test.{either}
 use Rattle.limits.specs.Limits.{memberBytes, recordBytes, maxEdges, maxDuals}
@@ -20,7 +19,7 @@ use Rattle.printing.specs.declared.Printed.the-variants.{Length}
 use Rattle.printing.specs.Key.{terminalsKey, costKey, boundKey, roundsKey, keptKey, dualKey, refusedKey, placeKey, colon, newline}
 use Rattle.printing.specs.Decimal.{digitsWithin, decimal}
 use Rattle.printing.specs.Text.{lineOf, listed, membersOf, dualLine, textBelow, keptLine, keptLines, dualLines, countLines, planText, refusalText}
-use Rattle.printing.specs.Wrote.{isNone, itemOf, memberText}
+use Rattle.printing.specs.Wrote.{isNone, itemOf}
 use Rattle.printing.specs.Print.{printRefusal, answerOf, printed, dualRefusal, dualPrinted}
 use Rattle.printing.specs.Room.{dualRoom, longestDual, planRoom, refusalRoom}
 use Rattle.printing.specs.Laws.Decimal.{length-decimal}

@@ -1,12 +1,11 @@
 -- Laws of writers: texts written one after another are the text of both, and a measured text fits or is refused.
-use Prim.Native.Nat.{ℕ, zero, suc, _+_, _-_, min, max, _≤_, _<_}
+use Prim.Native.Nat.{ℕ, suc, _+_, _≤_, _<_}
 use native.Mathlib.Omega.{arith}
 use native.Mathlib.Nat.{add-zero}
-use native.Mathlib.Numerals.{add-one}
 use mathlib.Core.Path.{_≡_, refl, ap, sym, _∙_}
 use mathlib.Core.Logic.{⊎-elim}
 use mathlib.Core.List.{List, [], _∷_, _++_}
-use lib.ListN.{length, take, drop, set, length-set, length-append}
+use lib.ListN.{length, set, length-append}
 use lib.Seq.{sets, length-sets, set-out}
 use Rattle.finite.specs.Laws.Below.{lt-or-ge}
 use Rattle.printing.specs.Wrote.{farthest, Wrote}

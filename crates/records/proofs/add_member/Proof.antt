@@ -1,8 +1,7 @@
 -- `add_member`: a byte stored past the value is stored among the members.
 use Prim.Native.Nat.{_+_, _/_, _%_}
 use mathlib.Core.Path.{ap, sym, _∙_}
-use mathlib.Core.List.{_++_}
-use lib.ListN.{getD, take, drop, set}
+use lib.ListN.{getD, drop, set}
 use lib.Seq.{getD-drop}
 use borrow.Author.Needs.{needs}
 use Rattle.records.specs.Bits.{withBit, withMember}

@@ -1,7 +1,6 @@
 -- `member`: the member bytes start after the value.
 use Prim.Native.Nat.{_/_, _%_}
 use mathlib.Core.Path.{ap, sym, _∙_}
-use lib.ListN.{getD}
 use lib.Seq.{getD-drop}
 use borrow.Author.Needs.{needs}
 use Rattle.records.specs.Bits.{bitAt, memberAt}

@@ -1,8 +1,8 @@
 -- `value`: read from the highest byte down, what is read is the number that the bytes from i on spell.
-use Prim.Native.Nat.{_+_, _*_, _-_, _^_, suc, _≤_, _<_}
+use Prim.Native.Nat.{_-_, _^_, _≤_, _<_}
 use native.Mathlib.Nat.{pow-le-pow-right}
 use native.Mathlib.Omega.{arith}
-use mathlib.Core.Path.{_≡_, ap, sym, _∙_}
+use mathlib.Core.Path.{_≡_, ap, _∙_}
 use lib.ListN.{getD, take, drop}
 use lib.Dec.{lit<}
 use borrow.Author.Needs.{needs}

@@ -2,28 +2,14 @@
 -- facts). Records, the planner's writes and the checker's reads rest on them.
 use Prim.Native.Nat.{ℕ, zero, suc, _+_, _*_, _-_, _/_, _%_, _^_, _≤_, _<_}
 use native.Mathlib.Omega.{arith}
-use native.Mathlib.Nat.{
-  pow-suc,
-  mul-assoc,
-  mul-one,
-  one-mul,
-  zero-div,
-  zero-mod,
-  div-eq-of-lt,
-  add-mul-div-left,
-  add-mul-mod-self-left,
-  div-add-mod,
-  mod-lt,
-  mod-eq-of-lt,
-  mod-one,
-}
+use native.Mathlib.Nat.{pow-suc, mul-assoc, mul-one, one-mul, div-eq-of-lt, add-mul-div-left, add-mul-mod-self-left, div-add-mod, mod-eq-of-lt, mod-one}
 use native.Mathlib.Numerals.{one-add}
 use lib.Pow.{pow-pos, pow-mono, pow-add, shr-shr, shl-exact, mod-pow-add}
 use borrow.Author.Tests.{eq-eqb, ne-eqb, eqb-true, eqb-false}
 use mathlib.Core.Path.{_≡_, refl, ap, sym, _∙_}
-use mathlib.Core.Logic.{_⊎_, ⊎-elim}
+use mathlib.Core.Logic.{⊎-elim}
 use mathlib.Core.Bool.{Bool, true, false, _||_}
-use mathlib.Core.List.{List, [], _∷_, _++_}
+use mathlib.Core.List.{List}
 use native.Mathlib.Decide.{ℕ-discrete}
 use lib.Dec.{eqb, lit<}
 use lib.ListN.{length, getD, set, length-set, List·getD-eq-default}

@@ -1,17 +1,17 @@
 -- Laws of moat records: what was written is read back, lengths, and the records of a buffer.
-use Prim.Native.Nat.{ℕ, zero, suc, _+_, _*_, _-_, _/_, _%_, _^_, _≤_, _<_}
+use Prim.Native.Nat.{ℕ, _+_, _*_, _-_, _/_, _^_, _≤_, _<_}
 use native.Mathlib.Omega.{arith}
-use mathlib.Core.Path.{_≡_, refl, ap, sym, _∙_}
-use mathlib.Core.Bool.{Bool, true, false, _||_}
-use mathlib.Core.List.{List, [], _∷_, _++_}
+use mathlib.Core.Path.{_≡_, ap, sym, _∙_}
+use mathlib.Core.Bool.{Bool, false, _||_}
+use mathlib.Core.List.{List, _++_}
 use mathlib.Core.List.{append-nil}
 use lib.ListN.{length, take, drop, set, length-append, length-drop, take-append-drop, drop-of-length-le}
 use lib.Seq.{length-take-le, take-all, take-nil, sets-eq, length-sets, take-at, drop-at, take-set-le, drop-set-add, take-append-le, drop-append-le, drop-append-add}
 use lib.Dec.{eqb}
 use Rattle.finite.specs.Below.{thoseBelow}
 use Rattle.limits.specs.Limits.{valueBytes, memberBytes, recordBytes}
-use Rattle.records.specs.Bits.{Bytes, bytesOf, memberAt, withMember, withBit, lowBytes, numberOf}
-use Rattle.records.specs.Record.{recordOf, valueIn, memberIn, recordAt, overwritten, withValue, withMemberIn, startedAs}
+use Rattle.records.specs.Bits.{Bytes, bytesOf, memberAt, lowBytes, numberOf}
+use Rattle.records.specs.Record.{recordOf, valueIn, memberIn, recordAt, overwritten, withMemberIn, startedAs}
 use Rattle.records.specs.Laws.Bits.{length-bytes, member-of-bytes, member-past, bytes-add, those-cong}
 use Rattle.records.specs.Laws.Amount.{length-low, number-of-low, number-part-lt, bytes-part, low-append, bytes-of-none}
 
