@@ -34,11 +34,11 @@ unfoldable pub printedOut : (text out : List ℕ) → List ℕ
 printedOut text out = outAfter (printRefusal text out) text out
 
 -- One moat line.
-unfoldable pub dualRefusal : (r out : List ℕ) → Verdict
-dualRefusal r out = refuseIf (not (eqb (length r) recordBytes)) 9 0 before printRefusal (dualLine r) out
+unfoldable pub dualPrintRefusal : (r out : List ℕ) → Verdict
+dualPrintRefusal r out = refuseIf (not (eqb (length r) recordBytes)) 9 0 before printRefusal (dualLine r) out
 
 unfoldable pub dualPrinted : (r out : List ℕ) → Printed
-dualPrinted r out = answerOf (dualRefusal r out) (dualLine r)
+dualPrinted r out = answerOf (dualPrintRefusal r out) (dualLine r)
 
 unfoldable pub dualPrintedOut : (r out : List ℕ) → List ℕ
-dualPrintedOut r out = outAfter (dualRefusal r out) (dualLine r) out
+dualPrintedOut r out = outAfter (dualPrintRefusal r out) (dualLine r) out

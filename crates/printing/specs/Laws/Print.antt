@@ -11,7 +11,7 @@ use Rattle.limits.specs.Verdict.{refuseIf, _before_, written}
 use Rattle.printing.specs.declared.Printed.{Printed}
 use Rattle.printing.specs.declared.Printed.the-variants.{Length, Refused}
 use Rattle.printing.specs.Text.{dualLine}
-use Rattle.printing.specs.Print.{printRefusal, answerOf, outAfter, printed, printedOut, dualRefusal, dualPrinted, dualPrintedOut}
+use Rattle.printing.specs.Print.{printRefusal, answerOf, outAfter, printed, printedOut, dualPrintRefusal, dualPrinted, dualPrintedOut}
 use Rattle.printing.specs.Wrote.{farthest, Wrote}
 use Rattle.printing.specs.Laws.Wrote.{sets-past}
 
@@ -50,17 +50,17 @@ module _ (text out : List ℕ) {held : List ℕ} {need : ℕ} (small : length ou
 
 -- A record of another length is refused first; of one of its own length the line is printed.
 pub dual-short-answer : (r out : List ℕ) → (length r ≡ recordBytes → ⊥) → Refused 9 0 ≡ dualPrinted r out
-unfolding dualPrinted dualRefusal refuseIf _before_ answerOf
+unfolding dualPrinted dualPrintRefusal refuseIf _before_ answerOf
 dual-short-answer r out d = rw (ne-eqb (length r) recordBytes d)
 
 pub dual-short-out : (r out : List ℕ) → (length r ≡ recordBytes → ⊥) → out ≡ dualPrintedOut r out
-unfolding dualPrintedOut dualRefusal refuseIf _before_ outAfter written
+unfolding dualPrintedOut dualPrintRefusal refuseIf _before_ outAfter written
 dual-short-out r out d = rw (ne-eqb (length r) recordBytes d)
 
 pub dual-answer : (r out : List ℕ) → length r ≡ recordBytes → printed (dualLine r) out ≡ dualPrinted r out
-unfolding printed dualPrinted dualRefusal refuseIf _before_
+unfolding printed dualPrinted dualPrintRefusal refuseIf _before_
 dual-answer r out e = rw (eq-eqb (length r) recordBytes e)
 
 pub dual-out : (r out : List ℕ) → length r ≡ recordBytes → printedOut (dualLine r) out ≡ dualPrintedOut r out
-unfolding printedOut dualPrintedOut dualRefusal refuseIf _before_
+unfolding printedOut dualPrintedOut dualPrintRefusal refuseIf _before_
 dual-out r out e = rw (eq-eqb (length r) recordBytes e)

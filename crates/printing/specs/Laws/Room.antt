@@ -20,7 +20,7 @@ use Rattle.printing.specs.Key.{terminalsKey, costKey, boundKey, roundsKe
 use Rattle.printing.specs.Decimal.{digitsWithin, decimal}
 use Rattle.printing.specs.Text.{lineOf, listed, membersOf, dualLine, textBelow, keptLine, keptLines, dualLines, countLines, planText, refusalText}
 use Rattle.printing.specs.Wrote.{isNone, itemOf}
-use Rattle.printing.specs.Print.{printRefusal, answerOf, printed, dualRefusal, dualPrinted}
+use Rattle.printing.specs.Print.{printRefusal, answerOf, printed, dualPrintRefusal, dualPrinted}
 use Rattle.printing.specs.Room.{dualRoom, longestDual, planRoom, refusalRoom}
 use Rattle.printing.specs.Laws.Decimal.{length-decimal}
 use Rattle.printing.specs.Laws.Text.{listed-snoc}
@@ -100,7 +100,7 @@ dual-line-le r h =
 
 -- Room for every moat line: it is never refused with 7.
 pub dual-room : (r out : List ℕ) → Bytes r → length r ≡ recordBytes → dualRoom ≤ length out → dualPrinted r out ≡ Length (length (dualLine r))
-unfolding dualPrinted dualRefusal printRefusal refuseIf _before_ answerOf
+unfolding dualPrinted dualPrintRefusal printRefusal refuseIf _before_ answerOf
 dual-room r out h e room =
     let le : length (dualLine r) ≤ longestDual = dual-line-le r h in
     let fits : length (dualLine r) ≤ length out = omega arith in

@@ -1,14 +1,20 @@
 -- Laws of the printed lines: how a writer that goes upwards makes them.
-use Prim.Native.Nat.{ℕ, _+_}
+use Prim.Native.Nat.{ℕ, zero, suc, _+_, _*_, _/_, _^_, _<_}
+use native.Mathlib.Nat.{add-zero, add-suc}
+use native.Mathlib.Omega.{arith}
 use native.Mathlib.Numerals.{add-one}
 use borrow.Author.Tests.{eq-eqb, ne-eqb}
-use mathlib.Core.Path.{_≡_, refl, ap, sym, _∙_}
+use mathlib.Core.Path.{_≡_, refl, ap, ap₂, sym, _∙_}
 use mathlib.Core.Bool.{Bool, true, false, _&&_, not, cond}
 use mathlib.Core.List.{List, [], _∷_, _++_, append-assoc, append-nil}
 use Rattle.finite.specs.Below.{thoseBelow}
-use Rattle.printing.specs.Key.{keptKey, comma}
+use lib.ListN.{length, length-append}
+use Rattle.limits.specs.Limits.{memberBytes, recordBytes}
+use Rattle.records.specs.Record.{recordOf, recordAt}
+use Rattle.records.specs.Laws.Record.{value-of-record, members-of-record, record-at-first, record-at-right}
+use Rattle.printing.specs.Key.{keptKey, dualKey, colon, comma, newline}
 use Rattle.printing.specs.Decimal.{decimal}
-use Rattle.printing.specs.Text.{lineOf, listed, textBelow, keptLine}
+use Rattle.printing.specs.Text.{lineOf, listed, membersOf, dualLine, textBelow, keptLine, dualLines}
 use Rattle.printing.specs.Wrote.{isNone, itemOf, memberText}
 
 pub listed-snoc : (xs : List ℕ) (v : ℕ) → listed (xs ++ (v ∷ [])) ≡ listed xs ++ itemOf (isNone xs) v
@@ -94,3 +100,36 @@ and-not-true false e = refl
 pub and-not-false : (first : Bool) {here : Bool} → here ≡ false → first ≡ (first && not here)
 and-not-false true e = rw e
 and-not-false false e = refl
+
+-- ---- the lines of records that were written
+
+text-append : (m n : ℕ) (f : ℕ → List ℕ) → textBelow (m + n) f ≡ textBelow m f ++ textBelow n (λ i. f (m + i))
+unfolding textBelow
+text-append m zero f = ap (λ k. textBelow k f) (add-zero m) ∙ sym (append-nil (textBelow m f))
+text-append m (suc n) f =
+    ap (λ k. textBelow k f) (add-suc m n)
+    ∙ ap (λ l. l ++ f (m + n)) (text-append m n f)
+    ∙ append-assoc (textBelow m f) (textBelow n (λ i. f (m + i))) (f (m + n))
+
+text-cong : (n : ℕ) (f g : ℕ → List ℕ) → ((i : ℕ) → f i ≡ g i) → textBelow n f ≡ textBelow n g
+unfolding textBelow
+text-cong zero f g h = refl
+text-cong (suc n) f g h = rw (text-cong n f g h, h n)
+
+-- A record's line is that of its value and members.
+pub line-of-record : (value : ℕ) (S : ℕ → Bool) → value < 2 ^ 64
+    → dualLine (recordOf value S) ≡ dualKey ++ decimal value ++ (colon ∷ []) ++ listed (thoseBelow (8 * memberBytes) S) ++ (newline ∷ [])
+unfolding dualLine membersOf
+line-of-record value S h = rw (value-of-record value S h, members-of-record value S)
+
+-- The lines of a buffer are that of its first record and those of the rest.
+pub lines-of-records : (r rest : List ℕ) → length r ≡ recordBytes → dualLines (r ++ rest) ≡ dualLine r ++ dualLines rest
+unfolding dualLines
+lines-of-records r rest h =
+    let sum : length (r ++ rest) ≡ length r + length rest = length-append r rest in
+    let count : length (r ++ rest) / recordBytes ≡ 1 + length rest / recordBytes = omega arith in
+    let f : ℕ → List ℕ = λ i. dualLine (recordAt (r ++ rest) i) in
+    let one : textBelow 1 f ≡ dualLine r = sym (text-next f 0) ∙ ap (λ l. l ++ f 0) (text-none f) ∙ ap dualLine (record-at-first r rest h) in
+    let rest-is : textBelow (length rest / recordBytes) (λ i. f (1 + i)) ≡ textBelow (length rest / recordBytes) (λ i. dualLine (recordAt rest i)) =
+    text-cong (length rest / recordBytes) _ _ (λ i. ap dualLine (record-at-right 1 r rest i (omega arith))) in
+    ap (λ n. textBelow n f) count ∙ text-append 1 (length rest / recordBytes) f ∙ ap₂ _++_ one rest-is
