@@ -1,10 +1,10 @@
 // Printing of moat lines, plans and refusals. Definitions in specs/.
 ghost use mathlib.Core.Path.{_≡_};
+ghost use mathlib.Core.Bool.{_&&_, not};
 ghost use mathlib.Core.List.{_∷_, []};
 ghost use Prim.Native.Nat.{_%_};
-ghost use mathlib.Core.Bool.{_&&_, not};
-ghost use Rattle.printing.specs.Decimal.{digit, decimal};
 ghost use Rattle.records.specs.Record.{memberIn};
+ghost use Rattle.printing.specs.Decimal.{digit, decimal};
 ghost use Rattle.printing.specs.Text.{lineOf, listed, membersOf, dualLine, keptLine, keptLines, dualLines, countLines, planText, refusalText};
 ghost use Rattle.printing.specs.Print.{printed, printedOut, dualPrinted, dualPrintedOut};
 ghost use Rattle.printing.specs.Wrote.{Wrote, itemOf, memberText};
@@ -36,6 +36,7 @@ fn put(out: &mut [u8], at: usize, b: u8) -> usize
     at
 }
 
+// Writes bytes one after another.
 fn put_bytes(out: &mut [u8], at: usize, bytes: &[u8]) -> usize
     ensures { λ r. ⌜ Wrote (now (out .entry)) at (now (bytes .entry)) (now (out .exit)) r ⌝ }
 {
@@ -55,6 +56,7 @@ fn last_digit(x: u64) -> u8
     b'0' + (x % 10) as u8
 }
 
+// Writes a number in decimal.
 fn put_number(out: &mut [u8], at: usize, x: u64) -> usize
     ensures { λ r. ⌜ Wrote (now (out .entry)) at (decimal x) (now (out .exit)) r ⌝ }
 {
@@ -144,6 +146,7 @@ fn put_mark(out: &mut [u8], at: usize, mark: u8, e: usize) -> usize
     }
 }
 
+// Writes the lines of the kept tracks, rising.
 fn put_marks(out: &mut [u8], at: usize, marks: &[u8]) -> usize
     ensures { λ r. ⌜ Wrote (now (out .entry)) at (keptLines (now (marks .entry))) (now (out .exit)) r ⌝ }
 {
@@ -169,6 +172,7 @@ fn put_duals(out: &mut [u8], at: usize, records: &[u8]) -> usize
     next
 }
 
+// Writes the four lines of counts.
 fn put_counts(
     out: &mut [u8],
     at: usize,
@@ -185,6 +189,7 @@ fn put_counts(
     put_line(out, next, b"rounds=", rounds)
 }
 
+// Writes a whole plan.
 fn put_plan(
     out: &mut [u8],
     at: usize,
@@ -202,6 +207,7 @@ fn put_plan(
     put_duals(out, next, records)
 }
 
+// Writes the two lines of a refusal.
 fn put_refusal(out: &mut [u8], at: usize, number: u64, place: usize) -> usize
     ensures { λ r. ⌜ Wrote (now (out .entry)) at (refusalText number place) (now (out .exit)) r ⌝ }
 {

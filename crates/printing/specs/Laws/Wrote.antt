@@ -1,4 +1,4 @@
--- Laws of writers: texts written one after another are the text of both, and a measured text fits or is refused.
+-- Laws of writers: nothing, and texts one after another.
 use Prim.Native.Nat.{ℕ, suc, _+_, _≤_, _<_}
 use native.Mathlib.Omega.{arith}
 use native.Mathlib.Nat.{add-zero}
@@ -10,6 +10,7 @@ use lib.Seq.{sets, length-sets, set-out}
 use Rattle.finite.specs.Laws.Below.{lt-or-ge}
 use Rattle.printing.specs.Wrote.{farthest, Wrote}
 
+-- Stores past the end change nothing.
 pub sets-past : (vs l : List ℕ) (i : ℕ) → length l ≤ i → sets l i vs ≡ l
 sets-past [] l i h = refl
 sets-past (v ∷ vs) l i h = ap (λ m. sets m (suc i) vs) (set-out l i v h) ∙ sets-past vs l (suc i) (omega arith)
@@ -27,7 +28,7 @@ wrote-none old at = record { place = omega arith; bytes = refl }
 pub wrote-length : {old : List ℕ} {at : ℕ} {text new : List ℕ} {next : ℕ} → Wrote old at text new next → length new ≡ length old
 wrote-length {old} {at} {text} w = ap length (w .bytes) ∙ length-sets old at text
 
--- One text after another, in a buffer whose length is no place that can be reached.
+-- One text after another, in a buffer no longer than `farthest`.
 pub wrote-then : {old : List ℕ} {at : ℕ} {xs mid : List ℕ} {next : ℕ} {ys new : List ℕ} {last : ℕ} → length old ≤ farthest
     → Wrote old at xs mid next → Wrote mid next ys new last → Wrote old at (xs ++ ys) new last
 wrote-then {old} {at} {xs} {mid} {next} {ys} {new} {last} small w v =
