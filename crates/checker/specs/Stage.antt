@@ -12,7 +12,7 @@ use Rattle.records.specs.Record.{valueIn, memberIn, recordAt}
 use Rattle.steiner.specs.Problem.{separates, terminals, cost}
 use Rattle.steiner.specs.Dual.{Dual, weigh, total, felt}
 use Rattle.survey.specs.Survey.{Survey, surveyFrom, groupsAlone, edgeCount, problemOf}
-use Rattle.survey.specs.Refusal.{surveyRefusal}
+use Rattle.survey.specs.Refusal.{surveyRefusal, groupRefusal}
 use Rattle.checker.specs.Check.{Checked, dualAt, dualsIn, keptBy, shapeRefusal, dualRefusal}
 use Rattle.checker.specs.declared.Checking.{Checking}
 use Rattle.checker.specs.declared.Checking.the-variants.{Passed, Refused}
@@ -52,6 +52,10 @@ dualsRefusal s records =
     lowestBelow (length records / recordBytes) (λ i. dualRefusal s (dualAt records i) i)
     before lowestBelow (length records / recordBytes) (λ i. refuseIf (not (separates (problemOf s) (dualAt records i .holds))) 12 i)
     before lowestBelow (edgeCount s) (λ e. refuseIf (ltb (2 * problemOf s .weight e) (felt (problemOf s) (dualsIn records) e)) 13 e)
+
+-- All refusals but 15.
+unfoldable pub allButRule : Survey → (marks records : List ℕ) → Verdict
+allButRule s marks records = inputRefusal s marks records before dualsRefusal s records before groupRefusal s 14 (keptBy marks)
 
 -- What 1 to 11 leave of a plan whose counts are judged.
 pub record PlanFits (groups firsts weights marks records : List ℕ) : Type 0 where

@@ -7,7 +7,7 @@ ghost use Rattle.limits.specs.Limits.{maxVertices, maxDuals, recordBytes};
 ghost use Rattle.limits.specs.Verdict.{outcome};
 ghost use Rattle.survey.specs.Survey.{surveyFrom};
 ghost use Rattle.checker.specs.Check.{ruleRefusal, checkedOf, checking};
-ghost use Rattle.checker.specs.Stage.{inputRefusal, dualsRefusal, PlanFits, outcomeOf};
+ghost use Rattle.checker.specs.Stage.{inputRefusal, dualsRefusal, allButRule, PlanFits, outcomeOf};
 use limits::Verdict;
 use survey::labels::Chosen;
 
@@ -73,6 +73,28 @@ fn duals_refusal(
     duals::felts_refusal(firsts, seconds, weights, records)
 }
 
+// All refusals but 15.
+fn all_but_rule(
+    groups: &[u8],
+    firsts: &[u32],
+    seconds: &[u32],
+    weights: &[u32],
+    marks: &[u8],
+    records: &[u8],
+) -> Verdict
+    ensures { λ r. ⌜ r ≡ allButRule (surveyFrom (now (groups .entry)) (now (firsts .entry)) (now (seconds .entry)) (now (weights .entry))) (now (marks .entry)) (now (records .entry)) ⌝ }
+{
+    let unfit = input_refusal(groups, firsts, seconds, weights, marks, records);
+    if let Verdict::Refused { number, place } = unfit {
+        return Verdict::Refused { number, place };
+    }
+    let unsound = duals_refusal(groups, firsts, seconds, weights, records);
+    if let Verdict::Refused { number, place } = unsound {
+        return Verdict::Refused { number, place };
+    }
+    survey::labels::group_refusal(groups, firsts, seconds, weights, Chosen::Kept, marks, 14)
+}
+
 // The counts, if the accuracy rule's premise holds of them; else 15.
 fn judge(groups: &[u8], firsts: &[u32], weights: &[u32], marks: &[u8], records: &[u8]) -> Checking
     requires { ⌜ PlanFits (now groups) (now firsts) (now weights) (now marks) (now records) ⌝ }
@@ -103,24 +125,8 @@ pub fn check(
 ) -> Checking
     ensures { λ r. ⌜ outcomeOf r ≡ checking (surveyFrom (now (groups .entry)) (now (firsts .entry)) (now (seconds .entry)) (now (weights .entry))) (now (marks .entry)) (now (records .entry)) ⌝ }
 {
-    let unfit = input_refusal(groups, firsts, seconds, weights, marks, records);
-    if let Verdict::Refused { number, place } = unfit {
-        return Checking::Refused { number, place };
-    }
-    let unsound = duals_refusal(groups, firsts, seconds, weights, records);
-    if let Verdict::Refused { number, place } = unsound {
-        return Checking::Refused { number, place };
-    }
-    let apart = survey::labels::group_refusal(
-        groups,
-        firsts,
-        seconds,
-        weights,
-        Chosen::Kept,
-        marks,
-        14,
-    );
-    if let Verdict::Refused { number, place } = apart {
+    let found = all_but_rule(groups, firsts, seconds, weights, marks, records);
+    if let Verdict::Refused { number, place } = found {
         return Checking::Refused { number, place };
     }
     judge(groups, firsts, weights, marks, records)

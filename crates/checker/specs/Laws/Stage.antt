@@ -18,20 +18,17 @@ use Rattle.survey.specs.Labels.{chosenMark, chosen}
 use Rattle.survey.specs.declared.labels.Chosen.the-variants.{Kept}
 use Rattle.survey.specs.Laws.Refusal.{SurveySound, fine-survey}
 use Rattle.checker.specs.Check.{Checked, dualAt, dualsIn, keptBy, shapeRefusal, dualRefusal, ruleRefusal, checkedOf, checkRefusal, checking}
-use Rattle.checker.specs.Stage.{checkedAs, inputRefusal, dualsRefusal, PlanFits}
+use Rattle.checker.specs.Stage.{checkedAs, inputRefusal, dualsRefusal, allButRule, PlanFits}
 use Rattle.checker.specs.Laws.Refusal.{fine-shape}
 use Rattle.checker.specs.Laws.Duals.{duals-fit, counts-fit}
 
 module _ (s : Survey) (marks records : List ℕ) where
-  check-stages : checkRefusal s marks records
-      ≡ (inputRefusal s marks records
-      before dualsRefusal s records
-      before groupRefusal s 14 (keptBy marks)
-      before ruleRefusal (checkedOf s marks records))
-  unfolding checkRefusal inputRefusal dualsRefusal
+  check-stages : checkRefusal s marks records ≡ (allButRule s marks records before ruleRefusal (checkedOf s marks records))
+  unfolding checkRefusal allButRule inputRefusal dualsRefusal
   check-stages =
       let p = problemOf s in
       let duals = length records / recordBytes in
+      let input = inputRefusal s marks records in
       let rest = groupRefusal s 14 (keptBy marks) before ruleRefusal (checkedOf s marks records) in
       let nine = shapeRefusal s marks records in
       let ten = lowestBelow (edgeCount s) (λ e. refuseIf (ltb 2 (getD marks e 0)) 10 e) in
@@ -39,14 +36,21 @@ module _ (s : Survey) (marks records : List ℕ) where
       let twelve = lowestBelow duals (λ i. refuseIf (not (separates p (dualAt records i .holds))) 12 i) in
       let thirteen = lowestBelow (edgeCount s) (λ e. refuseIf (ltb (2 * p .weight e) (felt p (dualsIn records) e)) 13 e) in
       sym
-      (before-assoc (surveyRefusal s) (nine before ten) _
+      (before-assoc input (dualsRefusal s records before groupRefusal s 14 (keptBy marks)) _
+      ∙ ap (λ v. input before v) (before-assoc (dualsRefusal s records) (groupRefusal s 14 (keptBy marks)) _)
+      ∙ before-assoc (surveyRefusal s) (nine before ten) _
       ∙ ap (λ v. surveyRefusal s before v)
       (before-assoc nine ten _
       ∙ ap (λ v. nine before ten before v) (before-assoc eleven (twelve before thirteen) rest ∙ ap (λ v. eleven before v) (before-assoc twelve thirteen rest))))
 
-  pub input-stops : {number place : ℕ} → inputRefusal s marks records ≡ Refused number place → checking s marks records ≡ refusal number place
+  pub check-stops : {number place : ℕ} → allButRule s marks records ≡ Refused number place → checking s marks records ≡ refusal number place
   unfolding checking outcome
-  input-stops h = rw (check-stages, before-refused h _)
+  check-stops h = rw (check-stages, before-refused h _)
+
+  pub rule-decides : allButRule s marks records ≡ Fine
+      → checking s marks records ≡ outcome (ruleRefusal (checkedOf s marks records)) (checkedOf s marks records)
+  unfolding checking
+  rule-decides h = rw (check-stages, before-fine h _)
 
   pub input-sound : inputRefusal s marks records ≡ Fine → SurveySound s
   unfolding inputRefusal
@@ -56,33 +60,19 @@ module _ (s : Survey) (marks records : List ℕ) where
   unfolding inputRefusal
   input-few h = fine-shape s marks records (fine-left _ _ (fine-right _ _ h))
 
-  module _ (input : inputRefusal s marks records ≡ Fine) where
-    pub duals-stop : {number place : ℕ} → dualsRefusal s records ≡ Refused number place → checking s marks records ≡ refusal number place
-    unfolding checking outcome
-    duals-stop h = rw (check-stages, before-fine input _, before-refused h _)
-
-    module _ (fine : dualsRefusal s records ≡ Fine) where
-      pub group-stops : {number place : ℕ} → groupRefusal s 14 (keptBy marks) ≡ Refused number place → checking s marks records ≡ refusal number place
-      unfolding checking outcome
-      group-stops h = rw (check-stages, before-fine input _, before-fine fine _, before-refused h _)
-
-      pub rule-decides : groupRefusal s 14 (keptBy marks) ≡ Fine
-          → checking s marks records ≡ outcome (ruleRefusal (checkedOf s marks records)) (checkedOf s marks records)
-      unfolding checking
-      rule-decides h = rw (check-stages, before-fine input _, before-fine fine _, before-fine h _)
-
-      pub plan-fits : PlanFits (s .groups) (s .firsts) (s .weights) marks records
-      unfolding dualsRefusal terminals terminal cost problemOf vertexCount edgeCount sameGroup member
-      plan-fits =
-          let sound = input-sound input in
-          let duals = duals-fit s records (input-few input) (fine-left _ _ fine) in
-          record { edges-few = sound .edges-few; duals = duals; counts = counts-fit s marks records sound duals }
-
   -- The call for 14 repeats 1 to 6.
   pub group-found : inputRefusal s marks records ≡ Fine → {found : Verdict} → found ≡ (surveyRefusal s before groupRefusal s 14 (chosen Kept marks))
       → groupRefusal s 14 (keptBy marks) ≡ found
   unfolding inputRefusal chosen chosenMark keptBy
   group-found input h = sym (h ∙ before-fine (fine-left _ _ input) _)
+
+  pub plan-fits : allButRule s marks records ≡ Fine → PlanFits (s .groups) (s .firsts) (s .weights) marks records
+  unfolding allButRule dualsRefusal terminals terminal cost problemOf vertexCount edgeCount sameGroup member
+  plan-fits h =
+      let input = fine-left _ _ h in
+      let sound = input-sound input in
+      let duals = duals-fit s records (input-few input) (fine-left _ _ (fine-left _ _ (fine-right _ _ h))) in
+      record { edges-few = sound .edges-few; duals = duals; counts = counts-fit s marks records sound duals }
 
 -- The counts do not depend on the second ends.
 pub checked-seconds : (groups firsts seconds weights marks records : List ℕ)
