@@ -1,13 +1,13 @@
 -- The accuracy rule of whatever passes the checker (the buyer's demand 3): for any set of tracks that joins every group, 2k - 2 times its cost is at least k times the kept cost; and with
 -- k = 0 the kept cost is 0. Nothing is said of who drew the marks and the moats.
 use Prim.Native.Nat.{ℕ, zero, suc, _/_, _<_}
-use mathlib.Core.Path.{_≡_, refl, subst}
+use mathlib.Core.Path.{ap, sym, _∙_, _≡_, refl, subst}
 use mathlib.Core.List.{List, [], _∷_, _++_}
 use native.Mathlib.Omega.{arith}
 use lib.ListN.{length}
 use Rattle.finite.specs.Below.{tabulate}
 use Rattle.limits.specs.Limits.{recordBytes}
-use Rattle.limits.specs.Verdict.{answer, outcome}
+use Rattle.limits.specs.Verdict.{Outcome, answer, outcome}
 use Rattle.limits.specs.declared.Verdict.{Verdict}
 use Rattle.limits.specs.declared.Verdict.the-variants.{Fine, Refused}
 use Rattle.steiner.specs.Problem.{terminals, cost}
@@ -18,7 +18,7 @@ use Rattle.survey.specs.Survey.{Survey, problemOf}
 use Rattle.survey.specs.Accuracy.{Accurate}
 use Rattle.survey.specs.Laws.Group.{Numbered}
 use Rattle.checker.specs.Check.{Checked, dualAt, dualsIn, keptBy, checkedOf, checkRefusal, checking}
-use Rattle.checker.specs.Laws.Meaning.{Passing, check-passing}
+use Rattle.checker.specs.Laws.Meaning.{Passing, check-passing, passing-check}
 
 each-tabulate : {P : Dual → Type 0} (n : ℕ) (f : ℕ → Dual) → ((i : ℕ) → i < n → P (f i)) → Each P (tabulate n f)
 unfolding tabulate
@@ -51,3 +51,21 @@ unfolding checking checkedOf
 checking-accurate s numbered marks records c h =
     let v = passed-fine (checkRefusal s marks records) (checkedOf s marks records) c h in
     subst (λ x. Accurate s (x .terminals) (x .cost)) (v .1) (passing-accurate s marks records (check-passing s numbered marks records (v .0)))
+
+-- Passed exactly if it means what `Passing` says.
+pub checking-passing : (s : Survey) → Numbered s → (marks records : List ℕ) →
+    ((c : Checked) → checking s marks records ≡ answer c → Passing s marks records)
+    × (Passing s marks records → checking s marks records ≡ answer (checkedOf s marks records))
+unfolding checking outcome
+checking-passing s numbered marks records =
+    (λ c h. check-passing s numbered marks records (passed-fine (checkRefusal s marks records) (checkedOf s marks records) c h .0),
+        λ h. ap (λ v. outcome v (checkedOf s marks records)) (passing-check s numbered marks records h))
+
+-- What an answer that is the definition's promises.
+pub promises : (s : Survey) (marks records : List ℕ) (o : Outcome Checked) → Numbered s → o ≡ checking s marks records →
+    (o ≡ checking s marks records)
+    × (((c : Checked) → o ≡ answer c → Passing s marks records) × (Passing s marks records → o ≡ answer (checkedOf s marks records)))
+    × ((c : Checked) → o ≡ answer c → Accurate s (c .terminals) (c .cost))
+promises s marks records o numbered h =
+    (h, (λ c k. checking-passing s numbered marks records .0 c (sym h ∙ k), λ k. h ∙ checking-passing s numbered marks records .1 k),
+        λ c k. checking-accurate s numbered marks records c (sym h ∙ k))
