@@ -4,11 +4,12 @@ use native.Mathlib.Omega.{arith}
 use native.Mathlib.Numerals.{add-one}
 use native.Mathlib.Decide.{ℕ-discrete}
 use mathlib.Core.Path.{_≡_, refl, ap, sym, _∙_}
+use mathlib.Core.Logic.{_⊎_, inl, inr}
 use mathlib.Core.List.{List, [], _∷_}
 use lib.ListN.{length, getD, set, length-set, replicate, length-replicate, getD-replicate}
 use lib.Seq.{ext-getD, getD-set-same, getD-set-other}
 use Rattle.finite.specs.Below.{tabulate}
-use Rattle.finite.specs.Laws.Below.{length-tabulate, getD-tabulate}
+use Rattle.finite.specs.Laws.Below.{length-tabulate, getD-tabulate, lt-or-ge}
 use Rattle.survey.specs.Store.{remade}
 
 pub length-remade : (f : ℕ → ℕ → ℕ) (i : ℕ) (l : List ℕ) → length (remade f i l) ≡ length l
@@ -59,6 +60,22 @@ remade-table f n l g long h =
     (tabulate n g)
     (e ∙ sym (length-tabulate n g))
     (λ k b. remade-passed f n l k (omega arith) (omega arith) ∙ h k (omega arith) ∙ sym (getD-tabulate n g k 0 (omega arith)))
+
+-- A table changed in its first n places.
+pub remade-part : (f : ℕ → ℕ → ℕ) (n N : ℕ) (l : List ℕ) (g : ℕ → ℕ) → length l ≡ N → n ≤ N → ((k : ℕ) → k < n → f k (getD l k 0) ≡ g k)
+    → ((k : ℕ) → n ≤ k → k < N → getD l k 0 ≡ g k) → remade f n l ≡ tabulate N g
+remade-part f n N l g long fits h same =
+    let e : length (remade f n l) ≡ N = length-remade f n l ∙ long in
+    ext-getD
+    0
+    (remade f n l)
+    (tabulate N g)
+    (e ∙ sym (length-tabulate N g))
+    (λ k b. at k (omega arith) (lt-or-ge k n) ∙ sym (getD-tabulate N g k 0 (omega arith)))
+  where
+    at : (k : ℕ) → k < N → (k < n) ⊎ (n ≤ k) → getD (remade f n l) k 0 ≡ g k
+    at k b (inl c) = remade-passed f n l k c (omega arith) ∙ h k c
+    at k b (inr c) = remade-ahead f n l k c ∙ same k c b
 
 pub tabulate-cong : (n : ℕ) (f g : ℕ → ℕ) → ((i : ℕ) → i < n → f i ≡ g i) → tabulate n f ≡ tabulate n g
 unfolding tabulate

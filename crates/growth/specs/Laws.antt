@@ -1,0 +1,4 @@
+pub mod Flags
+pub mod Winner
+pub mod Raise
+pub mod View

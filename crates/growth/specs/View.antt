@@ -1,0 +1,48 @@
+-- What the arrays of a growth hold after r steps of the definition.
+use Prim.Native.Nat.{ℕ, _<_}
+use mathlib.Core.Path.{_≡_}
+use mathlib.Core.Bool.{Bool, true, false}
+use mathlib.Core.List.{List}
+use lib.ListN.{length}
+use lib.Dec.{ltb}
+use Rattle.finite.specs.Below.{counted, tabulate}
+use Rattle.limits.specs.Limits.{maxVertices, maxEdges, maxDuals}
+use Rattle.steiner.specs.Problem.{Problem}
+use Rattle.steiner.specs.Growth.{Winner, nobody, edge, winner, load, stateAt}
+use Rattle.survey.specs.Survey.{Survey, problemOf}
+use Rattle.growth.specs.declared.Growth.{Growth}
+use Rattle.survey.specs.Laws.Refusal.{SurveySound}
+
+unfoldable pub edgeOf : Winner → ℕ
+edgeOf nobody = 0
+edgeOf (edge e d) = e
+
+unfoldable pub wins : Winner → Bool
+wins nobody = false
+wins (edge e d) = true
+
+-- The edge picked in round r, counted from 0; 0 where there is none.
+unfoldable pub turn : Problem → ℕ → ℕ
+turn p r = edgeOf (winner p (stateAt p r))
+
+pub record View (p : Problem) (r : ℕ) (labels loads values picked order : List ℕ) : Type 0 where
+  pub labels-are : labels ≡ tabulate maxVertices (stateAt p r .label)
+  pub loads-are : loads ≡ tabulate maxVertices (λ v. counted (ltb v (p .vertices)) (load p (stateAt p r) v))
+  pub values-are : values ≡ tabulate maxDuals (stateAt p r .value)
+  pub picked-are : picked ≡ tabulate maxEdges (λ e. counted (stateAt p r .picked e) 1)
+  pub order-is : order ≡ tabulate maxVertices (λ k. counted (ltb k r) (turn p k))
+
+-- What a round starts from.
+pub record Growing (s : Survey) (r : ℕ) (labels loads values picked order : List ℕ) : Type 0 where
+  pub sound : SurveySound s
+  pub going : r < length (s .groups)
+  pub rounds-are : stateAt (problemOf s) r .rounds ≡ r
+  pub view : View (problemOf s) r labels loads values picked order
+
+-- What a growth of k steps answers.
+pub record Shows (p : Problem) (k : ℕ) (g : Growth) : Type 0 where
+  pub rounds-are : g .rounds ≡ stateAt p k .rounds
+  pub labels-are : g .labels ≡ tabulate maxVertices (stateAt p k .label)
+  pub values-are : g .values ≡ tabulate maxDuals (stateAt p k .value)
+  pub picked-are : g .picked ≡ tabulate maxEdges (λ e. counted (stateAt p k .picked e) 1)
+  pub order-is : g .order ≡ tabulate maxVertices (λ i. counted (ltb i k) (turn p i))

@@ -1,0 +1,324 @@
+// How duals grow, over arrays: labels, loads, values, picked marks, and the order of the picks. Definitions in specs/.
+ghost use mathlib.Core.Path.{_≡_};
+ghost use Prim.Native.Nat.{ℕ, _+_, _-_, _*_, _<_, _^_};
+ghost use mathlib.Core.Bool.{cond};
+ghost use lib.ListN.{getD, set, length};
+ghost use lib.Dec.{eqb};
+ghost use Rattle.finite.specs.Below.{counted, tabulate};
+ghost use Rattle.limits.specs.Verdict.{written};
+ghost use Rattle.limits.specs.Limits.{maxDuals};
+ghost use Rattle.steiner.specs.Problem.{Problem};
+ghost use Rattle.survey.specs.Refusal.{surveyRefusal};
+ghost use Rattle.steiner.specs.Growth.{active, delayOf, better, winner, stateAt};
+ghost use Rattle.survey.specs.Survey.{surveyFrom, groupsAlone, problemOf};
+ghost use Rattle.survey.specs.Store.{remade};
+ghost use Rattle.survey.specs.Labels.{relabelled};
+ghost use Rattle.growth.specs.Tables.{tablesFrom, delayIn, winnerIn, delayBetween, delayBy, winnerBy, flagged, raisedValues, raisedLoads, Room};
+ghost use Rattle.growth.specs.View.{wins, View, Growing, Shows};
+ghost use Rattle.survey.specs.Laws.Refusal.{SurveySound};
+use limits::Verdict;
+use survey::store::at64;
+use survey::store::put8;
+use survey::store::put32;
+use survey::store::put64;
+
+// What growing leaves: how many rounds there were, the component numbers of the vertices, the values of the component numbers, 1 for each
+// picked edge, and the edges in the order of the rounds.
+pub struct Growth {
+    pub rounds: usize,
+    pub labels: [u32; 256],
+    pub values: [u64; 511],
+    pub picked: [u8; 2048],
+    pub order: [u32; 256],
+}
+
+// An edge's delay, if it is a candidate.
+pub enum Delay {
+    Never,
+    After(u64),
+}
+
+// The winner of a round, if there is a candidate.
+pub enum Winner {
+    Nobody,
+    Edge { e: usize, d: u64 },
+}
+
+// The component of a vertex of a split group is active.
+fn flag_label(flags: &mut [u8], summary: u64, label: u32)
+    ensures { λ r. ⌜ now (flags .exit) ≡ flagged (now (flags .entry)) summary label ⌝ }
+{
+    if summary == 1 {
+        put8(flags, reads::index32(label), 1);
+    }
+}
+
+// 1 for each active component number, 0 for the others.
+fn active_flags(groups: &[u8], labels: &[u32]) -> [u8; 511]
+    ensures { λ r. ⌜ r ≡ tabulate maxDuals (λ c. counted (active (problemOf (groupsAlone (now (groups .entry)))) (λ v. getD (now (labels .entry)) v 0) c) 1) ⌝ }
+{
+    let table = survey::groups::spreads(groups, labels);
+    let mut flags = [0u8; 511];
+    let mut v = 0;
+    while v < groups.len() {
+        let summary = at64(&table, reads::index8(reads::at8(groups, v)));
+        flag_label(&mut flags, summary, reads::at32(labels, v));
+        v += 1;
+    }
+    flags
+}
+
+// What remains of an edge between two loads.
+fn edge_slack(weight: u32, first_load: u64, second_load: u64) -> u64
+    ensures { λ r. ⌜ r ≡ 2 * weight - («first_load» + «second_load») ⌝ }
+{
+    let whole = 2 * reads::wide32(weight);
+    if whole <= first_load {
+        return 0;
+    }
+    let rest = whole - first_load;
+    if rest <= second_load {
+        return 0;
+    }
+    rest - second_load
+}
+
+// The delay by whether each end is active, and what remains.
+fn delay_of(first: u8, second: u8, slack: u64) -> Delay
+    ensures { λ r. ⌜ delayIn r ≡ delayOf (eqb first 1) (eqb second 1) slack ⌝ }
+{
+    if first == 1 {
+        if second == 1 {
+            return Delay::After(slack / 2);
+        }
+        return Delay::After(slack);
+    }
+    if second == 1 {
+        return Delay::After(slack);
+    }
+    Delay::Never
+}
+
+// The delay of an edge between two vertices.
+fn delay_between(
+    labels: &[u32],
+    loads: &[u64],
+    flags: &[u8],
+    a: usize,
+    b: usize,
+    weight: u32,
+) -> Delay
+    ensures { λ r. ⌜ delayIn r ≡ delayBetween (now (labels .entry)) (now (loads .entry)) (now (flags .entry)) a b weight ⌝ }
+{
+    let x = reads::at32(labels, a);
+    let y = reads::at32(labels, b);
+    if x == y {
+        return Delay::Never;
+    }
+    let slack = edge_slack(weight, at64(loads, a), at64(loads, b));
+    delay_of(
+        reads::at8(flags, reads::index32(x)),
+        reads::at8(flags, reads::index32(y)),
+        slack,
+    )
+}
+
+// The earlier edge keeps its place unless the later one's delay is smaller.
+fn better_of(best: Winner, e: usize, delay: Delay) -> Winner
+    ensures { λ r. ⌜ winnerIn r ≡ better (winnerIn best) e (delayIn delay) ⌝ }
+{
+    let Delay::After(d) = delay else {
+        return best;
+    };
+    let Winner::Edge { e: f, d: c } = best else {
+        return Winner::Edge { e, d };
+    };
+    if d < c {
+        return Winner::Edge { e, d };
+    }
+    Winner::Edge { e: f, d: c }
+}
+
+// The smallest delay, and among equals the lowest edge.
+fn find_winner(
+    firsts: &[u32],
+    seconds: &[u32],
+    weights: &[u32],
+    labels: &[u32],
+    loads: &[u64],
+    flags: &[u8],
+) -> Winner
+    ensures { λ r. ⌜ winnerIn r ≡ winnerBy (tablesFrom (now (firsts .entry)) (now (seconds .entry)) (now (weights .entry)) (now (labels .entry)) (now (loads .entry)) (now (flags .entry))) (length (now (firsts .entry))) ⌝ }
+{
+    let mut best = Winner::Nobody;
+    let mut e = 0;
+    while e < firsts.len() {
+        let a = reads::index32(reads::at32(firsts, e));
+        let b = reads::index32(reads::at32(seconds, e));
+        let delay = delay_between(labels, loads, flags, a, b, reads::at32(weights, e));
+        best = better_of(best, e, delay);
+        e += 1;
+    }
+    best
+}
+
+// A value raised by d where its flag is set.
+fn raised(x: u64, flag: u8, d: u64) -> u64
+    requires { ⌜ x + d < 2 ^ 64 ⌝ }
+    ensures { λ r. ⌜ r ≡ x + counted (eqb flag 1) d ⌝ }
+{
+    if flag == 1 {
+        return x + d;
+    }
+    x
+}
+
+// Every active component is raised.
+fn raise_values(values: &mut [u64], flags: &[u8], d: u64)
+    requires { ⌜ Room (now values) d ⌝ }
+    ensures { λ r. ⌜ now (values .exit) ≡ raisedValues (now (flags .entry)) d (now (values .entry)) ⌝ }
+{
+    let mut c = 0;
+    while c < values.len() {
+        let x = raised(at64(values, c), reads::at8(flags, c), d);
+        put64(values, c, x);
+        c += 1;
+    }
+}
+
+// Every vertex of an active component is loaded more.
+fn raise_loads(loads: &mut [u64], labels: &[u32], flags: &[u8], n: usize, d: u64)
+    requires { ⌜ Room (now loads) d ⌝ }
+    ensures { λ r. ⌜ now (loads .exit) ≡ raisedLoads (now (labels .entry)) (now (flags .entry)) n d (now (loads .entry)) ⌝ }
+{
+    let mut v = 0;
+    while v < n {
+        let flag = reads::at8(flags, reads::index32(reads::at32(labels, v)));
+        let x = raised(at64(loads, v), flag, d);
+        put64(loads, v, x);
+        v += 1;
+    }
+}
+
+// The components of two vertices become z.
+fn merge(labels: &mut [u32], a: u32, b: u32, z: u32)
+    ensures { λ r. ⌜ now (labels .exit) ≡ relabelled (getD (now (labels .entry)) a 0) (getD (now (labels .entry)) b 0) z (now (labels .entry)) ⌝ }
+{
+    let x = reads::at32(labels, reads::index32(a));
+    let y = reads::at32(labels, reads::index32(b));
+    survey::labels::relabel(labels, x, y, z);
+}
+
+// Edge e is the pick of round r.
+fn note_pick(picked: &mut [u8], order: &mut [u32], e: usize, r: usize)
+    requires { ⌜ e < 2 ^ 32 ⌝ }
+    ensures { λ x. ⌜ now (picked .exit) ≡ set (now (picked .entry)) e 1 ⌝ }
+    ensures { λ x. ⌜ now (order .exit) ≡ set (now (order .entry)) r e ⌝ }
+{
+    put8(picked, e, 1);
+    put32(order, r, e as u32);
+}
+
+// One round: whether there was a winner, and the arrays after it.
+fn round(
+    groups: &[u8],
+    firsts: &[u32],
+    seconds: &[u32],
+    weights: &[u32],
+    labels: &mut [u32],
+    loads: &mut [u64],
+    values: &mut [u64],
+    picked: &mut [u8],
+    order: &mut [u32],
+    r: usize,
+) -> bool
+    requires { ⌜ Growing (surveyFrom (now groups) (now firsts) (now seconds) (now weights)) r (now labels) (now loads) (now values) (now picked) (now order) ⌝ }
+    ensures { λ x. ⌜ x ≡ wins (winner (problemOf (surveyFrom (now (groups .entry)) (now (firsts .entry)) (now (seconds .entry)) (now (weights .entry)))) (stateAt (problemOf (surveyFrom (now (groups .entry)) (now (firsts .entry)) (now (seconds .entry)) (now (weights .entry)))) r)) ⌝ }
+    ensures { λ x. ⌜ View (problemOf (surveyFrom (now (groups .entry)) (now (firsts .entry)) (now (seconds .entry)) (now (weights .entry)))) (r + 1) (now (labels .exit)) (now (loads .exit)) (now (values .exit)) (now (picked .exit)) (now (order .exit)) ⌝ }
+{
+    let flags = active_flags(groups, labels);
+    let found = find_winner(firsts, seconds, weights, labels, loads, &flags);
+    let Winner::Edge { e, d } = found else {
+        return false;
+    };
+    raise_values(values, &flags, d);
+    raise_loads(loads, labels, &flags, groups.len(), d);
+    let z = (groups.len() + r) as u32;
+    merge(labels, reads::at32(firsts, e), reads::at32(seconds, e), z);
+    note_pick(picked, order, e, r);
+    true
+}
+
+// Rounds until no candidate is left.
+fn grow_rounds(groups: &[u8], firsts: &[u32], seconds: &[u32], weights: &[u32]) -> Growth
+    requires { ⌜ SurveySound (surveyFrom (now groups) (now firsts) (now seconds) (now weights)) ⌝ }
+    ensures { λ r. ⌜ Shows (problemOf (surveyFrom (now (groups .entry)) (now (firsts .entry)) (now (seconds .entry)) (now (weights .entry)))) (length (now (groups .entry))) r ⌝ }
+{
+    let mut labels = [0u32; 256];
+    let mut loads = [0u64; 256];
+    let mut values = [0u64; 511];
+    let mut picked = [0u8; 2048];
+    let mut order = [0u32; 256];
+    survey::labels::own_labels(&mut labels);
+    let mut r = 0;
+    while r < groups.len() {
+        let more = round(
+            groups,
+            firsts,
+            seconds,
+            weights,
+            &mut labels,
+            &mut loads,
+            &mut values,
+            &mut picked,
+            &mut order,
+            r,
+        );
+        if !more {
+            return Growth {
+                rounds: r,
+                labels,
+                values,
+                picked,
+                order,
+            };
+        }
+        r += 1;
+    }
+    Growth {
+        rounds: r,
+        labels,
+        values,
+        picked,
+        order,
+    }
+}
+
+// No round at all.
+fn no_rounds() -> Growth
+    ensures { λ r. ⌜ ((p : Problem) → Shows p 0 r) ⌝ }
+{
+    let mut labels = [0u32; 256];
+    survey::labels::own_labels(&mut labels);
+    Growth {
+        rounds: 0,
+        labels,
+        values: [0u64; 511],
+        picked: [0u8; 2048],
+        order: [0u32; 256],
+    }
+}
+
+// Growth to its end; a refused survey has no round.
+pub fn grow(groups: &[u8], firsts: &[u32], seconds: &[u32], weights: &[u32]) -> Growth
+    ensures { λ r. ⌜ Shows (problemOf (surveyFrom (now (groups .entry)) (now (firsts .entry)) (now (seconds .entry)) (now (weights .entry)))) (written (surveyRefusal (surveyFrom (now (groups .entry)) (now (firsts .entry)) (now (seconds .entry)) (now (weights .entry)))) (length (now (groups .entry))) 0) r ⌝ }
+{
+    let found = survey::survey_refusal(groups, firsts, seconds, weights);
+    if let Verdict::Refused {
+        number: _,
+        place: _,
+    } = found {
+        return no_rounds();
+    }
+    grow_rounds(groups, firsts, seconds, weights)
+}
