@@ -2,3 +2,4 @@ pub mod Flags
 pub mod Winner
 pub mod Raise
 pub mod View
+pub mod Shown

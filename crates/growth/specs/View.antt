@@ -1,14 +1,15 @@
 -- What the arrays of a growth hold after r steps of the definition.
-use Prim.Native.Nat.{ℕ, _<_}
+use Prim.Native.Nat.{ℕ, _*_, _<_, _≤_, _^_}
 use mathlib.Core.Path.{_≡_}
 use mathlib.Core.Bool.{Bool, true, false}
 use mathlib.Core.List.{List}
-use lib.ListN.{length}
+use lib.ListN.{length, getD}
 use lib.Dec.{ltb}
 use Rattle.finite.specs.Below.{counted, tabulate}
 use Rattle.limits.specs.Limits.{maxVertices, maxEdges, maxDuals}
 use Rattle.steiner.specs.Problem.{Problem}
 use Rattle.steiner.specs.Growth.{Winner, nobody, edge, winner, load, stateAt}
+use Rattle.steiner.specs.Pruning.{dualBound}
 use Rattle.survey.specs.Survey.{Survey, problemOf}
 use Rattle.growth.specs.declared.Growth.{Growth}
 use Rattle.survey.specs.Laws.Refusal.{SurveySound}
@@ -39,9 +40,19 @@ pub record Growing (s : Survey) (r : ℕ) (labels loads values picked order : Li
   pub rounds-are : stateAt (problemOf s) r .rounds ≡ r
   pub view : View (problemOf s) r labels loads values picked order
 
+abbrev pub growthFrom : (rounds bound : ℕ) → (labels values picked order : List ℕ) → Growth
+growthFrom rounds bound labels values picked order =
+    record { rounds = rounds; bound = bound; labels = labels; values = values; picked = picked; order = order }
+
+-- Sums of these values stay within 64 bits.
+pub record Small (values : List ℕ) (count : ℕ) : Type 0 where
+  pub few : count ≤ 2 * maxVertices
+  pub low : (c : ℕ) → getD values c 0 ≤ 2 ^ 32
+
 -- What a growth of k steps answers.
 pub record Shows (p : Problem) (k : ℕ) (g : Growth) : Type 0 where
   pub rounds-are : g .rounds ≡ stateAt p k .rounds
+  pub bound-is : g .bound ≡ dualBound p (stateAt p k)
   pub labels-are : g .labels ≡ tabulate maxVertices (stateAt p k .label)
   pub values-are : g .values ≡ tabulate maxDuals (stateAt p k .value)
   pub picked-are : g .picked ≡ tabulate maxEdges (λ e. counted (stateAt p k .picked e) 1)

@@ -4,7 +4,7 @@ ghost use Prim.Native.Nat.{ℕ, _+_, _-_, _*_, _<_, _^_};
 ghost use mathlib.Core.Bool.{cond};
 ghost use lib.ListN.{getD, set, length};
 ghost use lib.Dec.{eqb};
-ghost use Rattle.finite.specs.Below.{counted, tabulate};
+ghost use Rattle.finite.specs.Below.{counted, sumBelow, tabulate};
 ghost use Rattle.limits.specs.Verdict.{written};
 ghost use Rattle.limits.specs.Limits.{maxDuals};
 ghost use Rattle.steiner.specs.Problem.{Problem};
@@ -14,7 +14,7 @@ ghost use Rattle.survey.specs.Survey.{surveyFrom, groupsAlone, problemOf};
 ghost use Rattle.survey.specs.Store.{remade};
 ghost use Rattle.survey.specs.Labels.{relabelled};
 ghost use Rattle.growth.specs.Tables.{tablesFrom, delayIn, winnerIn, delayBetween, delayBy, winnerBy, flagged, raisedValues, raisedLoads, Room};
-ghost use Rattle.growth.specs.View.{wins, View, Growing, Shows};
+ghost use Rattle.growth.specs.View.{wins, View, Growing, Shows, growthFrom, Small};
 ghost use Rattle.survey.specs.Laws.Refusal.{SurveySound};
 use limits::Verdict;
 use survey::store::at64;
@@ -22,10 +22,11 @@ use survey::store::put8;
 use survey::store::put32;
 use survey::store::put64;
 
-// What growing leaves: how many rounds there were, the component numbers of the vertices, the values of the component numbers, 1 for each
+// What growing leaves: how many rounds there were, the sum of all duals, the component numbers of the vertices, the values of the component numbers, 1 for each
 // picked edge, and the edges in the order of the rounds.
 pub struct Growth {
     pub rounds: usize,
+    pub bound: u64,
     pub labels: [u32; 256],
     pub values: [u64; 511],
     pub picked: [u8; 2048],
@@ -249,6 +250,43 @@ fn round(
     true
 }
 
+// The sum of the first `count` values.
+fn sum_values(values: &[u64], count: usize) -> u64
+    requires { ⌜ Small (now values) count ⌝ }
+    ensures { λ r. ⌜ r ≡ sumBelow count (λ c. getD (now (values .entry)) c 0) ⌝ }
+{
+    let mut sum = 0;
+    let mut c = 0;
+    while c < count {
+        sum += at64(values, c);
+        c += 1;
+    }
+    sum
+}
+
+// The answer after this many rounds.
+fn finished(
+    n: usize,
+    rounds: usize,
+    labels: [u32; 256],
+    values: [u64; 511],
+    picked: [u8; 2048],
+    order: [u32; 256],
+) -> Growth
+    requires { ⌜ Small values (n + rounds) ⌝ }
+    ensures { λ r. ⌜ r ≡ growthFrom rounds (sumBelow (n + rounds) (λ c. getD values c 0)) labels values picked order ⌝ }
+{
+    let bound = sum_values(&values, n + rounds);
+    Growth {
+        rounds,
+        bound,
+        labels,
+        values,
+        picked,
+        order,
+    }
+}
+
 // Rounds until no candidate is left.
 fn grow_rounds(groups: &[u8], firsts: &[u32], seconds: &[u32], weights: &[u32]) -> Growth
     requires { ⌜ SurveySound (surveyFrom (now groups) (now firsts) (now seconds) (now weights)) ⌝ }
@@ -275,23 +313,11 @@ fn grow_rounds(groups: &[u8], firsts: &[u32], seconds: &[u32], weights: &[u32]) 
             r,
         );
         if !more {
-            return Growth {
-                rounds: r,
-                labels,
-                values,
-                picked,
-                order,
-            };
+            return finished(groups.len(), r, labels, values, picked, order);
         }
         r += 1;
     }
-    Growth {
-        rounds: r,
-        labels,
-        values,
-        picked,
-        order,
-    }
+    finished(groups.len(), r, labels, values, picked, order)
 }
 
 // No round at all.
@@ -302,6 +328,7 @@ fn no_rounds() -> Growth
     survey::labels::own_labels(&mut labels);
     Growth {
         rounds: 0,
+        bound: 0,
         labels,
         values: [0u64; 511],
         picked: [0u8; 2048],

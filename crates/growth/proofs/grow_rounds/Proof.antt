@@ -9,7 +9,7 @@ use Rattle.steiner.specs.Growth.{start, stateAt}
 use Rattle.survey.specs.Survey.{surveyFrom, problemOf}
 use Rattle.survey.specs.Laws.Store.{remade-table, replicate-table}
 use Rattle.growth.specs.View.{View}
-use Rattle.growth.specs.Laws.View.{view-start, view-over, view-end, still-winner, rounds-more, rounds-still, rounds-end}
+use Rattle.growth.specs.Laws.View.{view-start, view-over, view-end, still-winner, rounds-more, rounds-still, rounds-end, values-small, shown}
 use native.Mathlib.Omega.{arith}
 use borrow.Author.Needs.{needs}
 use Rattle.growth.proofs.grow_rounds.Statement.{statement}
@@ -61,11 +61,19 @@ round-requires : tie.Need-round-requires Inv-loop μ-loop
 round-requires c κs =
     record { sound = c .before .before .before .before .before .before .before .before .before .before .before .before .before .before .pre; going = c .before .before .before .before .before .loop-test .taken; rounds-are = c .before .before .before .before .before .before .loop .inv .1; view = c .before .before .before .before .before .before .loop .inv .2 }
 
-returns : tie.Need-returns Inv-loop μ-loop
-returns c =
+finished-requires : tie.Need-finished-requires Inv-loop μ-loop
+finished-requires c κs =
     let w = still-winner _ _ (sym (c .before .before .before .before .before .before .round .ensures .0) ∙ not-true _ (c .if1 .taken)) in
     let v = view-over _ _ _ w (c .before .before .before .before .before .before .before .before .before .before .before .before .loop-test .taken) (c .before .before .before .before .before .before .round .ensures .1) in
-    record { rounds-are = rounds-still _ _ _ w (c .before .before .before .before .before .before .before .before .before .before .before .before .loop-test .taken) (c .before .before .before .before .before .before .before .before .before .before .before .before .before .loop .inv .1); labels-are = v .labels-are; values-are = v .values-are; picked-are = v .picked-are; order-is = v .order-is }
+    let e = rounds-still _ _ _ w (c .before .before .before .before .before .before .before .before .before .before .before .before .loop-test .taken) (c .before .before .before .before .before .before .before .before .before .before .before .before .before .loop .inv .1) in
+    values-small _ (c .before .before .before .before .before .before .before .before .before .before .before .before .before .before .before .before .before .before .before .before .before .pre) _ v e
+
+returns : tie.Need-returns Inv-loop μ-loop
+returns c =
+    let w = still-winner _ _ (sym (c .before .before .before .before .before .before .before .round .ensures .0) ∙ not-true _ (c .before .if1 .taken)) in
+    let v = view-over _ _ _ w (c .before .before .before .before .before .before .before .before .before .before .before .before .before .loop-test .taken) (c .before .before .before .before .before .before .before .round .ensures .1) in
+    let e = rounds-still _ _ _ w (c .before .before .before .before .before .before .before .before .before .before .before .before .before .loop-test .taken) (c .before .before .before .before .before .before .before .before .before .before .before .before .before .before .loop .inv .1) in
+    shown _ (c .before .before .before .before .before .before .before .before .before .before .before .before .before .before .before .before .before .before .before .before .before .before .pre) _ v e (c .finished .ensures)
 
 add-r : tie.Need-add-r Inv-loop μ-loop
 add-r c = search needs
@@ -77,10 +85,17 @@ loop-again : tie.Need-loop-again Inv-loop μ-loop
 loop-again c =
     (omega arith, rounds-more _ _ (sym (c .before .before .before .before .before .before .round .ensures .0) ∙ not-false _ (c .if1 .left)) (c .before .before .before .before .before .before .before .before .before .before .before .before .before .loop .inv .1), c .before .before .before .before .before .before .round .ensures .1)
 
+finished-requires-2 : tie.Need-finished-requires-2 Inv-loop μ-loop
+finished-requires-2 c κs =
+    let v = view-end _ _ _ (c .before .loop .inv .0) (c .loop-test .left) (c .before .loop .inv .2) in
+    let e = rounds-end _ _ _ (c .before .loop .inv .0) (c .loop-test .left) (c .before .loop .inv .1) in
+    values-small _ (c .before .before .before .before .before .before .before .before .before .pre) _ v e
+
 returns-2 : tie.Need-returns-2 Inv-loop μ-loop
 returns-2 c =
-    let v = view-end _ _ _ (c .before .loop .inv .0) (c .loop-test .left) (c .before .loop .inv .2) in
-    record { rounds-are = rounds-end _ _ _ (c .before .loop .inv .0) (c .loop-test .left) (c .before .loop .inv .1); labels-are = v .labels-are; values-are = v .values-are; picked-are = v .picked-are; order-is = v .order-is }
+    let v = view-end _ _ _ (c .before .before .loop .inv .0) (c .before .loop-test .left) (c .before .before .loop .inv .2) in
+    let e = rounds-end _ _ _ (c .before .before .loop .inv .0) (c .before .loop-test .left) (c .before .before .loop .inv .1) in
+    shown _ (c .before .before .before .before .before .before .before .before .before .before .pre) _ v e (c .finished2 .ensures)
 
 pub grow-rounds-spec : {M : Type 1} → statement M
 grow-rounds-spec =
@@ -97,8 +112,10 @@ grow-rounds-spec =
     slice-aggregate-round-4
     slice-aggregate-round-5
     round-requires
+    finished-requires
     returns
     add-r
     loop-less
     loop-again
+    finished-requires-2
     returns-2)

@@ -3,7 +3,7 @@ use mathlib.Core.Path.{_≡_, refl, ap, sym, _∙_}
 use Rattle.limits.specs.Limits.{maxVertices, maxEdges, maxDuals}
 use Rattle.steiner.specs.Growth.{start, stateAt}
 use Rattle.survey.specs.Laws.Store.{remade-table, replicate-table}
-use Rattle.growth.specs.Laws.View.{view-start}
+use Rattle.growth.specs.Laws.View.{view-start, start-bound}
 use borrow.Author.Needs.{needs}
 use Rattle.growth.proofs.no_rounds.Statement.{statement}
 use Rattle.growth.proofs.no_rounds.Tie as tie
@@ -26,7 +26,7 @@ returns c =
     (replicate-table maxDuals 0)
     (replicate-table maxEdges 0)
     (replicate-table maxVertices 0) in
-    record { rounds-are = refl; labels-are = v .labels-are; values-are = v .values-are; picked-are = v .picked-are; order-is = v .order-is }
+    record { rounds-are = refl; bound-is = start-bound p; labels-are = v .labels-are; values-are = v .values-are; picked-are = v .picked-are; order-is = v .order-is }
 
 pub no-rounds-spec : {M : Type 1} → statement M
 no-rounds-spec = tie.close (tie.spec slice-aggregate-own-labels own-labels-requires returns)

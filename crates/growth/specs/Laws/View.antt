@@ -12,13 +12,15 @@ use mathlib.Core.List.{List}
 use lib.ListN.{length, getD, set, List·getD-eq-default}
 use lib.Dec.{eqb, ltb}
 use borrow.Author.Tests.{eq-eqb, ne-eqb, lt-ltb, le-ltb}
-use Rattle.finite.specs.Below.{counted, tabulate}
-use Rattle.finite.specs.Laws.Below.{length-tabulate, getD-tabulate, counted-true, counted-false, lt-or-ge}
+use Rattle.finite.specs.Below.{counted, sumBelow, tabulate}
+use Rattle.finite.specs.Laws.Below.{sum-cong, sum-le, sum-const, sum-zero, length-tabulate, getD-tabulate, counted-true, counted-false, lt-or-ge}
 use Rattle.finite.specs.Laws.Test.{either}
 use Rattle.graph.specs.Component.{merged}
 use Rattle.limits.specs.Limits.{maxVertices, maxEdges, maxWeight, maxDuals}
 use Rattle.steiner.specs.Problem.{Problem, Sound, separates}
 use Rattle.steiner.specs.Growth.{State, active, numbers, load, slack, delayOf, delay, Winner, nobody, edge, better, winnerBelow, winner, start, pick, stateAt}
+use Rattle.steiner.specs.Pruning.{dualBound}
+use Rattle.growth.specs.declared.Growth.{Growth}
 use Rattle.steiner.specs.Laws.Joined.{separates-cong}
 use Rattle.steiner.specs.Laws.Round.{Reached, stateAt-reached, pick-rounds, pick-label, pick-value, pick-picked, pick-new}
 use Rattle.steiner.specs.Laws.Rounds.{rounds-lt, stateAt-pick, stateAt-still, delay-le, value-bounded, load-bounded}
@@ -31,7 +33,7 @@ use Rattle.survey.specs.Laws.Refusal.{SurveySound, EdgeSound, survey-sound}
 use Rattle.survey.specs.Laws.Store.{tabulate-cong, set-table, remade-table, remade-part}
 use Rattle.survey.specs.Laws.Labels.{relabelled-table}
 use Rattle.growth.specs.Tables.{Tables, tablesFrom, delayBetween, delayBy, winnerBy, raisedValues, raisedLoads, Room}
-use Rattle.growth.specs.View.{edgeOf, wins, turn, View, Growing}
+use Rattle.growth.specs.View.{edgeOf, wins, turn, View, Growing, Small, growthFrom, Shows}
 
 -- A flag of 1 stands for the test.
 flag-is : (t : Bool) → eqb (counted t 1) 1 ≡ t
@@ -431,3 +433,70 @@ view-start p a b c d e =
     none : (x : Bool) {y : ℕ} → y ≡ 0 → counted x y ≡ 0
     none true h = h
     none false h = refl
+
+-- ---- the bound
+
+module _ (s : Survey) (sound : SurveySound s) (r : ℕ) {labels loads values picked order : List ℕ}
+    (v : View (problemOf s) (length (s .groups)) labels loads values picked order) (rounds-are : r ≡ stateAt (problemOf s) (length (s .groups)) .rounds) where
+  n-reached : Reached (problemOf s) (stateAt (problemOf s) (length (s .groups)))
+  n-reached = stateAt-reached (problemOf s) (length (s .groups))
+
+  rounds-below : r < length (s .groups)
+  unfolding problemOf vertexCount
+  rounds-below = let b = rounds-lt (problemOf s) (survey-sound s sound) (sound .some) n-reached in omega arith
+
+  value-at : (c : ℕ) → c < maxDuals → getD values c 0 ≡ stateAt (problemOf s) (length (s .groups)) .value c
+  value-at c b = ap (λ t. getD t c 0) (v .values-are) ∙ getD-tabulate maxDuals _ c 0 b
+
+  light : (e : ℕ) → e < problemOf s .edges → problemOf s .weight e ≤ maxWeight
+  unfolding problemOf edgeCount
+  light e b = sound .edges e b .weight-le
+
+  pub values-small : Small values (length (s .groups) + r)
+  values-small =
+      let few = sound .few in
+      let b = rounds-below in
+      record { few = omega arith; low = λ c. by c (lt-or-ge c maxDuals) }
+    where
+      by : (c : ℕ) → (c < maxDuals) ⊎ (maxDuals ≤ c) → getD values c 0 ≤ 2 ^ 32
+      by c (inl b) =
+          let k = value-at c b in
+          let q = value-bounded (problemOf s) (survey-sound s sound) maxWeight light n-reached c in
+          let few = sound .few in
+          let w = rounds-below in
+          omega arith
+      by c (inr b) =
+          let long : length values ≡ maxDuals = ap length (v .values-are) ∙ length-tabulate maxDuals _ in
+          let k : getD values c 0 ≡ 0 = List·getD-eq-default values 0 (omega arith) in
+          omega arith
+
+  bound-at : sumBelow (length (s .groups) + r) (λ c. getD values c 0) ≡ dualBound (problemOf s) (stateAt (problemOf s) (length (s .groups)))
+  unfolding dualBound numbers problemOf vertexCount
+  bound-at =
+      let few = sound .few in
+      let b = rounds-below in
+      rw
+      (sym rounds-are)
+      (sum-cong (length (s .groups) + r) (λ c. getD values c 0) (stateAt (problemOf s) (length (s .groups)) .value) (λ c k. value-at c (omega arith)))
+
+  -- The answer at the end.
+  pub shown : {g : Growth} → g ≡ growthFrom r (sumBelow (length (s .groups) + r) (λ c. getD values c 0)) labels values picked order
+      → Shows (problemOf s) (length (s .groups)) g
+  shown e =
+      rw
+      e
+      (record {
+        rounds-are = rounds-are;
+        bound-is = bound-at;
+        labels-are = v .labels-are;
+        values-are = v .values-are;
+        picked-are = v .picked-are;
+        order-is = v .order-is;
+      })
+
+pub sum-bounded : (n : ℕ) (f : ℕ → ℕ) (B : ℕ) → ((i : ℕ) → f i ≤ B) → sumBelow n f ≤ n * B
+sum-bounded n f B h = let a = sum-le n f (λ i. B) (λ i b. h i) in let b = sum-const n B in omega arith
+
+pub start-bound : (p : Problem) → 0 ≡ dualBound p start
+unfolding dualBound start
+start-bound p = sym (sum-zero (numbers p start) (λ c. 0) (λ c b. refl))
