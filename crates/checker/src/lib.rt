@@ -4,9 +4,11 @@ ghost use mathlib.Core.List.{[]};
 ghost use Prim.Native.Nat.{_≤_, _/_};
 ghost use lib.ListN.{length};
 ghost use Rattle.limits.specs.Limits.{maxVertices, maxDuals, recordBytes};
-ghost use Rattle.limits.specs.Verdict.{outcome};
+ghost use Rattle.limits.specs.Verdict.{outcome, answer};
 ghost use Rattle.survey.specs.Survey.{surveyFrom};
-ghost use Rattle.checker.specs.Check.{ruleRefusal, checkedOf, checking};
+ghost use Rattle.survey.specs.Accuracy.{Accurate};
+ghost use Rattle.checker.specs.Laws.Meaning.{Passing};
+ghost use Rattle.checker.specs.Check.{Checked, ruleRefusal, checkedOf, checking};
 ghost use Rattle.checker.specs.Stage.{inputRefusal, dualsRefusal, allButRule, PlanFits, outcomeOf};
 use limits::Verdict;
 use survey::labels::Chosen;
@@ -114,7 +116,7 @@ fn judge(groups: &[u8], firsts: &[u32], weights: &[u32], marks: &[u8], records: 
     }
 }
 
-// Checks a plan: marks and moat records against a survey.
+// Checks a plan: marks and moat records against a survey. It passes exactly if none of 1 to 6 and 9 to 15 applies, and whatever passes is within the accuracy rule.
 pub fn check(
     groups: &[u8],
     firsts: &[u32],
@@ -124,6 +126,8 @@ pub fn check(
     records: &[u8],
 ) -> Checking
     ensures { λ r. ⌜ outcomeOf r ≡ checking (surveyFrom (now (groups .entry)) (now (firsts .entry)) (now (seconds .entry)) (now (weights .entry))) (now (marks .entry)) (now (records .entry)) ⌝ }
+    ensures passed { λ r. ⌜ (((c : Checked) → outcomeOf r ≡ answer c → Passing (surveyFrom (now (groups .entry)) (now (firsts .entry)) (now (seconds .entry)) (now (weights .entry))) (now (marks .entry)) (now (records .entry))) × (Passing (surveyFrom (now (groups .entry)) (now (firsts .entry)) (now (seconds .entry)) (now (weights .entry))) (now (marks .entry)) (now (records .entry)) → outcomeOf r ≡ answer (checkedOf (surveyFrom (now (groups .entry)) (now (firsts .entry)) (now (seconds .entry)) (now (weights .entry))) (now (marks .entry)) (now (records .entry))))) ⌝ }
+    ensures accurate { λ r. ⌜ ((c : Checked) → outcomeOf r ≡ answer c → Accurate (surveyFrom (now (groups .entry)) (now (firsts .entry)) (now (seconds .entry)) (now (weights .entry))) (c .terminals) (c .cost)) ⌝ }
 {
     let found = all_but_rule(groups, firsts, seconds, weights, marks, records);
     if let Verdict::Refused { number, place } = found {

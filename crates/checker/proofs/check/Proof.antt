@@ -1,6 +1,8 @@
 -- `check` meets its contract: the stages, one after the other, come to the definition.
 use mathlib.Core.Path.{ap, sym, _∙_}
+use native.Mathlib.Omega.{arith}
 use borrow.Author.Needs.{needs}
+use Rattle.checker.specs.Laws.Accuracy.{promises}
 use Rattle.limits.specs.Verdict.{outcome}
 use Rattle.checker.specs.Stage.{outcomeOf}
 use Rattle.checker.specs.Check.{ruleRefusal}
@@ -16,7 +18,9 @@ enum-known-found c = search needs
 
 returns : tie.Need-returns
 unfolding outcomeOf
-returns c = sym (check-stops _ _ _ (sym (c .before .before .before .all-but-rule .ensures) ∙ c .before .found .given .1))
+returns c =
+    promises _ _ _ _ (λ v. omega (arith, c .before .before .before .before .before .before .before .before .before .shared-slice-known .given v))
+    (sym (check-stops _ _ _ (sym (c .before .before .before .all-but-rule .ensures) ∙ c .before .found .given .1)))
 
 enum-told : tie.Need-enum-told
 enum-told c = search needs
@@ -25,9 +29,11 @@ judge-requires : tie.Need-judge-requires
 judge-requires c κs = plan-fits _ _ _ (sym (c .before .before .all-but-rule .ensures) ∙ c .enum-told .given .1)
 
 returns-2 : tie.Need-returns-2
-returns-2 c = c .judge .ensures
+returns-2 c =
+    promises _ _ _ _ (λ v. omega (arith, c .before .before .before .before .before .before .before .before .before .shared-slice-known .given v))
+    (c .judge .ensures
     ∙ ap (λ counts. outcome (ruleRefusal counts) counts) (checked-seconds (c .before .before .before .before .before .before .before .before .before .before .args .groups .now) (c .before .before .before .before .before .before .before .before .before .before .args .firsts .now) (c .before .before .before .before .before .before .before .before .before .before .args .seconds .now) (c .before .before .before .before .before .before .before .before .before .before .args .weights .now) (c .before .before .before .before .before .before .before .before .before .before .args .marks .now) (c .before .before .before .before .before .before .before .before .before .before .args .records .now))
-    ∙ sym (rule-decides _ _ _ (sym (c .before .before .before .all-but-rule .ensures) ∙ c .before .enum-told .given .1))
+    ∙ sym (rule-decides _ _ _ (sym (c .before .before .before .all-but-rule .ensures) ∙ c .before .enum-told .given .1)))
 
 pub check-spec : {M : Type 1} → statement M
 check-spec =

@@ -57,15 +57,20 @@ pub checking-passing : (s : Survey) → Numbered s → (marks records : List ℕ
     ((c : Checked) → checking s marks records ≡ answer c → Passing s marks records)
     × (Passing s marks records → checking s marks records ≡ answer (checkedOf s marks records))
 unfolding checking outcome
-checking-passing s numbered marks records =
-    (λ c h. check-passing s numbered marks records (passed-fine (checkRefusal s marks records) (checkedOf s marks records) c h .0),
-        λ h. ap (λ v. outcome v (checkedOf s marks records)) (passing-check s numbered marks records h))
+checking-passing s numbered marks records = (
+  λ c h. check-passing s numbered marks records (passed-fine (checkRefusal s marks records) (checkedOf s marks records) c h .0),
+  λ h. ap (λ v. outcome v (checkedOf s marks records)) (passing-check s numbered marks records h),
+)
 
 -- What an answer that is the definition's promises.
 pub promises : (s : Survey) (marks records : List ℕ) (o : Outcome Checked) → Numbered s → o ≡ checking s marks records →
     (o ≡ checking s marks records)
-    × (((c : Checked) → o ≡ answer c → Passing s marks records) × (Passing s marks records → o ≡ answer (checkedOf s marks records)))
-    × ((c : Checked) → o ≡ answer c → Accurate s (c .terminals) (c .cost))
-promises s marks records o numbered h =
-    (h, (λ c k. checking-passing s numbered marks records .0 c (sym h ∙ k), λ k. h ∙ checking-passing s numbered marks records .1 k),
-        λ c k. checking-accurate s numbered marks records c (sym h ∙ k))
+    × ((((c : Checked) → o ≡ answer c → Passing s marks records) × (Passing s marks records → o ≡ answer (checkedOf s marks records)))
+    × ((c : Checked) → o ≡ answer c → Accurate s (c .terminals) (c .cost)))
+promises s marks records o numbered h = (
+  h,
+  (
+    (λ c k. checking-passing s numbered marks records .0 c (sym h ∙ k), λ k. h ∙ checking-passing s numbered marks records .1 k),
+    λ c k. checking-accurate s numbered marks records c (sym h ∙ k),
+  ),
+)
