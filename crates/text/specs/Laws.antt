@@ -8,3 +8,4 @@ pub mod Reading
 pub mod Decimal
 pub mod Stands
 pub mod Spells
+pub mod Words

@@ -23,7 +23,7 @@ pub digits-more : (t : List ℕ) (limit i at : ℕ) → i < limit → classOf (g
 unfolding digitsEnd isDigit
 digits-more t limit i at h e = rw (one-less h, e)
 
-digits-none : (t : List ℕ) (k at : ℕ) → isDigit (classOf (getD t at 0)) ≡ false → digitsEnd k t at ≡ at
+pub digits-none : (t : List ℕ) (k at : ℕ) → isDigit (classOf (getD t at 0)) ≡ false → digitsEnd k t at ≡ at
 unfolding digitsEnd isDigit
 digits-none t zero at e = refl
 digits-none t (suc k) at e = rw e
