@@ -9,3 +9,4 @@ pub mod Decimal
 pub mod Stands
 pub mod Spells
 pub mod Words
+pub mod Content
