@@ -10,3 +10,4 @@ pub mod Stands
 pub mod Spells
 pub mod Words
 pub mod Content
+pub mod WellFormed

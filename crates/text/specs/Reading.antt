@@ -124,22 +124,22 @@ pub record Survey : Type 0 where
   pub seconds : List ℕ
   pub weights : List ℕ
 
-unfoldable pub surveyOf : Counts → Body → Survey
-surveyOf counts body =
+unfoldable pub surveyOf : Counts → (groups : List ℕ) → (edges : List Edge) → Survey
+surveyOf counts groups edges =
     record {
       vertices = counts .vertices;
       edges = counts .edges;
-      groups = body .groups;
-      firsts = firstsOf (body .edges);
-      seconds = secondsOf (body .edges);
-      weights = weightsOf (body .edges);
+      groups = groups;
+      firsts = firstsOf edges;
+      seconds = secondsOf edges;
+      weights = weightsOf edges;
     }
 
 unfoldable pub surveyAt : Tests → List ℕ → Step Survey
 surveyAt tests t =
     countsAt tests t then λ counts p.
     let body = bodyAt (tests .group) t counts p in
-    body .end then λ z q. found (surveyOf counts body) q
+    body .end then λ z q. found (surveyOf counts (body .groups) (body .edges)) q
 
 unfoldable pub outcomeOf : {A : Type 0} → Step A → Outcome A
 outcomeOf (found a next) = answer a

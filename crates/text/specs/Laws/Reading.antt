@@ -95,7 +95,7 @@ module _ (t groups firsts seconds weights : List ℕ) where
   unfolding reading surveyAt outcomeOf _then_ testsFor bodyOf
   reading-stopped e f = rw (e, f)
 
-  pub reading-found : {n m at z p : ℕ} → countsAt tests t ≡ found (record { vertices = n; edges = m }) at → bodyOf t n m at .end ≡ found z p → reading t groups firsts seconds weights ≡ answer (surveyOf (record { vertices = n; edges = m }) (bodyOf t n m at))
+  pub reading-found : {n m at z p : ℕ} → countsAt tests t ≡ found (record { vertices = n; edges = m }) at → bodyOf t n m at .end ≡ found z p → reading t groups firsts seconds weights ≡ answer (surveyOf (record { vertices = n; edges = m }) (bodyOf t n m at .groups) (bodyOf t n m at .edges))
   unfolding reading surveyAt outcomeOf _then_ testsFor bodyOf
   reading-found e f = rw (e, f)
 
@@ -131,7 +131,7 @@ module _ (t groups firsts seconds weights : List ℕ) where
     reads-found {z} {p} h =
         let b : bodyOf t n m at .end ≡ found z p = sym (f .end) ∙ h in
         let r = reading-found e b in
-        let s = surveyOf (record { vertices = n; edges = m }) (bodyOf t n m at) in
+        let s = surveyOf (record { vertices = n; edges = m }) (bodyOf t n m at .groups) (bodyOf t n m at .edges) in
         let fit = counts-fit (length groups) (length firsts) (length seconds) (length weights) t e in
         let size = body-sizes groupTest t (record { vertices = n; edges = m }) at b in
         let es = bodyOf t n m at .edges in
