@@ -10,4 +10,5 @@ pub mod Stands
 pub mod Spells
 pub mod Words
 pub mod Content
+pub mod Said
 pub mod WellFormed

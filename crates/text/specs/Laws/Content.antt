@@ -161,7 +161,7 @@ reads-edge e =
         }
 
 -- Lines one after another, as a step that gives all their values.
-pub whole : {A : Type 0} → Lines A → Step (List A)
+unfoldable pub whole : {A : Type 0} → Lines A → Step (List A)
 whole l = l .end then λ z p. found (l .values) p
 
 -- P holds of each member, at its place from i on.

@@ -2,152 +2,169 @@
 -- printed plan').
 use Prim.Native.Nat.{ℕ, zero, suc, _+_, _*_, _^_, _≤_, _<_}
 use native.Mathlib.Omega.{arith}
+use native.Mathlib.Nat.{zero-add}
 use mathlib.Core.Path.{_≡_, refl, ap, sym, _∙_, subst}
+use mathlib.Core.Bool.{Bool, true, false}
 use mathlib.Core.List.{List, [], _∷_, _++_, append-assoc, append-nil}
 use lib.ListN.{length, take, length-append, length-take}
-use lib.Seq.{take-at, take-all}
-use lib.Dec.{leb, lit<}
+use lib.Seq.{take-at, take-all, length-take-le}
+use lib.Dec.{leb}
+use borrow.Author.Tests.{leb-true, leb-false}
 use Rattle.limits.specs.Limits.{maxVertices, maxEdges, groupNumbers, maxDigits}
-use Rattle.limits.specs.Verdict.{Outcome, refusal, answer}
+use Rattle.limits.specs.Verdict.{Outcome, refusal, answer, refuseIf, _before_}
 use Rattle.limits.specs.declared.Verdict.{Verdict}
 use Rattle.limits.specs.declared.Verdict.the-variants.{Fine, Refused}
-use Rattle.printing.specs.Text.{lineOf}
-use Rattle.text.specs.Step.{Step, found, refused, _then_, checked, linesAfter}
-use Rattle.text.specs.Reading.{
-  nodesKey,
-  linksKey,
-  nodeKey,
-  Tests,
-  testsFor,
-  verticesTest,
-  edgesTest,
-  groupTest,
-  countLine,
-  countsAt,
-  groupLine,
-  groupLines,
-  Edge,
-  edgeLine,
-  edgeLines,
-  endAt,
-  Counts,
-  bodyAt,
-  Survey,
-  surveyOf,
-  surveyAt,
-  outcomeOf,
-  reading,
-}
-use Rattle.text.specs.Render.{edgeText, textOf, render}
+use Rattle.text.specs.Step.{Step, found, refused, _then_}
+use Rattle.text.specs.Reading.{Tests, testsFor, verticesTest, edgesTest, groupTest, Edge, endAt, Counts, Survey, surveyOf, surveyAt, outcomeOf, reading}
+use Rattle.text.specs.Render.{render}
+use Rattle.text.specs.Laws.Step.{then-found, then-refused}
+use Rattle.text.specs.Laws.Digits.{then-value}
+use Rattle.text.specs.Laws.Tests.{vertices-fine, edges-fine, group-fine, VerticesPass, vertices-passed, EdgesPass, edges-passed, group-passed}
+use Rattle.text.specs.Laws.Lines.{end-here, end-later}
 use Rattle.text.specs.Laws.Stands.{Stands, stands-whole, stands-same}
-use Rattle.text.specs.Laws.Spells.{Reads, Seq, Empty, Lively, read, otherwise, reads-then, reads-as, reads-value}
-use Rattle.text.specs.Laws.Content.{Text, Small, Passes, SmallEdge, Each, none, next, Texts, whole, reads-tested, reads-edge, reads-lines}
+use Rattle.text.specs.Laws.Spells.{Reads, Word, Extends, Lively, read, otherwise}
+use Rattle.text.specs.Laws.Content.{Small, Passes, SmallEdge, Each, none, next}
+use Rattle.text.specs.Laws.Said.{Said, saidAt, Rendered, Sparing, Accepted, Formed, reads-said, said-survey}
 
--- What a text says before its end is looked for.
-pub record Said : Type 0 where
-  pub counts : Counts
+-- A well-formed text: any counts, groups, ends and prices of at most so many digits.
+pub record WellFormed (t : List ℕ) : Type 0 where
   pub groups : List ℕ
   pub edges : List Edge
+  pub fewGroups : Small (length groups)
+  pub fewEdges : Small (length edges)
+  pub eachGroup : Each (λ v. Small) 0 groups
+  pub eachEdge : Each (λ e. SmallEdge) 0 edges
+  pub word : t ≡ render groups edges
 
-saidAt : Tests → List ℕ → ℕ → Step Said
-saidAt tests t at =
-    countLine nodesKey (tests .vertices) t at then λ n p.
-    countLine linksKey (tests .edges) t p then λ m q.
-    whole (groupLines (tests .group) t n q) then λ gs r.
-    whole (edgeLines t m r) then λ es s.
-    found (record { counts = record { vertices = n; edges = m }; groups = gs; edges = es }) s
+-- A survey within the counts, with groups up to 255.
+pub record Within (groups : List ℕ) (edges : List Edge) : Type 0 where
+  pub some : 0 < length groups
+  pub fewGroups : length groups ≤ maxVertices
+  pub fewEdges : length edges ≤ maxEdges
+  pub eachGroup : Each (λ v g. g < groupNumbers) 0 groups
+  pub eachEdge : Each (λ e. SmallEdge) 0 edges
 
--- The text of a survey whose counts and groups satisfy these.
-pub record Rendered (N M : ℕ → Type 0) (P : ℕ → ℕ → Type 0) (x : Said) (w : List ℕ) : Type 0 where
-  pub vertices : x .counts .vertices ≡ length (x .groups)
-  pub edges : x .counts .edges ≡ length (x .edges)
-  pub someVertices : N (length (x .groups))
-  pub someEdges : M (length (x .edges))
-  pub eachGroup : Each P 0 (x .groups)
-  pub eachEdge : Each (λ i. SmallEdge) 0 (x .edges)
-  pub word : w ≡ render (x .groups) (x .edges)
+-- What the text of these groups and edges says.
+unfoldable pub surveyFrom : List ℕ → List Edge → Survey
+surveyFrom groups edges = surveyOf (record { vertices = length groups; edges = length edges }) groups edges
 
-module _ (N M : ℕ → Type 0) (P : ℕ → ℕ → Type 0) where
-  abbrev Parts : Said → List ℕ → Type 0
-  Parts =
-      Seq (Text N (lineOf nodesKey)) λ n. Seq (Text M (lineOf linksKey)) λ m. Seq (Texts P (lineOf nodeKey) n 0) λ gs. Seq (Texts (λ i. SmallEdge) edgeText m 0) λ es.
-      Empty (record { counts = record { vertices = n; edges = m }; groups = gs; edges = es })
+each-map : {A : Type 0} {P Q : ℕ → A → Type 0} {i : ℕ} {l : List A} → ((i : ℕ) (a : A) → P i a → Q i a) → Each P i l → Each Q i l
+each-map h none = none
+each-map h (next p r) = next (h _ _ p) (each-map h r)
 
-  joined : (a b c d : List ℕ) → a ++ (b ++ (c ++ (d ++ []))) ≡ a ++ b ++ c ++ d
-  joined a b c d = simp (append-assoc, append-nil)
+-- No test gives 16.
+one-spares : (x : Bool) (i u n p : ℕ) → (i ≡ 16 → ⊥) → refuseIf x i u ≡ Refused n p → n ≡ 16 → ⊥
+unfolding refuseIf
+one-spares true i u n p h e z = let s : i ≡ n = cc in h (s ∙ z)
+one-spares false i u n p h e z = let s : _≡_ {A = ℕ} 0 1 = cc in omega arith
 
-  to : (x : Said) (w : List ℕ) → Parts x w → Rendered N M P x w
-  unfolding render
-  to x w k =
-      let a = k .second in
-      let b = a .second in
-      let c = b .second in
-      let d = c .second in
-      let gs = b .first .size in
-      let es = c .first .size in
-      let e : record { counts = record { vertices = k .value; edges = a .value }; groups = b .value; edges = c .value } ≡ x = sym (d .value) in
-      subst (λ (z : Said). Rendered N M P z w) e
+two-spare : (x y : Bool) (i j u v n p : ℕ) → (i ≡ 16 → ⊥) → (j ≡ 16 → ⊥) → (refuseIf x i u before refuseIf y j v) ≡ Refused n p → n ≡ 16 → ⊥
+unfolding refuseIf _before_
+two-spare true y i j u v n p h k e z = one-spares true i u n p h e z
+two-spare false y i j u v n p h k e z = one-spares y j v n p k e z
+
+sparing : (a b c d : ℕ) → Sparing (testsFor a b c d)
+unfolding testsFor verticesTest edgesTest groupTest
+sparing a b c d =
+    record {
+      vertices = λ x n p. two-spare _ _ 1 7 0 0 n p (λ z. omega arith) (λ z. omega arith);
+      edges = λ x n p. two-spare _ _ 3 7 0 0 n p (λ z. omega arith) (λ z. omega arith);
+      group = λ v x n p. one-spares _ 17 v n p (λ z. omega arith);
+    }
+
+outcome-found : {A : Type 0} (s : Step A) {a : A} → outcomeOf s ≡ answer a → (p : ℕ) × (s ≡ found a p)
+unfolding outcomeOf
+outcome-found (found b p) e = (p, cc)
+outcome-found (refused n p) e = let z : _≡_ {A = ℕ} 0 1 = cc in absurd (omega arith)
+
+outcome-refused : {A : Type 0} (s : Step A) {n p : ℕ} → outcomeOf s ≡ refusal n p → s ≡ refused n p
+unfolding outcomeOf
+outcome-refused (found b q) e = let z : _≡_ {A = ℕ} 0 1 = cc in absurd (omega arith)
+outcome-refused (refused i q) {n} {p} e = let a : i ≡ n = cc in let b : q ≡ p = cc in cc
+
+-- What an accepted text says, and that it ends there.
+record Told (tests : Tests) (t : List ℕ) (s : Survey) : Type 0 where
+  said : Said
+  next : ℕ
+  found-it : saidAt tests t 0 ≡ found said next
+  last : length t ≤ next
+  says : s ≡ surveyOf (said .counts) (said .groups) (said .edges)
+
+ends-at : (t : List ℕ) (p : ℕ) {z q : ℕ} → endAt t p ≡ found z q → length t ≤ p
+ends-at t p e = by-test (leb (length t) p) refl
+  where
+    by-test : (b : Bool) → leb (length t) p ≡ b → length t ≤ p
+    by-test true h = leb-true (length t) p h
+    by-test false h = let z : _≡_ {A = ℕ} 0 1 = cc (end-later t p (leb-false (length t) p h)) in absurd (omega arith)
+
+survey-said : (tests : Tests) (t : List ℕ) (s : Survey) (p : ℕ) → surveyAt tests t ≡ found s p → Told tests t s
+survey-said tests t s p e =
+    let g = then-value (saidAt tests t 0) (λ x p. endAt t p then λ z q. found (surveyOf (x .counts) (x .groups) (x .edges)) q) (sym (said-survey tests t) ∙ e) in
+    let h = then-value (endAt t (g .1)) (λ z q. found (surveyOf (g .0 .counts) (g .0 .groups) (g .0 .edges)) q) (g .3) in
+    record { said = g .0; next = g .1; found-it = g .2; last = ends-at t (g .1) (h .2); says = cc (h .3) }
+
+module _ (gb fb sb wb : List ℕ) where
+  abbrev tests : Tests
+  tests = testsFor (length gb) (length fb) (length sb) (length wb)
+
+  -- The lent buffers are long enough.
+  pub record Room (groups : List ℕ) (edges : List Edge) : Type 0 where
+    pub forGroups : length groups ≤ length gb
+    pub forFirsts : length edges ≤ length fb
+    pub forSeconds : length edges ≤ length sb
+    pub forWeights : length edges ≤ length wb
+
+  within-accepted : (groups : List ℕ) (edges : List Edge) → Within groups edges → Room groups edges
+    → Accepted tests (record { counts = record { vertices = length groups; edges = length edges }; groups = groups; edges = edges }) (render groups edges)
+  unfolding testsFor
+  within-accepted groups edges w r =
+      let a = w .some in
+      let b = w .fewGroups in
+      let c = w .fewEdges in
       record {
-        vertices = sym gs;
-        edges = sym es;
-        someVertices = subst N (sym gs) (k .first .holds);
-        someEdges = subst M (sym es) (a .first .holds);
-        eachGroup = b .first .each;
-        eachEdge = c .first .each;
-        word =
-          k .whole ∙ ap (λ (z : List ℕ). z ++ k .right) (k .first .word ∙ ap (lineOf nodesKey) (sym gs)) ∙ ap (λ (z : List ℕ). lineOf nodesKey (length (b .value)) ++ z)
-          (a .whole ∙ ap (λ (z : List ℕ). z ++ a .right) (a .first .word ∙ ap (lineOf linksKey) (sym es)) ∙ ap (λ (z : List ℕ). lineOf linksKey (length (c .value)) ++ z)
-          (b .whole ∙ ap (λ (z : List ℕ). z ++ b .right) (b .first .word) ∙ ap (λ (z : List ℕ). textOf (lineOf nodeKey) (b .value) ++ z)
-          (c .whole ∙ ap (λ (z : List ℕ). z ++ c .right) (c .first .word) ∙ ap (λ (z : List ℕ). textOf edgeText (c .value) ++ z) (d .word))))
-          ∙ joined (lineOf nodesKey (length (b .value))) (lineOf linksKey (length (c .value))) (textOf (lineOf nodeKey) (b .value)) (textOf edgeText (c .value));
+        vertices = refl;
+        edges = refl;
+        someVertices = record { small = omega arith; passes = vertices-fine (length gb) (length groups) (λ z. omega arith) (w .fewGroups) (r .forGroups) };
+        someEdges = record { small = omega arith; passes = edges-fine (length fb) (length sb) (length wb) (length edges) (w .fewEdges) (r .forFirsts) (r .forSeconds) (r .forWeights) };
+        eachGroup = each-map (λ v g h. record { small = omega arith; passes = group-fine v g h }) (w .eachGroup);
+        eachEdge = w .eachEdge;
+        word = refl;
       }
 
-  from : (x : Said) (w : List ℕ) → Rendered N M P x w → Parts x w
-  unfolding render
-  from x w k =
-      let g = x .groups in
-      let h = x .edges in
-      let e : x ≡ record { counts = record { vertices = length g; edges = length h }; groups = g; edges = h } = λ i. record { counts = record { vertices = k .vertices i; edges = k .edges i }; groups = g; edges = h } in
+  -- A rendering is read back.
+  pub read-render : (groups : List ℕ) (edges : List Edge) → Within groups edges → Room groups edges → reading (render groups edges) gb fb sb wb ≡ answer (surveyFrom groups edges)
+  unfolding reading surveyFrom outcomeOf
+  read-render groups edges w r =
+      let t = render groups edges in
+      let x : Said = record { counts = record { vertices = length groups; edges = length edges }; groups = groups; edges = edges } in
+      let c : saidAt tests t 0 ≡ found x (0 + length t) = reads-said tests (sparing _ _ _ _) .complete t 0 x t (within-accepted groups edges w r) (stands-whole t) in
+      ap outcomeOf (said-survey tests t ∙ then-found _ c ∙ then-found _ (end-here t (0 + length t) (omega arith)))
+
+  -- An accepted text is a rendering, and what is read is what was rendered.
+  pub record Accepting (t : List ℕ) (s : Survey) : Type 0 where
+    pub groups : List ℕ
+    pub edges : List Edge
+    pub within : Within groups edges
+    pub room : Room groups edges
+    pub word : t ≡ render groups edges
+    pub says : s ≡ surveyFrom groups edges
+
+  pub accepted-render : (t : List ℕ) (s : Survey) → reading t gb fb sb wb ≡ answer s → Accepting t s
+  unfolding reading surveyFrom testsFor
+  accepted-render t s e =
+      let f = outcome-found (surveyAt tests t) e in
+      let g = survey-said tests t s (f .0) (f .1) in
+      let w = reads-said tests (sparing _ _ _ _) .sound t 0 (g .said) (g .next) (omega arith) (g .found-it) in
+      let m = w .member in
+      let l = g .last in
+      let v = vertices-passed (length gb) (length (g .said .groups)) (m .someVertices .passes) in
+      let c = edges-passed (length fb) (length sb) (length wb) (length (g .said .edges)) (m .someEdges .passes) in
+      let x = w .ends in
       record {
-        value = length g; left = lineOf nodesKey (length g); right = lineOf linksKey (length h) ++ (textOf (lineOf nodeKey) g ++ (textOf edgeText h ++ []));
-        first = record { holds = k .someVertices; word = refl };
-        whole = k .word ∙ sym (joined (lineOf nodesKey (length g)) (lineOf linksKey (length h)) (textOf (lineOf nodeKey) g) (textOf edgeText h));
-        second = record {
-          value = length h; left = lineOf linksKey (length h); right = textOf (lineOf nodeKey) g ++ (textOf edgeText h ++ []);
-          first = record { holds = k .someEdges; word = refl };
-          whole = refl;
-          second = record {
-            value = g; left = textOf (lineOf nodeKey) g; right = textOf edgeText h ++ [];
-            first = record { size = refl; each = k .eachGroup; word = refl };
-            whole = refl;
-            second = record {
-              value = h; left = textOf edgeText h; right = [];
-              first = record { size = refl; each = k .eachEdge; word = refl };
-              whole = refl;
-              second = record { value = e; word = refl };
-            };
-          };
-        };
+        groups = g .said .groups;
+        edges = g .said .edges;
+        within = record { some = v .some; fewGroups = v .most; fewEdges = c .most; eachGroup = each-map (λ v g p. group-passed v g (p .passes)) (m .eachGroup); eachEdge = m .eachEdge };
+        room = record { forGroups = v .room; forFirsts = c .first; forSeconds = c .second; forWeights = c .weight };
+        word = sym (take-all (0 + length (w .word)) t (omega arith)) ∙ w .stands .is ∙ m .word;
+        says = g .says ∙ (λ i. surveyOf (record { vertices = m .vertices i; edges = m .edges i }) (g .said .groups) (g .said .edges));
       }
-
--- The tests give no 16.
-pub record Sparing (tests : Tests) : Type 0 where
-  pub vertices : (x n p : ℕ) → tests .vertices x ≡ Refused n p → n ≡ 16 → ⊥
-  pub edges : (x n p : ℕ) → tests .edges x ≡ Refused n p → n ≡ 16 → ⊥
-  pub group : (v x n p : ℕ) → tests .group v x ≡ Refused n p → n ≡ 16 → ⊥
-
-abbrev Accepted : Tests → Said → List ℕ → Type 0
-Accepted tests = Rendered (Passes (tests .vertices)) (Passes (tests .edges)) (λ v. Passes (tests .group v))
-
-abbrev Formed : Said → List ℕ → Type 0
-Formed = Rendered Small Small (λ v. Small)
-
-reads-said : (tests : Tests) → Sparing tests → Reads (saidAt tests) (Accepted tests) Formed
-unfolding saidAt countLine groupLines groupLine edgeLines
-reads-said tests h =
-    reads-as (λ t at. refl) (to _ _ _) (from _ _ _) (to _ _ _) (from _ _ _)
-    (reads-then (reads-tested nodesKey (tests .vertices) (h .vertices)) λ n.
-    reads-then (reads-tested linksKey (tests .edges) (h .edges)) λ m.
-    reads-then (reads-lines (groupLine (tests .group)) (λ v. Passes (tests .group v)) (λ v. Small) (lineOf nodeKey) (λ v. reads-tested nodeKey (tests .group v) (h .group v)) n 0) λ gs.
-    reads-then (reads-lines edgeLine (λ e. SmallEdge) (λ e. SmallEdge) edgeText reads-edge m 0) λ es.
-    reads-value (record { counts = record { vertices = n; edges = m }; groups = gs; edges = es }))
