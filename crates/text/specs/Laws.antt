@@ -12,3 +12,4 @@ pub mod Words
 pub mod Content
 pub mod Said
 pub mod WellFormed
+pub mod Longest

@@ -46,10 +46,13 @@ reads-line key = reads-as (λ t at. refl) to from to from (reads-then (reads-fix
           holds = m .second .below;
           word = m .whole ∙ ap (λ (x : List ℕ). x ++ m .right) (m .first .word) ∙ ap (λ (x : List ℕ). key ++ x) (m .second .word) ∙ sym (append-assoc key (decimal a) (newline ∷ []));
         }
+
     from : (a : ℕ) (w : List ℕ) → Text Small (lineOf key) a w → Seq (Fixed key) (λ z. Numeral maxDigits newline) a w
     from a w m =
         record {
-          value = 0; left = key; right = numberText newline a;
+          value = 0;
+          left = key;
+          right = numberText newline a;
           first = record { value = refl; word = refl };
           second = record { below = m .holds; word = refl };
           whole = m .word ∙ append-assoc key (decimal a) (newline ∷ []);
@@ -61,7 +64,7 @@ pub record Passes (test : ℕ → Verdict) (x : ℕ) : Type 0 where
   pub passes : test x ≡ Fine
 
 pub reads-tested : (key : List ℕ) (test : ℕ → Verdict) → ((x n p : ℕ) → test x ≡ Refused n p → n ≡ 16 → ⊥)
-  → Reads (λ t at. numberLine key t at then λ x p. checked (test x) x p) (Text (Passes test) (lineOf key)) (Text Small (lineOf key))
+    → Reads (λ t at. numberLine key t at then λ x p. checked (test x) x p) (Text (Passes test) (lineOf key)) (Text Small (lineOf key))
 reads-tested key test h = reads-as (λ t at. refl) to from to′ from′ (reads-then (reads-line key) (λ x. reads-checked (test x) x (h x)))
   where
     to : (a : ℕ) (w : List ℕ) → Seq (Text Small (lineOf key)) (λ x c z. Empty x c z × (test x ≡ Fine)) a w → Text (Passes test) (lineOf key) a w
@@ -71,14 +74,18 @@ reads-tested key test h = reads-as (λ t at. refl) to from to′ from′ (reads-
           holds = subst (Passes test) e record { small = m .first .holds; passes = m .second .1 };
           word = m .whole ∙ ap (λ (x : List ℕ). m .left ++ x) (m .second .0 .word) ∙ append-nil (m .left) ∙ m .first .word ∙ ap (lineOf key) e;
         }
+
     from : (a : ℕ) (w : List ℕ) → Text (Passes test) (lineOf key) a w → Seq (Text Small (lineOf key)) (λ x c z. Empty x c z × (test x ≡ Fine)) a w
     from a w m =
         record {
-          value = a; left = lineOf key a; right = [];
+          value = a;
+          left = lineOf key a;
+          right = [];
           first = record { holds = m .holds .small; word = refl };
           second = (record { value = refl; word = refl }, m .holds .passes);
           whole = m .word ∙ sym (append-nil (lineOf key a));
         }
+
     to′ : (a : ℕ) (w : List ℕ) → Seq (Text Small (lineOf key)) (λ x. Empty x) a w → Text Small (lineOf key) a w
     to′ a w m =
         let e : m .value ≡ a = sym (m .second .value) in
@@ -86,10 +93,13 @@ reads-tested key test h = reads-as (λ t at. refl) to from to′ from′ (reads-
           holds = subst Small e (m .first .holds);
           word = m .whole ∙ ap (λ (x : List ℕ). m .left ++ x) (m .second .word) ∙ append-nil (m .left) ∙ m .first .word ∙ ap (lineOf key) e;
         }
+
     from′ : (a : ℕ) (w : List ℕ) → Text Small (lineOf key) a w → Seq (Text Small (lineOf key)) (λ x. Empty x) a w
     from′ a w m =
         record {
-          value = a; left = lineOf key a; right = [];
+          value = a;
+          left = lineOf key a;
+          right = [];
           first = record { holds = m .holds; word = refl };
           second = record { value = refl; word = refl };
           whole = m .word ∙ sym (append-nil (lineOf key a));
@@ -129,29 +139,38 @@ reads-edge e =
         record {
           holds = subst SmallEdge e record { first = a .first .below; second = b .first .below; weight = c .first .below };
           word =
-            m .whole ∙ ap (λ (z : List ℕ). z ++ m .right) (m .first .word) ∙ ap (λ (z : List ℕ). linkKey ++ z)
-            (a .whole ∙ ap (λ (z : List ℕ). z ++ a .right) (a .first .word) ∙ ap (λ (z : List ℕ). numberText comma (a .value) ++ z)
-            (b .whole ∙ ap (λ (z : List ℕ). z ++ b .right) (b .first .word) ∙ ap (λ (z : List ℕ). numberText comma (b .value) ++ z)
-            (c .whole ∙ ap (λ (z : List ℕ). z ++ c .right) (c .first .word) ∙ ap (λ (z : List ℕ). numberText newline (c .value) ++ z) (d .word))))
-            ∙ joined linkKey (numberText comma (a .value)) (numberText comma (b .value)) (numberText newline (c .value))
-            ∙ ap edgeText e;
+              m .whole ∙ ap (λ (z : List ℕ). z ++ m .right) (m .first .word) ∙ ap (λ (z : List ℕ). linkKey ++ z)
+              (a .whole ∙ ap (λ (z : List ℕ). z ++ a .right) (a .first .word) ∙ ap (λ (z : List ℕ). numberText comma (a .value) ++ z)
+              (b .whole ∙ ap (λ (z : List ℕ). z ++ b .right) (b .first .word) ∙ ap (λ (z : List ℕ). numberText comma (b .value) ++ z)
+              (c .whole ∙ ap (λ (z : List ℕ). z ++ c .right) (c .first .word) ∙ ap (λ (z : List ℕ). numberText newline (c .value) ++ z) (d .word))))
+              ∙ joined linkKey (numberText comma (a .value)) (numberText comma (b .value)) (numberText newline (c .value))
+              ∙ ap edgeText e;
         }
+
     from : (x : Edge) (w : List ℕ) → Text SmallEdge edgeText x w → EdgeParts x w
     from x w m =
         record {
-          value = 0; left = linkKey; right = numberText comma (x .first) ++ (numberText comma (x .second) ++ (numberText newline (x .weight) ++ []));
+          value = 0;
+          left = linkKey;
+          right = numberText comma (x .first) ++ (numberText comma (x .second) ++ (numberText newline (x .weight) ++ []));
           first = record { value = refl; word = refl };
           whole = m .word ∙ sym (joined linkKey (numberText comma (x .first)) (numberText comma (x .second)) (numberText newline (x .weight)));
           second = record {
-            value = x .first; left = numberText comma (x .first); right = numberText comma (x .second) ++ (numberText newline (x .weight) ++ []);
+            value = x .first;
+            left = numberText comma (x .first);
+            right = numberText comma (x .second) ++ (numberText newline (x .weight) ++ []);
             first = record { below = m .holds .first; word = refl };
             whole = refl;
             second = record {
-              value = x .second; left = numberText comma (x .second); right = numberText newline (x .weight) ++ [];
+              value = x .second;
+              left = numberText comma (x .second);
+              right = numberText newline (x .weight) ++ [];
               first = record { below = m .holds .second; word = refl };
               whole = refl;
               second = record {
-                value = x .weight; left = numberText newline (x .weight); right = [];
+                value = x .weight;
+                left = numberText newline (x .weight);
+                right = [];
                 first = record { below = m .holds .weight; word = refl };
                 whole = refl;
                 second = record { value = refl; word = refl };
@@ -181,6 +200,7 @@ lines-unfold {A} line k i at = by-line (line i at)
     by-end : (a : A) (l : List A) (s : Step ℕ) → ((s then λ z p. found l p) then λ m q. found (a ∷ m) q) ≡ (s then λ z p. found (a ∷ l) p)
     by-end a l (found z p) = refl
     by-end a l (refused n p) = refl
+
     by-line : (s : Step A) → (s then λ a p. whole (linesFrom line k (i + 1) p) then λ l q. found (a ∷ l) q) ≡ whole (more s (λ next. linesFrom line k (i + 1) next))
     by-line (found a p) = by-end a (linesFrom line k (i + 1) p .values) (linesFrom line k (i + 1) p .end)
     by-line (refused n p) = refl
@@ -200,8 +220,8 @@ module _ {A : Type 0} (text : A → List ℕ) where
         size = ap suc (a .first .size);
         each = next (m .first .holds) (a .first .each);
         word =
-          m .whole ∙ ap (λ (z : List ℕ). z ++ m .right) (m .first .word) ∙ ap (λ (z : List ℕ). text (m .value) ++ z)
-          (a .whole ∙ ap (λ (z : List ℕ). z ++ a .right) (a .first .word) ∙ ap (λ (z : List ℕ). textOf text (a .value) ++ z) (d .word) ∙ append-nil (textOf text (a .value)));
+            m .whole ∙ ap (λ (z : List ℕ). z ++ m .right) (m .first .word) ∙ ap (λ (z : List ℕ). text (m .value) ++ z)
+            (a .whole ∙ ap (λ (z : List ℕ). z ++ a .right) (a .first .word) ∙ ap (λ (z : List ℕ). textOf text (a .value) ++ z) (d .word) ∙ append-nil (textOf text (a .value)));
       }
 
   texts-from : (P : ℕ → A → Type 0) (k i : ℕ) (l : List A) (w : List ℕ) → Texts P text (suc k) i l w → Rest P k i l w
@@ -212,11 +232,15 @@ module _ {A : Type 0} (text : A → List ℕ) where
       by-list none s e = absurd (omega arith)
       by-list (next {a = a} {l = l} p r) s e =
           record {
-            value = a; left = text a; right = textOf text l ++ [];
+            value = a;
+            left = text a;
+            right = textOf text l ++ [];
             first = record { holds = p; word = refl };
             whole = e ∙ ap (λ (z : List ℕ). text a ++ z) (sym (append-nil (textOf text l)));
             second = record {
-              value = l; left = textOf text l; right = [];
+              value = l;
+              left = textOf text l;
+              right = [];
               first = record { size = less s; each = r; word = refl };
               whole = refl;
               second = record { value = refl; word = refl };
@@ -227,12 +251,13 @@ module _ {A : Type 0} (text : A → List ℕ) where
           less s = omega arith
 
 pub reads-lines : {A : Type 0} (line : List ℕ → ℕ → ℕ → Step A) (P Q : ℕ → A → Type 0) (text : A → List ℕ) → ((i : ℕ) → Reads (λ t at. line t i at) (Text (P i) text) (Text (Q i) text)) → (count i : ℕ)
-  → Reads (λ t at. whole (linesFrom (line t) count i at)) (Texts P text count i) (Texts Q text count i)
+    → Reads (λ t at. whole (linesFrom (line t) count i at)) (Texts P text count i) (Texts Q text count i)
 unfolding linesFrom whole _then_ textOf
 reads-lines {A} line P Q text r zero i = reads-as (λ t at. refl) (to P) (from P) (to Q) (from Q) (reads-value [])
   where
     to : (P : ℕ → A → Type 0) (l : List A) (w : List ℕ) → Empty [] l w → Texts P text 0 i l w
     to P l w m = subst (λ (x : List A). Texts P text 0 i x w) (sym (m .value)) record { size = refl; each = none; word = m .word }
+
     from : (P : ℕ → A → Type 0) (l : List A) (w : List ℕ) → Texts P text 0 i l w → Empty [] l w
     from P [] w m = record { value = refl; word = m .word }
     from P (x ∷ l) w m = let z = m .size in absurd (omega arith)

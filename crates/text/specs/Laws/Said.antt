@@ -94,11 +94,11 @@ module _ (N M : ℕ → Type 0) (P : ℕ → ℕ → Type 0) where
         eachGroup = b .first .each;
         eachEdge = c .first .each;
         word =
-          k .whole ∙ ap (λ (z : List ℕ). z ++ k .right) (k .first .word ∙ ap (lineOf nodesKey) (sym gs)) ∙ ap (λ (z : List ℕ). lineOf nodesKey (length (b .value)) ++ z)
-          (a .whole ∙ ap (λ (z : List ℕ). z ++ a .right) (a .first .word ∙ ap (lineOf linksKey) (sym es)) ∙ ap (λ (z : List ℕ). lineOf linksKey (length (c .value)) ++ z)
-          (b .whole ∙ ap (λ (z : List ℕ). z ++ b .right) (b .first .word) ∙ ap (λ (z : List ℕ). textOf (lineOf nodeKey) (b .value) ++ z)
-          (c .whole ∙ ap (λ (z : List ℕ). z ++ c .right) (c .first .word) ∙ ap (λ (z : List ℕ). textOf edgeText (c .value) ++ z) (d .word))))
-          ∙ joined (lineOf nodesKey (length (b .value))) (lineOf linksKey (length (c .value))) (textOf (lineOf nodeKey) (b .value)) (textOf edgeText (c .value));
+            k .whole ∙ ap (λ (z : List ℕ). z ++ k .right) (k .first .word ∙ ap (lineOf nodesKey) (sym gs)) ∙ ap (λ (z : List ℕ). lineOf nodesKey (length (b .value)) ++ z)
+            (a .whole ∙ ap (λ (z : List ℕ). z ++ a .right) (a .first .word ∙ ap (lineOf linksKey) (sym es)) ∙ ap (λ (z : List ℕ). lineOf linksKey (length (c .value)) ++ z)
+            (b .whole ∙ ap (λ (z : List ℕ). z ++ b .right) (b .first .word) ∙ ap (λ (z : List ℕ). textOf (lineOf nodeKey) (b .value) ++ z)
+            (c .whole ∙ ap (λ (z : List ℕ). z ++ c .right) (c .first .word) ∙ ap (λ (z : List ℕ). textOf edgeText (c .value) ++ z) (d .word))))
+            ∙ joined (lineOf nodesKey (length (b .value))) (lineOf linksKey (length (c .value))) (textOf (lineOf nodeKey) (b .value)) (textOf edgeText (c .value));
       }
 
   from : (x : Said) (w : List ℕ) → Rendered N M P x w → Parts x w
@@ -108,19 +108,27 @@ module _ (N M : ℕ → Type 0) (P : ℕ → ℕ → Type 0) where
       let h = x .edges in
       let e : x ≡ record { counts = record { vertices = length g; edges = length h }; groups = g; edges = h } = λ i. record { counts = record { vertices = k .vertices i; edges = k .edges i }; groups = g; edges = h } in
       record {
-        value = length g; left = lineOf nodesKey (length g); right = lineOf linksKey (length h) ++ (textOf (lineOf nodeKey) g ++ (textOf edgeText h ++ []));
+        value = length g;
+        left = lineOf nodesKey (length g);
+        right = lineOf linksKey (length h) ++ (textOf (lineOf nodeKey) g ++ (textOf edgeText h ++ []));
         first = record { holds = k .someVertices; word = refl };
         whole = k .word ∙ sym (joined (lineOf nodesKey (length g)) (lineOf linksKey (length h)) (textOf (lineOf nodeKey) g) (textOf edgeText h));
         second = record {
-          value = length h; left = lineOf linksKey (length h); right = textOf (lineOf nodeKey) g ++ (textOf edgeText h ++ []);
+          value = length h;
+          left = lineOf linksKey (length h);
+          right = textOf (lineOf nodeKey) g ++ (textOf edgeText h ++ []);
           first = record { holds = k .someEdges; word = refl };
           whole = refl;
           second = record {
-            value = g; left = textOf (lineOf nodeKey) g; right = textOf edgeText h ++ [];
+            value = g;
+            left = textOf (lineOf nodeKey) g;
+            right = textOf edgeText h ++ [];
             first = record { size = refl; each = k .eachGroup; word = refl };
             whole = refl;
             second = record {
-              value = h; left = textOf edgeText h; right = [];
+              value = h;
+              left = textOf edgeText h;
+              right = [];
               first = record { size = refl; each = k .eachEdge; word = refl };
               whole = refl;
               second = record { value = e; word = refl };
@@ -158,22 +166,26 @@ said-survey tests t = by-vertices (countLine nodesKey (tests .vertices) t 0)
   where
     last : Said → ℕ → Step Survey
     last x p = endAt t p then λ z q. found (surveyOf (x .counts) (x .groups) (x .edges)) q
+
     by-edges : (c : Counts) (gs : List ℕ) (es : List Edge) (s : Step ℕ)
-      → ((s then λ z p. endAt t p) then λ z q. found (surveyOf c gs es) q) ≡ (((s then λ z p. found es p) then λ l q. found (record { counts = c; groups = gs; edges = l }) q) then last)
+        → ((s then λ z p. endAt t p) then λ z q. found (surveyOf c gs es) q) ≡ (((s then λ z p. found es p) then λ l q. found (record { counts = c; groups = gs; edges = l }) q) then last)
     by-edges c gs es (found z p) = refl
     by-edges c gs es (refused n p) = refl
+
     by-groups : (c : Counts) (gs : List ℕ) (s : Step ℕ)
-      → (let es = linesAfter s (edgeLines t (c .edges)) in (es .end then λ z p. endAt t p) then λ z q. found (surveyOf c gs (es .values)) q)
-      ≡ (((s then λ z p. found gs p) then λ l r. whole (edgeLines t (c .edges) r) then λ es s. found (record { counts = c; groups = l; edges = es }) s) then last)
+        → (let es = linesAfter s (edgeLines t (c .edges)) in (es .end then λ z p. endAt t p) then λ z q. found (surveyOf c gs (es .values)) q)
+        ≡ (((s then λ z p. found gs p) then λ l r. whole (edgeLines t (c .edges) r) then λ es s. found (record { counts = c; groups = l; edges = es }) s) then last)
     by-groups c gs (found z p) = by-edges c gs (edgeLines t (c .edges) p .values) (edgeLines t (c .edges) p .end)
     by-groups c gs (refused n p) = refl
+
     by-links : (n : ℕ) (s : Step ℕ)
-      → ((s then λ m q. found (record { vertices = n; edges = m }) q) then λ c p. bodyAt (tests .group) t c p .end then λ z q. found (surveyOf c (bodyAt (tests .group) t c p .groups) (bodyAt (tests .group) t c p .edges)) q)
-      ≡ ((s then λ m q. whole (groupLines (tests .group) t n q) then λ gs r. whole (edgeLines t m r) then λ es s. found (record { counts = record { vertices = n; edges = m }; groups = gs; edges = es }) s) then last)
+        → ((s then λ m q. found (record { vertices = n; edges = m }) q) then λ c p. bodyAt (tests .group) t c p .end then λ z q. found (surveyOf c (bodyAt (tests .group) t c p .groups) (bodyAt (tests .group) t c p .edges)) q)
+        ≡ ((s then λ m q. whole (groupLines (tests .group) t n q) then λ gs r. whole (edgeLines t m r) then λ es s. found (record { counts = record { vertices = n; edges = m }; groups = gs; edges = es }) s) then last)
     by-links n (found m q) = by-groups (record { vertices = n; edges = m }) (groupLines (tests .group) t n q .values) (groupLines (tests .group) t n q .end)
     by-links n (refused i p) = refl
+
     by-vertices : (s : Step ℕ)
-      → ((s then λ n p. countLine linksKey (tests .edges) t p then λ m q. found (record { vertices = n; edges = m }) q) then λ c p. bodyAt (tests .group) t c p .end then λ z q. found (surveyOf c (bodyAt (tests .group) t c p .groups) (bodyAt (tests .group) t c p .edges)) q)
-      ≡ ((s then λ n p. countLine linksKey (tests .edges) t p then λ m q. whole (groupLines (tests .group) t n q) then λ gs r. whole (edgeLines t m r) then λ es s. found (record { counts = record { vertices = n; edges = m }; groups = gs; edges = es }) s) then last)
+        → ((s then λ n p. countLine linksKey (tests .edges) t p then λ m q. found (record { vertices = n; edges = m }) q) then λ c p. bodyAt (tests .group) t c p .end then λ z q. found (surveyOf c (bodyAt (tests .group) t c p .groups) (bodyAt (tests .group) t c p .edges)) q)
+        ≡ ((s then λ n p. countLine linksKey (tests .edges) t p then λ m q. whole (groupLines (tests .group) t n q) then λ gs r. whole (edgeLines t m r) then λ es s. found (record { counts = record { vertices = n; edges = m }; groups = gs; edges = es }) s) then last)
     by-vertices (found n p) = by-links n (countLine linksKey (tests .edges) t p)
     by-vertices (refused i p) = refl

@@ -115,7 +115,7 @@ module _ (gb fb sb wb : List ℕ) where
     pub forWeights : length edges ≤ length wb
 
   within-accepted : (groups : List ℕ) (edges : List Edge) → Within groups edges → Room groups edges
-    → Accepted tests (record { counts = record { vertices = length groups; edges = length edges }; groups = groups; edges = edges }) (render groups edges)
+      → Accepted tests (record { counts = record { vertices = length groups; edges = length edges }; groups = groups; edges = edges }) (render groups edges)
   unfolding testsFor
   within-accepted groups edges w r =
       let a = w .some in
@@ -168,3 +168,106 @@ module _ (gb fb sb wb : List ℕ) where
         word = sym (take-all (0 + length (w .word)) t (omega arith)) ∙ w .stands .is ∙ m .word;
         says = g .says ∙ (λ i. surveyOf (record { vertices = m .vertices i; edges = m .edges i }) (g .said .groups) (g .said .edges));
       }
+
+formed-well : {x : Said} {w : List ℕ} → Formed x w → WellFormed w
+formed-well {x} m = record { groups = x .groups; edges = x .edges; fewGroups = m .someVertices; fewEdges = m .someEdges; eachGroup = m .eachGroup; eachEdge = m .eachEdge; word = m .word }
+
+well-said : {t : List ℕ} → WellFormed t → Said
+well-said w = record { counts = record { vertices = length (w .groups); edges = length (w .edges) }; groups = w .groups; edges = w .edges }
+
+well-formed : {t : List ℕ} (w : WellFormed t) → Formed (well-said w) t
+unfolding well-said
+well-formed w = record { vertices = refl; edges = refl; someVertices = w .fewGroups; someEdges = w .fewEdges; eachGroup = w .eachGroup; eachEdge = w .eachEdge; word = w .word }
+
+end-refused : (t : List ℕ) (q n p : ℕ) → endAt t q ≡ refused n p → (q < length t) × (p ≡ q)
+end-refused t q n p e = by-test (leb (length t) q) refl
+  where
+    by-test : (b : Bool) → leb (length t) q ≡ b → (q < length t) × (p ≡ q)
+    by-test true h = let z : _≡_ {A = ℕ} 0 1 = cc (end-here t q (leb-true (length t) q h)) in absurd (omega arith)
+    by-test false h = (leb-false (length t) q h, cc (end-later t q (leb-false (length t) q h)))
+
+-- Where 16 comes from: a line, or a byte after the last line.
+data Malformed (tests : Tests) (t : List ℕ) (p : ℕ) : Type 0 where
+  in-line : saidAt tests t 0 ≡ refused 16 p → Malformed tests t p
+  after-lines : (x : Said) → saidAt tests t 0 ≡ found x p → p < length t → Malformed tests t p
+
+malformed : (tests : Tests) (t : List ℕ) (p : ℕ) → surveyAt tests t ≡ refused 16 p → Malformed tests t p
+unfolding _then_
+malformed tests t p e = by-said (saidAt tests t 0) refl (sym (said-survey tests t) ∙ e)
+  where
+    by-end : (x : Said) (q : ℕ) (s : Step ℕ) → saidAt tests t 0 ≡ found x q → endAt t q ≡ s → (s then λ z q. found (surveyOf (x .counts) (x .groups) (x .edges)) q) ≡ refused 16 p → Malformed tests t p
+    by-end x q (found z r) h k e = let w : _≡_ {A = ℕ} 0 1 = cc in absurd (omega arith)
+    by-end x q (refused n r) h k e =
+        let a = end-refused t q n r k in
+        let b : r ≡ p = cc in
+        let c : q ≡ p = sym (a .1) ∙ b in
+        after-lines x (h ∙ ap (λ (i : ℕ). found x i) c) (subst (λ (i : ℕ). i < length t) c (a .0))
+
+    by-said : (s : Step Said) → saidAt tests t 0 ≡ s → (s then λ x p. endAt t p then λ z q. found (surveyOf (x .counts) (x .groups) (x .edges)) q) ≡ refused 16 p → Malformed tests t p
+    by-said (found x q) h e = by-end x q (endAt t q) h refl e
+    by-said (refused n r) h e = in-line (h ∙ (λ i. refused (number e i) (place e i)))
+      where
+        number : _≡_ {A = Step Survey} (refused n r) (refused 16 p) → n ≡ 16
+        number e = cc
+
+        place : _≡_ {A = Step Survey} (refused n r) (refused 16 p) → r ≡ p
+        place e = cc
+
+module _ (gb fb sb wb t : List ℕ) (p : ℕ) (e : reading t gb fb sb wb ≡ refusal 16 p) where
+  abbrev tests′ : Tests
+  tests′ = testsFor (length gb) (length fb) (length sb) (length wb)
+
+  reads : Reads (saidAt tests′) (Accepted tests′) Formed
+  reads = reads-said tests′ (sparing _ _ _ _)
+
+  why : Malformed tests′ t p
+  unfolding reading
+  why = malformed tests′ t p (outcome-refused (surveyAt tests′ t) e)
+
+  -- The bytes before the place of 16 begin a well-formed text.
+  pub record Begins : Type 0 where
+    pub inside : p ≤ length t
+    pub rest : List ℕ
+    pub well : WellFormed (take p t ++ rest)
+
+  pub malformed-begins : Begins
+  malformed-begins = by-place why
+    where
+      by-place : Malformed tests′ t p → Begins
+      by-place (in-line h) =
+          let x = reads .extends t 0 p (omega arith) h in
+          record { inside = reads .place t 0 p (omega arith) h .1; rest = x .rest; well = subst WellFormed (sym (x .whole)) (formed-well (x .member)) }
+      by-place (after-lines x h l) =
+          let w = reads .sound t 0 x p (omega arith) h in
+          let end : take p t ≡ w .word = ap (λ (k : ℕ). take k t) (w .ends) ∙ w .stands .is in
+          record { inside = omega arith; rest = []; well = subst WellFormed (sym (append-nil (take p t) ∙ end)) (formed-well (reads .well x (w .word) (w .member))) }
+
+  -- With the byte at that place they begin none.
+  pub malformed-stops : p < length t → (rest : List ℕ) → WellFormed (take (p + 1) t ++ rest) → ⊥
+  malformed-stops l rest w = by-place why (reads .lively u 0 (well-said w) u (well-formed w) (stands-whole u))
+    where
+      u : List ℕ
+      u = take (p + 1) t ++ rest
+
+      n : length (take (p + 1) t) ≡ p + 1
+      n = length-take-le (p + 1) t (omega arith)
+
+      long : p + 1 ≤ length u
+      long = let k = length-append (take (p + 1) t) rest in let m = n in omega arith
+
+      same : take (p + 1) t ≡ take (p + 1) u
+      same = sym (take-at (take (p + 1) t) rest (p + 1) n)
+
+      by-place : Malformed tests′ t p → Lively (saidAt tests′ u 0) (well-said w) (0 + length u) → ⊥
+      by-place (in-line h) (read q) = let z : _≡_ {A = ℕ} 0 1 = cc (reads .same t u 0 p (omega arith) h same) in omega arith
+      by-place (in-line h) (otherwise {n = i} {q = j} q k) = let z : 16 ≡ i = cc (reads .same t u 0 p (omega arith) h same) in k (sym z)
+      by-place (after-lines x h i) y =
+          let v = reads .sound t 0 x p (omega arith) h in
+          let ve = v .ends in
+          let st : Stands u 0 (v .word) = stands-same (p + 1) same (omega arith) (v .stands) in
+          let c : saidAt tests′ u 0 ≡ found x p = reads .complete u 0 x (v .word) (v .member) st ∙ ap (λ (k : ℕ). found x k) (sym ve) in
+          by-found c y
+        where
+          by-found : saidAt tests′ u 0 ≡ found x p → Lively (saidAt tests′ u 0) (well-said w) (0 + length u) → ⊥
+          by-found c (read q) = let z : p ≡ 0 + length u = cc in let b = long in omega arith
+          by-found c (otherwise q k) = let z : _≡_ {A = ℕ} 0 1 = cc in omega arith

@@ -121,12 +121,14 @@ reads-fixed [] = reads-as (λ t at. refl) to from to from (reads-value 0)
   where
     to : (a : ℕ) (w : List ℕ) → Empty 0 a w → Fixed [] a w
     to a w m = record { value = m .value; word = m .word }
+
     from : (a : ℕ) (w : List ℕ) → Fixed [] a w → Empty 0 a w
     from a w m = record { value = m .value; word = m .word }
 reads-fixed (b ∷ bytes) = reads-as (fixed-step b bytes) to from to from (reads-then (reads-byte b) (λ a. reads-fixed bytes))
   where
     to : (a : ℕ) (w : List ℕ) → Seq (Fixed (b ∷ [])) (λ x. Fixed bytes) a w → Fixed (b ∷ bytes) a w
     to a w m = record { value = m .second .value; word = cc (m .whole, m .first .word, m .second .word) }
+
     from : (a : ℕ) (w : List ℕ) → Fixed (b ∷ bytes) a w → Seq (Fixed (b ∷ [])) (λ x. Fixed bytes) a w
     from a w m = record { value = 0; left = b ∷ []; right = bytes; first = record { value = refl; word = refl }; second = record { value = m .value; word = refl }; whole = m .word }
 
@@ -140,7 +142,7 @@ digits-same t u zero at q e h = refl
 digits-same t u (suc limit) at q e h = by-class (classOf (getD t at 0)) refl (λ k. digits-same t u limit (at + 1) q e k) h
   where
     by-class : (k : Class) → classOf (getD t at 0) ≡ k → (digitsEnd limit t (at + 1) < q → digitsEnd limit u (at + 1) ≡ digitsEnd limit t (at + 1)) → cond (isDigit k) (digitsEnd limit t (at + 1)) at < q
-      → cond (isDigit (classOf (getD u at 0))) (digitsEnd limit u (at + 1)) at ≡ cond (isDigit k) (digitsEnd limit t (at + 1)) at
+        → cond (isDigit (classOf (getD u at 0))) (digitsEnd limit u (at + 1)) at ≡ cond (isDigit k) (digitsEnd limit t (at + 1)) at
     by-class Digit c ih h =
         let f = digits-range t limit (at + 1) .from in
         let s = read-same t u q at e (omega arith) in
@@ -238,6 +240,7 @@ no-digit-number t limit at e = number-none t limit at (empty e)
   where
     not-zero : isDigit (classOf (getD t at 0)) ≡ false → getD t at 0 ≡ 48 → ⊥
     not-zero e z = no-bool (sym (ap (λ (b : ℕ). isDigit (classOf b)) z) ∙ e)
+
     empty : isDigit (classOf (getD t at 0)) ≡ false → numeralAt limit t at ≡ []
     empty e =
         let z : at - at ≡ 0 = omega arith in
@@ -345,6 +348,7 @@ module _ (limit stop : ℕ) (positive : 1 ≤ limit) (no-digit : isDigit (classO
           ended v k (stands-append (decimal v) (stop ∷ []) s (stands-byte t (at + length (decimal v)) stop (i .0) (i .1)))
           (then-found _ (number-is t limit at v e s) ∙ stop-found t stop v (at + length (decimal v)) h ∙ ap (λ (n : ℕ). found v n) (text-length v at))
       by-stop v k s e false h = unended v k s e h (then-found _ (number-is t limit at v e s) ∙ stop-refused t stop v (at + length (decimal v)) h)
+
       by-number : Numbered t limit at → Met t at (numberTo limit stop t at)
       by-number (absent e) = no-number e (then-refused _ (no-digit-number t limit at e))
       by-number (present v k s e) = by-stop v k s e (byteIs t (at + length (decimal v)) stop) refl

@@ -1,0 +1,80 @@
+-- How long a well-formed text whose counts escape 1 and 3 can be (document 01, 'Survey text and printed plan': 62,741 bytes).
+use Prim.Native.Nat.{ℕ, zero, suc, _+_, _*_, _^_, _≤_, _<_}
+use native.Mathlib.Omega.{arith}
+use native.Mathlib.Nat.{mul-le-mul-right, le-trans}
+use mathlib.Core.Path.{_≡_, refl, ap, sym, _∙_}
+use mathlib.Core.List.{List, [], _∷_, _++_}
+use lib.ListN.{length, length-append}
+use Rattle.limits.specs.Limits.{maxVertices, maxEdges, maxDigits}
+use Rattle.printing.specs.Key.{comma, newline}
+use Rattle.printing.specs.Decimal.{decimal}
+use Rattle.printing.specs.Text.{lineOf}
+use Rattle.printing.specs.Laws.Decimal.{length-decimal}
+use Rattle.text.specs.Reading.{nodesKey, linksKey, nodeKey, linkKey, Edge}
+use Rattle.text.specs.Render.{numberText, edgeText, textOf, render}
+use Rattle.text.specs.Laws.Content.{Small, SmallEdge, Each, none, next}
+use Rattle.text.specs.Laws.WellFormed.{WellFormed}
+
+-- The longest text: the two count lines, the group lines and the edge lines.
+abbrev pub longestText : ℕ
+longestText = 10 + 11 + maxVertices * 13 + maxEdges * 29
+
+line-most : (key : List ℕ) (k x : ℕ) → x < 10 ^ suc k → length (lineOf key x) ≤ length key + suc k + 1
+unfolding lineOf
+line-most key k x h =
+    let a = length-append (key ++ decimal x) (newline ∷ []) in
+    let b = length-append key (decimal x) in
+    let d = length-decimal k x h in
+    omega arith
+
+number-most : (stop k x : ℕ) → x < 10 ^ suc k → length (numberText stop x) ≤ suc k + 1
+unfolding numberText
+number-most stop k x h =
+    let a = length-append (decimal x) (stop ∷ []) in
+    let d = length-decimal k x h in
+    omega arith
+
+edge-most : (x : Edge) → SmallEdge x → length (edgeText x) ≤ 29
+unfolding edgeText
+edge-most x s =
+    let u = numberText comma (x .first) in
+    let v = numberText comma (x .second) in
+    let w = numberText newline (x .weight) in
+    let a = length-append (linkKey ++ u ++ v) w in
+    let b = length-append (linkKey ++ u) v in
+    let c = length-append linkKey u in
+    let d = number-most comma 6 (x .first) (s .first) in
+    let e = number-most comma 6 (x .second) (s .second) in
+    let f = number-most newline 6 (x .weight) (s .weight) in
+    omega arith
+
+texts-most : {A : Type 0} {P : ℕ → A → Type 0} {i : ℕ} {l : List A} (text : A → List ℕ) (most : ℕ) → ((i : ℕ) (a : A) → P i a → length (text a) ≤ most) → Each P i l → length (textOf text l) ≤ length l * most
+unfolding textOf
+texts-most text most h none = omega arith
+texts-most text most h (next {i = i} {a = a} {l = l} p r) =
+    let ih = texts-most text most h r in
+    let x = h i a p in
+    let y = length-append (text a) (textOf text l) in
+    omega arith
+
+pub longest-text : {t : List ℕ} (w : WellFormed t) → length (w .groups) ≤ maxVertices → length (w .edges) ≤ maxEdges → length t ≤ longestText
+unfolding render
+longest-text {t} w h k =
+    let gs = w .groups in
+    let es = w .edges in
+    let n = lineOf nodesKey (length gs) in
+    let m = lineOf linksKey (length es) in
+    let g = textOf (lineOf nodeKey) gs in
+    let e = textOf edgeText es in
+    let word : length t ≡ length (n ++ m ++ g ++ e) = ap length (w .word) in
+    let a = length-append (n ++ m ++ g) e in
+    let b = length-append (n ++ m) g in
+    let c = length-append n m in
+    let p : length n ≤ 10 = line-most nodesKey 2 (length gs) (omega arith) in
+    let q : length m ≤ 11 = line-most linksKey 3 (length es) (omega arith) in
+    let r : length g ≤ length gs * 13 = texts-most (lineOf nodeKey) 13 (λ i x s. line-most nodeKey 6 x s) (w .eachGroup) in
+    let s : length e ≤ length es * 29 = texts-most edgeText 29 (λ i x s. edge-most x s) (w .eachEdge) in
+    omega arith
+
+pub longest-is : longestText ≡ 62741
+longest-is = refl
