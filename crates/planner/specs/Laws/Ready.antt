@@ -1,18 +1,24 @@
 -- When planning finishes: exactly if none of 1 to 8 applies. Then the survey is sound, the buffers are long enough, and all tracks together join every group; 8 names the
 -- lowest group that no set of tracks joins (the buyer's demands 1 and 2).
 use Prim.Native.Nat.{ℕ, _*_, _≤_, _<_}
-use mathlib.Core.Path.{_≡_, _∙_}
+use mathlib.Core.List.{List}
+use mathlib.Core.Path.{_≡_, ap, sym, _∙_}
 use mathlib.Core.Logic.{_↔_}
-use mathlib.Core.Bool.{true, false, _||_}
+use mathlib.Core.Bool.{not, true, false, _||_}
 use lib.Dec.{ltb}
-use borrow.Author.Tests.{ltb-false, le-ltb}
-use Rattle.finite.specs.Laws.Test.{or-false-left, or-false-right}
-use Rattle.limits.specs.Limits.{recordBytes, dualsOf}
-use Rattle.limits.specs.declared.Verdict.the-variants.{Fine}
-use Rattle.limits.specs.Laws.Verdict.{before-fine, fine-left, fine-right, refuse-false, fine-refuse}
+use borrow.Author.Tests.{lt-ltb, ltb-false, le-ltb}
+use Rattle.finite.specs.Laws.Test.{or-left, or-right, or-false-left, or-false-right}
+use Rattle.limits.specs.Limits.{recordBytes, dualsOf, groupNumbers}
+use Rattle.limits.specs.Verdict.{refuseIf, _before_, lowestBelow}
+use Rattle.limits.specs.declared.Verdict.the-variants.{Fine, Refused}
+use Rattle.limits.specs.Laws.Verdict.{before-fine, before-refused, fine-left, fine-right, refuse-true, refuse-false, fine-refuse}
 use Rattle.steiner.specs.Problem.{Joins, allUsable}
 use Rattle.steiner.specs.Laws.Finish.{allUsable-edges}
-use Rattle.survey.specs.Survey.{Survey, vertexCount, edgeCount, problemOf}
+use Rattle.graph.specs.Laws.Component.{components-cong}
+use Rattle.survey.specs.Survey.{Survey, vertexCount, edgeCount, problemOf, groupJoined, componentsOf}
+use Rattle.survey.specs.Labels.{chosenMark, chosen}
+use Rattle.survey.specs.declared.labels.Chosen.the-variants.{All}
+use Rattle.survey.specs.Refusal.{surveyRefusal, groupRefusal}
 use Rattle.survey.specs.Laws.Refusal.{SurveySound, survey-fine, fine-survey}
 use Rattle.survey.specs.Laws.Group.{Numbered, group-fine, joins-fine}
 use Rattle.planner.specs.Plan.{planRefusal}
@@ -54,3 +60,45 @@ module _ (s : Survey) (numbered : Numbered s) (marksLength recordsLength : ℕ) 
   -- Finished exactly if none of 1 to 8 applies.
   pub finishes-iff : (planRefusal s marksLength recordsLength ≡ Fine) ↔ Ready s marksLength recordsLength
   finishes-iff = (fine-ready, ready-fine)
+
+-- ---- 7
+
+module _ (n m marks records : ℕ) where
+  pub marks-short : marks < m → refuseIf (ltb marks m || ltb records (recordBytes * dualsOf n)) 7 0 ≡ Refused 7 0
+  marks-short h = refuse-true (or-left (ltb marks m) (ltb records (recordBytes * dualsOf n)) (lt-ltb marks m h)) 7 0
+
+  pub records-short : records < recordBytes * dualsOf n → refuseIf (ltb marks m || ltb records (recordBytes * dualsOf n)) 7 0 ≡ Refused 7 0
+  records-short h = refuse-true (or-right (ltb marks m) (ltb records (recordBytes * dualsOf n)) (lt-ltb records (recordBytes * dualsOf n) h)) 7 0
+
+  pub room-enough : m ≤ marks → recordBytes * dualsOf n ≤ records → refuseIf (ltb marks m || ltb records (recordBytes * dualsOf n)) 7 0 ≡ Fine
+  room-enough h k = refuse-false (rw (le-ltb marks m h, le-ltb records (recordBytes * dualsOf n) k)) 7 0
+
+-- All tracks are all usable ones, as far as components go.
+groups-of-all : (s : Survey) (number : ℕ) (marks : List ℕ) → groupRefusal s number (allUsable (problemOf s)) ≡ groupRefusal s number (chosen All marks)
+unfolding groupRefusal componentsOf allUsable problemOf chosen chosenMark
+groups-of-all s number marks =
+    ap (λ label. lowestBelow groupNumbers (λ g. refuseIf (not (groupJoined s label g)) number g))
+    (components-cong (vertexCount s) (problemOf s .first) (problemOf s .second) (allUsable (problemOf s)) (chosen All marks) (edgeCount s)
+    (λ e b. rw (lt-ltb e (edgeCount s) b)))
+
+-- ---- the refusals as the code finds them
+
+module _ (s : Survey) (marksLength recordsLength : ℕ) where
+  pub survey-stops : {number place : ℕ} → surveyRefusal s ≡ Refused number place → planRefusal s marksLength recordsLength ≡ Refused number place
+  unfolding planRefusal
+  survey-stops h = before-refused h _
+
+  pub room-stops : {number place : ℕ} → surveyRefusal s ≡ Fine →
+      refuseIf (ltb marksLength (edgeCount s) || ltb recordsLength (recordBytes * dualsOf (vertexCount s))) 7 0 ≡ Refused number place →
+      planRefusal s marksLength recordsLength ≡ Refused number place
+  unfolding planRefusal
+  room-stops h k = before-fine h _ ∙ before-refused k _
+
+  pub groups-decide : (marks : List ℕ) → surveyRefusal s ≡ Fine →
+      refuseIf (ltb marksLength (edgeCount s) || ltb recordsLength (recordBytes * dualsOf (vertexCount s))) 7 0 ≡ Fine →
+      planRefusal s marksLength recordsLength ≡ (surveyRefusal s before groupRefusal s 8 (chosen All marks))
+  unfolding planRefusal
+  groups-decide marks h k = before-fine h _ ∙ before-fine k _ ∙ all-tracks ∙ sym (before-fine h _)
+    where
+      all-tracks : groupRefusal s 8 (allUsable (problemOf s)) ≡ groupRefusal s 8 (chosen All marks)
+      all-tracks = groups-of-all s 8 marks
