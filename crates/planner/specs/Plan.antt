@@ -48,6 +48,20 @@ planRefusal s marksLength recordsLength =
 unfoldable pub planning : Survey → (marksLength recordsLength : ℕ) → Outcome Plan
 planning s marksLength recordsLength = outcome (planRefusal s marksLength recordsLength) (planOf (problemOf s))
 
+-- What the call answers in numbers: k, cost, bound, rounds and the number of moats.
+pub record Counts : Type 0 where
+  pub terminals : ℕ
+  pub cost : ℕ
+  pub bound : ℕ
+  pub rounds : ℕ
+  pub duals : ℕ
+
+unfoldable pub countsOf : Plan → Counts
+countsOf p = record { terminals = p .terminals; cost = p .cost; bound = p .bound; rounds = p .rounds; duals = length (p .duals) }
+
+unfoldable pub counting : Survey → (marksLength recordsLength : ℕ) → Outcome Counts
+counting s marksLength recordsLength = outcome (planRefusal s marksLength recordsLength) (countsOf (planOf (problemOf s)))
+
 -- Records one after another.
 unfoldable pub recordsOf : List Dual → List ℕ
 recordsOf [] = []

@@ -39,17 +39,17 @@ passing-accurate s marks records h =
       free = h .none-free;
     }
 
-passed-fine : {A : Type 0} (v : Verdict) (a b : A) → outcome v a ≡ answer b → (v ≡ Fine) × (a ≡ b)
+pub answered : {A : Type 0} (v : Verdict) (a b : A) → outcome v a ≡ answer b → (v ≡ Fine) × (a ≡ b)
 unfolding outcome
-passed-fine Fine a b h = (refl, (cc))
-passed-fine (Refused number place) a b h = absurd (let z : _≡_ {A = ℕ} 0 1 = cc in omega arith)
+answered Fine a b h = (refl, (cc))
+answered (Refused number place) a b h = absurd (let z : _≡_ {A = ℕ} 0 1 = cc in omega arith)
 
 -- Whatever passes is accurate, for the k and the cost reported.
 pub checking-accurate : (s : Survey) → Numbered s → (marks records : List ℕ) (c : Checked) → checking s marks records ≡ answer c →
     Accurate s (c .terminals) (c .cost)
 unfolding checking checkedOf
 checking-accurate s numbered marks records c h =
-    let v = passed-fine (checkRefusal s marks records) (checkedOf s marks records) c h in
+    let v = answered (checkRefusal s marks records) (checkedOf s marks records) c h in
     subst (λ x. Accurate s (x .terminals) (x .cost)) (v .1) (passing-accurate s marks records (check-passing s numbered marks records (v .0)))
 
 -- Passed exactly if it means what `Passing` says.
@@ -58,7 +58,7 @@ pub checking-passing : (s : Survey) → Numbered s → (marks records : List ℕ
     × (Passing s marks records → checking s marks records ≡ answer (checkedOf s marks records))
 unfolding checking outcome
 checking-passing s numbered marks records = (
-  λ c h. check-passing s numbered marks records (passed-fine (checkRefusal s marks records) (checkedOf s marks records) c h .0),
+  λ c h. check-passing s numbered marks records (answered (checkRefusal s marks records) (checkedOf s marks records) c h .0),
   λ h. ap (λ v. outcome v (checkedOf s marks records)) (passing-check s numbered marks records h),
 )
 

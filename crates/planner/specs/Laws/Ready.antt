@@ -30,7 +30,7 @@ pub record Ready (s : Survey) (marksLength recordsLength : ℕ) : Type 0 where
   pub records-fit : recordBytes * dualsOf (vertexCount s) ≤ recordsLength
   pub joinable : Joins (problemOf s) (allUsable (problemOf s))
 
-all-bounded : (s : Survey) (e : ℕ) → allUsable (problemOf s) e ≡ true → e < problemOf s .edges
+pub all-bounded : (s : Survey) (e : ℕ) → allUsable (problemOf s) e ≡ true → e < problemOf s .edges
 all-bounded s e h = allUsable-edges (problemOf s) e h .0
 
 module _ (s : Survey) (numbered : Numbered s) (marksLength recordsLength : ℕ) where

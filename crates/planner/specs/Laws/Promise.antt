@@ -1,0 +1,201 @@
+-- What an answer of planning promises besides its equation with the definition: finished exactly if none of 1 to 8 applies; 8 exactly if the survey is sound, the buffers
+-- are long enough and some group cannot be joined by any set of tracks, and then the lowest; rounds are picked tracks; the plan passes the checker and is accurate.
+use Prim.Native.Nat.{ℕ, _+_, _*_, _≤_, _<_}
+use mathlib.Core.Path.{_≡_, refl, ap, sym, _∙_, subst}
+use mathlib.Core.Logic.{_⊎_, inl, inr, ⊎-elim, _↔_}
+use mathlib.Core.Bool.{Bool, true, false, _||_, not}
+use mathlib.Core.List.{List, _++_}
+use native.Mathlib.Omega.{arith}
+use lib.ListN.{length, getD, take, drop}
+use lib.Seq.{take-at}
+use lib.Dec.{ltb, lit≤}
+use borrow.Author.Tests.{ltb-false}
+use Rattle.finite.specs.Laws.Test.{or-false-left, or-false-right, not-of-false, not-true-false}
+use Rattle.finite.specs.Below.{countBelow, tabulate}
+use Rattle.finite.specs.Laws.Below.{length-tabulate, lt-or-ge}
+use Rattle.limits.specs.Limits.{recordBytes, dualsOf, groupNumbers}
+use Rattle.limits.specs.Verdict.{refuseIf, _before_, lowestBelow, Outcome, refusal, answer, outcome, written}
+use Rattle.limits.specs.declared.Verdict.{Verdict}
+use Rattle.limits.specs.declared.Verdict.the-variants.{Fine, Refused}
+use Rattle.limits.specs.Laws.Verdict.{before-fine, refuse-true, refuse-false, lowest-none, lowest-found, lowest-elim, Lowest, refused-refuse, fine-refuse}
+use Rattle.steiner.specs.Problem.{Problem, Sound, EdgeSet, Joins, allUsable}
+use Rattle.steiner.specs.Growth.{grown}
+use Rattle.steiner.specs.Pruning.{picked}
+use Rattle.steiner.specs.Laws.Rounds.{grown-reached, picked-count}
+use Rattle.survey.specs.Survey.{Survey, vertexCount, edgeCount, problemOf, groupJoined, componentsOf}
+use Rattle.survey.specs.Refusal.{edgeRefusal, surveyRefusal, groupRefusal}
+use Rattle.survey.specs.Accuracy.{Accurate}
+use Rattle.survey.specs.Laws.Refusal.{SurveySound, survey-fine, fine-survey, survey-sound}
+use Rattle.survey.specs.Laws.Group.{Numbered, JoinsGroup, LowestUnjoined, group-joined-elim, group-joined-intro, group-refused, unjoinable-iff}
+use Rattle.survey.specs.Laws.Spread.{member-elim}
+use Rattle.steiner.specs.Laws.Finish.{allUsable-edges}
+use Rattle.checker.specs.Check.{checking}
+use Rattle.checker.specs.Laws.Accuracy.{answered}
+use Rattle.planner.specs.Plan.{Plan, planOf, planRefusal, Counts, countsOf, counting, recordsOf, marksAfter, recordsAfter}
+use Rattle.planner.specs.Laws.Ready.{Ready, fine-ready, ready-fine, all-bounded, room-enough}
+use Rattle.planner.specs.Laws.Passes.{finished-passes, finished-accurate, length-records}
+
+-- ---- which test a number comes from
+
+before-cases : (v w : Verdict) {number place : ℕ} → (v before w) ≡ Refused number place → (v ≡ Refused number place) ⊎ ((v ≡ Fine) × (w ≡ Refused number place))
+unfolding _before_
+before-cases Fine w h = inr (refl, h)
+before-cases (Refused a b) w h = inl h
+
+-- No refusal above k comes of it.
+record AtMost (k : ℕ) (v : Verdict) : Type 0 where
+  bounded : (number place : ℕ) → v ≡ Refused number place → number ≤ k
+
+refuse-at-most : (t : Bool) (k a b : ℕ) → a ≤ k → AtMost k (refuseIf t a b)
+refuse-at-most t k a b le = record { bounded = λ number place h. let e = refused-refuse t a b number place h .1 .0 in omega arith }
+
+before-at-most : (k : ℕ) (v w : Verdict) → AtMost k v → AtMost k w → AtMost k (v before w)
+before-at-most k v w x y =
+    record { bounded = λ number place h. ⊎-elim (x .bounded number place) (λ p. y .bounded number place (p .1)) (before-cases v w h) }
+
+lowest-at-most : (k n : ℕ) (f : ℕ → Verdict) → ((i : ℕ) → AtMost k (f i)) → AtMost k (lowestBelow n f)
+lowest-at-most k n f x =
+    record { bounded = λ number place h. let l : Lowest n f number place = lowest-elim n f number place h in x (l .at) .bounded number place (l .found) }
+
+survey-at-most : (s : Survey) → AtMost 6 (surveyRefusal s)
+unfolding surveyRefusal edgeRefusal
+survey-at-most s =
+    before-at-most 6 _ _ (refuse-at-most _ 6 1 0 (lit≤ tt))
+    (before-at-most 6 _ _ (refuse-at-most _ 6 2 0 (lit≤ tt))
+    (before-at-most 6 _ _ (refuse-at-most _ 6 3 0 (lit≤ tt))
+    (lowest-at-most 6 (edgeCount s) (edgeRefusal s)
+    (λ e.
+    before-at-most 6 _ _ (refuse-at-most _ 6 4 e (lit≤ tt))
+    (before-at-most 6 _ _ (refuse-at-most _ 6 5 e (lit≤ tt)) (refuse-at-most _ 6 6 e (lit≤ tt)))))))
+
+-- ---- 8
+
+-- The survey is sound and the buffers long enough, and g is the lowest group that no set of tracks joins.
+pub record Unjoinable (s : Survey) (marksLength recordsLength g : ℕ) : Type 0 where
+  pub survey : SurveySound s
+  pub marks-fit : edgeCount s ≤ marksLength
+  pub records-fit : recordBytes * dualsOf (vertexCount s) ≤ recordsLength
+  pub none-joins : (F : ℕ → Bool) → EdgeSet (problemOf s) F → JoinsGroup s F g → ⊥
+  pub lower-joined : (i : ℕ) → i < g → JoinsGroup s (allUsable (problemOf s)) i
+
+module _ (s : Survey) (marksLength recordsLength : ℕ) where
+  short : Bool
+  short = ltb marksLength (edgeCount s) || ltb recordsLength (recordBytes * dualsOf (vertexCount s))
+
+  -- 8 comes of the groups alone, after 1 to 7.
+  eight-stage : (g : ℕ) → planRefusal s marksLength recordsLength ≡ Refused 8 g →
+      (surveyRefusal s ≡ Fine) × (refuseIf short 7 0 ≡ Fine) × (groupRefusal s 8 (allUsable (problemOf s)) ≡ Refused 8 g)
+  unfolding planRefusal short
+  eight-stage g h = first-stage (before-cases _ _ h)
+    where
+      Rest : Verdict
+      Rest = refuseIf short 7 0 before groupRefusal s 8 (allUsable (problemOf s))
+
+      first-stage : (surveyRefusal s ≡ Refused 8 g) ⊎ ((surveyRefusal s ≡ Fine) × (Rest ≡ Refused 8 g)) →
+          (surveyRefusal s ≡ Fine) × (refuseIf short 7 0 ≡ Fine) × (groupRefusal s 8 (allUsable (problemOf s)) ≡ Refused 8 g)
+      first-stage (inl k) = absurd (let b = survey-at-most s .bounded 8 g k in omega arith)
+      first-stage (inr k) = second-stage (before-cases _ _ (k .1))
+        where
+          second-stage : (refuseIf short 7 0 ≡ Refused 8 g) ⊎ ((refuseIf short 7 0 ≡ Fine) × (groupRefusal s 8 (allUsable (problemOf s)) ≡ Refused 8 g)) →
+              (surveyRefusal s ≡ Fine) × (refuseIf short 7 0 ≡ Fine) × (groupRefusal s 8 (allUsable (problemOf s)) ≡ Refused 8 g)
+          second-stage (inl l) = absurd (let e = refused-refuse short 7 0 8 g l .1 .0 in omega arith)
+          second-stage (inr l) = (k .0, l .0, l .1)
+
+  pub eight-unjoinable : (g : ℕ) → planRefusal s marksLength recordsLength ≡ Refused 8 g → Unjoinable s marksLength recordsLength g
+  unfolding short
+  eight-unjoinable g h =
+      let e = eight-stage g h in
+      let no-short = fine-refuse short 7 0 (e .1) in
+      let l : LowestUnjoined s (allUsable (problemOf s)) g = group-refused s 8 (allUsable (problemOf s)) (all-bounded s) 8 g (e .2) .1 in
+      record {
+        survey = fine-survey s (e .0);
+        marks-fit = ltb-false marksLength (edgeCount s) (or-false-left (ltb marksLength (edgeCount s)) _ no-short);
+        records-fit = ltb-false recordsLength (recordBytes * dualsOf (vertexCount s)) (or-false-right (ltb marksLength (edgeCount s)) _ no-short);
+        none-joins = unjoinable-iff s g .0 (l .unjoined);
+        lower-joined = l .lower;
+      }
+
+  -- And whenever it is so, 8 is what comes.
+  pub unjoinable-eight : Numbered s → (g : ℕ) → Unjoinable s marksLength recordsLength g → planRefusal s marksLength recordsLength ≡ Refused 8 g
+  unfolding planRefusal groupRefusal
+  unjoinable-eight numbered g u =
+      before-fine (survey-fine s (u .survey)) _
+      ∙ before-fine (room-enough (vertexCount s) (edgeCount s) marksLength recordsLength (u .marks-fit) (u .records-fit)) _
+      ∙ lowest-found groupNumbers g _ below
+      (lowest-none g _ (λ i b. refuse-false (rw (group-joined-intro s (allUsable (problemOf s)) (all-bounded s) i (u .lower-joined i b))) 8 i))
+      (refuse-true (not-of-false (groupJoined s (componentsOf s (allUsable (problemOf s))) g) apart) 8 g)
+    where
+      apart : groupJoined s (componentsOf s (allUsable (problemOf s))) g ≡ false
+      apart =
+          not-true-false (groupJoined s (componentsOf s (allUsable (problemOf s))) g)
+          (λ k. u .none-joins (allUsable (problemOf s)) (allUsable-edges (problemOf s)) (group-joined-elim s (allUsable (problemOf s)) g k))
+
+      -- a number that is no byte has no members
+      below : g < groupNumbers
+      below =
+          ⊎-elim
+          (λ l. l)
+          (λ out.
+          absurd
+          (u .none-joins (allUsable (problemOf s)) (allUsable-edges (problemOf s))
+          (λ a b ba bb ma mb. absurd (let n = numbered a in let e = member-elim s g a ma .same in omega arith))))
+          (lt-or-ge g groupNumbers)
+
+-- ---- rounds, checker and accuracy
+
+-- Rounds are picked tracks.
+rounds-of : (s : Survey) → Sound (problemOf s) → planOf (problemOf s) .rounds ≡ countBelow (edgeCount s) (picked (problemOf s))
+unfolding planOf picked problemOf
+rounds-of s ok = sym (picked-count (problemOf s) ok (grown-reached (problemOf s)))
+
+-- What the counts of a finished plan say, and what the two buffers then hold.
+pub record Finished (s : Survey) (marks records : List ℕ) (c : Counts) : Type 0 where
+  pub ready : Ready s (length marks) (length records)
+  pub rounds-picked : c .rounds ≡ countBelow (edgeCount s) (picked (problemOf s))
+  pub passes :
+      checking s (take (edgeCount s) (marksAfter s marks records)) (take (recordBytes * c .duals) (recordsAfter s marks records))
+      ≡ answer (record { terminals = c .terminals; cost = c .cost; bound = c .bound })
+  pub accurate : Accurate s (c .terminals) (c .cost)
+
+module _ (s : Survey) (numbered : Numbered s) (marks records : List ℕ) (fine : planRefusal s (length marks) (length records) ≡ Fine) where
+  cut-marks : take (edgeCount s) (marksAfter s marks records) ≡ planOf (problemOf s) .marks
+  unfolding marksAfter written planOf problemOf
+  cut-marks =
+      ap (λ v. take (edgeCount s) (written v (planOf (problemOf s) .marks ++ drop (edgeCount s) marks) marks)) fine
+      ∙ take-at (planOf (problemOf s) .marks) (drop (edgeCount s) marks) (edgeCount s) (length-tabulate (edgeCount s) _)
+
+  cut-records : take (recordBytes * length (planOf (problemOf s) .duals)) (recordsAfter s marks records) ≡ recordsOf (planOf (problemOf s) .duals)
+  unfolding recordsAfter written
+  cut-records =
+      let new = recordsOf (planOf (problemOf s) .duals) in
+      ap (λ v. take (recordBytes * length (planOf (problemOf s) .duals)) (written v (new ++ drop (length new) records) records)) fine
+      ∙ take-at new (drop (length new) records) (recordBytes * length (planOf (problemOf s) .duals)) (length-records (planOf (problemOf s) .duals))
+
+  finished-counts : Finished s marks records (countsOf (planOf (problemOf s)))
+  unfolding countsOf
+  finished-counts =
+      let r : Ready s (length marks) (length records) = fine-ready s numbered (length marks) (length records) fine in
+      record {
+        ready = r;
+        rounds-picked = rounds-are r;
+        passes = rw (cut-marks, cut-records) (finished-passes s (r .survey) (r .joinable) numbered);
+        accurate = finished-accurate s (r .survey) (r .joinable);
+      }
+    where
+      rounds-are : Ready s (length marks) (length records) → planOf (problemOf s) .rounds ≡ countBelow (edgeCount s) (picked (problemOf s))
+      rounds-are r = rounds-of s (survey-sound s (r .survey))
+
+-- An answer with counts is a finished plan, and none of 1 to 8 applied.
+pub counting-finished : (s : Survey) → Numbered s → (marks records : List ℕ) (c : Counts) → counting s (length marks) (length records) ≡ answer c →
+    Finished s marks records c
+unfolding counting
+counting-finished s numbered marks records c h =
+    let a = answered (planRefusal s (length marks) (length records)) (countsOf (planOf (problemOf s))) c h in
+    subst (Finished s marks records) (a .1) (finished-counts s numbered marks records (a .0))
+
+-- Where none applies, there is an answer with counts.
+pub ready-counting : (s : Survey) → Numbered s → (marksLength recordsLength : ℕ) → Ready s marksLength recordsLength →
+    counting s marksLength recordsLength ≡ answer (countsOf (planOf (problemOf s)))
+unfolding counting outcome
+ready-counting s numbered marksLength recordsLength r =
+    ap (λ v. outcome v (countsOf (planOf (problemOf s)))) (ready-fine s numbered marksLength recordsLength r)
