@@ -1,7 +1,7 @@
 -- What a growth leaves of its rounds, and the duals that follow from it (document 01, 'How moats grow' and 'What a plan holds').
 use Prim.Native.Nat.{ℕ, zero, suc, _+_, _*_, _-_, _≤_, _<_}
 use mathlib.Core.Path.{_≡_}
-use mathlib.Core.Bool.{Bool, _&&_}
+use mathlib.Core.Bool.{Bool, _&&_, cond}
 use mathlib.Core.List.{List}
 use lib.ListN.{length, getD}
 use lib.Dec.{eqb, ltb}
@@ -10,6 +10,7 @@ use Rattle.limits.specs.Limits.{maxVertices, recordBytes}
 use Rattle.steiner.specs.Problem.{Problem}
 use Rattle.steiner.specs.Growth.{winner, edge, stateAt, grown}
 use Rattle.steiner.specs.Dual.{Dual}
+use Rattle.survey.specs.Labels.{relabelled}
 use Rattle.drawing.specs.Drawing.{dualsBelow}
 
 -- Rounds are counted from 0; `first` and `second` are the ends of the edge that a round picked, and `value` is that of a component number.
@@ -20,14 +21,18 @@ pub record Trace : Type 0 where
   pub second : ℕ → ℕ
   pub value : ℕ → ℕ
 
+-- The end, in a list of first or of second ends, of the edge that round r picked.
+unfoldable pub endOf : (ends order : List ℕ) → (r : ℕ) → ℕ
+endOf ends order r = getD ends (getD order r 0) 0
+
 -- A trace as it is lent: the ends of all edges, the values, and the edge of each round.
-unfoldable pub traceFrom : (n : ℕ) → (firsts seconds values order : List ℕ) → (rounds : ℕ) → Trace
+abbrev pub traceFrom : (n : ℕ) → (firsts seconds values order : List ℕ) → (rounds : ℕ) → Trace
 traceFrom n firsts seconds values order rounds =
     record {
       vertices = n;
       rounds = rounds;
-      first = λ r. getD firsts (getD order r 0) 0;
-      second = λ r. getD seconds (getD order r 0) 0;
+      first = endOf firsts order;
+      second = endOf seconds order;
       value = λ c. getD values c 0;
     }
 
@@ -35,6 +40,10 @@ traceFrom n firsts seconds values order rounds =
 unfoldable pub labelAfter : Trace → ℕ → ℕ → ℕ
 labelAfter t zero v = v
 labelAfter t (suc r) v = merged (labelAfter t r (t .first r)) (labelAfter t r (t .second r)) (t .vertices + r) (labelAfter t r) v
+
+-- Labels in a buffer when component c has arisen: a single vertex is there from the start, any other is made of the components of vertices a and b.
+unfoldable pub arisen : (a b n c : ℕ) → List ℕ → List ℕ
+arisen a b n c labels = cond (ltb c n) labels (relabelled (getD labels a 0) (getD labels b 0) c labels)
 
 -- The members of component c are the vertices in it when it arose: at the start, or after round c - n.
 unfoldable pub memberOf : Trace → (c v : ℕ) → Bool

@@ -1,13 +1,13 @@
 // Drawing: the duals of a finished growth as records, single vertices first, then merged components as they arose. Definitions in specs/.
 ghost use mathlib.Core.Path.{_≡_};
-ghost use Prim.Native.Nat.{_+_};
+ghost use Prim.Native.Nat.{_+_, _-_, _<_, _^_};
 ghost use mathlib.Core.Bool.{cond};
 ghost use lib.ListN.{getD, length};
 ghost use lib.Dec.{eqb};
 ghost use Rattle.records.specs.Record.{recordOf, withMemberIn};
 ghost use Rattle.survey.specs.Labels.{relabelled};
-ghost use Rattle.drawing.specs.Drawing.{recordsOver, recordsFrom, dualIf, dualsBelow, labelled, PartFits, Fits, Drawn};
-ghost use Rattle.drawing.specs.Trace.{traceFrom, dualsIn, Drawable};
+ghost use Rattle.drawing.specs.Drawing.{recordsOver, recordsFrom, dualIf, labelled, PartFits, Fits};
+ghost use Rattle.drawing.specs.Trace.{endOf, arisen, traceFrom, dualsIn, Drawable};
 use limits::RECORD_BYTES;
 use survey::labels::own_labels;
 use survey::labels::relabel;
@@ -50,20 +50,6 @@ fn write_dual(records: &mut [u8], count: usize, x: u64, labels: &[u32], n: usize
     count + 1
 }
 
-// The duals of the single vertices, at the start of the buffer; answers how many there are.
-fn draw_singles(records: &mut [u8], values: &[u64], labels: &[u32], n: usize) -> usize
-    requires { ⌜ Fits n n (now records) ⌝ }
-    ensures { λ r. ⌜ Drawn (dualsBelow (λ c. getD (now (values .entry)) c 0) (labelled (now (labels .entry)) n) n) (now (records .entry)) (now (records .exit)) r ⌝ }
-{
-    let mut count = 0;
-    let mut v = 0;
-    while v < n {
-        count = write_dual(records, count, at64(values, v), labels, n, v as u32);
-        v += 1;
-    }
-    count
-}
-
 // The components of the ends of an edge become component c.
 fn merge(labels: &mut [u32], first: u32, second: u32, c: u32)
     ensures { λ r. ⌜ now (labels .exit) ≡ relabelled (getD (now (labels .entry)) first 0) (getD (now (labels .entry)) second 0) c (now (labels .entry)) ⌝ }
@@ -71,4 +57,55 @@ fn merge(labels: &mut [u32], first: u32, second: u32, c: u32)
     let x = reads::at32(labels, reads::index32(first));
     let y = reads::at32(labels, reads::index32(second));
     relabel(labels, x, y, c);
+}
+
+// Component c arises: a single vertex is one from the start, and component n + r is made of those of the ends of round r's edge.
+fn arise(
+    labels: &mut [u32],
+    firsts: &[u32],
+    seconds: &[u32],
+    order: &[u32],
+    n: usize,
+    c: usize,
+)
+    requires { ⌜ c < 2 ^ 32 ⌝ }
+    ensures { λ r. ⌜ now (labels .exit) ≡ arisen (endOf (now (firsts .entry)) (now (order .entry)) (c - n)) (endOf (now (seconds .entry)) (now (order .entry)) (c - n)) n c (now (labels .entry)) ⌝ }
+{
+    if c < n {
+        return;
+    }
+    let e = reads::index32(reads::at32(order, c - n));
+    merge(
+        labels,
+        reads::at32(firsts, e),
+        reads::at32(seconds, e),
+        c as u32,
+    );
+}
+
+// The duals of a finished growth, from the values of the component numbers and the edges that the rounds picked in order; answers how many there are.
+pub fn draw(
+    n: usize,
+    firsts: &[u32],
+    seconds: &[u32],
+    values: &[u64],
+    order: &[u32],
+    rounds: usize,
+    records: &mut [u8],
+) -> usize
+    requires { ⌜ Drawable (traceFrom n (now firsts) (now seconds) (now values) (now order) rounds) (now records) ⌝ }
+    ensures count { λ r. ⌜ r ≡ length (dualsIn (traceFrom n (now (firsts .entry)) (now (seconds .entry)) (now (values .entry)) (now (order .entry)) rounds)) ⌝ }
+    ensures written { λ r. ⌜ now (records .exit) ≡ recordsOver (dualsIn (traceFrom n (now (firsts .entry)) (now (seconds .entry)) (now (values .entry)) (now (order .entry)) rounds)) (now (records .entry)) ⌝ }
+{
+    let mut labels = [0u32; 256];
+    own_labels(&mut labels);
+    let end = n + rounds;
+    let mut count = 0;
+    let mut c = 0;
+    while c < end {
+        arise(&mut labels, firsts, seconds, order, n, c);
+        count = write_dual(records, count, at64(values, c), &labels, n, c as u32);
+        c += 1;
+    }
+    count
 }

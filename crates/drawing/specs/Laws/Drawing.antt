@@ -4,7 +4,7 @@ use native.Mathlib.Omega.{arith}
 use native.Mathlib.Nat.{add-sub-cancel-left}
 use native.Mathlib.Numerals.{add-one, one-add}
 use native.Mathlib.Decide.{ℕ-discrete}
-use mathlib.Core.Path.{_≡_, refl, ap, sym, _∙_, fun-ext}
+use mathlib.Core.Path.{_≡_, refl, ap, ap₂, sym, _∙_, fun-ext}
 use mathlib.Core.Bool.{Bool, true, false, _&&_, _||_, cond}
 use mathlib.Core.Logic.{⊎-elim}
 use mathlib.Core.List.{List, [], _∷_, _++_, append-assoc, append-nil}
@@ -114,20 +114,34 @@ length-duals value holds zero = omega arith
 length-duals value holds (suc c) =
     omega (arith, length-append (dualsBelow value holds c) (dualIf (value c) (holds c)), length-dual (value c) (holds c), length-duals value holds c)
 
+pub duals-cong : (value value' : ℕ → ℕ) (holds holds' : ℕ → ℕ → Bool) (n : ℕ) → ((c : ℕ) → c < n → value c ≡ value' c) → ((c : ℕ) → c < n → holds c ≡ holds' c) →
+    dualsBelow value holds n ≡ dualsBelow value' holds' n
+unfolding dualsBelow
+duals-cong value value' holds holds' zero f g = refl
+duals-cong value value' holds holds' (suc n) f g =
+    ap₂ (λ ds es. ds ++ es)
+    (duals-cong value value' holds holds' n (λ c b. f c (omega arith)) (λ c b. g c (omega arith)))
+    (ap₂ dualIf (f n (omega arith)) (g n (omega arith)))
+
 -- ---- drawing
 
 pub drawn-none : (value : ℕ → ℕ) (holds : ℕ → ℕ → Bool) (old : List ℕ) → Drawn (dualsBelow value holds 0) old old 0
 unfolding dualsBelow recordsOver recordsOf
 drawn-none value holds old = record { counted = refl; written = refl }
 
-pub drawn-more : (value : ℕ → ℕ) (holds : ℕ → ℕ → Bool) (c : ℕ) {old mid new : List ℕ} {k count : ℕ} → Drawn (dualsBelow value holds c) old mid k →
-    count ≡ k + length (dualIf (value c) (holds c)) → new ≡ recordsFrom k (dualIf (value c) (holds c)) mid → Drawn (dualsBelow value holds (c + 1)) old new count
+-- The dual of the next component number, whatever the code calls its value and its members.
+pub drawn-more : (value : ℕ → ℕ) (holds : ℕ → ℕ → Bool) (c : ℕ) {x : ℕ} {S : ℕ → Bool} {old mid new : List ℕ} {k count : ℕ} → x ≡ value c → S ≡ holds c →
+    Drawn (dualsBelow value holds c) old mid k → count ≡ k + length (dualIf x S) → new ≡ recordsFrom k (dualIf x S) mid →
+    Drawn (dualsBelow value holds (c + 1)) old new count
 unfolding dualsBelow
-drawn-more value holds c {old} {mid} {new} {k} d a b =
+drawn-more value holds c {x} {S} {old} {mid} {new} {k} e f d a b =
+    let ds = dualsBelow value holds c in
+    let es = dualIf (value c) (holds c) in
+    let same : dualIf x S ≡ es = ap₂ dualIf e f in
     rw (add-one c)
     (record {
-      counted = omega (arith, d .counted, length-append (dualsBelow value holds c) (dualIf (value c) (holds c)));
-      written = b ∙ rw (d .counted, d .written) (over-more (dualsBelow value holds c) (dualIf (value c) (holds c)) old);
+      counted = omega (arith, d .counted, length-append ds es, ap length same);
+      written = b ∙ ap (λ l. recordsFrom k l mid) same ∙ rw (d .counted, d .written) (over-more ds es old);
     })
 
 -- The loop has come to the end.
