@@ -60,14 +60,7 @@ fn merge(labels: &mut [u32], first: u32, second: u32, c: u32)
 }
 
 // Component c arises: a single vertex is one from the start, and component n + r is made of those of the ends of round r's edge.
-fn arise(
-    labels: &mut [u32],
-    firsts: &[u32],
-    seconds: &[u32],
-    order: &[u32],
-    n: usize,
-    c: usize,
-)
+fn arise(labels: &mut [u32], firsts: &[u32], seconds: &[u32], order: &[u32], n: usize, c: usize)
     requires { ⌜ c < 2 ^ 32 ⌝ }
     ensures { λ r. ⌜ now (labels .exit) ≡ arisen (endOf (now (firsts .entry)) (now (order .entry)) (c - n)) (endOf (now (seconds .entry)) (now (order .entry)) (c - n)) n c (now (labels .entry)) ⌝ }
 {

@@ -3,8 +3,6 @@ use borrow.Author.Tests.{eq-eqb, ne-eqb}
 use borrow.Author.Needs.{needs}
 use Rattle.drawing.proofs.add_labelled.Statement.{statement}
 use Rattle.drawing.proofs.add_labelled.Tie as tie
-use Rattle.drawing.proofs.add_labelled.Reads as reads
-use Rattle.drawing.proofs.add_labelled.Lts as lts
 
 add-member-requires : tie.Need-add-member-requires
 add-member-requires c κs = search needs

@@ -1,55 +1,42 @@
 -- `write_dual` meets its contract: no record for value 0, else one in its part of the buffer.
-use mathlib.Core.Path.{_≡_, refl, ap, sym, _∙_}
+use mathlib.Core.Path.{refl}
 use Rattle.drawing.specs.Drawing.{labelled}
 use Rattle.drawing.specs.Laws.Drawing.{from-none, from-one, dual-none, dual-one}
 use native.Mathlib.Omega.{arith}
 use borrow.Author.Needs.{needs}
 use Rattle.drawing.proofs.write_dual.Statement.{statement}
 use Rattle.drawing.proofs.write_dual.Tie as tie
-use Rattle.drawing.proofs.write_dual.Reads as reads
-use Rattle.drawing.proofs.write_dual.Lts as lts
-use Rattle.drawing.proofs.write_record.Reads as write-record-reads
 
--- src/lib.rt:45:9
 returns : tie.Need-returns
 returns c =
     let a = c .before .before .before .args in
     let none = dual-none (a .x) (labelled (a .labels .now) (a .n) (a .c)) (c .if1 .taken) in
     (rw none (omega arith), rw none (from-none (a .count) (a .records .now)))
 
--- src/lib.rt:47:14
 mul-at : tie.Need-mul-at
 mul-at c = search needs
 
--- src/lib.rt:48:15
 add-end : tie.Need-add-end
 add-end c = search needs
 
--- src/lib.rt:49:18
 sub-write-record : tie.Need-sub-write-record
 sub-write-record c = search needs
 
--- src/lib.rt:49:18
 part-write-record-start : tie.Need-part-write-record-start
 part-write-record-start c = search needs
 
--- src/lib.rt:49:18
 part-write-record-end : tie.Need-part-write-record-end
 part-write-record-end c = search needs
 
--- src/lib.rt:49:5
 write-record-requires : tie.Need-write-record-requires
 write-record-requires c κs = search needs
 
--- src/lib.rt:50:5
 add-result : tie.Need-add-result
 add-result c = search needs
 
--- src/lib.rt:39:1
 same-length : tie.Need-same-length
 same-length c = search needs
 
--- src/lib.rt:39:1
 returns-2 : tie.Need-returns-2
 returns-2 c =
     let a = c .before .before .before .before .before .before .before .args in

@@ -1,20 +1,17 @@
 -- `write_record` meets its contract: after v vertices the record has those of them that have the label.
 use Prim.Native.Nat.{_≤_, _-_}
-use mathlib.Core.Path.{_≡_, refl, ap, sym, _∙_}
+use mathlib.Core.Path.{_≡_, ap, sym, _∙_}
 use mathlib.Core.Bool.{cond}
 use lib.ListN.{length}
 use lib.Dec.{eqb}
 use native.Mathlib.Omega.{arith}
 use borrow.Author.Needs.{needs}
-use Rattle.limits.specs.Limits.{recordBytes}
 use Rattle.records.specs.Record.{recordOf, withMemberIn}
 use Rattle.records.specs.Laws.Record.{length-record}
 use Rattle.drawing.specs.Drawing.{labelled}
 use Rattle.drawing.specs.Laws.Drawing.{started-none, record-more}
 use Rattle.drawing.proofs.write_record.Statement.{statement}
 use Rattle.drawing.proofs.write_record.Tie as tie
-use Rattle.drawing.proofs.write_record.Reads as reads
-use Rattle.drawing.proofs.write_record.Lts as lts
 
 abbrev Inv-loop : tie.InvT-loop
 Inv-loop part₀ x labels n c v₀ part v = (v ≤ n) × (part ≡ recordOf x (labelled labels v c))
@@ -43,12 +40,11 @@ loop-less c = omega arith
 loop-again : tie.Need-loop-again Inv-loop μ-loop
 loop-again c =
     let below = c .before .before .before .before .before .loop-test .taken in
-    let few = c .before .before .before .before .before .before .before .before .before .before .before .before .before .pre .few in
-    (
+    let few = c .before .before .before .before .before .before .before .before .before .before .before .before .before .pre .few in (
       omega arith,
       c .before .before .add-labelled .ensures
-      ∙ ap (λ l. cond (eqb l (c .before .before .before .before .before .before .before .before .before .before .before .before .before .args .c)) (withMemberIn (c .before .before .before .before .before .before .loop .part) (c .before .before .before .before .before .before .loop .v)) (c .before .before .before .before .before .before .loop .part)) (c .before .before .before .at32 .ensures)
-      ∙ record-more _ _ _ _ (omega arith) (c .before .before .before .before .before .before .loop .inv .1),
+          ∙ ap (λ l. cond (eqb l (c .before .before .before .before .before .before .before .before .before .before .before .before .before .args .c)) (withMemberIn (c .before .before .before .before .before .before .loop .part) (c .before .before .before .before .before .before .loop .v)) (c .before .before .before .before .before .before .loop .part)) (c .before .before .before .at32 .ensures)
+          ∙ record-more _ _ _ _ (omega arith) (c .before .before .before .before .before .before .loop .inv .1),
     )
 
 same-length : tie.Need-same-length Inv-loop μ-loop

@@ -5,7 +5,7 @@ use native.Mathlib.Nat.{add-sub-cancel-left}
 use native.Mathlib.Numerals.{add-one, one-add}
 use native.Mathlib.Decide.{ℕ-discrete}
 use mathlib.Core.Path.{_≡_, refl, ap, ap₂, sym, _∙_, fun-ext}
-use mathlib.Core.Bool.{Bool, true, false, _&&_, _||_, cond}
+use mathlib.Core.Bool.{Bool, true, false, _||_, cond}
 use mathlib.Core.Logic.{⊎-elim}
 use mathlib.Core.List.{List, [], _∷_, _++_, append-assoc, append-nil}
 use lib.ListN.{length, getD, take, drop, length-append, length-drop, take-append-drop}
@@ -13,7 +13,7 @@ use lib.Seq.{length-take-le, take-at, drop-at, drop-drop}
 use lib.Dec.{eqb, ltb}
 use borrow.Author.Tests.{eq-eqb, ne-eqb, eqb-true, lt-ltb, le-ltb, ltb-true}
 use Rattle.finite.specs.Laws.Test.{same-test, and-both, and-left, and-right, or-cases, or-left, or-right}
-use Rattle.limits.specs.Limits.{maxVertices, memberBytes, recordBytes}
+use Rattle.limits.specs.Limits.{maxVertices, recordBytes}
 use Rattle.records.specs.Record.{recordOf, recordAt, withMemberIn, startedAs}
 use Rattle.records.specs.Laws.Record.{length-record, record-at-first, record-at-right, started-whole, member-added-record}
 use Rattle.steiner.specs.Dual.{Dual}

@@ -3,28 +3,28 @@
 use Prim.Native.Nat.{ℕ, zero, suc, _+_, _*_, _-_, _≤_, _<_}
 use native.Mathlib.Omega.{arith}
 use native.Mathlib.Nat.{add-suc}
-use mathlib.Core.Path.{_≡_, refl, ap, ap₂, sym, _∙_, subst, fun-ext}
+use mathlib.Core.Path.{_≡_, refl, ap, sym, _∙_, subst, fun-ext}
 use mathlib.Core.Bool.{Bool, true, false, _&&_, cond}
 use mathlib.Core.Logic.{⊎-elim}
 use mathlib.Core.List.{List, [], _∷_, _++_, map, map-append}
-use lib.ListN.{length}
+use lib.ListN.{length, getD}
 use lib.Dec.{eqb, ltb}
 use borrow.Author.Tests.{eq-eqb, lt-ltb, le-ltb}
-use Rattle.finite.specs.Below.{thoseBelow}
+use Rattle.finite.specs.Below.{thoseBelow, tabulate}
 use Rattle.finite.specs.Laws.Test.{not-true-false}
-use Rattle.finite.specs.Laws.Below.{lt-or-ge}
+use Rattle.finite.specs.Laws.Below.{lt-or-ge, getD-tabulate}
 use Rattle.graph.specs.Component.{merged}
-use Rattle.limits.specs.Limits.{maxVertices, recordBytes}
+use Rattle.limits.specs.Limits.{maxVertices, maxDuals, recordBytes}
 use Rattle.limits.specs.Limits.{dualsOf as maxDualsOf}
 use Rattle.steiner.specs.Problem.{Problem, Sound}
 use Rattle.steiner.specs.Growth.{State, start, numbers, Winner, nobody, edge, winner, pick, stateAt, grown}
 use Rattle.steiner.specs.Dual.{Dual, dualsOf}
-use Rattle.steiner.specs.Laws.Round.{Reached, stateAt-reached, pick-rounds, pick-numbers, pick-label, pick-holds-old}
+use Rattle.steiner.specs.Laws.Round.{stateAt-reached, pick-rounds, pick-numbers, pick-label, pick-holds-old}
 use Rattle.steiner.specs.Laws.Partition.{winner-below, members, members-below}
 use Rattle.steiner.specs.Laws.Rounds.{stateAt-pick, stateAt-still, steps-or-still, rounds-lt, grown-reached}
 use Rattle.steiner.specs.Laws.Dual.{dualOf}
 use Rattle.drawing.specs.Drawing.{dualIf, dualsBelow}
-use Rattle.drawing.specs.Trace.{Trace, labelAfter, memberOf, dualsIn, Drawable, Traces}
+use Rattle.drawing.specs.Trace.{Trace, endOf, traceFrom, labelAfter, memberOf, dualsIn, Drawable, Traces}
 use Rattle.drawing.specs.Laws.Drawing.{duals-cong}
 
 -- ---- rounds
@@ -227,3 +227,20 @@ module _ (p : Problem) (ok : Sound p) (t : Trace) (is : Traces p t) where
       second : (r : ℕ) → r < t .rounds → Picks p r → t .second r < maxVertices
       second r b k =
           omega (arith, is .seconds-are r (k .e) (k .d) b (k .wins), ok .second-below (k .e) (winner-below p (stateAt p r) (k .e) (k .d) (k .wins)))
+
+-- The trace that a growth lends: the ends of all edges, the values in a table, and the winner of each round.
+pub traces-from : (p : Problem) (ok : Sound p) (firsts seconds values order : List ℕ) (rounds : ℕ) → 0 < p .vertices → p .vertices ≤ maxVertices →
+    ((e : ℕ) → e < p .edges → getD firsts e 0 ≡ p .first e) → ((e : ℕ) → e < p .edges → getD seconds e 0 ≡ p .second e) →
+    values ≡ tabulate maxDuals (grown p .value) →
+    ((r e d : ℕ) → r < rounds → winner p (stateAt p r) ≡ edge e d → getD order r 0 ≡ e) →
+    rounds ≡ grown p .rounds → Traces p (traceFrom (p .vertices) firsts seconds values order rounds)
+unfolding endOf
+traces-from p ok firsts seconds values order rounds some few f s v o k =
+    let below : grown p .rounds < p .vertices = rounds-lt p ok some (grown-reached p) in
+    record {
+      vertices-are = refl;
+      rounds-are = k;
+      firsts-are = λ r e d b w. ap (λ i. getD firsts i 0) (o r e d b w) ∙ f e (winner-below p (stateAt p r) e d w);
+      seconds-are = λ r e d b w. ap (λ i. getD seconds i 0) (o r e d b w) ∙ s e (winner-below p (stateAt p r) e d w);
+      values-are = λ c b. ap (λ l. getD l c 0) v ∙ getD-tabulate maxDuals (grown p .value) c 0 (omega arith);
+    }

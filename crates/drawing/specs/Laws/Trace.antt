@@ -1,10 +1,10 @@
 -- Laws of traces: labels in a buffer are those of the trace, and the duals of a growth's trace are the growth's (`trace-duals`). The code of drawing
 -- and the planner use them.
-use Prim.Native.Nat.{ℕ, zero, suc, _+_, _*_, _-_, _≤_, _<_}
+use Prim.Native.Nat.{ℕ, _+_, _-_, _≤_, _<_}
 use native.Mathlib.Omega.{arith}
 use native.Mathlib.Numerals.{add-one}
-use mathlib.Core.Path.{_≡_, refl, ap, ap₂, sym, _∙_, fun-ext}
-use mathlib.Core.Bool.{Bool, true, false, _&&_, cond}
+use mathlib.Core.Path.{_≡_, refl, ap, sym, _∙_, fun-ext}
+use mathlib.Core.Bool.{_&&_, cond}
 use mathlib.Core.Logic.{⊎-elim}
 use mathlib.Core.List.{List}
 use lib.ListN.{length, getD}
@@ -14,12 +14,10 @@ use Rattle.finite.specs.Below.{tabulate}
 use Rattle.finite.specs.Laws.Below.{lt-or-ge, getD-tabulate}
 use Rattle.limits.specs.Limits.{maxVertices}
 use Rattle.survey.specs.Labels.{relabelled}
-use Rattle.survey.specs.Laws.Store.{tabulate-cong}
 use Rattle.survey.specs.Laws.Labels.{relabelled-table}
-use Rattle.graph.specs.Component.{merged}
 use Rattle.drawing.specs.Drawing.{recordsFrom, dualIf, dualsBelow, labelled, Drawn}
 use Rattle.drawing.specs.Trace.{Trace, labelAfter, arisen, memberOf, dualsIn, Drawable}
-use Rattle.drawing.specs.Laws.Drawing.{duals-cong, drawn-none, drawn-more, drawn-end}
+use Rattle.drawing.specs.Laws.Drawing.{drawn-none, drawn-more, drawn-end}
 
 -- ---- labels in a buffer
 
