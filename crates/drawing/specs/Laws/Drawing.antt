@@ -9,7 +9,7 @@ use mathlib.Core.Bool.{Bool, true, false, _||_, cond}
 use mathlib.Core.Logic.{⊎-elim}
 use mathlib.Core.List.{List, [], _∷_, _++_, append-assoc, append-nil}
 use lib.ListN.{length, getD, take, drop, length-append, length-drop, take-append-drop}
-use lib.Seq.{length-take-le, take-at, drop-at, drop-drop}
+use lib.Seq.{take-at, drop-at, drop-drop}
 use lib.Dec.{eqb, ltb}
 use borrow.Author.Tests.{eq-eqb, ne-eqb, eqb-true, lt-ltb, le-ltb, ltb-true}
 use Rattle.finite.specs.Laws.Test.{same-test, and-both, and-left, and-right, or-cases, or-left, or-right}
@@ -55,17 +55,6 @@ length-over ds old fits =
       length-append (recordsOf ds) (drop (recordBytes * length ds) old),
       length-records ds,
       length-drop (recordBytes * length ds) old,
-    )
-
-pub length-from : (k : ℕ) (ds : List Dual) (old : List ℕ) → recordBytes * (k + length ds) ≤ length old → length (recordsFrom k ds old) ≡ length old
-unfolding recordsFrom
-length-from k ds old fits =
-    let rest : length (drop (recordBytes * k) old) ≡ length old - recordBytes * k = length-drop (recordBytes * k) old in
-    omega (
-      arith,
-      length-append (take (recordBytes * k) old) (recordsOver ds (drop (recordBytes * k) old)),
-      length-take-le (recordBytes * k) old (omega arith),
-      length-over ds (drop (recordBytes * k) old) (omega arith),
     )
 
 -- Records after those that stand there already.
