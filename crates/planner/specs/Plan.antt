@@ -8,12 +8,12 @@ use Rattle.finite.specs.Below.{tabulate}
 use Rattle.limits.specs.Limits.{recordBytes, dualsOf}
 use Rattle.limits.specs.Verdict.{refuseIf, _before_, Outcome, outcome, written}
 use Rattle.limits.specs.declared.Verdict.{Verdict}
-use Rattle.records.specs.Record.{recordOf}
 use Rattle.steiner.specs.Problem.{Problem, allUsable, terminals, cost}
 use Rattle.steiner.specs.Growth.{grown}
 use Rattle.steiner.specs.Dual.{Dual}
 use Rattle.steiner.specs.Dual.{dualsOf as grownDuals}
 use Rattle.steiner.specs.Pruning.{kept, mark, dualBound}
+use Rattle.drawing.specs.Drawing.{recordsOver}
 use Rattle.survey.specs.Survey.{Survey, vertexCount, edgeCount, problemOf}
 use Rattle.survey.specs.Refusal.{surveyRefusal, groupRefusal}
 
@@ -62,11 +62,6 @@ countsOf p = record { terminals = p .terminals; cost = p .cost; bound = p .bound
 unfoldable pub counting : Survey → (marksLength recordsLength : ℕ) → Outcome Counts
 counting s marksLength recordsLength = outcome (planRefusal s marksLength recordsLength) (countsOf (planOf (problemOf s)))
 
--- Records one after another.
-unfoldable pub recordsOf : List Dual → List ℕ
-recordsOf [] = []
-recordsOf (d ∷ ds) = recordOf (d .value) (d .holds) ++ recordsOf ds
-
 -- What the two lent buffers hold at the end: bytes after the last mark and the last record keep their values.
 unfoldable pub marksAfter : Survey → (marks records : List ℕ) → List ℕ
 marksAfter s marks records =
@@ -74,5 +69,4 @@ marksAfter s marks records =
 
 unfoldable pub recordsAfter : Survey → (marks records : List ℕ) → List ℕ
 recordsAfter s marks records =
-    let new = recordsOf (planOf (problemOf s) .duals) in
-    written (planRefusal s (length marks) (length records)) (new ++ drop (length new) records) records
+    written (planRefusal s (length marks) (length records)) (recordsOver (planOf (problemOf s) .duals) records) records

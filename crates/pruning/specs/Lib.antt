@@ -1,2 +1,4 @@
 pub mod Side
 pub mod Laws
+pub mod Word
+pub mod Prunable

@@ -1,1 +1,2 @@
 // Pruning: which picked edges are kept. Definitions in specs/.
+pub mod words;

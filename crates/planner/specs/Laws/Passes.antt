@@ -3,11 +3,10 @@ use Prim.Native.Nat.{ℕ, zero, suc, _+_, _*_, _/_, _%_, _≤_, _<_}
 use mathlib.Core.Path.{_≡_, refl, ap, ap₂, sym, _∙_, subst}
 use mathlib.Core.Logic.{⊎-elim}
 use mathlib.Core.Bool.{Bool, true, false, false≢true}
-use mathlib.Core.List.{[], List, _∷_, _++_}
+use mathlib.Core.List.{[], List, _∷_}
 use native.Mathlib.Nat.{mul-div-cancel-left, mul-mod-right, lt-of-le-of-lt, lt-of-lt-of-le}
-use native.Mathlib.Numerals.{one-add}
 use native.Mathlib.Omega.{arith}
-use lib.ListN.{length, getD, length-append, List·getD-eq-default}
+use lib.ListN.{length, getD, List·getD-eq-default}
 use lib.Dec.{eqb, lit<, lit≤}
 use Rattle.finite.specs.Below.{counted, sumBelow, tabulate}
 use Rattle.finite.specs.Laws.Test.{not-true-false}
@@ -16,8 +15,8 @@ use Rattle.graph.specs.Path.{crosses}
 use Rattle.graph.specs.Laws.Linked.{linked-mono, crosses-cong}
 use Rattle.limits.specs.Limits.{maxWeight, maxValue, memberBytes, recordBytes, maxDuals}
 use Rattle.limits.specs.Verdict.{answer, outcome}
-use Rattle.records.specs.Record.{recordOf, valueIn, memberIn, recordAt}
-use Rattle.records.specs.Laws.Record.{length-record, value-of-record, member-of-record, record-at-first, record-at-right}
+use Rattle.records.specs.Record.{valueIn, memberIn}
+use Rattle.records.specs.Laws.Record.{value-of-record, member-of-record}
 use Rattle.steiner.specs.Problem.{Problem, Sound, Joins, separates, terminals, cost, allUsable}
 use Rattle.steiner.specs.Growth.{numbers, grown}
 use Rattle.steiner.specs.Dual.{Dual, weigh, total, felt}
@@ -37,12 +36,11 @@ use Rattle.survey.specs.Laws.Group.{Numbered}
 use Rattle.checker.specs.Check.{dualAt, dualsIn, keptBy, checkedOf, checking}
 use Rattle.checker.specs.Laws.Meaning.{DualSound, Passing, passing-check}
 use Rattle.checker.specs.Laws.Accuracy.{passing-accurate}
-use Rattle.planner.specs.Plan.{planOf, recordsOf}
+use Rattle.drawing.specs.Drawing.{recordsOf}
+use Rattle.drawing.specs.Laws.Drawing.{nothing, length-records, record-at}
+use Rattle.planner.specs.Plan.{planOf}
 
 -- ---- duals by their place in a list
-
-abbrev nothing : Dual
-nothing = record { value = 0; holds = λ v. false }
 
 sum-front : (n : ℕ) (f : ℕ → ℕ) → sumBelow (suc n) f ≡ f 0 + sumBelow n (λ i. f (suc i))
 unfolding sumBelow
@@ -67,23 +65,6 @@ each-at : {P : Dual → Type 0} {ds : List Dual} → Each P ds → (i : ℕ) →
 each-at none i b = absurd (omega arith)
 each-at (more h hs) zero b = h
 each-at (more h hs) (suc i) b = each-at hs i (omega arith)
-
--- ---- records
-
-pub length-records : (ds : List Dual) → length (recordsOf ds) ≡ recordBytes * length ds
-unfolding recordsOf
-length-records [] = refl
-length-records (d ∷ ds) =
-    omega (arith, length-append (recordOf (d .value) (d .holds)) (recordsOf ds), length-record (d .value) (d .holds), length-records ds)
-
-pub record-at : (ds : List Dual) (i : ℕ) → i < length ds → recordAt (recordsOf ds) i ≡ recordOf (getD ds i nothing .value) (getD ds i nothing .holds)
-unfolding recordsOf
-record-at [] i b = absurd (omega arith)
-record-at (d ∷ ds) zero b = record-at-first (recordOf (d .value) (d .holds)) (recordsOf ds) (length-record (d .value) (d .holds))
-record-at (d ∷ ds) (suc i) b =
-    ap (recordAt (recordOf (d .value) (d .holds) ++ recordsOf ds)) (sym (one-add i))
-    ∙ record-at-right 1 (recordOf (d .value) (d .holds)) (recordsOf ds) i (length-record (d .value) (d .holds) ∙ refl)
-    ∙ record-at ds i (omega arith)
 
 -- ---- the duals that the checker reads
 

@@ -31,9 +31,11 @@ use Rattle.survey.specs.Laws.Spread.{member-elim}
 use Rattle.steiner.specs.Laws.Finish.{allUsable-edges}
 use Rattle.checker.specs.Check.{checking}
 use Rattle.checker.specs.Laws.Accuracy.{answered}
-use Rattle.planner.specs.Plan.{Plan, planOf, planRefusal, Counts, countsOf, counting, recordsOf, marksAfter, recordsAfter}
+use Rattle.drawing.specs.Drawing.{recordsOf, recordsOver}
+use Rattle.drawing.specs.Laws.Drawing.{length-records}
+use Rattle.planner.specs.Plan.{Plan, planOf, planRefusal, Counts, countsOf, counting, marksAfter, recordsAfter}
 use Rattle.planner.specs.Laws.Ready.{Ready, fine-ready, ready-fine, all-bounded, room-enough}
-use Rattle.planner.specs.Laws.Passes.{finished-passes, finished-accurate, length-records}
+use Rattle.planner.specs.Laws.Passes.{finished-passes, finished-accurate}
 
 -- ---- which test a number comes from
 
@@ -165,11 +167,12 @@ module _ (s : Survey) (numbered : Numbered s) (marks records : List ℕ) (fine :
       ∙ take-at (planOf (problemOf s) .marks) (drop (edgeCount s) marks) (edgeCount s) (length-tabulate (edgeCount s) _)
 
   cut-records : take (recordBytes * length (planOf (problemOf s) .duals)) (recordsAfter s marks records) ≡ recordsOf (planOf (problemOf s) .duals)
-  unfolding recordsAfter written
+  unfolding recordsAfter written recordsOver
   cut-records =
       let new = recordsOf (planOf (problemOf s) .duals) in
-      ap (λ v. take (recordBytes * length (planOf (problemOf s) .duals)) (written v (new ++ drop (length new) records) records)) fine
-      ∙ take-at new (drop (length new) records) (recordBytes * length (planOf (problemOf s) .duals)) (length-records (planOf (problemOf s) .duals))
+      let count = recordBytes * length (planOf (problemOf s) .duals) in
+      ap (λ v. take count (written v (new ++ drop count records) records)) fine
+      ∙ take-at new (drop count records) count (length-records (planOf (problemOf s) .duals))
 
   finished-counts : Finished s marks records (countsOf (planOf (problemOf s)))
   unfolding countsOf

@@ -1,0 +1,20 @@
+-- `turn` meets its contract: the two exclusive ors of the definition.
+use Rattle.pruning.specs.Word.{turned}
+use native.Mathlib.Omega.{arith}
+use borrow.Author.Needs.{needs}
+use Rattle.pruning.proofs.words.turn.Statement.{statement}
+use Rattle.pruning.proofs.words.turn.Tie as tie
+
+word-at-requires : tie.Need-word-at-requires
+word-at-requires c κs = search needs
+
+word-at-requires-2 : tie.Need-word-at-requires-2
+word-at-requires-2 c κs = search needs
+
+returns : tie.Need-returns
+unfolding turned
+returns c =
+    cc
+
+pub turn-spec : {M : Type 1} → statement M
+turn-spec = tie.close (tie.spec word-at-requires word-at-requires-2 returns)
