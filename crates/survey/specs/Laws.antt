@@ -4,3 +4,4 @@ pub mod Refusal
 pub mod Group
 pub mod Spread
 pub mod Labels
+pub mod Cut
