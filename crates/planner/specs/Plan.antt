@@ -1,7 +1,7 @@
 -- Planning (document 01, 'What a plan holds' and 'Refused surveys and plans').
 use Prim.Native.Nat.{ℕ, _*_}
 use mathlib.Core.Bool.{_||_}
-use mathlib.Core.List.{List, [], _∷_, _++_}
+use mathlib.Core.List.{List, _++_}
 use lib.ListN.{length, drop}
 use lib.Dec.{ltb}
 use Rattle.finite.specs.Below.{tabulate}

@@ -1,25 +1,24 @@
 -- What an answer of planning promises besides its equation with the definition: finished exactly if none of 1 to 8 applies; 8 exactly if the survey is sound, the buffers
 -- are long enough and some group cannot be joined by any set of tracks, and then the lowest; rounds are picked tracks; the plan passes the checker and is accurate.
-use Prim.Native.Nat.{ℕ, _+_, _*_, _≤_, _<_}
+use Prim.Native.Nat.{ℕ, _*_, _≤_, _<_}
 use mathlib.Core.Path.{_≡_, refl, ap, sym, _∙_, subst}
-use mathlib.Core.Logic.{_⊎_, inl, inr, ⊎-elim, _↔_}
-use mathlib.Core.Bool.{Bool, true, false, _||_, not}
+use mathlib.Core.Logic.{_⊎_, inl, inr, ⊎-elim}
+use mathlib.Core.Bool.{Bool, false, _||_}
 use mathlib.Core.List.{List, _++_}
 use native.Mathlib.Omega.{arith}
-use lib.ListN.{length, getD, take, drop}
+use lib.ListN.{length, take, drop}
 use lib.Seq.{take-at}
 use lib.Dec.{ltb, lit≤}
 use borrow.Author.Tests.{ltb-false}
 use Rattle.finite.specs.Laws.Test.{or-false-left, or-false-right, not-of-false, not-true-false}
-use Rattle.finite.specs.Below.{countBelow, tabulate}
+use Rattle.finite.specs.Below.{countBelow}
 use Rattle.finite.specs.Laws.Below.{length-tabulate, lt-or-ge}
 use Rattle.limits.specs.Limits.{recordBytes, dualsOf, groupNumbers}
-use Rattle.limits.specs.Verdict.{refuseIf, _before_, lowestBelow, Outcome, refusal, answer, outcome, written}
+use Rattle.limits.specs.Verdict.{refuseIf, _before_, lowestBelow, answer, outcome, written}
 use Rattle.limits.specs.declared.Verdict.{Verdict}
 use Rattle.limits.specs.declared.Verdict.the-variants.{Fine, Refused}
 use Rattle.limits.specs.Laws.Verdict.{before-fine, refuse-true, refuse-false, lowest-none, lowest-found, lowest-elim, Lowest, refused-refuse, fine-refuse}
-use Rattle.steiner.specs.Problem.{Problem, Sound, EdgeSet, Joins, allUsable}
-use Rattle.steiner.specs.Growth.{grown}
+use Rattle.steiner.specs.Problem.{Sound, EdgeSet, allUsable}
 use Rattle.steiner.specs.Pruning.{picked}
 use Rattle.steiner.specs.Laws.Rounds.{grown-reached, picked-count}
 use Rattle.survey.specs.Survey.{Survey, vertexCount, edgeCount, problemOf, groupJoined, componentsOf}
@@ -33,7 +32,7 @@ use Rattle.checker.specs.Check.{checking}
 use Rattle.checker.specs.Laws.Accuracy.{answered}
 use Rattle.drawing.specs.Drawing.{recordsOf, recordsOver}
 use Rattle.drawing.specs.Laws.Drawing.{length-records}
-use Rattle.planner.specs.Plan.{Plan, planOf, planRefusal, Counts, countsOf, counting, marksAfter, recordsAfter}
+use Rattle.planner.specs.Plan.{planOf, planRefusal, Counts, countsOf, counting, marksAfter, recordsAfter}
 use Rattle.planner.specs.Laws.Ready.{Ready, fine-ready, ready-fine, all-bounded, room-enough}
 use Rattle.planner.specs.Laws.Passes.{finished-passes, finished-accurate}
 
