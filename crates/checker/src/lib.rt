@@ -15,7 +15,7 @@ use survey::labels::Chosen;
 
 mod cuts;
 mod duals;
-mod marks;
+pub mod marks;
 mod rule;
 
 // k, kept cost and bound of a plan that passes; or a refusal's number and place.

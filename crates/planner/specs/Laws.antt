@@ -1,3 +1,4 @@
 pub mod Ready
 pub mod Passes
 pub mod Promise
+pub mod Code

@@ -214,6 +214,11 @@ module _ (s : Survey) (sound : SurveySound s) (joinable : Joins (problemOf s) (a
   unfolding cost
   cost-of-marks = sum-cong (problemOf s .edges) _ _ (λ e b. ap (λ t. counted t (problemOf s .weight e)) (kept-of-marks e))
 
+  -- The plan's own marks cost what the plan costs.
+  pub marks-cost : cost (problemOf s) (keptBy (planOf (problemOf s) .marks)) ≡ planOf (problemOf s) .cost
+  unfolding planOf marks
+  marks-cost = cost-of-marks
+
   -- ---- the checker passes
 
   pub finished-passing : Passing s (planOf (problemOf s) .marks) (recordsOf (planOf (problemOf s) .duals))
