@@ -1,3 +1,4 @@
 pub mod Plan
+pub mod Answer
 pub mod Examples
 pub mod Laws

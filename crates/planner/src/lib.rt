@@ -2,14 +2,34 @@
 ghost use mathlib.Core.Path.{_≡_};
 ghost use mathlib.Core.Bool.{_||_};
 ghost use Prim.Native.Nat.{_≤_, _*_};
+ghost use mathlib.Core.List.{_++_};
+ghost use lib.ListN.{length, drop};
 ghost use lib.Dec.{ltb};
 ghost use Rattle.limits.specs.Limits.{maxVertices, recordBytes, dualsOf};
-ghost use Rattle.limits.specs.Verdict.{refuseIf};
-ghost use Rattle.survey.specs.Survey.{surveyFrom};
-ghost use Rattle.planner.specs.Plan.{planRefusal};
+ghost use Rattle.limits.specs.Verdict.{refuseIf, answer};
+ghost use Rattle.survey.specs.Survey.{surveyFrom, problemOf};
+ghost use Rattle.drawing.specs.Drawing.{recordsOver};
+ghost use Rattle.planner.specs.Plan.{planRefusal, planOf, countsOf};
+ghost use Rattle.planner.specs.Answer.{outcomeOf};
+ghost use Rattle.planner.specs.Laws.Ready.{Ready};
 use limits::RECORD_BYTES;
 use limits::Verdict;
 use survey::labels::Chosen;
+
+// What planning answers: k, cost, bound, rounds and the number of moats; or a refusal's number and place.
+pub enum Planned {
+    Finished {
+        terminals: u64,
+        cost: u64,
+        bound: u64,
+        rounds: u64,
+        duals: u64,
+    },
+    Refused {
+        number: u64,
+        place: usize,
+    },
+}
 
 // 7: a lent buffer is too short for m marks, or for the records of n junctions.
 fn room_refusal(n: usize, m: usize, marks: usize, records: usize) -> Verdict
@@ -54,4 +74,45 @@ fn plan_refusal(
         return Verdict::Refused { number, place };
     }
     survey::labels::group_refusal(groups, firsts, seconds, weights, Chosen::All, &[], 8)
+}
+
+// The plan of a survey that no refusal stops: growing, dropping, drawing, and the counts.
+fn finish(
+    groups: &[u8],
+    firsts: &[u32],
+    seconds: &[u32],
+    weights: &[u32],
+    marks: &mut [u8],
+    records: &mut [u8],
+) -> Planned
+    requires { ⌜ Ready (surveyFrom (now groups) (now firsts) (now seconds) (now weights)) (length (now marks)) (length (now records)) ⌝ }
+    ensures { λ r. ⌜ outcomeOf r ≡ answer (countsOf (planOf (problemOf (surveyFrom (now (groups .entry)) (now (firsts .entry)) (now (seconds .entry)) (now (weights .entry)))))) ⌝ }
+    ensures { λ _. ⌜ now (marks .exit) ≡ planOf (problemOf (surveyFrom (now (groups .entry)) (now (firsts .entry)) (now (seconds .entry)) (now (weights .entry)))) .marks ++ drop (length (now (firsts .entry))) (now (marks .entry)) ⌝ }
+    ensures { λ _. ⌜ now (records .exit) ≡ recordsOver (planOf (problemOf (surveyFrom (now (groups .entry)) (now (firsts .entry)) (now (seconds .entry)) (now (weights .entry)))) .duals) (now (records .entry)) ⌝ }
+{
+    let grown = growth::grow(groups, firsts, seconds, weights);
+    let picked = grown.picked;
+    let values = grown.values;
+    let order = grown.order;
+    let rounds = grown.rounds;
+    let bound = grown.bound;
+    pruning::prune(groups, firsts, seconds, &picked, marks);
+    let duals = drawing::draw(
+        groups.len(),
+        firsts,
+        seconds,
+        &values,
+        &order,
+        rounds,
+        records,
+    );
+    let terminals = survey::groups::terminals(groups);
+    let cost = checker::marks::kept_cost(firsts, weights, marks);
+    Planned::Finished {
+        terminals,
+        cost,
+        bound,
+        rounds: reads::wide(rounds),
+        duals: reads::wide(duals),
+    }
 }

@@ -13,7 +13,7 @@ use Rattle.finite.specs.Below.{counted, tabulate}
 use Rattle.finite.specs.Laws.Test.{either, not-true-false}
 use Rattle.finite.specs.Laws.Below.{sum-cong, length-tabulate, getD-tabulate, lt-or-ge, counted-true, counted-false}
 use Rattle.limits.specs.Limits.{maxVertices, maxEdges, recordBytes, dualsOf}
-use Rattle.limits.specs.Verdict.{written}
+use Rattle.limits.specs.Verdict.{answer, written}
 use Rattle.graph.specs.Laws.Forest.{Forest}
 use Rattle.steiner.specs.Problem.{Problem, Sound, Joins, joined, allUsable, terminal, terminals, cost}
 use Rattle.steiner.specs.Growth.{edge, winner, stateAt, grown}
@@ -28,7 +28,8 @@ use Rattle.survey.specs.Laws.Refusal.{survey-fine, survey-sound}
 use Rattle.survey.specs.Store.{remade}
 use Rattle.survey.specs.Laws.Store.{tabulate-cong, length-remade, remade-passed, remade-ahead}
 use Rattle.pruning.specs.Word.{pickedIn}
-use Rattle.pruning.specs.Prunable.{Prunable}
+use Rattle.pruning.specs.Prunable.{Prunable, unweighted}
+use Rattle.pruning.specs.Judge.{prunedMarks}
 use Rattle.growth.specs.View.{Shows, turn, edgeOf}
 use Rattle.growth.specs.declared.Growth.{Growth}
 use Rattle.drawing.specs.Trace.{traceFrom, dualsIn, Drawable, Traces}
@@ -36,7 +37,10 @@ use Rattle.drawing.specs.Laws.Growth.{trace-duals, trace-drawable, traces-from}
 use Rattle.checker.specs.Check.{keptBy}
 use Rattle.planner.specs.Laws.Ready.{Ready}
 use Rattle.planner.specs.Laws.Passes.{marks-cost}
-use Rattle.planner.specs.Plan.{planOf}
+use Rattle.drawing.specs.Drawing.{recordsOver}
+use Rattle.planner.specs.declared.Planned.the-variants.{Finished}
+use Rattle.planner.specs.Answer.{outcomeOf}
+use Rattle.planner.specs.Plan.{planOf, countsOf}
 
 -- A buffer whose first m places were made anew.
 pub remade-front : (f : ℕ → ℕ → ℕ) (m : ℕ) (l : List ℕ) → m ≤ length l → remade f m l ≡ tabulate m (λ k. f k (getD l k 0)) ++ drop m l
@@ -46,12 +50,15 @@ remade-front f m l b =
   where
     g : ℕ → ℕ
     g k = f k (getD l k 0)
+
     lengths : length (remade f m l) ≡ length (tabulate m g ++ drop m l)
     lengths = omega (arith, length-remade f m l, length-append (tabulate m g) (drop m l), length-tabulate m g, length-drop m l)
+
     before : (i : ℕ) → i < m → getD (remade f m l) i 0 ≡ getD (tabulate m g ++ drop m l) i 0
     before i bi =
         remade-passed f m l i bi (omega arith) ∙ sym (getD-tabulate m g i 0 bi)
         ∙ sym (List·getD-append (tabulate m g) (drop m l) 0 i (omega (arith, length-tabulate m g)))
+
     after : (i : ℕ) → m ≤ i → getD (remade f m l) i 0 ≡ getD (tabulate m g ++ drop m l) i 0
     after i bi =
         let at : i ≡ length (tabulate m g) + (i - m) = omega (arith, length-tabulate m g) in
@@ -75,10 +82,10 @@ picked-marks s few marks h e =
     ∙ ⊎-elim
     (λ b. ap (λ x. not (eqb x 0)) (getD-tabulate maxEdges (λ e. counted (grown (problemOf s) .picked e) 1) e 0 b) ∙ one-or-none (grown (problemOf s) .picked e))
     (λ g.
-        ap (λ x. not (eqb x 0))
-        (List·getD-eq-default (tabulate maxEdges (λ e. counted (grown (problemOf s) .picked e) 1)) 0
-        (subst (λ x. x ≤ e) (sym (length-tabulate maxEdges (λ e. counted (grown (problemOf s) .picked e) 1))) g))
-        ∙ sym (not-true-false (grown (problemOf s) .picked e) (λ k. let l = picked-usable (problemOf s) (grown-reached (problemOf s)) e k .0 in omega arith)))
+    ap (λ x. not (eqb x 0))
+    (List·getD-eq-default (tabulate maxEdges (λ e. counted (grown (problemOf s) .picked e) 1)) 0
+    (subst (λ x. x ≤ e) (sym (length-tabulate maxEdges (λ e. counted (grown (problemOf s) .picked e) 1))) g))
+    ∙ sym (not-true-false (grown (problemOf s) .picked e) (λ k. let l = picked-usable (problemOf s) (grown-reached (problemOf s)) e k .0 in omega arith)))
     (lt-or-ge e maxEdges)
 
 -- Which edges are needed does not depend on the weights.
@@ -114,14 +121,19 @@ plan-marks groups firsts seconds weights picks marks few room h =
   where
     s : Survey
     s = surveyFrom groups firsts seconds weights
+
     p : Problem
     p = problemOf s
+
     same : pickedIn picks ≡ picked p
     same = fun-ext (picked-marks s (few-edges groups firsts seconds weights few) picks h)
+
     made : ℕ → ℕ
     made e = markOf (pickedIn picks e) (needed (problemOf (surveyFrom groups firsts seconds [])) (pickedIn picks) e)
+
     edges-same : tabulate (length firsts) made ≡ tabulate (p .edges) made
     edges-same = refl-edges groups firsts seconds weights made
+
     each : (e : ℕ) → e < p .edges → made e ≡ mark p e
     each e b = mark-same groups firsts seconds weights (pickedIn picks) same e
 
@@ -132,10 +144,10 @@ sound-unweighted : (groups firsts seconds weights : List ℕ) → Sound (problem
 unfolding problemOf sameGroup member vertexCount edgeCount
 sound-unweighted groups firsts seconds weights ok =
     record {
-        first-below = ok .first-below;
-        second-below = ok .second-below;
-        ends-differ = ok .ends-differ;
-        symmetric = ok .symmetric
+      first-below = ok .first-below;
+      second-below = ok .second-below;
+      ends-differ = ok .ends-differ;
+      symmetric = ok .symmetric;
     }
 
 joins-unweighted : (groups firsts seconds weights : List ℕ) (F : ℕ → Bool) → Joins (problemOf (surveyFrom groups firsts seconds weights)) F →
@@ -162,6 +174,14 @@ picks-forest : (groups firsts seconds weights : List ℕ) → Sound (problemOf (
 unfolding picked problemOf
 picks-forest groups firsts seconds weights ok = picked-forest (problemOf (surveyFrom groups firsts seconds weights)) ok (grown-reached (problemOf (surveyFrom groups firsts seconds weights)))
 
+plan-terminals : (groups firsts seconds weights : List ℕ) → terminals (problemOf (groupsAlone groups)) ≡ planOf (problemOf (surveyFrom groups firsts seconds weights)) .terminals
+unfolding planOf
+plan-terminals groups firsts seconds weights = terminals-alone groups firsts seconds weights
+
+ready-marks : (groups firsts seconds weights : List ℕ) (marksLength recordsLength : ℕ) → Ready (surveyFrom groups firsts seconds weights) marksLength recordsLength → length firsts ≤ marksLength
+unfolding edgeCount
+ready-marks groups firsts seconds weights marksLength recordsLength ready = ready .marks-fit
+
 -- Marks in front of other bytes.
 front-kept : (groups firsts seconds weights rest : List ℕ) (e : ℕ) → e < length firsts →
     keptBy (planOf (problemOf (surveyFrom groups firsts seconds weights)) .marks ++ rest) e ≡ keptBy (planOf (problemOf (surveyFrom groups firsts seconds weights)) .marks) e
@@ -175,7 +195,6 @@ front-kept groups firsts seconds weights rest e b =
 
 module _ (groups firsts seconds weights : List ℕ) (marksLength recordsLength : ℕ) (ready : Ready (surveyFrom groups firsts seconds weights) marksLength recordsLength) (g : Growth)
     (grew : Shows (problemOf (surveyFrom groups firsts seconds weights)) (written (surveyRefusal (surveyFrom groups firsts seconds weights)) (length groups) 0) g) where
-
   p : Problem
   p = problemOf (surveyFrom groups firsts seconds weights)
 
@@ -218,16 +237,17 @@ module _ (groups firsts seconds weights : List ℕ) (marksLength recordsLength :
       let P = problemOf (surveyFrom groups firsts seconds weights) in
       let Q = problemOf (surveyFrom groups firsts seconds []) in
       record {
-          few = ready .survey .few;
-          edges-few = ready .survey .edges-few;
-          sound = sound-unweighted groups firsts seconds weights ok;
-          bounded = subst (Bounded Q) (sym picks-same) bounded-picks;
-          joins = subst (Joins Q) (sym picks-same) (joins-unweighted groups firsts seconds weights (picked P) (picked-joins P ok some (ready .joinable)));
-          forest = subst (Forest (Q .first) (Q .second)) (sym picks-same) acyclic
+        few = ready .survey .few;
+        edges-few = ready .survey .edges-few;
+        sound = sound-unweighted groups firsts seconds weights ok;
+        bounded = subst (Bounded Q) (sym picks-same) bounded-picks;
+        joins = subst (Joins Q) (sym picks-same) (joins-unweighted groups firsts seconds weights (picked P) (picked-joins P ok some (ready .joinable)));
+        forest = subst (Forest (Q .first) (Q .second)) (sym picks-same) acyclic;
       }
     where
       bounded-picks : Bounded (problemOf (surveyFrom groups firsts seconds [])) (picked (problemOf (surveyFrom groups firsts seconds weights)))
       bounded-picks = picks-below groups firsts seconds weights
+
       acyclic : Forest (problemOf (surveyFrom groups firsts seconds []) .first) (problemOf (surveyFrom groups firsts seconds []) .second) (picked (problemOf (surveyFrom groups firsts seconds weights)))
       acyclic = picks-forest groups firsts seconds weights ok
 
@@ -266,3 +286,40 @@ module _ (groups firsts seconds weights : List ℕ) (marksLength recordsLength :
       cost-alone groups firsts seconds weights (keptBy (planOf (problemOf (surveyFrom groups firsts seconds weights)) .marks ++ rest))
       (keptBy (planOf (problemOf (surveyFrom groups firsts seconds weights)) .marks)) (front-kept groups firsts seconds weights rest)
       ∙ marks-cost (surveyFrom groups firsts seconds weights) (ready .survey) (ready .joinable)
+
+-- All together: what the calls leave is the plan.
+pub finish-plan : (groups firsts seconds weights marks records : List ℕ) → (ready : Ready (surveyFrom groups firsts seconds weights) (length marks) (length records)) → (g : Growth) →
+    Shows (problemOf (surveyFrom groups firsts seconds weights)) (written (surveyRefusal (surveyFrom groups firsts seconds weights)) (length groups) 0) g →
+    (marked drawn : List ℕ) (count k c rounds duals : ℕ) →
+    marked ≡ prunedMarks (unweighted groups firsts seconds) (pickedIn (g .picked)) (length firsts) marks →
+    count ≡ length (dualsIn (traceFrom (length groups) firsts seconds (g .values) (g .order) (g .rounds))) → drawn ≡ recordsOver (dualsIn (traceFrom (length groups) firsts seconds (g .values) (g .order) (g .rounds))) records →
+    k ≡ terminals (problemOf (groupsAlone groups)) → c ≡ cost (problemOf (surveyFrom [] firsts [] weights)) (keptBy marked) → rounds ≡ g .rounds → duals ≡ count →
+    (outcomeOf (Finished k c (g .bound) rounds duals) ≡ answer (countsOf (planOf (problemOf (surveyFrom groups firsts seconds weights)))))
+    × ((marked ≡ planOf (problemOf (surveyFrom groups firsts seconds weights)) .marks ++ drop (length firsts) marks) × (drawn ≡ recordsOver (planOf (problemOf (surveyFrom groups firsts seconds weights)) .duals) records))
+unfolding outcomeOf countsOf prunedMarks
+finish-plan groups firsts seconds weights marks records ready g grew marked drawn count k c rounds duals h-marks h-count h-drawn h-k h-c h-rounds h-duals = (
+  rw (k-is, c-is, bound-plan groups firsts seconds weights (length marks) (length records) ready g grew, rounds-is, duals-are),
+  (marks-are, h-drawn ∙ ap (λ d. recordsOver d records) the-duals),
+)
+  where
+    the-duals : dualsIn (traceFrom (length groups) firsts seconds (g .values) (g .order) (g .rounds)) ≡ planOf (problemOf (surveyFrom groups firsts seconds weights)) .duals
+    the-duals = duals-plan groups firsts seconds weights (length marks) (length records) ready g grew
+
+    marks-are : marked ≡ planOf (problemOf (surveyFrom groups firsts seconds weights)) .marks ++ drop (length firsts) marks
+    marks-are =
+        h-marks ∙ plan-marks groups firsts seconds weights (g .picked) marks (ready .survey .edges-few) (ready-marks groups firsts seconds weights (length marks) (length records) ready)
+        (grown-picks groups firsts seconds weights (length marks) (length records) ready g grew)
+
+    k-is : k ≡ planOf (problemOf (surveyFrom groups firsts seconds weights)) .terminals
+    k-is = h-k ∙ plan-terminals groups firsts seconds weights
+
+    c-is : c ≡ planOf (problemOf (surveyFrom groups firsts seconds weights)) .cost
+    c-is =
+        h-c ∙ ap (λ l. cost (problemOf (surveyFrom [] firsts [] weights)) (keptBy l)) marks-are
+        ∙ cost-plan groups firsts seconds weights (length marks) (length records) ready g grew (drop (length firsts) marks)
+
+    rounds-is : rounds ≡ planOf (problemOf (surveyFrom groups firsts seconds weights)) .rounds
+    rounds-is = h-rounds ∙ rounds-plan groups firsts seconds weights (length marks) (length records) ready g grew
+
+    duals-are : duals ≡ length (planOf (problemOf (surveyFrom groups firsts seconds weights)) .duals)
+    duals-are = h-duals ∙ h-count ∙ ap length the-duals

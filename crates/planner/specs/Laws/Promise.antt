@@ -150,7 +150,7 @@ unfolding planOf picked problemOf
 rounds-of s ok = sym (picked-count (problemOf s) ok (grown-reached (problemOf s)))
 
 -- What the counts of a finished plan say, and what the two buffers then hold.
-pub record Finished (s : Survey) (marks records : List ℕ) (c : Counts) : Type 0 where
+pub record FinishedPlan (s : Survey) (marks records : List ℕ) (c : Counts) : Type 0 where
   pub ready : Ready s (length marks) (length records)
   pub rounds-picked : c .rounds ≡ countBelow (edgeCount s) (picked (problemOf s))
   pub passes :
@@ -173,7 +173,7 @@ module _ (s : Survey) (numbered : Numbered s) (marks records : List ℕ) (fine :
       ap (λ v. take count (written v (new ++ drop count records) records)) fine
       ∙ take-at new (drop count records) count (length-records (planOf (problemOf s) .duals))
 
-  finished-counts : Finished s marks records (countsOf (planOf (problemOf s)))
+  finished-counts : FinishedPlan s marks records (countsOf (planOf (problemOf s)))
   unfolding countsOf
   finished-counts =
       let r : Ready s (length marks) (length records) = fine-ready s numbered (length marks) (length records) fine in
@@ -189,11 +189,11 @@ module _ (s : Survey) (numbered : Numbered s) (marks records : List ℕ) (fine :
 
 -- An answer with counts is a finished plan, and none of 1 to 8 applied.
 pub counting-finished : (s : Survey) → Numbered s → (marks records : List ℕ) (c : Counts) → counting s (length marks) (length records) ≡ answer c →
-    Finished s marks records c
+    FinishedPlan s marks records c
 unfolding counting
 counting-finished s numbered marks records c h =
     let a = answered (planRefusal s (length marks) (length records)) (countsOf (planOf (problemOf s))) c h in
-    subst (Finished s marks records) (a .1) (finished-counts s numbered marks records (a .0))
+    subst (FinishedPlan s marks records) (a .1) (finished-counts s numbered marks records (a .0))
 
 -- Where none applies, there is an answer with counts.
 pub ready-counting : (s : Survey) → Numbered s → (marksLength recordsLength : ℕ) → Ready s marksLength recordsLength →
