@@ -9,9 +9,10 @@ ghost use Rattle.limits.specs.Limits.{maxVertices, recordBytes, dualsOf};
 ghost use Rattle.limits.specs.Verdict.{refuseIf, answer};
 ghost use Rattle.survey.specs.Survey.{surveyFrom, problemOf};
 ghost use Rattle.drawing.specs.Drawing.{recordsOver};
-ghost use Rattle.planner.specs.Plan.{planRefusal, planOf, countsOf};
+ghost use Rattle.planner.specs.Plan.{planRefusal, planOf, countsOf, counting, marksAfter, recordsAfter};
 ghost use Rattle.planner.specs.Answer.{outcomeOf};
 ghost use Rattle.planner.specs.Laws.Ready.{Ready};
+ghost use Rattle.planner.specs.Laws.Promise.{Promises};
 use limits::RECORD_BYTES;
 use limits::Verdict;
 use survey::labels::Chosen;
@@ -115,4 +116,26 @@ fn finish(
         rounds: reads::wide(rounds),
         duals: reads::wide(duals),
     }
+}
+
+// Plans a survey into lent buffers for marks and moat records. Finished exactly if none of 1 to 8 applies; 8 exactly if some group cannot be joined by any set of tracks,
+// and then the lowest; a finished plan passes the checker and is within the accuracy rule.
+pub fn plan(
+    groups: &[u8],
+    firsts: &[u32],
+    seconds: &[u32],
+    weights: &[u32],
+    marks: &mut [u8],
+    records: &mut [u8],
+) -> Planned
+    ensures { λ r. ⌜ outcomeOf r ≡ counting (surveyFrom (now (groups .entry)) (now (firsts .entry)) (now (seconds .entry)) (now (weights .entry))) (length (now (marks .entry))) (length (now (records .entry))) ⌝ }
+    ensures { λ _. ⌜ now (marks .exit) ≡ marksAfter (surveyFrom (now (groups .entry)) (now (firsts .entry)) (now (seconds .entry)) (now (weights .entry))) (now (marks .entry)) (now (records .entry)) ⌝ }
+    ensures { λ _. ⌜ now (records .exit) ≡ recordsAfter (surveyFrom (now (groups .entry)) (now (firsts .entry)) (now (seconds .entry)) (now (weights .entry))) (now (marks .entry)) (now (records .entry)) ⌝ }
+    ensures promises { λ r. ⌜ Promises (surveyFrom (now (groups .entry)) (now (firsts .entry)) (now (seconds .entry)) (now (weights .entry))) (now (marks .entry)) (now (records .entry)) (outcomeOf r) ⌝ }
+{
+    let found = plan_refusal(groups, firsts, seconds, weights, marks.len(), records.len());
+    if let Verdict::Refused { number, place } = found {
+        return Planned::Refused { number, place };
+    }
+    finish(groups, firsts, seconds, weights, marks, records)
 }

@@ -14,7 +14,7 @@ use Rattle.finite.specs.Laws.Test.{or-false-left, or-false-right, not-of-false,
 use Rattle.finite.specs.Below.{countBelow}
 use Rattle.finite.specs.Laws.Below.{length-tabulate, lt-or-ge}
 use Rattle.limits.specs.Limits.{recordBytes, dualsOf, groupNumbers}
-use Rattle.limits.specs.Verdict.{refuseIf, _before_, lowestBelow, answer, outcome, written}
+use Rattle.limits.specs.Verdict.{Outcome, refusal, refuseIf, _before_, lowestBelow, answer, outcome, written}
 use Rattle.limits.specs.declared.Verdict.{Verdict}
 use Rattle.limits.specs.declared.Verdict.the-variants.{Fine, Refused}
 use Rattle.limits.specs.Laws.Verdict.{before-fine, refuse-true, refuse-false, lowest-none, lowest-found, lowest-elim, Lowest, refused-refuse, fine-refuse}
@@ -201,3 +201,70 @@ pub ready-counting : (s : Survey) → Numbered s → (marksLength recordsLength 
 unfolding counting outcome
 ready-counting s numbered marksLength recordsLength r =
     ap (λ v. outcome v (countsOf (planOf (problemOf s)))) (ready-fine s numbered marksLength recordsLength r)
+
+-- ---- the call
+
+-- A refusal comes of the verdict.
+refusal-verdict : {A : Type 0} (v : Verdict) (a : A) (number place : ℕ) → outcome v a ≡ refusal number place → v ≡ Refused number place
+unfolding outcome
+refusal-verdict Fine a number place h = absurd (let z : _≡_ {A = ℕ} 0 1 = cc in omega arith)
+refusal-verdict (Refused x y) a number place h = cc
+
+-- What the call promises beside its answer and its buffers.
+pub record Promises (s : Survey) (marks records : List ℕ) (o : Outcome Counts) : Type 0 where
+  -- finished exactly if none of 1 to 8 applies
+  pub finished : (c : Counts) → o ≡ answer c → FinishedPlan s marks records c
+  pub finishes : Ready s (length marks) (length records) → o ≡ answer (countsOf (planOf (problemOf s)))
+  -- 8 exactly if some group cannot be joined by any set of tracks, and then the lowest
+  pub unjoinable : (g : ℕ) → o ≡ refusal 8 g → Unjoinable s (length marks) (length records) g
+  pub unjoined : (g : ℕ) → Unjoinable s (length marks) (length records) g → o ≡ refusal 8 g
+
+pub planning-promises : (s : Survey) → Numbered s → (marks records : List ℕ) (o : Outcome Counts) → o ≡ counting s (length marks) (length records) →
+    Promises s marks records o
+unfolding counting outcome
+planning-promises s numbered marks records o h =
+    record {
+      finished = λ c k. counting-finished s numbered marks records c (sym h ∙ k);
+      finishes = λ r. h ∙ ready-counting s numbered (length marks) (length records) r;
+      unjoinable = λ g k.
+          eight-unjoinable s (length marks) (length records) g
+          (refusal-verdict (planRefusal s (length marks) (length records)) (countsOf (planOf (problemOf s))) 8 g (sym h ∙ k));
+      unjoined = λ g u.
+          h ∙ ap (λ v. outcome v (countsOf (planOf (problemOf s)))) (unjoinable-eight s (length marks) (length records) numbered g u);
+    }
+
+-- A refused call.
+pub refused-call : (s : Survey) → Numbered s → (marks records : List ℕ) (number place : ℕ) → planRefusal s (length marks) (length records) ≡ Refused number place →
+    (refusal number place ≡ counting s (length marks) (length records))
+    × ((marks ≡ marksAfter s marks records) × ((records ≡ recordsAfter s marks records) × Promises s marks records (refusal number place)))
+unfolding counting outcome marksAfter recordsAfter written
+refused-call s numbered marks records number place h =
+    let e : refusal number place ≡ counting s (length marks) (length records) = sym (ap (λ v. outcome v (countsOf (planOf (problemOf s)))) h) in (
+      e,
+      (
+        sym (ap (λ v. written v (planOf (problemOf s) .marks ++ drop (edgeCount s) marks) marks) h),
+        (
+          sym (ap (λ v. written v (recordsOver (planOf (problemOf s) .duals) records) records) h),
+          planning-promises s numbered marks records (refusal number place) e,
+        ),
+      ),
+    )
+
+-- A finished one.
+pub finished-call : (s : Survey) → Numbered s → (marks records marked drawn : List ℕ) (o : Outcome Counts) → planRefusal s (length marks) (length records) ≡ Fine →
+    o ≡ answer (countsOf (planOf (problemOf s))) → marked ≡ planOf (problemOf s) .marks ++ drop (edgeCount s) marks →
+    drawn ≡ recordsOver (planOf (problemOf s) .duals) records →
+    (o ≡ counting s (length marks) (length records))
+    × ((marked ≡ marksAfter s marks records) × ((drawn ≡ recordsAfter s marks records) × Promises s marks records o))
+unfolding counting outcome marksAfter recordsAfter written
+finished-call s numbered marks records marked drawn o h answered-by marks-are drawn-are =
+    let e : o ≡ counting s (length marks) (length records) = answered-by ∙ sym (ap (λ v. outcome v (countsOf (planOf (problemOf s)))) h) in (
+      e,
+      (
+        marks-are ∙ sym (ap (λ v. written v (planOf (problemOf s) .marks ++ drop (edgeCount s) marks) marks) h),
+        (
+          drawn-are ∙ sym (ap (λ v. written v (recordsOver (planOf (problemOf s) .duals) records) records) h),
+          planning-promises s numbered marks records o e,
+        ),
+      ),
+    )
