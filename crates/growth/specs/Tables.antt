@@ -1,6 +1,6 @@
 -- A round over tables: what the growth of Algorithm 22.3 reads from arrays (laws in Laws/ say that it is what the definition reads).
 use Prim.Native.Nat.{ℕ, zero, suc, _+_, _*_, _-_, _<_, _^_}
-use mathlib.Core.Bool.{Bool, true, false, cond}
+use mathlib.Core.Bool.{cond}
 use mathlib.Core.List.{List}
 use lib.ListN.{getD, set, length}
 use lib.Dec.{eqb}

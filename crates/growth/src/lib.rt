@@ -1,7 +1,6 @@
 // How duals grow, over arrays: labels, loads, values, picked marks, and the order of the picks. Definitions in specs/.
 ghost use mathlib.Core.Path.{_≡_};
-ghost use Prim.Native.Nat.{ℕ, _+_, _-_, _*_, _<_, _^_};
-ghost use mathlib.Core.Bool.{cond};
+ghost use Prim.Native.Nat.{_+_, _-_, _*_, _<_, _^_};
 ghost use lib.ListN.{getD, set, length};
 ghost use lib.Dec.{eqb};
 ghost use Rattle.finite.specs.Below.{counted, sumBelow, tabulate};
@@ -11,9 +10,7 @@ ghost use Rattle.steiner.specs.Problem.{Problem};
 ghost use Rattle.survey.specs.Refusal.{surveyRefusal};
 ghost use Rattle.steiner.specs.Growth.{active, delayOf, better, winner, stateAt};
 ghost use Rattle.survey.specs.Survey.{surveyFrom, groupsAlone, problemOf};
-ghost use Rattle.survey.specs.Store.{remade};
-ghost use Rattle.survey.specs.Labels.{relabelled};
-ghost use Rattle.growth.specs.Tables.{tablesFrom, delayIn, winnerIn, delayBetween, delayBy, winnerBy, flagged, raisedValues, raisedLoads, Room};
+ghost use Rattle.growth.specs.Tables.{tablesFrom, delayIn, winnerIn, delayBetween, winnerBy, flagged, raisedValues, raisedLoads, Room};
 ghost use Rattle.growth.specs.View.{wins, View, Growing, Shows, growthFrom, Small};
 ghost use Rattle.survey.specs.Laws.Refusal.{SurveySound};
 use limits::Verdict;
@@ -201,15 +198,6 @@ fn raise_loads(loads: &mut [u64], labels: &[u32], flags: &[u8], n: usize, d: u64
     }
 }
 
-// The components of two vertices become z.
-fn merge(labels: &mut [u32], a: u32, b: u32, z: u32)
-    ensures { λ r. ⌜ now (labels .exit) ≡ relabelled (getD (now (labels .entry)) a 0) (getD (now (labels .entry)) b 0) z (now (labels .entry)) ⌝ }
-{
-    let x = reads::at32(labels, reads::index32(a));
-    let y = reads::at32(labels, reads::index32(b));
-    survey::labels::relabel(labels, x, y, z);
-}
-
 // Edge e is the pick of round r.
 fn note_pick(picked: &mut [u8], order: &mut [u32], e: usize, r: usize)
     requires { ⌜ e < 2 ^ 32 ⌝ }
@@ -245,7 +233,7 @@ fn round(
     raise_values(values, &flags, d);
     raise_loads(loads, labels, &flags, groups.len(), d);
     let z = (groups.len() + r) as u32;
-    merge(labels, reads::at32(firsts, e), reads::at32(seconds, e), z);
+    survey::labels::merge(labels, reads::at32(firsts, e), reads::at32(seconds, e), z);
     note_pick(picked, order, e, r);
     true
 }

@@ -1,7 +1,7 @@
 -- A survey, its groups, and the Steiner forest problem that it poses (document 01, 'The survey and the plan').
 use Prim.Native.Nat.{ℕ}
 use mathlib.Core.Bool.{Bool, true, _&&_, _||_, not}
-use mathlib.Core.List.{List, []}
+use mathlib.Core.List.{[], List}
 use lib.ListN.{length, getD}
 use lib.Dec.{eqb}
 use Rattle.finite.specs.Below.{allBelow}

@@ -76,13 +76,21 @@ pub fn relabel(labels: &mut [u32], x: u32, y: u32, z: u32)
     }
 }
 
+// The components of two vertices become z.
+pub fn merge(labels: &mut [u32], first: u32, second: u32, z: u32)
+    ensures { λ r. ⌜ now (labels .exit) ≡ relabelled (getD (now (labels .entry)) first 0) (getD (now (labels .entry)) second 0) z (now (labels .entry)) ⌝ }
+{
+    let x = reads::at32(labels, reads::index32(first));
+    let y = reads::at32(labels, reads::index32(second));
+    relabel(labels, x, y, z);
+}
+
 // The components of two vertices become that of the first.
 fn join_ends(labels: &mut [u32], first: u32, second: u32)
     ensures { λ r. ⌜ now (labels .exit) ≡ endsJoined first second (now (labels .entry)) ⌝ }
 {
-    let x = reads::at32(labels, reads::index32(first));
-    let y = reads::at32(labels, reads::index32(second));
-    relabel(labels, x, y, x);
+    let z = reads::at32(labels, reads::index32(first));
+    merge(labels, first, second, z);
 }
 
 // The ends of edge e become linked, if it is in the set.

@@ -1,6 +1,6 @@
 -- `active_flags` meets its contract: after v vertices the flags say which components those make active.
 use Prim.Native.Nat.{_≤_, _-_}
-use mathlib.Core.Path.{_≡_, refl, ap, sym, _∙_}
+use mathlib.Core.Path.{_≡_, ap, sym, _∙_}
 use lib.ListN.{length, getD}
 use lib.Dec.{eqb}
 use Rattle.finite.specs.Below.{counted, tabulate}

@@ -1,5 +1,4 @@
 -- `better_of` meets its contract: each return by the variants and the test that led there.
-use mathlib.Core.Path.{_≡_, refl, ap, sym, _∙_}
 use borrow.Author.Tests.{lt-ltb, le-ltb}
 use Rattle.steiner.specs.Growth.{better}
 use Rattle.growth.specs.Tables.{delayIn, winnerIn}

@@ -1,8 +1,7 @@
 -- `delay_between` meets its contract: the labels decide, and then the loads.
-use mathlib.Core.Path.{_≡_, refl, ap, sym, _∙_}
+use mathlib.Core.Path.{sym, _∙_}
 use borrow.Author.Tests.{eq-eqb, ne-eqb}
 use lib.ListN.{getD}
-use Rattle.steiner.specs.Growth.{delayOf}
 use Rattle.growth.specs.Tables.{delayIn, delayBetween}
 use borrow.Author.Needs.{needs}
 use Rattle.growth.proofs.delay_between.Statement.{statement}

@@ -1,8 +1,8 @@
 -- `find_winner` meets its contract: after e edges it has the winner among the edges below e.
 use Prim.Native.Nat.{_≤_, _-_}
-use mathlib.Core.Path.{_≡_, refl, ap, sym, _∙_}
-use lib.ListN.{length, getD}
-use Rattle.growth.specs.Tables.{tablesFrom, delayBetween, delayBy, winnerIn, winnerBy}
+use mathlib.Core.Path.{_≡_, _∙_}
+use lib.ListN.{length}
+use Rattle.growth.specs.Tables.{tablesFrom, delayBy, winnerIn, winnerBy}
 use Rattle.growth.specs.Laws.Winner.{winner-none, winner-more, winner-end}
 use native.Mathlib.Omega.{arith}
 use borrow.Author.Needs.{needs}

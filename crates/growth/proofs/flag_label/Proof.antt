@@ -1,5 +1,4 @@
 -- `flag_label` meets its contract: a branch on the summary.
-use mathlib.Core.Path.{_≡_, refl, ap, sym, _∙_}
 use borrow.Author.Tests.{eq-eqb, ne-eqb}
 use Rattle.growth.specs.Tables.{flagged}
 use borrow.Author.Needs.{needs}

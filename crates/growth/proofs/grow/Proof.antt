@@ -1,5 +1,5 @@
 -- `grow` meets its contract: a survey that is not refused is sound.
-use mathlib.Core.Path.{_≡_, refl, ap, sym, _∙_}
+use mathlib.Core.Path.{sym, _∙_}
 use Rattle.limits.specs.Verdict.{written}
 use Rattle.survey.specs.Laws.Refusal.{fine-survey}
 use borrow.Author.Needs.{needs}

@@ -1,5 +1,5 @@
 -- `no_rounds` meets its contract: the arrays of the start.
-use mathlib.Core.Path.{_≡_, refl, ap, sym, _∙_}
+use mathlib.Core.Path.{refl, _∙_}
 use Rattle.limits.specs.Limits.{maxVertices, maxEdges, maxDuals}
 use Rattle.steiner.specs.Growth.{start, stateAt}
 use Rattle.survey.specs.Laws.Store.{remade-table, replicate-table}

@@ -1,6 +1,6 @@
 -- `raise_values` meets its contract: it stores at rising places.
 use Prim.Native.Nat.{_+_, _≤_, _-_}
-use mathlib.Core.Path.{_≡_, refl, ap, sym, _∙_}
+use mathlib.Core.Path.{_≡_, refl, ap, _∙_}
 use lib.ListN.{length, getD}
 use lib.Dec.{eqb}
 use Rattle.finite.specs.Below.{counted}

@@ -1,5 +1,5 @@
 -- `raised` meets its contract: a branch on the flag.
-use mathlib.Core.Path.{_≡_, refl, ap, sym, _∙_}
+use mathlib.Core.Path.{ap, sym}
 use borrow.Author.Tests.{eq-eqb, ne-eqb}
 use Rattle.finite.specs.Laws.Below.{counted-true, counted-false}
 use Prim.Native.Nat.{_+_}

@@ -1,5 +1,5 @@
 -- `round` meets its contract: the scan's winner is the round's, and the arrays after it are the next state.
-use mathlib.Core.Path.{_≡_, refl, ap, sym, _∙_}
+use mathlib.Core.Path.{ap, sym, _∙_}
 use Rattle.growth.specs.Tables.{winnerIn}
 use Rattle.growth.specs.View.{wins}
 use Rattle.growth.specs.Laws.View.{winner-is, winner-edge, values-room, loads-room, view-next, view-still}

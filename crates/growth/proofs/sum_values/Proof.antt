@@ -1,6 +1,6 @@
 -- `sum_values` meets its contract: it sums upwards.
 use Prim.Native.Nat.{_≤_, _-_, _^_}
-use mathlib.Core.Path.{_≡_, refl, ap, sym, _∙_}
+use mathlib.Core.Path.{_≡_, refl}
 use lib.ListN.{getD}
 use Rattle.finite.specs.Below.{sumBelow}
 use Rattle.survey.specs.Laws.Count.{sum-more, sum-end}

@@ -1,22 +1,22 @@
 -- The flags are 1 exactly at the active component numbers (001, Lemma 22.2, read for groups).
-use Prim.Native.Nat.{ℕ, zero, suc, _+_, _<_, _≤_}
+use Prim.Native.Nat.{ℕ, suc, _+_, _≤_}
 use native.Mathlib.Omega.{arith}
 use native.Mathlib.Numerals.{add-one}
 use mathlib.Core.Path.{_≡_, refl, ap, sym, _∙_}
-use mathlib.Core.Logic.{_⊎_, inl, inr, ⊎-elim}
+use mathlib.Core.Logic.{_⊎_, inl, inr}
 use mathlib.Core.Bool.{Bool, true, false, _&&_, _||_, cond, or-false}
 use mathlib.Core.List.{List}
-use lib.ListN.{length, getD, set}
+use lib.ListN.{getD, set}
 use lib.Dec.{eqb}
 use borrow.Author.Tests.{eq-eqb, ne-eqb}
 use Rattle.finite.specs.Below.{counted, anyBelow, tabulate}
-use Rattle.finite.specs.Laws.Below.{getD-tabulate, counted-true}
+use Rattle.finite.specs.Laws.Below.{counted-true}
 use Rattle.finite.specs.Laws.Test.{either, and-both, or-right}
-use Rattle.limits.specs.Limits.{maxDuals, groupNumbers}
+use Rattle.limits.specs.Limits.{maxDuals}
 use Rattle.steiner.specs.Growth.{active}
-use Rattle.survey.specs.Survey.{Survey, vertexCount, problemOf, groupsAlone}
-use Rattle.survey.specs.Spread.{spread, split}
-use Rattle.survey.specs.Laws.Spread.{active-split, split-read}
+use Rattle.survey.specs.Survey.{Survey, vertexCount, problemOf}
+use Rattle.survey.specs.Spread.{split}
+use Rattle.survey.specs.Laws.Spread.{active-split}
 use Rattle.survey.specs.Laws.Store.{tabulate-cong, set-table}
 use Rattle.growth.specs.Tables.{flagged}
 

@@ -1,11 +1,10 @@
 -- What an answer of `grow` shows of the definition's end: rounds, bound, values, picked edges and their order. Planning uses it.
-use Prim.Native.Nat.{ℕ, _+_, _<_, _≤_}
+use Prim.Native.Nat.{ℕ, _<_}
 use native.Mathlib.Omega.{arith}
 use mathlib.Core.Path.{_≡_, refl, ap, sym, _∙_}
 use lib.ListN.{length, getD}
-use lib.Dec.{ltb}
 use borrow.Author.Tests.{lt-ltb}
-use Rattle.finite.specs.Below.{counted, tabulate}
+use Rattle.finite.specs.Below.{counted}
 use Rattle.finite.specs.Laws.Below.{getD-tabulate, counted-true}
 use Rattle.limits.specs.Limits.{maxVertices, maxEdges, maxDuals}
 use Rattle.limits.specs.Verdict.{written}
@@ -16,7 +15,7 @@ use Rattle.steiner.specs.Laws.Round.{stateAt-reached}
 use Rattle.steiner.specs.Laws.Rounds.{rounds-lt}
 use Rattle.survey.specs.Survey.{Survey, vertexCount, problemOf}
 use Rattle.survey.specs.Refusal.{surveyRefusal}
-use Rattle.survey.specs.Laws.Refusal.{SurveySound, survey-sound, fine-survey}
+use Rattle.survey.specs.Laws.Refusal.{SurveySound, survey-sound}
 use Rattle.growth.specs.declared.Growth.{Growth}
 use Rattle.growth.specs.View.{edgeOf, turn, Shows}
 

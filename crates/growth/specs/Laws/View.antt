@@ -4,21 +4,19 @@ use Prim.Native.Nat.{ℕ, zero, suc, _+_, _*_, _-_, _<_, _≤_, _^_}
 use native.Mathlib.Omega.{arith}
 use native.Mathlib.Numerals.{add-one}
 use native.Mathlib.Nat.{add-zero, add-suc}
-use native.Mathlib.Decide.{ℕ-discrete}
 use mathlib.Core.Path.{_≡_, refl, ap, sym, _∙_}
-use mathlib.Core.Logic.{_⊎_, inl, inr, ⊎-elim}
-use mathlib.Core.Bool.{Bool, true, false, _&&_, _||_, not, cond, or-false}
+use mathlib.Core.Logic.{_⊎_, inl, inr}
+use mathlib.Core.Bool.{Bool, true, false, _||_, not, cond, or-false}
 use mathlib.Core.List.{List}
 use lib.ListN.{length, getD, set, List·getD-eq-default}
 use lib.Dec.{eqb, ltb}
-use borrow.Author.Tests.{eq-eqb, ne-eqb, lt-ltb, le-ltb}
+use borrow.Author.Tests.{ne-eqb, lt-ltb, le-ltb}
 use Rattle.finite.specs.Below.{counted, sumBelow, tabulate}
 use Rattle.finite.specs.Laws.Below.{sum-cong, sum-le, sum-const, sum-zero, length-tabulate, getD-tabulate, counted-true, counted-false, lt-or-ge}
-use Rattle.finite.specs.Laws.Test.{either}
 use Rattle.graph.specs.Component.{merged}
 use Rattle.limits.specs.Limits.{maxVertices, maxEdges, maxWeight, maxDuals}
 use Rattle.steiner.specs.Problem.{Problem, Sound, separates}
-use Rattle.steiner.specs.Growth.{State, active, numbers, load, slack, delayOf, delay, Winner, nobody, edge, better, winnerBelow, winner, start, pick, stateAt}
+use Rattle.steiner.specs.Growth.{active, numbers, load, slack, delay, Winner, nobody, edge, winnerBelow, winner, start, pick, stateAt}
 use Rattle.steiner.specs.Pruning.{dualBound}
 use Rattle.growth.specs.declared.Growth.{Growth}
 use Rattle.steiner.specs.Laws.Joined.{separates-cong}
@@ -27,12 +25,12 @@ use Rattle.steiner.specs.Laws.Rounds.{rounds-lt, stateAt-pick, stateAt-still, d
 use Rattle.steiner.specs.Laws.Partition.{label-below, winner-below}
 use Rattle.steiner.specs.Laws.Feasible.{load-start}
 use Rattle.steiner.specs.Laws.Weighed.{load-pick}
-use Rattle.survey.specs.Survey.{Survey, surveyFrom, groupsAlone, vertexCount, edgeCount, sameGroup, member, problemOf}
+use Rattle.survey.specs.Survey.{Survey, groupsAlone, vertexCount, edgeCount, sameGroup, member, problemOf}
 use Rattle.survey.specs.Labels.{relabelled}
-use Rattle.survey.specs.Laws.Refusal.{SurveySound, EdgeSound, survey-sound}
+use Rattle.survey.specs.Laws.Refusal.{SurveySound, survey-sound}
 use Rattle.survey.specs.Laws.Store.{tabulate-cong, set-table, remade-table, remade-part}
 use Rattle.survey.specs.Laws.Labels.{relabelled-table}
-use Rattle.growth.specs.Tables.{Tables, tablesFrom, delayBetween, delayBy, winnerBy, raisedValues, raisedLoads, Room}
+use Rattle.growth.specs.Tables.{tablesFrom, delayBetween, delayBy, winnerBy, raisedValues, raisedLoads, Room}
 use Rattle.growth.specs.View.{edgeOf, wins, turn, View, Growing, Small, growthFrom, Shows}
 
 -- A flag of 1 stands for the test.

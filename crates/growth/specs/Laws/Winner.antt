@@ -1,8 +1,8 @@
 -- The winner that a scan over tables finds.
-use Prim.Native.Nat.{ℕ, zero, suc, _+_, _≤_}
+use Prim.Native.Nat.{ℕ, _+_, _≤_}
 use native.Mathlib.Omega.{arith}
 use native.Mathlib.Numerals.{add-one}
-use mathlib.Core.Path.{_≡_, refl, ap, sym, _∙_}
+use mathlib.Core.Path.{_≡_, refl, _∙_}
 use Rattle.steiner.specs.Growth.{Delay, Winner, nobody, better}
 use Rattle.growth.specs.Tables.{Tables, delayBy, winnerBy}
 

@@ -1,9 +1,9 @@
 -- `edges_refusal` meets its contract: while it runs, no track below e has anything wrong.
 use Prim.Native.Nat.{_≤_, _-_}
-use mathlib.Core.Path.{_≡_, refl, sym, ap, _∙_}
+use mathlib.Core.Path.{_≡_, refl, sym, _∙_}
 use lib.ListN.{length}
 use Rattle.limits.specs.Verdict.{lowestBelow}
-use Rattle.limits.specs.declared.Verdict.the-variants.{Fine, Refused}
+use Rattle.limits.specs.declared.Verdict.the-variants.{Fine}
 use Rattle.limits.specs.Laws.Verdict.{lowest-more, lowest-found, lowest-end}
 use Rattle.survey.specs.Survey.{surveyFrom, edgeCount}
 use Rattle.survey.specs.Refusal.{edgeRefusal}

@@ -1,9 +1,9 @@
 -- Counts and sums that a loop gathers upwards.
-use Prim.Native.Nat.{ℕ, zero, suc, _+_, _<_, _≤_}
+use Prim.Native.Nat.{ℕ, _+_, _≤_}
 use native.Mathlib.Omega.{arith}
 use native.Mathlib.Numerals.{add-one}
-use mathlib.Core.Path.{_≡_, refl, ap, sym, _∙_}
-use mathlib.Core.Bool.{Bool, true, false}
+use mathlib.Core.Path.{_≡_}
+use mathlib.Core.Bool.{Bool}
 use Rattle.finite.specs.Below.{counted, sumBelow, countBelow}
 use Rattle.finite.specs.Laws.Below.{count-le, counted-le}
 

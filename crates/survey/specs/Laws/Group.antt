@@ -1,26 +1,25 @@
 -- Groups: what it is that a set of tracks joins a group, by paths; the lowest group that is not joined; and a group cannot be joined by all tracks
 -- exactly if no set of tracks joins it (document 01, 'The survey and the plan'; refusals 8 and 14).
 use Prim.Native.Nat.{ℕ, _<_}
-use mathlib.Core.Path.{_≡_, refl, ap, sym, _∙_, subst}
-use mathlib.Core.Logic.{_⊎_, inl, inr, ⊎-elim, _↔_}
+use mathlib.Core.Path.{_≡_, refl, sym, subst}
+use mathlib.Core.Logic.{⊎-elim, _↔_}
 use mathlib.Core.Bool.{Bool, true, false, _&&_, _||_, not}
-use native.Mathlib.Omega.{arith}
 use lib.ListN.{getD}
-use lib.Dec.{eqb, ltb}
-use borrow.Author.Tests.{eqb-true, eqb-false, eq-eqb, lt-ltb, not-true, not-false}
+use lib.Dec.{eqb}
+use borrow.Author.Tests.{eqb-true, eq-eqb, not-true, not-false}
 use Rattle.finite.specs.Below.{allBelow}
 use Rattle.finite.specs.Laws.Test.{either, and-left, and-right, and-both, or-cases, or-left, or-right, not-of-false, true-not-false}
 use Rattle.finite.specs.Laws.Below.{all-intro, all-elim}
 use Rattle.graph.specs.Path.{Linked}
 use Rattle.graph.specs.Laws.Linked.{linked-mono}
 use Rattle.limits.specs.Limits.{groupNumbers}
-use Rattle.limits.specs.Verdict.{refuseIf, lowestBelow}
+use Rattle.limits.specs.Verdict.{refuseIf}
 use Rattle.limits.specs.declared.Verdict.the-variants.{Fine, Refused}
 use Rattle.limits.specs.Laws.Verdict.{lowest-none, none-lowest, refuse-false, fine-refuse, Lowest, lowest-elim, refused-refuse}
 use Rattle.steiner.specs.Problem.{EdgeSet, Joins, allUsable}
 use Rattle.steiner.specs.Laws.Joined.{Bounded, label-linked, linked-label}
 use Rattle.steiner.specs.Laws.Finish.{allUsable-all, allUsable-edges}
-use Rattle.survey.specs.Survey.{Survey, vertexCount, edgeCount, member, sameGroup, problemOf, groupJoined, componentsOf}
+use Rattle.survey.specs.Survey.{Survey, vertexCount, member, sameGroup, problemOf, groupJoined, componentsOf}
 use Rattle.survey.specs.Refusal.{groupRefusal}
 
 -- Any two members of group g are linked by tracks of F.

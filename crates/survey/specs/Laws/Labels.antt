@@ -18,7 +18,6 @@ use Rattle.limits.specs.Verdict.{refuseIf, lowestBelow}
 use Rattle.limits.specs.Laws.Verdict.{lowest-cong}
 use Rattle.survey.specs.Survey.{Survey, vertexCount, edgeCount, member, groupJoined, groupsAlone, componentsOf, problemOf}
 use Rattle.survey.specs.Refusal.{groupRefusal}
-use Rattle.survey.specs.Store.{remade}
 use Rattle.survey.specs.Labels.{relabelled, endsJoined}
 use Rattle.survey.specs.Laws.Store.{remade-table, tabulate-cong}
 

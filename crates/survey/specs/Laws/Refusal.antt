@@ -2,19 +2,17 @@
 -- The code's decisions and every caller that has seen `Fine` use it.
 use Prim.Native.Nat.{ℕ, _<_, _≤_}
 use native.Mathlib.Omega.{arith}
-use mathlib.Core.Path.{_≡_, refl, sym, _∙_}
-use mathlib.Core.Logic.{⊎-elim}
-use mathlib.Core.Bool.{Bool, true, false, _&&_, _||_, not, true≢false}
+use mathlib.Core.Path.{_≡_, sym, _∙_}
+use mathlib.Core.Bool.{true, false, _&&_, _||_, not}
 use lib.ListN.{length, getD}
 use lib.Dec.{eqb, ltb, leb}
 use borrow.Author.Tests.{eq-eqb, ne-eqb, le-leb, lt-leb, le-ltb, lt-ltb, eqb-true, eqb-false, ltb-false, leb-false, not-false}
-use Rattle.finite.specs.Laws.Test.{and-left, and-right, and-both, or-cases, or-left, or-right, or-false-left, or-false-right, not-of-false, not-true-false}
+use Rattle.finite.specs.Laws.Test.{and-left, and-right, and-both, or-false-left, or-false-right, not-of-false, not-true-false}
 use Rattle.limits.specs.Limits.{maxVertices, maxEdges, maxWeight}
 use Rattle.limits.specs.Verdict.{refuseIf, _before_, lowestBelow}
-use Rattle.limits.specs.declared.Verdict.{Verdict}
 use Rattle.limits.specs.declared.Verdict.the-variants.{Fine, Refused}
 use Rattle.limits.specs.Laws.Verdict.{before-fine, before-refused, fine-left, fine-right, refuse-true, refuse-false, fine-refuse, lowest-none, none-lowest}
-use Rattle.steiner.specs.Problem.{Problem, Sound}
+use Rattle.steiner.specs.Problem.{Sound}
 use Rattle.survey.specs.Survey.{Survey, vertexCount, edgeCount, member, sameGroup, problemOf}
 use Rattle.survey.specs.Refusal.{edgeRefusal, surveyRefusal}
 

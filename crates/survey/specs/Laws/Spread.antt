@@ -8,16 +8,16 @@ use mathlib.Core.Path.{_≡_, refl, ap, sym, _∙_}
 use mathlib.Core.Logic.{_⊎_, inl, inr, ⊎-elim}
 use mathlib.Core.Bool.{Bool, true, false, _&&_, _||_, not, cond, Bool·not-not}
 use mathlib.Core.List.{List}
-use lib.ListN.{length, getD, set}
+use lib.ListN.{getD, set}
 use lib.Dec.{eqb}
 use borrow.Author.Tests.{eq-eqb, ne-eqb, eqb-true, eqb-false, not-true}
-use Rattle.finite.specs.Below.{counted, countBelow, anyBelow, allBelow, tabulate}
+use Rattle.finite.specs.Below.{countBelow, anyBelow, allBelow, tabulate}
 use Rattle.finite.specs.Laws.Below.{below-suc, any-intro, any-elim, any-cong, all-intro, all-elim, Found, getD-tabulate, count-cong}
-use Rattle.finite.specs.Laws.Test.{either, and-left, and-right, and-both, or-cases, or-left, or-right, same-test, not-of-false, true-not-false, not-true-false}
+use Rattle.finite.specs.Laws.Test.{either, and-left, and-right, and-both, or-right, same-test, not-of-false, true-not-false, not-true-false}
 use Rattle.limits.specs.Limits.{groupNumbers}
 use Rattle.limits.specs.Verdict.{refuseIf, lowestBelow}
 use Rattle.limits.specs.Laws.Verdict.{lowest-cong}
-use Rattle.steiner.specs.Problem.{Problem, separates, terminal, terminals}
+use Rattle.steiner.specs.Problem.{separates, terminal, terminals}
 use Rattle.steiner.specs.Growth.{active}
 use Rattle.survey.specs.Survey.{Survey, vertexCount, member, sameGroup, problemOf, groupJoined}
 use Rattle.survey.specs.Spread.{noted, spread, split, notedIn}

@@ -1,6 +1,6 @@
 -- `count_split` meets its contract: it counts upwards.
 use Prim.Native.Nat.{_≤_, _-_}
-use mathlib.Core.Path.{_≡_, refl, ap, sym, _∙_}
+use mathlib.Core.Path.{_≡_, refl}
 use lib.ListN.{length, getD}
 use lib.Dec.{eqb}
 use Rattle.finite.specs.Below.{counted, countBelow}

@@ -1,6 +1,6 @@
 -- `note` meets its contract: no group, no change; else one store.
 use borrow.Author.Tests.{eq-eqb, ne-eqb}
-use Rattle.survey.specs.Spread.{noted, notedIn}
+use Rattle.survey.specs.Spread.{notedIn}
 use borrow.Author.Needs.{needs}
 use Rattle.survey.proofs.groups.note.Statement.{statement}
 use Rattle.survey.proofs.groups.note.Tie as tie

@@ -1,5 +1,4 @@
 -- `noted_label` meets its contract: each return by the tests that led there.
-use mathlib.Core.Path.{sym}
 use borrow.Author.Tests.{eq-eqb, ne-eqb}
 use Rattle.finite.specs.Laws.Test.{or-right}
 use Rattle.survey.specs.Spread.{noted}

@@ -1,5 +1,5 @@
 -- `split_refusal` meets its contract: the lowest split group is the lowest that is not joined.
-use mathlib.Core.Path.{_≡_, refl, ap, sym, _∙_}
+use mathlib.Core.Path.{ap, sym, _∙_}
 use lib.ListN.{length}
 use Rattle.finite.specs.Laws.Below.{length-tabulate}
 use Rattle.limits.specs.Limits.{groupNumbers}

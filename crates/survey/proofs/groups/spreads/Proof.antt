@@ -1,6 +1,6 @@
 -- `spreads` meets its contract: after v vertices the table holds the groups over the vertices below v.
 use Prim.Native.Nat.{_≤_, _-_}
-use mathlib.Core.Path.{_≡_, refl, ap, sym, _∙_}
+use mathlib.Core.Path.{_≡_, ap, sym, _∙_}
 use lib.ListN.{length, getD}
 use Rattle.finite.specs.Below.{tabulate}
 use Rattle.finite.specs.Laws.Below.{length-tabulate}

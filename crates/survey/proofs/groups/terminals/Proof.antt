@@ -1,5 +1,5 @@
 -- `terminals` meets its contract: the vertices of split groups, each with its own label, are the terminals.
-use mathlib.Core.Path.{_≡_, refl, ap, sym, _∙_}
+use mathlib.Core.Path.{ap, sym, _∙_}
 use lib.ListN.{length}
 use Rattle.finite.specs.Laws.Below.{length-tabulate}
 use Rattle.limits.specs.Limits.{groupNumbers}

@@ -1,5 +1,5 @@
 -- `group_refusal` meets its contract: a sound survey has labels for every end, and the labels decide.
-use mathlib.Core.Path.{_≡_, refl, ap, sym, _∙_}
+use mathlib.Core.Path.{refl, ap, sym, _∙_}
 use lib.ListN.{length}
 use Rattle.finite.specs.Laws.Below.{length-tabulate}
 use Rattle.limits.specs.Limits.{maxVertices}

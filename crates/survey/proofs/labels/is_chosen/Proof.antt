@@ -1,5 +1,4 @@
 -- `is_chosen` meets its contract: an arm for each set.
-use mathlib.Core.Path.{_≡_, refl, ap, sym, _∙_}
 use Rattle.survey.specs.Labels.{chosenMark}
 use borrow.Author.Needs.{needs}
 use Rattle.survey.proofs.labels.is_chosen.Statement.{statement}

@@ -1,6 +1,6 @@
 -- `join_edge` meets its contract: a branch on whether the edge is in the set.
-use mathlib.Core.Path.{_≡_, refl, ap, sym, _∙_}
-use Rattle.survey.specs.Labels.{chosenMark, chosen, endsJoined}
+use mathlib.Core.Path.{_∙_}
+use Rattle.survey.specs.Labels.{chosen}
 use borrow.Author.Needs.{needs}
 use Rattle.survey.proofs.labels.join_edge.Statement.{statement}
 use Rattle.survey.proofs.labels.join_edge.Tie as tie

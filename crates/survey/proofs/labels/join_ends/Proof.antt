@@ -1,6 +1,5 @@
--- `join_ends` meets its contract: the two labels are read, then relabelled.
-use mathlib.Core.Path.{_≡_, refl, ap, sym, _∙_}
-use Rattle.survey.specs.Labels.{relabelled, endsJoined}
+-- `join_ends` meets its contract: the label of the first is read, and the two are merged into it.
+use Rattle.survey.specs.Labels.{endsJoined}
 use borrow.Author.Needs.{needs}
 use Rattle.survey.proofs.labels.join_ends.Statement.{statement}
 use Rattle.survey.proofs.labels.join_ends.Tie as tie
@@ -11,14 +10,8 @@ index32-requires c κs = search needs
 at32-requires : tie.Need-at32-requires
 at32-requires c κs = search needs
 
-index32-requires-2 : tie.Need-index32-requires-2
-index32-requires-2 c κs = search needs
-
-at32-requires-2 : tie.Need-at32-requires-2
-at32-requires-2 c κs = search needs
-
-relabel-requires : tie.Need-relabel-requires
-relabel-requires c κs = search needs
+merge-requires : tie.Need-merge-requires
+merge-requires c κs = search needs
 
 same-length : tie.Need-same-length
 same-length c = search needs
@@ -29,12 +22,4 @@ returns c = cc
 
 pub join-ends-spec : {M : Type 1} → statement M
 join-ends-spec =
-    tie.close
-    (tie.spec
-    index32-requires
-    at32-requires
-    index32-requires-2
-    at32-requires-2
-    relabel-requires
-    same-length
-    returns)
+    tie.close (tie.spec index32-requires at32-requires merge-requires same-length returns)

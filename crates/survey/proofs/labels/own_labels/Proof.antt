@@ -1,6 +1,6 @@
 -- `own_labels` meets its contract: it stores at rising places.
 use Prim.Native.Nat.{_≤_, _-_}
-use mathlib.Core.Path.{_≡_, refl, ap, sym, _∙_}
+use mathlib.Core.Path.{_≡_, refl, ap, _∙_}
 use lib.ListN.{length}
 use Rattle.limits.specs.Limits.{maxVertices}
 use Rattle.survey.specs.Store.{remade}

@@ -1,8 +1,7 @@
 -- `merge` meets its contract: the two labels are read, then relabelled.
-use mathlib.Core.Path.{_≡_, refl, ap, sym, _∙_}
 use borrow.Author.Needs.{needs}
-use Rattle.growth.proofs.merge.Statement.{statement}
-use Rattle.growth.proofs.merge.Tie as tie
+use Rattle.survey.proofs.labels.merge.Statement.{statement}
+use Rattle.survey.proofs.labels.merge.Tie as tie
 
 index32-requires : tie.Need-index32-requires
 index32-requires c κs = search needs
