@@ -3,5 +3,4 @@ pub mod Accuracy
 pub mod Scan
 pub mod Refusal
 pub mod Duals
-pub mod Cut
 pub mod Stage

@@ -14,6 +14,7 @@ ghost use Rattle.survey.specs.Survey.{surveyFrom, groupsAlone, problemOf};
 ghost use Rattle.checker.specs.Check.{dualAt, dualsIn, dualRefusal};
 ghost use Rattle.checker.specs.Stage.{dualOf, feltBetween, DualsFit};
 use limits::MAX_VALUE;
+use limits::MEMBER_BYTES;
 use limits::RECORD_BYTES;
 use limits::Verdict;
 
@@ -32,7 +33,7 @@ fn has_stray(part: &[u8], n: usize) -> bool
     ensures { λ r. ⌜ r ≡ anyBelow (8 * memberBytes) (λ v. leb n v && memberIn (now (part .entry)) v) ⌝ }
 {
     let mut v = 0;
-    while v < 256 {
+    while v < 8 * MEMBER_BYTES {
         if is_stray(part, n, v) {
             return true;
         }

@@ -110,10 +110,8 @@ counts-fit s marks records sound fit =
       bound-small = weigh-limit records fit (λ S. true);
     }
 
-pub bound-product : {terminals cost bound : ℕ} → CountsFit terminals cost bound → (terminals - 1) * bound < 2 ^ 64
-bound-product {terminals} {cost} {bound} h =
-    let few : terminals - 1 ≤ maxVertices = omega arith in
-    omega (arith, mul-le-mul few (h .bound-small))
-
-pub cost-product : {terminals cost bound : ℕ} → CountsFit terminals cost bound → terminals * cost < 2 ^ 64
-cost-product h = omega (arith, mul-le-mul (h .terminals-few) (h .cost-small))
+-- The product of a count of vertices and of a sum within these limits.
+pub product-fits : {a b : ℕ} → a ≤ maxVertices → b < 2 ^ 48 → a * b < 2 ^ 64
+product-fits {a} {b} h k =
+    let l : b ≤ 2 ^ 48 = omega arith in
+    omega (arith, mul-le-mul h l)

@@ -7,7 +7,7 @@ use Rattle.finite.specs.Laws.Below.{getD-tabulate}
 use Rattle.limits.specs.Limits.{maxVertices}
 use Rattle.records.specs.Record.{memberIn}
 use Rattle.survey.specs.Survey.{groupsAlone}
-use Rattle.checker.specs.Laws.Cut.{cut-refused, cut-fine}
+use Rattle.survey.specs.Laws.Cut.{cut-refused, cut-fine}
 use Rattle.checker.proofs.cuts.cut_refusal.Statement.{statement}
 use Rattle.checker.proofs.cuts.cut_refusal.Tie as tie
 

@@ -5,6 +5,7 @@ use mathlib.Core.Path.{_≡_, refl}
 use lib.ListN.{length-replicate}
 use borrow.Author.Needs.{needs}
 use Rattle.finite.specs.Below.{counted}
+use Rattle.limits.specs.Limits.{maxVertices}
 use Rattle.records.specs.Record.{memberIn}
 use Rattle.survey.specs.Laws.Store.{remade-more}
 use Rattle.survey.specs.Store.{remade}
@@ -13,10 +14,10 @@ use Rattle.checker.proofs.cuts.sides.Statement.{statement}
 use Rattle.checker.proofs.cuts.sides.Tie as tie
 
 abbrev Inv-loop : tie.InvT-loop
-Inv-loop part labels₀ v₀ labels v = (v ≤ 256) × (labels ≡ remade (λ v x. counted (memberIn part v) 1) v labels₀)
+Inv-loop part labels₀ v₀ labels v = (v ≤ maxVertices) × (labels ≡ remade (λ v x. counted (memberIn part v) 1) v labels₀)
 
 abbrev μ-loop : tie.MeasureT-loop
-μ-loop part labels₀ v₀ labels v = 256 - v
+μ-loop part labels₀ v₀ labels v = maxVertices - v
 
 loop-holds : tie.Need-loop-holds Inv-loop μ-loop
 unfolding remade
@@ -41,7 +42,7 @@ loop-again : tie.Need-loop-again Inv-loop μ-loop
 loop-again c = (omega arith, remade-more _ _ _ _ _ (c .before .before .loop .inv .1) (c .side .ensures))
 
 returns : tie.Need-returns Inv-loop μ-loop
-returns c = remade-end _ 256 (c .before .loop .v) _ _ (omega arith) (omega arith) (length-replicate {A = ℕ} 256 0) (λ k b. refl) (c .before .loop .inv .1)
+returns c = remade-end _ maxVertices (c .before .loop .v) _ _ (omega arith) (omega arith) (length-replicate {A = ℕ} maxVertices 0) (λ k b. refl) (c .before .loop .inv .1)
 
 pub sides-spec : {M : Type 1} → statement M
 sides-spec =

@@ -1,5 +1,5 @@
 -- `has_stray` meets its contract: while it runs, nothing below v is stray.
-use Prim.Native.Nat.{_≤_, _-_}
+use Prim.Native.Nat.{_≤_, _-_, _*_}
 use native.Mathlib.Omega.{arith}
 use mathlib.Core.Path.{_≡_, refl, sym, _∙_}
 use mathlib.Core.Bool.{_&&_, false}
@@ -7,20 +7,24 @@ use lib.Dec.{leb}
 use borrow.Author.Needs.{needs}
 use Rattle.finite.specs.Below.{anyBelow}
 use Rattle.finite.specs.Laws.Below.{any-intro}
+use Rattle.limits.specs.Limits.{memberBytes}
 use Rattle.records.specs.Record.{memberIn}
 use Rattle.checker.specs.Laws.Scan.{any-more, any-end}
 use Rattle.checker.proofs.duals.has_stray.Statement.{statement}
 use Rattle.checker.proofs.duals.has_stray.Tie as tie
 
 abbrev Inv-loop : tie.InvT-loop
-Inv-loop part n v₀ v = (v ≤ 256) × (anyBelow v (λ v. leb n v && memberIn part v) ≡ false)
+Inv-loop part n v₀ v = (v ≤ 8 * memberBytes) × (anyBelow v (λ v. leb n v && memberIn part v) ≡ false)
 
 abbrev μ-loop : tie.MeasureT-loop
-μ-loop part n v₀ v = 256 - v
+μ-loop part n v₀ v = 8 * memberBytes - v
 
 loop-holds : tie.Need-loop-holds Inv-loop μ-loop
 unfolding anyBelow
 loop-holds c = (omega arith, refl)
+
+mul-loop : tie.Need-mul-loop Inv-loop μ-loop
+mul-loop c = search needs
 
 is-stray-requires : tie.Need-is-stray-requires Inv-loop μ-loop
 is-stray-requires c κs = search needs
@@ -47,6 +51,7 @@ has-stray-spec =
     Inv-loop
     μ-loop
     loop-holds
+    mul-loop
     is-stray-requires
     returns
     add-v

@@ -1,8 +1,9 @@
 -- `rule_refusal` meets its contract: each return by the law of its case; the products fit.
+use native.Mathlib.Omega.{arith}
 use mathlib.Core.Path.{sym}
 use borrow.Author.Needs.{needs}
 use Rattle.checker.specs.Laws.Refusal.{rule-none, rule-cost, rule-exceeded, rule-met}
-use Rattle.checker.specs.Laws.Duals.{bound-product, cost-product}
+use Rattle.checker.specs.Laws.Duals.{product-fits}
 use Rattle.checker.proofs.rule.rule_refusal.Statement.{statement}
 use Rattle.checker.proofs.rule.rule_refusal.Tie as tie
 
@@ -16,10 +17,10 @@ sub-if3 : tie.Need-sub-if3
 sub-if3 c = search needs
 
 mul-if3 : tie.Need-mul-if3
-mul-if3 c = record { fits = bound-product (c .before .pre) }
+mul-if3 c = record { fits = product-fits (omega arith) (omega arith) }
 
 mul-if3-2 : tie.Need-mul-if3-2
-mul-if3-2 c = record { fits = cost-product (c .before .pre) }
+mul-if3-2 c = record { fits = product-fits (omega arith) (omega arith) }
 
 returns-3 : tie.Need-returns-3
 returns-3 c = sym (rule-exceeded _ (c .before .if1 .left) (c .if3 .taken))
