@@ -100,17 +100,7 @@ length-dual x S = by (ℕ-discrete x 0)
 pub length-duals : (value : ℕ → ℕ) (holds : ℕ → ℕ → Bool) (c : ℕ) → length (dualsBelow value holds c) ≤ c
 unfolding dualsBelow
 length-duals value holds zero = omega arith
-length-duals value holds (suc c) =
-    omega (arith, length-append (dualsBelow value holds c) (dualIf (value c) (holds c)), length-dual (value c) (holds c), length-duals value holds c)
-
-pub duals-cong : (value value' : ℕ → ℕ) (holds holds' : ℕ → ℕ → Bool) (n : ℕ) → ((c : ℕ) → c < n → value c ≡ value' c) → ((c : ℕ) → c < n → holds c ≡ holds' c) →
-    dualsBelow value holds n ≡ dualsBelow value' holds' n
-unfolding dualsBelow
-duals-cong value value' holds holds' zero f g = refl
-duals-cong value value' holds holds' (suc n) f g =
-    ap₂ (λ ds es. ds ++ es)
-    (duals-cong value value' holds holds' n (λ c b. f c (omega arith)) (λ c b. g c (omega arith)))
-    (ap₂ dualIf (f n (omega arith)) (g n (omega arith)))
+length-duals value holds (suc c) = simp length-append (omega (arith, length-dual (value c) (holds c), length-duals value holds c))
 
 -- ---- drawing
 
@@ -129,7 +119,7 @@ drawn-more value holds c {x} {S} {old} {mid} {new} {k} e f d a b =
     let same : dualIf x S ≡ es = ap₂ dualIf e f in
     rw (add-one c)
     (record {
-      counted = omega (arith, d .counted, length-append ds es, ap length same);
+      counted = simp length-append (omega (arith, d .counted, ap length same));
       written = b ∙ ap (λ l. recordsFrom k l mid) same ∙ rw (d .counted, d .written) (over-more ds es old);
     })
 

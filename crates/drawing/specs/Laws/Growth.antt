@@ -3,7 +3,7 @@
 use Prim.Native.Nat.{ℕ, zero, suc, _+_, _*_, _-_, _≤_, _<_}
 use native.Mathlib.Omega.{arith}
 use native.Mathlib.Nat.{add-suc}
-use mathlib.Core.Path.{_≡_, refl, ap, sym, _∙_, subst, fun-ext}
+use mathlib.Core.Path.{_≡_, refl, ap, ap₂, sym, _∙_, subst, fun-ext}
 use mathlib.Core.Bool.{Bool, true, false, _&&_, cond}
 use mathlib.Core.Logic.{⊎-elim}
 use mathlib.Core.List.{List, [], _∷_, _++_, map, map-append}
@@ -25,7 +25,6 @@ use Rattle.steiner.specs.Laws.Rounds.{stateAt-pick, stateAt-still, steps-or-sti
 use Rattle.steiner.specs.Laws.Dual.{dualOf}
 use Rattle.drawing.specs.Drawing.{dualIf, dualsBelow}
 use Rattle.drawing.specs.Trace.{Trace, endOf, traceFrom, labelAfter, memberOf, dualsIn, Drawable, Traces}
-use Rattle.drawing.specs.Laws.Drawing.{duals-cong}
 
 -- ---- rounds
 
@@ -149,6 +148,15 @@ made-holds p ok r v b bv = by (picks p r b)
         (members p ok (stateAt-reached p (suc r)) (p .first (k .e)) v (ok .first-below (k .e) (winner-below p s (k .e) (k .d) (k .wins))) bv)
 
 -- ---- the duals
+
+duals-cong : (value value' : ℕ → ℕ) (holds holds' : ℕ → ℕ → Bool) (n : ℕ) → ((c : ℕ) → c < n → value c ≡ value' c) → ((c : ℕ) → c < n → holds c ≡ holds' c) →
+    dualsBelow value holds n ≡ dualsBelow value' holds' n
+unfolding dualsBelow
+duals-cong value value' holds holds' zero f g = refl
+duals-cong value value' holds holds' (suc n) f g =
+    ap₂ (λ ds es. ds ++ es)
+    (duals-cong value value' holds holds' n (λ c b. f c (omega arith)) (λ c b. g c (omega arith)))
+    (ap₂ dualIf (f n (omega arith)) (g n (omega arith)))
 
 -- The duals of component numbers as the definition lists them.
 duals-map : (s : State) (n : ℕ) → dualsBelow (s .value) (s .holds) n ≡ map (dualOf s) (thoseBelow n (λ c. ltb 0 (s .value c)))
