@@ -1,5 +1,4 @@
 -- What an arm of a `match` or the `else` of a `let` says of the enum: which constructors it can be.
-use Prim.Native.Nat.{ℕ}
 use native.Mathlib.Omega.{arith}
 use mathlib.Core.Path.{_≡_, refl}
 use mathlib.Core.Bool.{false}
@@ -11,7 +10,6 @@ use Rattle.text.specs.Number.{isDigit}
 use Rattle.text.specs.declared.Class.{Class}
 use Rattle.text.specs.declared.Class.the-variants.{Digit, LineEnd, Comma, Other}
 use Rattle.text.specs.declared.Number.{Number}
-use Rattle.text.specs.declared.Number.the-variants.{Value, Refused}
 use Rattle.text.proofs.Class as class
 use Rattle.text.proofs.Number as number
 
@@ -21,7 +19,3 @@ no-digit Digit e = absurd (⊎-elim (λ z. omega arith) (λ e. ⊎-elim (λ z. o
 no-digit LineEnd e = refl
 no-digit Comma e = refl
 no-digit Other e = refl
-
-pub number-refused : (r : Number) → tagOf number.the-type r ≡ 1 → (n : ℕ) × (p : ℕ) × (r ≡ Refused n p)
-number-refused (Value v next) e = absurd (omega arith)
-number-refused (Refused n p) e = (n, p, refl)

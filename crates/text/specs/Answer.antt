@@ -6,7 +6,6 @@ use lib.Seq.{sets}
 use Rattle.limits.specs.Verdict.{Outcome, refusal, answer}
 use Rattle.text.specs.Step.{Step, found, refused}
 use Rattle.text.specs.Reading.{Edge, Counts, Body, Survey, reading, filled, firstsOf, secondsOf, weightsOf}
-use Rattle.text.specs.declared.Cursor.{Cursor}
 use Rattle.text.specs.declared.Number.{Number}
 use Rattle.text.specs.declared.Number.the-variants.{Value, Refused}
 use Rattle.text.specs.declared.EdgeLine.{EdgeLine}

@@ -1,7 +1,7 @@
 -- Reading a survey text (document 01, 'Survey text and printed plan', and 1, 3, 7, 16 and 17 of 'Refused surveys and plans').
-use Prim.Native.Nat.{ℕ, zero, suc, _+_}
-use mathlib.Core.Bool.{Bool, _||_, cond}
-use mathlib.Core.List.{List, [], _∷_, _++_, map}
+use Prim.Native.Nat.{ℕ}
+use mathlib.Core.Bool.{_||_, cond}
+use mathlib.Core.List.{List, _++_, map}
 use lib.ListN.{length, drop}
 use lib.Dec.{eqb, ltb, leb}
 use Rattle.limits.specs.Limits.{maxVertices, maxEdges, groupNumbers, maxDigits}

@@ -1,7 +1,6 @@
 -- `text::body` meets its contract: a refusal of the group lines leaves the other buffers, and the end of the text is looked for last.
-use native.Mathlib.Omega.{arith}
 use borrow.Author.Needs.{needs}
-use mathlib.Core.Path.{_≡_, refl, ap, sym, _∙_}
+use mathlib.Core.Path.{refl, ap, sym, _∙_}
 use Rattle.text.specs.Answer.{numberStep}
 use Rattle.text.specs.Laws.Step.{then-found, then-refused}
 use Rattle.text.specs.Laws.Lines.{stores-stopped, stores-read, end-here, end-later}

@@ -1,5 +1,4 @@
 -- `text::counts` meets its contract: a refusal of either line stays, and a value goes on.
-use native.Mathlib.Omega.{arith}
 use borrow.Author.Needs.{needs}
 use mathlib.Core.Path.{sym, _∙_}
 use Rattle.text.specs.Reading.{countsAt, testsFor}

@@ -5,7 +5,7 @@ use Prim.Native.Nat.{ℕ, _≤_, _-_}
 use native.Mathlib.Nat.{sub-zero}
 use mathlib.Core.Path.{_≡_, _∙_, sym, ap}
 use lib.ListN.{getD}
-use Rattle.text.specs.Number.{digitsEnd, isDigit, classOf}
+use Rattle.text.specs.Number.{digitsEnd, classOf}
 use Rattle.text.specs.Laws.Byte.{digit-inside}
 use Rattle.text.specs.Laws.Number.{digits-more, digits-stop, digits-end-zero}
 use Rattle.text.proofs.Tags.{no-digit}

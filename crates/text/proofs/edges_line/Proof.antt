@@ -1,5 +1,4 @@
 -- `text::edges_line` meets its contract: each test decides a case of the definition.
-use native.Mathlib.Omega.{arith}
 use borrow.Author.Needs.{needs}
 use Rattle.text.specs.Reading.{countLine, edgesTest}
 use Rattle.text.specs.Answer.{numberStep}

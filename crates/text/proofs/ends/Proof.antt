@@ -1,5 +1,4 @@
 -- `text::ends` meets its contract: each class says whether the number has ended.
-use native.Mathlib.Omega.{arith}
 use borrow.Author.Needs.{needs}
 use mathlib.Core.Path.{sym, ap, _∙_}
 use Rattle.text.specs.Number.{classOf}

@@ -1,6 +1,5 @@
 -- `text::fixed` meets its contract: the bytes that are left are read where the loop stands.
 use borrow.Author.Needs.{needs}
-use native.Mathlib.Omega.{arith}
 use Prim.Native.Nat.{_≤_, _-_}
 use mathlib.Core.Path.{_≡_, refl, sym, _∙_}
 use lib.ListN.{length, drop}

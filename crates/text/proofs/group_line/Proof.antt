@@ -1,5 +1,4 @@
 -- `text::group_line` meets its contract: the test decides the case of the definition.
-use native.Mathlib.Omega.{arith}
 use borrow.Author.Needs.{needs}
 use Rattle.text.specs.Reading.{groupLine, groupTest}
 use Rattle.text.specs.Answer.{numberStep}

@@ -1,7 +1,6 @@
 -- `text::group_lines` meets its contract: what is left to read and to store is what the whole reads and stores.
 use borrow.Author.Needs.{needs}
-use native.Mathlib.Omega.{arith}
-use Prim.Native.Nat.{ℕ, _-_}
+use Prim.Native.Nat.{_-_}
 use mathlib.Core.Path.{_≡_, ap, sym, _∙_}
 use lib.Seq.{sets}
 use Rattle.text.specs.Step.{found}

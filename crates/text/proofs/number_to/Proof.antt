@@ -1,7 +1,7 @@
 -- `text::number_to` meets its contract: a refusal stays, and a value goes on to its end.
 use native.Mathlib.Omega.{arith}
 use borrow.Author.Needs.{needs}
-use mathlib.Core.Path.{sym, ap, _∙_}
+use mathlib.Core.Path.{sym, _∙_}
 use Rattle.text.specs.Number.{numberTo, stopOf}
 use Rattle.text.specs.Laws.Byte.{byte-inside}
 use Rattle.text.specs.Answer.{numberStep}

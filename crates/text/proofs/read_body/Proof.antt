@@ -1,5 +1,4 @@
 -- `text::read_body` meets its contract: the first pass stores nothing, and the second stores where the first is not refused.
-use native.Mathlib.Omega.{arith}
 use borrow.Author.Needs.{needs}
 use mathlib.Core.Path.{_≡_, ap, sym, _∙_}
 use Rattle.text.specs.Reading.{bodyOf, firstsOf, secondsOf, weightsOf}

@@ -1,5 +1,4 @@
 -- `text::store8` meets its contract: past the end a store changes nothing.
-use native.Mathlib.Omega.{arith}
 use borrow.Author.Needs.{needs}
 use mathlib.Core.Path.{sym}
 use lib.Seq.{set-out}

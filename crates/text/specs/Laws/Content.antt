@@ -1,7 +1,6 @@
 -- The words that lines read: each line the text of its values, many lines their texts one after another.
-use Prim.Native.Nat.{ℕ, zero, suc, _+_, _^_, _≤_, _<_}
+use Prim.Native.Nat.{ℕ, zero, suc, _+_, _^_, _<_}
 use native.Mathlib.Omega.{arith}
-use native.Mathlib.Numerals.{add-one}
 use mathlib.Core.Path.{_≡_, refl, ap, sym, _∙_, subst}
 use mathlib.Core.Bool.{false}
 use mathlib.Core.List.{List, [], _∷_, _++_, append-assoc, append-nil}
@@ -13,8 +12,8 @@ use Rattle.printing.specs.Key.{comma, newline}
 use Rattle.printing.specs.Decimal.{decimal}
 use Rattle.printing.specs.Text.{lineOf}
 use Rattle.text.specs.Step.{Step, found, refused, _then_, checked, Lines, more, linesFrom}
-use Rattle.text.specs.Number.{isDigit, classOf, fixedAt, numberTo}
-use Rattle.text.specs.Reading.{linkKey, nodeKey, numberLine, countLine, groupLine, Edge, edgeLine}
+use Rattle.text.specs.Number.{isDigit, classOf}
+use Rattle.text.specs.Reading.{linkKey, numberLine, Edge, edgeLine}
 use Rattle.text.specs.Render.{numberText, edgeText, textOf}
 use Rattle.text.specs.Laws.Spells.{Reads, Seq, Empty, reads-then, reads-as, reads-value, reads-checked}
 use Rattle.text.specs.Laws.Words.{Fixed, Numeral, reads-fixed, reads-number}
@@ -116,7 +115,7 @@ EdgeParts =
     Seq (Fixed linkKey) λ z. Seq (Numeral maxDigits comma) λ u. Seq (Numeral maxDigits comma) λ v. Seq (Numeral maxDigits newline) λ w.
     Empty (record { first = u; second = v; weight = w })
 
-joined : (a b c d : List ℕ) → a ++ (b ++ (c ++ (d ++ []))) ≡ a ++ b ++ c ++ d
+pub joined : (a b c d : List ℕ) → a ++ (b ++ (c ++ (d ++ []))) ≡ a ++ b ++ c ++ d
 joined a b c d = simp (append-assoc, append-nil)
 
 pub reads-edge : (e : ℕ) → Reads (λ t at. edgeLine t e at) (Text SmallEdge edgeText) (Text SmallEdge edgeText)

@@ -1,19 +1,20 @@
 -- A number's digits are digits, and so it is below the power of ten of its digit limit.
-use Prim.Native.Nat.{ℕ, zero, suc, _+_, _*_, _-_, _^_, max, _≤_, _<_}
+use Prim.Native.Nat.{ℕ, zero, suc, _+_, _*_, _-_, _^_, _≤_, _<_}
 use native.Mathlib.Omega.{arith}
 use native.Mathlib.Numerals.{add-one}
-use native.Mathlib.Nat.{pow-suc, pow-le-pow-right, mul-le-mul-right, le-trans}
-use mathlib.Core.Path.{_≡_, refl, ap, sym, _∙_, subst}
+use native.Mathlib.Nat.{pow-suc, pow-le-pow-right, mul-le-mul-right}
+use mathlib.Core.Path.{_≡_, refl, subst}
 use mathlib.Core.Bool.{Bool, true, false, cond}
 use mathlib.Core.List.{List, [], _∷_}
 use lib.ListN.{length, getD, take, drop}
 use lib.Seq.{drop-cons}
 use lib.Dec.{eqb}
 use borrow.Author.Tests.{eqb-true}
-use Rattle.text.specs.Step.{Step, found, refused, _then_, checked}
+use Rattle.text.specs.Step.{found, refused, _then_}
 use Rattle.text.specs.Number.{classOf, isDigit, digitsEnd, numeralEnd, numeralAt, decimalFrom, numberAt, numberTo, fixedAt}
 use Rattle.text.specs.Laws.Byte.{class-facts, digit-inside, read-inside}
 use Rattle.text.specs.Laws.Number.{digits-range, numeral-width}
+use Rattle.text.specs.Laws.Step.{then-value}
 use Rattle.text.specs.declared.Class.{Class}
 use Rattle.text.specs.declared.Class.the-variants.{Digit, LineEnd, Comma, Other}
 
@@ -83,12 +84,6 @@ number-below t limit at v next h e = by-width (eqb (length (numeralAt limit t at
         let p : 10 ^ length (numeralAt limit t at) ≤ 10 ^ limit = pow-le-pow-right {n = 10} (omega arith) {i = length (numeralAt limit t at)} {j = limit} (omega arith) in
         let s : decimalFrom 0 (numeralAt limit t at) ≡ v = cc in
         omega arith
-
--- The value of a step is that of the number in it, whatever follows the number.
-pub then-value : {A B : Type 0} (s : Step A) (k : A → ℕ → Step B) {b : B} {next : ℕ} → (s then k) ≡ found b next → (a : A) × (p : ℕ) × (s ≡ found a p) × (k a p ≡ found b next)
-unfolding _then_
-then-value (found a p) k e = (a, p, refl, e)
-then-value (refused n p) k e = let z : _≡_ {A = ℕ} 0 1 = cc in absurd (omega arith)
 
 pub number-to-below : (t : List ℕ) (limit stop at v next : ℕ) → 1 ≤ limit → numberTo limit stop t at ≡ found v next → v < 10 ^ limit
 unfolding numberTo

@@ -1,5 +1,5 @@
 -- Laws of lines read one after another: one turn of a loop over them, and what the turns store.
-use Prim.Native.Nat.{ℕ, zero, suc, _+_, _-_, _≤_, _<_}
+use Prim.Native.Nat.{ℕ, suc, _+_, _-_, _≤_, _<_}
 use native.Mathlib.Omega.{arith}
 use native.Mathlib.Numerals.{add-one}
 use native.Mathlib.Nat.{sub-zero}
@@ -10,10 +10,8 @@ use lib.Seq.{sets, length-sets}
 use borrow.Author.Tests.{le-leb, lt-leb}
 use Rattle.text.specs.Step.{Step, found, refused, _then_, Lines, more, linesFrom, linesAfter}
 use Rattle.text.specs.Reading.{groupTest, groupLines, edgeLines, bodyAt, bodyOf, endAt, firstsOf, secondsOf, weightsOf}
+use Rattle.text.specs.Laws.Number.{one-less}
 use Rattle.text.specs.Answer.{Stores, storedIf}
-
-one-less : {i n : ℕ} → i < n → n - i ≡ suc (n - (i + 1))
-one-less h = omega arith
 
 module _ {A : Type 0} (line : ℕ → ℕ → Step A) (count i at : ℕ) where
   pub lines-more : {a : A} {next : ℕ} → i < count → line i at ≡ found a next → linesFrom line (count - i) i at ≡ more (found a next) (linesFrom line (count - (i + 1)) (i + 1))

@@ -1,18 +1,17 @@
 -- How long a well-formed text whose counts escape 1 and 3 can be (document 01, 'Survey text and printed plan': 62,741 bytes).
-use Prim.Native.Nat.{ℕ, zero, suc, _+_, _*_, _^_, _≤_, _<_}
+use Prim.Native.Nat.{ℕ, suc, _+_, _*_, _^_, _≤_, _<_}
 use native.Mathlib.Omega.{arith}
-use native.Mathlib.Nat.{mul-le-mul-right, le-trans}
-use mathlib.Core.Path.{_≡_, refl, ap, sym, _∙_}
+use mathlib.Core.Path.{_≡_, refl, ap}
 use mathlib.Core.List.{List, [], _∷_, _++_}
 use lib.ListN.{length, length-append}
-use Rattle.limits.specs.Limits.{maxVertices, maxEdges, maxDigits}
+use Rattle.limits.specs.Limits.{maxVertices, maxEdges}
 use Rattle.printing.specs.Key.{comma, newline}
 use Rattle.printing.specs.Decimal.{decimal}
 use Rattle.printing.specs.Text.{lineOf}
 use Rattle.printing.specs.Laws.Decimal.{length-decimal}
 use Rattle.text.specs.Reading.{nodesKey, linksKey, nodeKey, linkKey, Edge}
 use Rattle.text.specs.Render.{numberText, edgeText, textOf, render}
-use Rattle.text.specs.Laws.Content.{Small, SmallEdge, Each, none, next}
+use Rattle.text.specs.Laws.Content.{SmallEdge, Each, none, next}
 use Rattle.text.specs.Laws.WellFormed.{WellFormed}
 
 -- The longest text: the two count lines, the group lines and the edge lines.

@@ -1,9 +1,9 @@
 -- Laws of the digits of a number: where they end, and how large the number is.
 use Prim.Native.Nat.{ℕ, zero, suc, _+_, _*_, _-_, _^_, max, _≤_, _<_}
 use native.Mathlib.Omega.{arith}
-use mathlib.Core.Path.{_≡_, refl, ap, sym, _∙_}
+use mathlib.Core.Path.{_≡_, refl, ap, _∙_}
 use mathlib.Core.Bool.{Bool, true, false, cond}
-use mathlib.Core.List.{List, [], _∷_}
+use mathlib.Core.List.{List, []}
 use lib.ListN.{length, getD, take, drop, drop-of-length-le, length-take, length-drop}
 use lib.Dec.{eqb, leb}
 use lib.Seq.{take-nil, drop-cons}
@@ -11,11 +11,11 @@ use native.Mathlib.Nat.{le-of-lt, pow-le-pow-right, pow-suc}
 use native.Mathlib.Numerals.{add-one}
 use borrow.Author.Tests.{eqb-true, leb-true, leb-false}
 use Rattle.text.specs.Number.{classOf, isDigit, digitsEnd, numeralEnd, numeralAt, decimalFrom}
-use Rattle.text.specs.Laws.Byte.{class-facts, digit-inside, read-inside}
+use Rattle.text.specs.Laws.Byte.{digit-inside, read-inside}
 use Rattle.text.specs.declared.Class.{Class}
 use Rattle.text.specs.declared.Class.the-variants.{Digit, LineEnd, Comma, Other}
 
-one-less : {i n : ℕ} → i < n → n - i ≡ suc (n - (i + 1))
+pub one-less : {i n : ℕ} → i < n → n - i ≡ suc (n - (i + 1))
 one-less h = omega arith
 
 -- One turn of a loop over the digits.

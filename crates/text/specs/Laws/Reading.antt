@@ -1,22 +1,17 @@
 -- Laws of reading a whole text: its outcome by the outcome of its parts, and what an accepted text says of the lent buffers.
-use Prim.Native.Nat.{ℕ, zero, suc, _+_, _≤_, _<_}
+use Prim.Native.Nat.{ℕ, zero, suc, _+_, _≤_}
 use native.Mathlib.Omega.{arith}
 use native.Mathlib.Nat.{zero-add}
 use mathlib.Core.Path.{_≡_, refl, ap, sym, _∙_, subst}
-use mathlib.Core.Bool.{Bool, true, false, _||_}
-use mathlib.Core.List.{List, [], _∷_, _++_}
+use mathlib.Core.List.{List, _++_}
 use lib.ListN.{length, drop, length-map}
 use lib.Seq.{sets, sets-eq}
-use lib.Dec.{eqb, ltb}
-use borrow.Author.Tests.{ltb-true, ltb-false, eqb-true, eqb-false}
-use Rattle.limits.specs.Verdict.{refuseIf, _before_, Outcome, refusal, answer}
+use Rattle.limits.specs.Verdict.{Outcome, refusal, answer}
 use Rattle.limits.specs.declared.Verdict.{Verdict}
-use Rattle.limits.specs.declared.Verdict.the-variants.{Fine, Refused}
-use Rattle.text.specs.Step.{Step, found, refused, _then_, checked, Lines, more, linesFrom, linesAfter}
+use Rattle.text.specs.Step.{Step, found, refused, _then_, more, linesFrom, linesAfter}
 use Rattle.text.specs.Reading.{nodesKey, linksKey, verticesTest, edgesTest, groupTest, Tests, testsFor, numberLine, countLine, countsAt, groupLines, edgeLines, bodyAt, bodyOf, Body, Counts, Survey, surveyOf, surveyAt, outcomeOf, reading, filled, endAt, firstsOf, secondsOf, weightsOf}
 use Rattle.text.specs.Answer.{Reads, Fills, storedIf, countsOf}
-use Rattle.text.specs.Laws.Step.{then-found, then-refused}
-use Rattle.text.specs.Laws.Digits.{then-value}
+use Rattle.text.specs.Laws.Step.{then-value}
 use Rattle.text.specs.Laws.Tests.{checked-fine, checked-value, VerticesPass, vertices-passed, EdgesPass, edges-passed}
 
 -- Lines that are all read are as many as were asked for.

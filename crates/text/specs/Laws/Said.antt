@@ -1,46 +1,15 @@
 -- A whole text as a word: the lines that are read are the rendering of what they say.
-use Prim.Native.Nat.{ℕ, zero, suc, _+_, _*_, _^_, _≤_, _<_}
-use native.Mathlib.Omega.{arith}
+use Prim.Native.Nat.{ℕ}
 use mathlib.Core.Path.{_≡_, refl, ap, sym, _∙_, subst}
-use mathlib.Core.List.{List, [], _∷_, _++_, append-assoc, append-nil}
-use lib.ListN.{length, take, length-append, length-take}
-use lib.Seq.{take-at, take-all}
-use lib.Dec.{leb, lit<}
-use Rattle.limits.specs.Limits.{maxVertices, maxEdges, groupNumbers, maxDigits}
-use Rattle.limits.specs.Verdict.{Outcome, refusal, answer}
-use Rattle.limits.specs.declared.Verdict.{Verdict}
-use Rattle.limits.specs.declared.Verdict.the-variants.{Fine, Refused}
+use mathlib.Core.List.{List, [], _++_}
+use lib.ListN.{length}
+use Rattle.limits.specs.declared.Verdict.the-variants.{Refused}
 use Rattle.printing.specs.Text.{lineOf}
-use Rattle.text.specs.Step.{Step, found, refused, _then_, checked, linesAfter}
-use Rattle.text.specs.Reading.{
-  nodesKey,
-  linksKey,
-  nodeKey,
-  Tests,
-  testsFor,
-  verticesTest,
-  edgesTest,
-  groupTest,
-  countLine,
-  countsAt,
-  groupLine,
-  groupLines,
-  Edge,
-  edgeLine,
-  edgeLines,
-  endAt,
-  Counts,
-  bodyAt,
-  Survey,
-  surveyOf,
-  surveyAt,
-  outcomeOf,
-  reading,
-}
+use Rattle.text.specs.Step.{Step, found, refused, _then_, linesAfter}
+use Rattle.text.specs.Reading.{nodesKey, linksKey, nodeKey, Tests, countLine, countsAt, groupLine, groupLines, Edge, edgeLine, edgeLines, endAt, Counts, bodyAt, Survey, surveyOf, surveyAt}
 use Rattle.text.specs.Render.{edgeText, textOf, render}
-use Rattle.text.specs.Laws.Stands.{Stands, stands-whole, stands-same}
-use Rattle.text.specs.Laws.Spells.{Reads, Seq, Empty, Lively, read, otherwise, reads-then, reads-as, reads-value}
-use Rattle.text.specs.Laws.Content.{Text, Small, Passes, SmallEdge, Each, none, next, Texts, whole, reads-tested, reads-edge, reads-lines}
+use Rattle.text.specs.Laws.Spells.{Reads, Seq, Empty, reads-then, reads-as, reads-value}
+use Rattle.text.specs.Laws.Content.{Text, Small, Passes, SmallEdge, Each, Texts, whole, reads-tested, reads-edge, reads-lines, joined}
 
 -- What a text says before its end is looked for.
 pub record Said : Type 0 where
@@ -71,9 +40,6 @@ module _ (N M : ℕ → Type 0) (P : ℕ → ℕ → Type 0) where
   Parts =
       Seq (Text N (lineOf nodesKey)) λ n. Seq (Text M (lineOf linksKey)) λ m. Seq (Texts P (lineOf nodeKey) n 0) λ gs. Seq (Texts (λ i. SmallEdge) edgeText m 0) λ es.
       Empty (record { counts = record { vertices = n; edges = m }; groups = gs; edges = es })
-
-  joined : (a b c d : List ℕ) → a ++ (b ++ (c ++ (d ++ []))) ≡ a ++ b ++ c ++ d
-  joined a b c d = simp (append-assoc, append-nil)
 
   to : (x : Said) (w : List ℕ) → Parts x w → Rendered N M P x w
   unfolding render

@@ -1,17 +1,15 @@
 -- What it is for a step to read a language: it accepts the words of W and gives their values, refuses with 16 only what begins no word of
 -- G, and where it refuses depends on nothing after that place. Steps that follow each other read words that follow each other.
-use Prim.Native.Nat.{ℕ, zero, suc, _+_, _-_, _≤_, _<_}
+use Prim.Native.Nat.{ℕ, _+_, _≤_}
 use native.Mathlib.Omega.{arith}
-use native.Mathlib.Nat.{add-zero}
 use mathlib.Core.Path.{_≡_, refl, ap, sym, _∙_, subst}
-use mathlib.Core.List.{List, [], _∷_, _++_, append-assoc, append-nil}
+use mathlib.Core.List.{List, [], _++_, append-assoc}
 use lib.ListN.{length, take, length-append}
 use Rattle.limits.specs.declared.Verdict.{Verdict}
 use Rattle.limits.specs.declared.Verdict.the-variants.{Fine, Refused}
 use Rattle.text.specs.Step.{Step, found, refused, _then_, checked}
-use Rattle.text.specs.Laws.Step.{then-found, then-refused}
-use Rattle.text.specs.Laws.Digits.{then-value}
-use Rattle.text.specs.Laws.Stands.{Stands, stands-none, stands-append, stands-first, stands-second, stands-same, take-less}
+use Rattle.text.specs.Laws.Step.{then-found, then-refused, then-value}
+use Rattle.text.specs.Laws.Stands.{Stands, stands-none, stands-append, stands-first, stands-second, stands-same}
 
 -- A word of G is read, or refused for another reason than its form.
 pub data Lively {A : Type 0} (s : Step A) (a : A) (p : ℕ) : Type 0 where

@@ -1,12 +1,12 @@
 -- Bytes that stand at an offset of a text, in terms of the text's beginnings.
-use Prim.Native.Nat.{ℕ, zero, suc, _+_, _-_, min, _≤_, _<_}
+use Prim.Native.Nat.{ℕ, suc, _+_, _≤_, _<_}
 use native.Mathlib.Omega.{arith}
 use native.Mathlib.Numerals.{add-one}
-use native.Mathlib.Nat.{add-zero, add-assoc}
-use mathlib.Core.Path.{_≡_, refl, ap, sym, _∙_, subst}
+use native.Mathlib.Nat.{add-zero}
+use mathlib.Core.Path.{_≡_, ap, sym, _∙_}
 use mathlib.Core.List.{List, [], _∷_, _++_, append-assoc, append-nil}
-use lib.ListN.{length, getD, take, drop, length-append, length-take}
-use lib.Seq.{take-suc, take-take, take-at, take-append-add, getD-take, getD-append-add, length-take-le, take-all}
+use lib.ListN.{length, getD, take, length-append, length-take}
+use lib.Seq.{take-suc, take-take, take-at, getD-take, getD-append-add, length-take-le, take-all}
 
 pub record Stands (t : List ℕ) (at : ℕ) (w : List ℕ) : Type 0 where
   pub is : take (at + length w) t ≡ take at t ++ w

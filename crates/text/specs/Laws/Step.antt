@@ -1,5 +1,6 @@
 -- Laws of steps: what follows a value and what follows a refusal; and fixed bytes, read one at a time.
-use Prim.Native.Nat.{ℕ, zero, suc, _+_, _≤_, _<_}
+use Prim.Native.Nat.{ℕ, _+_, _≤_, _<_}
+use native.Mathlib.Omega.{arith}
 use native.Mathlib.Numerals.{add-one}
 use mathlib.Core.Path.{_≡_, refl, ap, sym, _∙_}
 use mathlib.Core.Bool.{true, false}
@@ -23,6 +24,12 @@ then-found k e = ap (λ s. s then k) e
 pub then-refused : {A B : Type 0} {s : Step A} {number place : ℕ} (k : A → ℕ → Step B) → s ≡ refused number place → (s then k) ≡ refused number place
 unfolding _then_
 then-refused k e = ap (λ s. s then k) e
+
+-- What is read after a step is read after its value.
+pub then-value : {A B : Type 0} (s : Step A) (k : A → ℕ → Step B) {b : B} {next : ℕ} → (s then k) ≡ found b next → (a : A) × (p : ℕ) × (s ≡ found a p) × (k a p ≡ found b next)
+unfolding _then_
+then-value (found a p) k e = (a, p, refl, e)
+then-value (refused n p) k e = let z : _≡_ {A = ℕ} 0 1 = cc in absurd (omega arith)
 
 -- The same of the code's answers.
 pub value-goes : {B : Type 0} {r : Number} {s : Step ℕ} {v : ℕ} {c : Cursor} (k : ℕ → ℕ → Step B) → numberStep r ≡ s → r ≡ Value v c → (s then k) ≡ k v (c .at)

@@ -3,18 +3,19 @@ use Prim.Native.Nat.{ℕ, _^_, _≤_, _<_}
 use native.Mathlib.Omega.{arith}
 use mathlib.Core.Path.{_≡_, refl, ap, subst}
 use mathlib.Core.List.{List}
-use mathlib.Core.Bool.{Bool, true, false, _||_}
-use lib.Dec.{eqb, ltb, leb}
+use mathlib.Core.Bool.{Bool, true, false}
+use lib.Dec.{eqb, ltb}
 use borrow.Author.Tests.{ltb-true, ltb-false, eqb-true, eqb-false, eq-eqb, ne-eqb, lt-ltb, le-ltb, le-leb, lt-leb}
 use Rattle.limits.specs.Limits.{maxDigits}
 use Rattle.limits.specs.Verdict.{refuseIf, _before_}
 use Rattle.limits.specs.declared.Verdict.{Verdict}
 use Rattle.limits.specs.declared.Verdict.the-variants.{Fine, Refused}
 use Rattle.printing.specs.Key.{comma, newline}
-use Rattle.text.specs.Step.{Step, found, refused, _then_, checked}
+use Rattle.text.specs.Step.{found, checked}
 use Rattle.text.specs.Reading.{verticesTest, edgesTest, groupTest, nodeKey, linkKey, numberLine, groupLine, Edge, edgeLine}
 use Rattle.text.specs.Number.{fixedAt, numberTo}
-use Rattle.text.specs.Laws.Digits.{then-value, number-to-below}
+use Rattle.text.specs.Laws.Digits.{number-to-below}
+use Rattle.text.specs.Laws.Step.{then-value}
 
 positive : (n : ℕ) → (n ≡ 0 → ⊥) → 0 < n
 positive n z = omega arith

@@ -1,30 +1,27 @@
 -- Reading and rendering undo each other, and 16 stands at the first byte that no well-formed text has there (document 01, 'Survey text and
 -- printed plan').
-use Prim.Native.Nat.{ℕ, zero, suc, _+_, _*_, _^_, _≤_, _<_}
+use Prim.Native.Nat.{ℕ, _+_, _≤_, _<_}
 use native.Mathlib.Omega.{arith}
-use native.Mathlib.Nat.{zero-add}
 use mathlib.Core.Path.{_≡_, refl, ap, sym, _∙_, subst}
 use mathlib.Core.Bool.{Bool, true, false}
-use mathlib.Core.List.{List, [], _∷_, _++_, append-assoc, append-nil}
-use lib.ListN.{length, take, length-append, length-take}
+use mathlib.Core.List.{List, [], _++_, append-nil}
+use lib.ListN.{length, take, length-append}
 use lib.Seq.{take-at, take-all, length-take-le}
 use lib.Dec.{leb}
 use borrow.Author.Tests.{leb-true, leb-false}
-use Rattle.limits.specs.Limits.{maxVertices, maxEdges, groupNumbers, maxDigits}
-use Rattle.limits.specs.Verdict.{Outcome, refusal, answer, refuseIf, _before_}
-use Rattle.limits.specs.declared.Verdict.{Verdict}
-use Rattle.limits.specs.declared.Verdict.the-variants.{Fine, Refused}
+use Rattle.limits.specs.Limits.{maxVertices, maxEdges, groupNumbers}
+use Rattle.limits.specs.Verdict.{refusal, answer, refuseIf, _before_}
+use Rattle.limits.specs.declared.Verdict.the-variants.{Refused}
 use Rattle.text.specs.Step.{Step, found, refused, _then_}
-use Rattle.text.specs.Reading.{Tests, testsFor, verticesTest, edgesTest, groupTest, Edge, endAt, Counts, Survey, surveyOf, surveyAt, outcomeOf, reading}
+use Rattle.text.specs.Reading.{Tests, testsFor, verticesTest, edgesTest, groupTest, Edge, endAt, Survey, surveyOf, surveyAt, outcomeOf, reading}
 use Rattle.text.specs.Render.{render}
-use Rattle.text.specs.Laws.Step.{then-found, then-refused}
-use Rattle.text.specs.Laws.Digits.{then-value}
-use Rattle.text.specs.Laws.Tests.{vertices-fine, edges-fine, group-fine, VerticesPass, vertices-passed, EdgesPass, edges-passed, group-passed}
+use Rattle.text.specs.Laws.Step.{then-found, then-value}
+use Rattle.text.specs.Laws.Tests.{vertices-fine, edges-fine, group-fine, vertices-passed, edges-passed, group-passed}
 use Rattle.text.specs.Laws.Lines.{end-here, end-later}
 use Rattle.text.specs.Laws.Stands.{Stands, stands-whole, stands-same}
-use Rattle.text.specs.Laws.Spells.{Reads, Word, Extends, Lively, read, otherwise}
-use Rattle.text.specs.Laws.Content.{Small, Passes, SmallEdge, Each, none, next}
-use Rattle.text.specs.Laws.Said.{Said, saidAt, Rendered, Sparing, Accepted, Formed, reads-said, said-survey}
+use Rattle.text.specs.Laws.Spells.{Reads, Lively, read, otherwise}
+use Rattle.text.specs.Laws.Content.{Small, SmallEdge, Each, none, next}
+use Rattle.text.specs.Laws.Said.{Said, saidAt, Sparing, Accepted, Formed, reads-said, said-survey}
 
 -- A well-formed text: any counts, groups, ends and prices of at most so many digits.
 pub record WellFormed (t : List ℕ) : Type 0 where

@@ -1,14 +1,12 @@
 -- The words that the parts of a line read: fixed bytes, and numbers with the byte that ends them.
-use Prim.Native.Nat.{ℕ, zero, suc, _+_, _-_, _^_, max, min, _≤_, _<_}
+use Prim.Native.Nat.{ℕ, zero, suc, _+_, _-_, _^_, _≤_, _<_}
 use native.Mathlib.Omega.{arith}
-use native.Mathlib.Numerals.{add-one}
 use native.Mathlib.Nat.{add-sub-cancel-left, one-le-pow}
 use mathlib.Core.Path.{_≡_, refl, ap, sym, _∙_, subst}
 use mathlib.Core.Bool.{Bool, true, false, cond}
-use mathlib.Core.Logic.{⊎-elim}
 use mathlib.Core.List.{List, [], _∷_, _++_, append-assoc}
-use lib.ListN.{length, getD, take, drop, length-append, length-take, length-drop}
-use lib.Seq.{take-add, drop-at, getD-take, length-take-le, drop-cons}
+use lib.ListN.{length, getD, take, drop, length-append, length-drop}
+use lib.Seq.{take-add, drop-at, getD-take, length-take-le}
 use lib.Dec.{eqb}
 use borrow.Author.Tests.{eq-eqb, ne-eqb, eqb-true, eqb-false}
 use Rattle.printing.specs.Decimal.{decimal}
@@ -16,13 +14,13 @@ use Rattle.printing.specs.Laws.Decimal.{length-decimal, decimal-small}
 use Rattle.text.specs.Step.{Step, found, refused, _then_}
 use Rattle.text.specs.Number.{classOf, isDigit, byteIs, fixedAt, digitsEnd, numeralEnd, numeralAt, decimalFrom, numberAt, numberTo}
 use Rattle.text.specs.Render.{numberText}
-use Rattle.text.specs.Laws.Byte.{class-facts, class-digit, byte-is, byte-inside, byte-not, digit-inside, read-inside}
-use Rattle.text.specs.Laws.Number.{digits-none, digits-range, numeral-range, numeral-width}
-use Rattle.text.specs.Laws.Digits.{Digits, none, one, numeral-digits, number-below, then-value}
+use Rattle.text.specs.Laws.Byte.{class-digit, byte-is, byte-inside, digit-inside}
+use Rattle.text.specs.Laws.Number.{digits-none, digits-range, numeral-range}
+use Rattle.text.specs.Laws.Digits.{Digits, none, one, numeral-digits, number-below}
 use Rattle.text.specs.Laws.Decimal.{decimal-of-digits, decimal-numeral}
 use Rattle.text.specs.Laws.Step.{then-found, then-refused, stop-found, stop-refused}
-use Rattle.text.specs.Laws.Stands.{Stands, stands-none, stands-byte, stands-append, stands-first, stands-second, stands-head, stands-same}
-use Rattle.text.specs.Laws.Spells.{Reads, Word, Extends, Seq, Lively, read, otherwise, reads-then, reads-as, reads-value, Empty}
+use Rattle.text.specs.Laws.Stands.{Stands, stands-byte, stands-append, stands-first, stands-second, stands-head, stands-same}
+use Rattle.text.specs.Laws.Spells.{Reads, Word, Extends, Seq, read, reads-then, reads-as, reads-value, Empty}
 use Rattle.text.specs.declared.Class.{Class}
 use Rattle.text.specs.declared.Class.the-variants.{Digit, LineEnd, Comma, Other}
 
