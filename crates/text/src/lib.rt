@@ -228,11 +228,43 @@ fn number_line(text: &[u8], cursor: Cursor, key: &[u8]) -> Number
     number_to(text, next, MAX_DIGITS, false)
 }
 
-// `nodes=n`: 1, then 7 where the group buffer, of length lent, is short.
-fn vertices_line(text: &[u8], cursor: Cursor, lent: usize) -> Number
-    ensures { λ r. ⌜ numberStep r ≡ countLine nodesKey (verticesTest lent) (now (text .entry)) (cursor .at) ⌝ }
+// The text and how far it has been read. Each function over it takes it apart, for a function on the slice and the offset.
+pub struct Reader<'a> {
+    pub text: &'a [u8],
+    pub at: usize,
+}
+
+fn opened<'a>(text: &'a [u8]) -> Reader<'a>
+    ensures { λ r. ⌜ (r .text ≡ text .entry) × (r .at ≡ 0) ⌝ }
 {
-    let step = number_line(text, cursor, b"nodes=");
+    Reader { text, at: 0 }
+}
+
+// `nodes=n` at an offset.
+fn nodes_at(text: &[u8], at: usize) -> Number
+    ensures { λ r. ⌜ numberStep r ≡ numberLine nodesKey (now (text .entry)) at ⌝ }
+{
+    number_line(text, Cursor { at }, b"nodes=")
+}
+
+fn nodes_line<'a>(r: Reader<'a>) -> Number
+    ensures { λ s. ⌜ numberStep s ≡ numberLine nodesKey (now (r .entry .text)) (r .entry .at) ⌝ }
+{
+    nodes_at(r.text, r.at)
+}
+
+// The line with which a text begins.
+fn first_line(text: &[u8]) -> Number
+    ensures { λ r. ⌜ numberStep r ≡ numberLine nodesKey (now (text .entry)) 0 ⌝ }
+{
+    nodes_line(opened(text))
+}
+
+// `nodes=n`: 1, then 7 where the group buffer, of length lent, is short.
+fn vertices_line(text: &[u8], lent: usize) -> Number
+    ensures { λ r. ⌜ numberStep r ≡ countLine nodesKey (verticesTest lent) (now (text .entry)) 0 ⌝ }
+{
+    let step = first_line(text);
     let Number::Value { value, next: _ } = step else {
         return step;
     };
@@ -382,7 +414,7 @@ fn stopped_head(step: Number) -> Head
 fn counts(text: &[u8], groups: usize, firsts: usize, seconds: usize, weights: usize) -> Head
     ensures { λ r. ⌜ countsStep r ≡ countsAt (testsFor groups firsts seconds weights) (now (text .entry)) ⌝ }
 {
-    let one = vertices_line(text, Cursor { at: 0 }, groups);
+    let one = vertices_line(text, groups);
     let Number::Value {
         value: vertices,
         next: after,
