@@ -4,7 +4,7 @@ use native.Mathlib.Omega.{arith}
 use mathlib.Core.Path.{_≡_, refl, ap}
 use mathlib.Core.List.{List, [], _∷_, _++_}
 use lib.ListN.{length, length-append}
-use Rattle.limits.specs.Limits.{maxVertices, maxEdges}
+use Rattle.limits.specs.Limits.{maxVertices, maxEdges, maxDigits}
 use Rattle.printing.specs.Key.{comma, newline}
 use Rattle.printing.specs.Decimal.{decimal}
 use Rattle.printing.specs.Text.{lineOf}
@@ -14,9 +14,16 @@ use Rattle.text.specs.Render.{numberText, edgeText, textOf, render}
 use Rattle.text.specs.Laws.Content.{SmallEdge, Each, none, next}
 use Rattle.text.specs.Laws.WellFormed.{WellFormed}
 
--- The longest text: the two count lines, the group lines and the edge lines.
+-- The longest lines: a key and a number of so many digits; an edge's.
+abbrev lineMost : List ℕ → ℕ → ℕ
+lineMost key digits = length key + digits + 1
+
+abbrev edgeMost : ℕ
+edgeMost = length linkKey + 3 * (maxDigits + 1)
+
+-- The longest text: the two count lines, whose counts have three and four digits, the group lines and the edge lines.
 abbrev pub longestText : ℕ
-longestText = 10 + 11 + maxVertices * 13 + maxEdges * 29
+longestText = lineMost nodesKey 3 + lineMost linksKey 4 + maxVertices * lineMost nodeKey maxDigits + maxEdges * edgeMost
 
 line-most : (key : List ℕ) (k x : ℕ) → x < 10 ^ suc k → length (lineOf key x) ≤ length key + suc k + 1
 unfolding lineOf
@@ -33,7 +40,7 @@ number-most stop k x h =
     let d = length-decimal k x h in
     omega arith
 
-edge-most : (x : Edge) → SmallEdge x → length (edgeText x) ≤ 29
+edge-most : (x : Edge) → SmallEdge x → length (edgeText x) ≤ edgeMost
 unfolding edgeText
 edge-most x s =
     let u = numberText comma (x .first) in
@@ -69,10 +76,10 @@ longest-text {t} w h k =
     let a = length-append (n ++ m ++ g) e in
     let b = length-append (n ++ m) g in
     let c = length-append n m in
-    let p : length n ≤ 10 = line-most nodesKey 2 (length gs) (omega arith) in
-    let q : length m ≤ 11 = line-most linksKey 3 (length es) (omega arith) in
-    let r : length g ≤ length gs * 13 = texts-most (lineOf nodeKey) 13 (λ i x s. line-most nodeKey 6 x s) (w .eachGroup) in
-    let s : length e ≤ length es * 29 = texts-most edgeText 29 (λ i x s. edge-most x s) (w .eachEdge) in
+    let p : length n ≤ lineMost nodesKey 3 = line-most nodesKey 2 (length gs) (omega arith) in
+    let q : length m ≤ lineMost linksKey 4 = line-most linksKey 3 (length es) (omega arith) in
+    let r : length g ≤ length gs * lineMost nodeKey maxDigits = texts-most (lineOf nodeKey) (lineMost nodeKey maxDigits) (λ i x s. line-most nodeKey 6 x s) (w .eachGroup) in
+    let s : length e ≤ length es * edgeMost = texts-most edgeText edgeMost (λ i x s. edge-most x s) (w .eachEdge) in
     omega arith
 
 pub longest-is : longestText ≡ 62741

@@ -6,7 +6,7 @@ use mathlib.Core.List.{List}
 use mathlib.Core.Bool.{Bool, true, false}
 use lib.Dec.{eqb, ltb}
 use borrow.Author.Tests.{ltb-true, ltb-false, eqb-true, eqb-false, eq-eqb, ne-eqb, lt-ltb, le-ltb, le-leb, lt-leb}
-use Rattle.limits.specs.Limits.{maxDigits}
+use Rattle.limits.specs.Limits.{maxVertices, maxEdges, groupNumbers, maxDigits}
 use Rattle.limits.specs.Verdict.{refuseIf, _before_}
 use Rattle.limits.specs.declared.Verdict.{Verdict}
 use Rattle.limits.specs.declared.Verdict.the-variants.{Fine, Refused}
@@ -25,46 +25,46 @@ module _ (lent n : ℕ) where
   unfolding verticesTest refuseIf _before_
   vertices-none e = rw (eq-eqb n 0 e)
 
-  pub vertices-many : (n ≡ 0 → ⊥) → 256 < n → verticesTest lent n ≡ Refused 1 0
+  pub vertices-many : (n ≡ 0 → ⊥) → maxVertices < n → verticesTest lent n ≡ Refused 1 0
   unfolding verticesTest refuseIf _before_
-  vertices-many z h = rw (ne-eqb n 0 z, lt-ltb 256 n h)
+  vertices-many z h = rw (ne-eqb n 0 z, lt-ltb maxVertices n h)
 
-  pub vertices-short : (n ≡ 0 → ⊥) → n ≤ 256 → lent < n → verticesTest lent n ≡ Refused 7 0
+  pub vertices-short : (n ≡ 0 → ⊥) → n ≤ maxVertices → lent < n → verticesTest lent n ≡ Refused 7 0
   unfolding verticesTest refuseIf _before_
-  vertices-short z h k = rw (ne-eqb n 0 z, le-ltb 256 n h, lt-ltb lent n k)
+  vertices-short z h k = rw (ne-eqb n 0 z, le-ltb maxVertices n h, lt-ltb lent n k)
 
-  pub vertices-fine : (n ≡ 0 → ⊥) → n ≤ 256 → n ≤ lent → verticesTest lent n ≡ Fine
+  pub vertices-fine : (n ≡ 0 → ⊥) → n ≤ maxVertices → n ≤ lent → verticesTest lent n ≡ Fine
   unfolding verticesTest refuseIf _before_
-  vertices-fine z h k = rw (ne-eqb n 0 z, le-ltb 256 n h, le-ltb lent n k)
+  vertices-fine z h k = rw (ne-eqb n 0 z, le-ltb maxVertices n h, le-ltb lent n k)
 
 module _ (firsts seconds weights m : ℕ) where
-  pub edges-many : 2048 < m → edgesTest firsts seconds weights m ≡ Refused 3 0
+  pub edges-many : maxEdges < m → edgesTest firsts seconds weights m ≡ Refused 3 0
   unfolding edgesTest refuseIf _before_
-  edges-many h = rw (lt-ltb 2048 m h)
+  edges-many h = rw (lt-ltb maxEdges m h)
 
-  pub edges-first : m ≤ 2048 → firsts < m → edgesTest firsts seconds weights m ≡ Refused 7 0
+  pub edges-first : m ≤ maxEdges → firsts < m → edgesTest firsts seconds weights m ≡ Refused 7 0
   unfolding edgesTest refuseIf _before_
-  edges-first h a = rw (le-ltb 2048 m h, lt-ltb firsts m a)
+  edges-first h a = rw (le-ltb maxEdges m h, lt-ltb firsts m a)
 
-  pub edges-second : m ≤ 2048 → m ≤ firsts → seconds < m → edgesTest firsts seconds weights m ≡ Refused 7 0
+  pub edges-second : m ≤ maxEdges → m ≤ firsts → seconds < m → edgesTest firsts seconds weights m ≡ Refused 7 0
   unfolding edgesTest refuseIf _before_
-  edges-second h a b = rw (le-ltb 2048 m h, le-ltb firsts m a, lt-ltb seconds m b)
+  edges-second h a b = rw (le-ltb maxEdges m h, le-ltb firsts m a, lt-ltb seconds m b)
 
-  pub edges-weight : m ≤ 2048 → m ≤ firsts → m ≤ seconds → weights < m → edgesTest firsts seconds weights m ≡ Refused 7 0
+  pub edges-weight : m ≤ maxEdges → m ≤ firsts → m ≤ seconds → weights < m → edgesTest firsts seconds weights m ≡ Refused 7 0
   unfolding edgesTest refuseIf _before_
-  edges-weight h a b d = rw (le-ltb 2048 m h, le-ltb firsts m a, le-ltb seconds m b, lt-ltb weights m d)
+  edges-weight h a b d = rw (le-ltb maxEdges m h, le-ltb firsts m a, le-ltb seconds m b, lt-ltb weights m d)
 
-  pub edges-fine : m ≤ 2048 → m ≤ firsts → m ≤ seconds → m ≤ weights → edgesTest firsts seconds weights m ≡ Fine
+  pub edges-fine : m ≤ maxEdges → m ≤ firsts → m ≤ seconds → m ≤ weights → edgesTest firsts seconds weights m ≡ Fine
   unfolding edgesTest refuseIf _before_
-  edges-fine h a b d = rw (le-ltb 2048 m h, le-ltb firsts m a, le-ltb seconds m b, le-ltb weights m d)
+  edges-fine h a b d = rw (le-ltb maxEdges m h, le-ltb firsts m a, le-ltb seconds m b, le-ltb weights m d)
 
-pub group-high : (v g : ℕ) → 256 ≤ g → groupTest v g ≡ Refused 17 v
+pub group-high : (v g : ℕ) → groupNumbers ≤ g → groupTest v g ≡ Refused 17 v
 unfolding groupTest refuseIf
-group-high v g h = rw (le-leb 256 g h)
+group-high v g h = rw (le-leb groupNumbers g h)
 
-pub group-fine : (v g : ℕ) → g < 256 → groupTest v g ≡ Fine
+pub group-fine : (v g : ℕ) → g < groupNumbers → groupTest v g ≡ Fine
 unfolding groupTest refuseIf
-group-fine v g h = rw (lt-leb 256 g h)
+group-fine v g h = rw (lt-leb groupNumbers g h)
 
 pub checked-fine : {A : Type 0} {b : A} {q : ℕ} (w : Verdict) (a : A) (p : ℕ) → checked w a p ≡ found b q → w ≡ Fine
 unfolding checked
@@ -82,51 +82,51 @@ no-refusal e f = let z : _≡_ {A = ℕ} 0 1 = cc in omega arith
 -- What a count that passes its test is.
 pub record VerticesPass (lent n : ℕ) : Type 0 where
   pub some : 0 < n
-  pub most : n ≤ 256
+  pub most : n ≤ maxVertices
   pub room : n ≤ lent
 
 pub vertices-passed : (lent n : ℕ) → verticesTest lent n ≡ Fine → VerticesPass lent n
-vertices-passed lent n e = by-tests (eqb n 0) (ltb 256 n) (ltb lent n) refl refl refl
+vertices-passed lent n e = by-tests (eqb n 0) (ltb maxVertices n) (ltb lent n) refl refl refl
   where
-    by-tests : (z h s : Bool) → eqb n 0 ≡ z → ltb 256 n ≡ h → ltb lent n ≡ s → VerticesPass lent n
+    by-tests : (z h s : Bool) → eqb n 0 ≡ z → ltb maxVertices n ≡ h → ltb lent n ≡ s → VerticesPass lent n
     by-tests true h s a b c = absurd (no-refusal (vertices-none lent n (eqb-true n 0 a)) e)
-    by-tests false true s a b c = absurd (no-refusal (vertices-many lent n (eqb-false n 0 a) (ltb-true 256 n b)) e)
-    by-tests false false true a b c = absurd (no-refusal (vertices-short lent n (eqb-false n 0 a) (ltb-false 256 n b) (ltb-true lent n c)) e)
+    by-tests false true s a b c = absurd (no-refusal (vertices-many lent n (eqb-false n 0 a) (ltb-true maxVertices n b)) e)
+    by-tests false false true a b c = absurd (no-refusal (vertices-short lent n (eqb-false n 0 a) (ltb-false maxVertices n b) (ltb-true lent n c)) e)
     by-tests false false false a b c =
         let z = eqb-false n 0 a in
-        record { some = positive n z; most = ltb-false 256 n b; room = ltb-false lent n c }
+        record { some = positive n z; most = ltb-false maxVertices n b; room = ltb-false lent n c }
 
 pub record EdgesPass (firsts seconds weights m : ℕ) : Type 0 where
-  pub most : m ≤ 2048
+  pub most : m ≤ maxEdges
   pub first : m ≤ firsts
   pub second : m ≤ seconds
   pub weight : m ≤ weights
 
 pub edges-passed : (firsts seconds weights m : ℕ) → edgesTest firsts seconds weights m ≡ Fine → EdgesPass firsts seconds weights m
-edges-passed a b c m e = by-tests (ltb 2048 m) (ltb a m) (ltb b m) (ltb c m) refl refl refl refl
+edges-passed a b c m e = by-tests (ltb maxEdges m) (ltb a m) (ltb b m) (ltb c m) refl refl refl refl
   where
-    by-tests : (p q r s : Bool) → ltb 2048 m ≡ p → ltb a m ≡ q → ltb b m ≡ r → ltb c m ≡ s → EdgesPass a b c m
-    by-tests true q r s h i j k = absurd (no-refusal (edges-many a b c m (ltb-true 2048 m h)) e)
-    by-tests false true r s h i j k = absurd (no-refusal (edges-first a b c m (ltb-false 2048 m h) (ltb-true a m i)) e)
-    by-tests false false true s h i j k = absurd (no-refusal (edges-second a b c m (ltb-false 2048 m h) (ltb-false a m i) (ltb-true b m j)) e)
-    by-tests false false false true h i j k = absurd (no-refusal (edges-weight a b c m (ltb-false 2048 m h) (ltb-false a m i) (ltb-false b m j) (ltb-true c m k)) e)
-    by-tests false false false false h i j k = record { most = ltb-false 2048 m h; first = ltb-false a m i; second = ltb-false b m j; weight = ltb-false c m k }
+    by-tests : (p q r s : Bool) → ltb maxEdges m ≡ p → ltb a m ≡ q → ltb b m ≡ r → ltb c m ≡ s → EdgesPass a b c m
+    by-tests true q r s h i j k = absurd (no-refusal (edges-many a b c m (ltb-true maxEdges m h)) e)
+    by-tests false true r s h i j k = absurd (no-refusal (edges-first a b c m (ltb-false maxEdges m h) (ltb-true a m i)) e)
+    by-tests false false true s h i j k = absurd (no-refusal (edges-second a b c m (ltb-false maxEdges m h) (ltb-false a m i) (ltb-true b m j)) e)
+    by-tests false false false true h i j k = absurd (no-refusal (edges-weight a b c m (ltb-false maxEdges m h) (ltb-false a m i) (ltb-false b m j) (ltb-true c m k)) e)
+    by-tests false false false false h i j k = record { most = ltb-false maxEdges m h; first = ltb-false a m i; second = ltb-false b m j; weight = ltb-false c m k }
 
-pub group-passed : (v g : ℕ) → groupTest v g ≡ Fine → g < 256
-group-passed v g e = by-size (ltb g 256) refl
+pub group-passed : (v g : ℕ) → groupTest v g ≡ Fine → g < groupNumbers
+group-passed v g e = by-size (ltb g groupNumbers) refl
   where
-    by-size : (b : Bool) → ltb g 256 ≡ b → g < 256
-    by-size true h = ltb-true g 256 h
-    by-size false h = let z : _≡_ {A = ℕ} 0 1 = cc (group-high v g (ltb-false g 256 h)) in absurd (omega arith)
+    by-size : (b : Bool) → ltb g groupNumbers ≡ b → g < groupNumbers
+    by-size true h = ltb-true g groupNumbers h
+    by-size false h = let z : _≡_ {A = ℕ} 0 1 = cc (group-high v g (ltb-false g groupNumbers h)) in absurd (omega arith)
 
-pub group-below : (t : List ℕ) (v at : ℕ) {g next : ℕ} → groupLine groupTest t v at ≡ found g next → g < 256
+pub group-below : (t : List ℕ) (v at : ℕ) {g next : ℕ} → groupLine groupTest t v at ≡ found g next → g < groupNumbers
 unfolding groupLine checked
 group-below t v at {g} {next} e =
     let f = then-value (numberLine nodeKey t at) (λ x p. checked (groupTest v x) x p) e in
     let w = checked-fine (groupTest v (f .0)) (f .0) (f .1) (f .3) in
     let q : checked (groupTest v (f .0)) (f .0) (f .1) ≡ found (f .0) (f .1) = ap (λ x. checked x (f .0) (f .1)) w in
     let same : f .0 ≡ g = cc (f .3) in
-    subst (λ (x : ℕ). x < 256) same (group-passed v (f .0) w)
+    subst (λ (x : ℕ). x < groupNumbers) same (group-passed v (f .0) w)
 
 -- The numbers of an edge are below the power of ten of their digit limit.
 pub record Below (x : Edge) : Type 0 where
