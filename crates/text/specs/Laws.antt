@@ -13,3 +13,4 @@ pub mod Content
 pub mod Said
 pub mod WellFormed
 pub mod Longest
+pub mod Cut

@@ -192,7 +192,7 @@ pub record Texts {A : Type 0} (P : ℕ → A → Type 0) (text : A → List ℕ)
   pub each : Each P i l
   pub word : w ≡ textOf text l
 
-lines-unfold : {A : Type 0} (line : ℕ → ℕ → Step A) (k i at : ℕ) → (line i at then λ a p. whole (linesFrom line k (i + 1) p) then λ l q. found (a ∷ l) q) ≡ whole (linesFrom line (suc k) i at)
+pub lines-unfold : {A : Type 0} (line : ℕ → ℕ → Step A) (k i at : ℕ) → (line i at then λ a p. whole (linesFrom line k (i + 1) p) then λ l q. found (a ∷ l) q) ≡ whole (linesFrom line (suc k) i at)
 unfolding whole linesFrom more _then_
 lines-unfold {A} line k i at = by-line (line i at)
   where

@@ -32,7 +32,7 @@ pub record Fixed (bytes : List ℕ) (a : ℕ) (w : List ℕ) : Type 0 where
 no-bool : {A : Type 0} → true ≡ false → A
 no-bool e = let z : _≡_ {A = ℕ} 0 1 = cc in absurd (omega arith)
 
-byteStep : ℕ → List ℕ → ℕ → Step ℕ
+unfoldable pub byteStep : ℕ → List ℕ → ℕ → Step ℕ
 byteStep b t at = cond (byteIs t at b) (found 0 (at + 1)) (refused 16 at)
 
 byte-complete : (b : ℕ) (t : List ℕ) (at a : ℕ) (w : List ℕ) → Fixed (b ∷ []) a w → Stands t at w → byteStep b t at ≡ found a (at + length w)
@@ -56,7 +56,7 @@ byte-case b t at = by-test (byteIs t at b) refl
     by-test true e = there e refl
     by-test false e = missing e refl
 
-byte-sound : (b : ℕ) (t : List ℕ) (at a p : ℕ) → at ≤ length t → byteStep b t at ≡ found a p → Word (Fixed (b ∷ [])) t at a p
+pub byte-sound : (b : ℕ) (t : List ℕ) (at a p : ℕ) → at ≤ length t → byteStep b t at ≡ found a p → Word (Fixed (b ∷ [])) t at a p
 byte-sound b t at a p h e = by-case (byte-case b t at)
   where
     by-case : Byte b t at (byteStep b t at) → Word (Fixed (b ∷ [])) t at a p
@@ -73,7 +73,7 @@ byte-refused b t at p e = by-case (byte-case b t at)
     by-case (there x y) = let z : _≡_ {A = ℕ} 0 1 = cc in absurd (omega arith)
     by-case (missing x y) = (x, cc)
 
-byte-same : (b : ℕ) (t u : List ℕ) (at : ℕ) → byteIs t at b ≡ false → take (at + 1) t ≡ take (at + 1) u → byteIs u at b ≡ false
+pub byte-same : (b : ℕ) (t u : List ℕ) (at : ℕ) → byteIs t at b ≡ false → take (at + 1) t ≡ take (at + 1) u → byteIs u at b ≡ false
 byte-same b t u at e k = by-test (byteIs u at b) refl
   where
     by-test : (x : Bool) → byteIs u at b ≡ x → byteIs u at b ≡ false
@@ -105,7 +105,7 @@ reads-byte b =
     refuse t u at p (x, y) k =
         missing-refused b u at (byte-same b t u at x (subst (λ (q : ℕ). take (q + 1) t ≡ take (q + 1) u) y k)) ∙ ap (λ (q : ℕ). refused 16 q) (sym y)
 
-fixed-step : (b : ℕ) (bytes t : List ℕ) (at : ℕ) → (byteStep b t at then λ z p. fixedAt bytes t p) ≡ fixedAt (b ∷ bytes) t at
+pub fixed-step : (b : ℕ) (bytes t : List ℕ) (at : ℕ) → (byteStep b t at then λ z p. fixedAt bytes t p) ≡ fixedAt (b ∷ bytes) t at
 unfolding byteStep fixedAt _then_
 fixed-step b bytes t at = by-test (byteIs t at b)
   where
@@ -149,7 +149,7 @@ digits-same t u (suc limit) at q e h = by-class (classOf (getD t at 0)) refl (λ
     by-class Comma c ih h = let s = read-same t u q at e h in rw (← s, c) refl
     by-class Other c ih h = let s = read-same t u q at e h in rw (← s, c) refl
 
-numeral-same : (t u : List ℕ) (limit at q : ℕ) → take q t ≡ take q u → numeralEnd limit t at < q → at < q → numeralEnd limit u at ≡ numeralEnd limit t at
+pub numeral-same : (t u : List ℕ) (limit at q : ℕ) → take q t ≡ take q u → numeralEnd limit t at < q → at < q → numeralEnd limit u at ≡ numeralEnd limit t at
 unfolding numeralEnd
 numeral-same t u limit at q e h i =
     let s : getD t at 0 ≡ getD u at 0 = read-same t u q at e i in
