@@ -6,7 +6,7 @@
 //!     EVIDENCE_NATIVE_DIR=DIR EVIDENCE_NATIVE_LIB=NAME [EVIDENCE_NATIVE_KIND=dylib|static] \
 //!         cargo run --release --features native --bin bench
 //!
-//! The function is declared below as it is assumed to be. Where the library's name, order of parameters or form of
+//! The function is declared below as the product's crate `exports` has it. Where the name, order of parameters or form of
 //! answer differs, only the declaration and the body of `plan` change; nothing else knows of them.
 
 use crate::plan::Counts;
@@ -15,7 +15,7 @@ use crate::{Refusal, View};
 extern "C" {
     /// Every buffer is a pointer and a length in items. `counts` takes sites, cost, bound, rounds and moats. The answer
     /// is 0, or the refusal's number plus 256 times its place.
-    fn evidence_native_plan(
+    fn foamsickle_plan(
         groups: *const u8,
         groups_length: usize,
         first: *const u32,
@@ -38,7 +38,7 @@ pub fn plan(survey: View, marks: &mut [u8], records: &mut [u8]) -> Result<Counts
     let mut counts = [0u64; 5];
     // Each pointer comes with the length of the slice that it is taken from, and the slices outlive the call.
     let answer = unsafe {
-        evidence_native_plan(
+        foamsickle_plan(
             survey.groups.as_ptr(),
             survey.groups.len(),
             survey.first.as_ptr(),

@@ -1,0 +1,138 @@
+// Reads a survey text on standard input and prints its plan, or the two lines of a refusal. A thin shell: reading, planning and printing are the libraries'.
+use planner::Planned;
+use printing::Printed;
+use text::Reading;
+
+// Writes the first bytes of a buffer, as many as were printed.
+fn write(out: &[u8], answer: Printed) {
+    if let Printed::Length(n) = answer {
+        if n <= out.len() {
+            io::write_all(1, &out[0..n]);
+        }
+    }
+}
+
+fn refuse(number: u64, place: usize) {
+    let mut out = [0u8; 56];
+    let answer = printing::print_refusal(number, place, &mut out);
+    write(&out, answer);
+}
+
+// Prints a plan from the marks of m tracks and so many records.
+fn show(
+    terminals: u64,
+    cost: u64,
+    bound: u64,
+    rounds: u64,
+    marks: &[u8],
+    m: usize,
+    records: &[u8],
+    duals: u64,
+) {
+    if 511 < duals {
+        return;
+    }
+    let end = 40 * (duals as usize);
+    if marks.len() < m {
+        return;
+    }
+    if records.len() < end {
+        return;
+    }
+    let mut out = [0u8; 500928];
+    let answer = printing::print_plan(
+        terminals,
+        cost,
+        bound,
+        rounds,
+        &marks[0..m],
+        &records[0..end],
+        &mut out,
+    );
+    write(&out, answer);
+}
+
+// Plans a survey and prints the plan.
+fn plan(groups: &[u8], firsts: &[u32], seconds: &[u32], weights: &[u32]) {
+    let mut marks = [0u8; 2048];
+    let mut records = [0u8; 20440];
+    let answer = planner::plan(
+        groups,
+        firsts,
+        seconds,
+        weights,
+        &mut marks,
+        &mut records,
+    );
+    match answer {
+        Planned::Refused { number, place } => refuse(number, place),
+        Planned::Finished {
+            terminals,
+            cost,
+            bound,
+            rounds,
+            duals,
+        } => show(
+            terminals,
+            cost,
+            bound,
+            rounds,
+            &marks,
+            firsts.len(),
+            &records,
+            duals,
+        ),
+    }
+}
+
+// The first n groups and m ends and prices, if the buffers have them.
+fn plan_first(
+    groups: &[u8],
+    firsts: &[u32],
+    seconds: &[u32],
+    weights: &[u32],
+    n: usize,
+    m: usize,
+) {
+    if groups.len() < n {
+        return;
+    }
+    if firsts.len() < m {
+        return;
+    }
+    if seconds.len() < m {
+        return;
+    }
+    if weights.len() < m {
+        return;
+    }
+    plan(&groups[0..n], &firsts[0..m], &seconds[0..m], &weights[0..m]);
+}
+
+// Reads a survey and plans it.
+fn respond(input: &[u8]) {
+    let mut groups = [0u8; 256];
+    let mut firsts = [0u32; 2048];
+    let mut seconds = [0u32; 2048];
+    let mut weights = [0u32; 2048];
+    let answer = text::read(input, &mut groups, &mut firsts, &mut seconds, &mut weights);
+    match answer {
+        Reading::Refused { number, place } => refuse(number, place),
+        Reading::Survey { vertices, edges } => plan_first(
+            &groups,
+            &firsts,
+            &seconds,
+            &weights,
+            vertices,
+            edges,
+        ),
+    }
+}
+
+fn main() {
+    let mut input = io::large_buffer();
+    let got = io::read_full(0, &mut input);
+    if got <= input.len() {
+        respond(&input[0..got]);
+    }
+}
