@@ -9,7 +9,7 @@ use Rattle.graph.specs.Laws.Forest.{Forest}
 use Rattle.limits.specs.Limits.{maxVertices, maxEdges}
 use Rattle.steiner.specs.Problem.{Problem, Sound, Joins}
 use Rattle.steiner.specs.Laws.Joined.{Bounded}
-use Rattle.survey.specs.Survey.{Survey, surveyFrom, problemOf}
+use Rattle.survey.specs.Survey.{surveyFrom, problemOf}
 use Rattle.survey.specs.Labels.{endsJoined}
 use Rattle.pruning.specs.Word.{pickedIn, ownWord, edgeTaken}
 

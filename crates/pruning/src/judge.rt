@@ -1,7 +1,7 @@
 // Judging a batch of picked edges by the words: an edge is needed exactly if its sides hold members of one group each.
 ghost use mathlib.Core.Path.{_≡_};
 ghost use Prim.Native.Nat.{_<_, _≤_};
-ghost use lib.ListN.{getD, length};
+ghost use lib.ListN.{length};
 ghost use Rattle.finite.specs.Below.{counted, tabulate};
 ghost use Rattle.limits.specs.Limits.{maxVertices, maxEdges};
 ghost use Rattle.records.specs.Bits.{bitAt};
@@ -10,6 +10,7 @@ ghost use Rattle.survey.specs.Survey.{groupsAlone, problemOf};
 ghost use Rattle.survey.specs.Store.{remade};
 ghost use Rattle.pruning.specs.Word.{wordBits, pickedIn};
 ghost use Rattle.pruning.specs.Judge.{sideIn, judged, raised, MarkStep, Judging};
+use crate::words::WORD_BITS;
 use crate::words::is_picked;
 use limits::MAX_VERTICES;
 use limits::Verdict;
@@ -65,7 +66,7 @@ fn is_needed(groups: &[u8], words: &[u64], base: usize, i: usize) -> bool
     if i < base {
         return false;
     }
-    if 64 <= i - base {
+    if WORD_BITS <= i - base {
         return false;
     }
     parts_group(groups, words, i - base)
@@ -81,7 +82,7 @@ fn judge_edge(
     e: usize,
     i: usize,
 ) -> usize
-    requires { ⌜ (length (now groups) ≤ maxVertices) × (i < 4096) ⌝ }
+    requires { ⌜ (length (now groups) ≤ maxVertices) × (i ≤ maxEdges) ⌝ }
     ensures { λ r. ⌜ MarkStep (pickedIn (now (picked .entry)) e) (judged (now (groups .entry)) (now (words .entry)) base i) e i (now (marks .entry)) r (now (marks .exit)) ⌝ }
 {
     if is_picked(picked, e) {

@@ -76,6 +76,6 @@ pub fn prune(groups: &[u8], firsts: &[u32], seconds: &[u32], picked: &[u8], mark
     let mut base = 0;
     while base < count {
         prune_batch(groups, firsts, seconds, picked, marks, base);
-        base += 64;
+        base += words::WORD_BITS;
     }
 }

@@ -1,17 +1,18 @@
 // One word for each vertex: its sides of up to 64 picked edges.
 ghost use mathlib.Core.Path.{_≡_};
-ghost use mathlib.Core.Bool.{cond};
-ghost use Prim.Native.Nat.{_+_, _<_};
+ghost use Prim.Native.Nat.{_≤_};
 ghost use lib.ListN.{getD, length};
 ghost use lib.Dec.{eqb};
-ghost use lib.Bits.{bitXor};
-ghost use Rattle.finite.specs.Below.{counted, countBelow, tabulate};
-ghost use Rattle.limits.specs.Limits.{maxVertices};
+ghost use Rattle.finite.specs.Below.{counted, tabulate};
+ghost use Rattle.limits.specs.Limits.{maxVertices, maxEdges};
 ghost use Rattle.survey.specs.Labels.{endsJoined};
 ghost use Rattle.pruning.specs.Word.{pickedIn, ownWord, turned, turnedAll, edgeTaken, sideWords};
 ghost use Rattle.pruning.specs.Prunable.{EndsBelow, EdgeStep};
 use survey::store::at64;
 use survey::store::put64;
+
+// Edges of one batch.
+pub const WORD_BITS: usize = 64;
 
 // Whether edge e is picked.
 pub fn is_picked(picked: &[u8], e: usize) -> bool
@@ -30,7 +31,7 @@ fn own_word(base: usize, i: usize) -> u64
     if i < base {
         return 0;
     }
-    if 64 <= i - base {
+    if WORD_BITS <= i - base {
         return 0;
     }
     1u64 << (i - base)
@@ -89,7 +90,7 @@ fn take_edge(
     e: usize,
     i: usize,
 ) -> usize
-    requires { ⌜ i < 4096 ⌝ }
+    requires { ⌜ i ≤ maxEdges ⌝ }
     ensures { λ r. ⌜ EdgeStep (pickedIn (now (picked .entry)) e) (getD (now (firsts .entry)) e 0) (getD (now (seconds .entry)) e 0) base i (now (labels .entry)) (now (words .entry)) r (now (labels .exit)) (now (words .exit)) ⌝ }
 {
     if is_picked(picked, e) {

@@ -1,7 +1,6 @@
 -- `dropped_mark` meets its contract: each return by its test.
 use Rattle.pruning.specs.Laws.Judge.{dropped-picked, dropped-other}
 use mathlib.Core.Path.{sym, _∙_}
-use native.Mathlib.Omega.{arith}
 use borrow.Author.Needs.{needs}
 use Rattle.pruning.proofs.dropped_mark.Statement.{statement}
 use Rattle.pruning.proofs.dropped_mark.Tie as tie

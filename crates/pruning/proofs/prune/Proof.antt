@@ -4,7 +4,7 @@ use Rattle.pruning.specs.Word.{pickedIn}
 use Rattle.finite.specs.Laws.Below.{count-le}
 use lib.ListN.{length}
 use mathlib.Core.Path.{_≡_, ap, _∙_}
-use Prim.Native.Nat.{_≤_, _-_}
+use Prim.Native.Nat.{_-_}
 use borrow.Author.Needs.{needs}
 use native.Mathlib.Omega.{arith}
 use Rattle.pruning.proofs.prune.Statement.{statement}

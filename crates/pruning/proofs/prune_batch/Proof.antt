@@ -1,11 +1,5 @@
 -- `prune_batch` meets its contract: judging by the words is judging by need.
 use Rattle.pruning.specs.Laws.Judge.{prunable-ends, batch-is}
-use Rattle.limits.specs.Limits.{maxVertices}
-use Rattle.finite.specs.Laws.Below.{length-tabulate}
-use Rattle.survey.specs.Laws.Store.{length-remade}
-use lib.ListN.{length}
-use mathlib.Core.Path.{sym, ap, _∙_}
-use native.Mathlib.Omega.{arith}
 use borrow.Author.Needs.{needs}
 use Rattle.pruning.proofs.prune_batch.Statement.{statement}
 use Rattle.pruning.proofs.prune_batch.Tie as tie

@@ -1,22 +1,21 @@
 -- Judging batch after batch by the words marks exactly the needed edges of a forest.
 use Prim.Native.Nat.{ℕ, zero, suc, _+_, _-_, _<_, _≤_}
 use native.Mathlib.Omega.{arith}
-use native.Mathlib.Numerals.{add-one}
 use mathlib.Core.Path.{_≡_, refl, ap, sym, _∙_}
 use mathlib.Core.Logic.{_⊎_, inl, inr, ⊎-elim}
 use mathlib.Core.Bool.{Bool, true, false, _&&_, not, cond}
-use mathlib.Core.List.{List, [], _∷_, _++_}
-use lib.ListN.{length, getD, set, drop}
-use lib.Dec.{eqb, ltb, leb}
+use mathlib.Core.List.{List, [], _∷_}
+use lib.ListN.{length, getD, set}
+use lib.Dec.{ltb, leb}
 use borrow.Author.Tests.{lt-ltb, ltb-true, leb-true, le-leb, lt-leb, le-ltb}
-use Rattle.finite.specs.Below.{counted, countBelow, anyBelow, tabulate}
+use Rattle.finite.specs.Below.{counted, countBelow, tabulate}
 use Rattle.finite.specs.Laws.Below.{any-cong, lt-or-ge, getD-tabulate, counted-true, counted-false}
-use Rattle.finite.specs.Laws.Test.{either, and-left, and-right, and-both, not-true-false}
+use Rattle.finite.specs.Laws.Test.{either, and-left, and-right, and-both}
 use Rattle.limits.specs.Limits.{maxVertices}
 use Rattle.records.specs.Bits.{bitAt}
 use Rattle.steiner.specs.Problem.{Problem, separates}
 use Rattle.steiner.specs.Pruning.{needed, markOf}
-use Rattle.survey.specs.Survey.{groupsAlone, problemOf, surveyFrom, vertexCount, edgeCount, sameGroup, member}
+use Rattle.survey.specs.Survey.{groupsAlone, problemOf, vertexCount, edgeCount, sameGroup, member}
 use Rattle.survey.specs.Store.{remade}
 use Rattle.survey.specs.Laws.Store.{length-remade, remade-more}
 use Rattle.pruning.specs.Side.{sides}

@@ -10,7 +10,7 @@ use mathlib.Core.List.{List}
 use lib.ListN.{length, getD}
 use lib.Dec.{eqb, ltb, leb}
 use lib.Bits.{bitXor, xor-shr, xor-mod}
-use borrow.Author.Tests.{eqb-true, eq-eqb, ne-eqb, lt-ltb, ltb-true, leb-true, le-leb, lt-leb, le-ltb}
+use borrow.Author.Tests.{eqb-true, eq-eqb, ne-eqb, lt-ltb, leb-true, le-leb, lt-leb, le-ltb}
 use Rattle.finite.specs.Below.{counted, sumBelow, countBelow, tabulate}
 use Rattle.finite.specs.Laws.Below.{below-suc, counted-true, counted-false, length-tabulate, getD-tabulate, sum-suc}
 use Rattle.finite.specs.Laws.Test.{either, and-left, and-right, and-both, not-true-false, true-not-false}

@@ -1,7 +1,6 @@
 -- `judge_edge` meets its contract: each return by the law of its case.
 use Rattle.pruning.specs.Laws.Judge.{mark-passed, mark-kept, mark-dropped}
 use mathlib.Core.Path.{sym, _∙_}
-use native.Mathlib.Omega.{arith}
 use borrow.Author.Needs.{needs}
 use Rattle.pruning.proofs.judge.judge_edge.Statement.{statement}
 use Rattle.pruning.proofs.judge.judge_edge.Tie as tie

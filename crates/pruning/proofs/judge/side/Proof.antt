@@ -3,7 +3,6 @@ use Rattle.records.specs.Bits.{bitAt}
 use Rattle.finite.specs.Laws.Below.{counted-true, counted-false}
 use borrow.Author.Tests.{eq-eqb, ne-eqb}
 use mathlib.Core.Path.{sym}
-use native.Mathlib.Omega.{arith}
 use borrow.Author.Needs.{needs}
 use Rattle.pruning.proofs.judge.side.Statement.{statement}
 use Rattle.pruning.proofs.judge.side.Tie as tie

@@ -1,7 +1,6 @@
 -- `is_picked` meets its contract: each return by its test.
 use Rattle.pruning.specs.Laws.Word.{picked-not, picked-is}
 use mathlib.Core.Path.{sym, _∙_}
-use native.Mathlib.Omega.{arith}
 use borrow.Author.Needs.{needs}
 use Rattle.pruning.proofs.words.is_picked.Statement.{statement}
 use Rattle.pruning.proofs.words.is_picked.Tie as tie

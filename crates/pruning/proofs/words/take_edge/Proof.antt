@@ -1,9 +1,6 @@
 -- `take_edge` meets its contract: a branch on whether the edge is picked.
 use Rattle.pruning.specs.Laws.Word.{step-taken, step-passed}
-use Rattle.pruning.specs.Word.{edgeTaken}
-use Rattle.survey.specs.Labels.{endsJoined}
-use mathlib.Core.Path.{_≡_, ap, sym, _∙_}
-use native.Mathlib.Omega.{arith}
+use mathlib.Core.Path.{sym, _∙_}
 use borrow.Author.Needs.{needs}
 use Rattle.pruning.proofs.words.take_edge.Statement.{statement}
 use Rattle.pruning.proofs.words.take_edge.Tie as tie

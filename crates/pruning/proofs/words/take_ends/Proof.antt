@@ -1,8 +1,7 @@
 -- `take_ends` meets its contract: what it reads is what the definitions read.
 use Rattle.pruning.specs.Laws.Word.{edge-taken-by, ends-joined-by}
 use lib.ListN.{getD}
-use mathlib.Core.Path.{_≡_, ap, _∙_}
-use native.Mathlib.Omega.{arith}
+use mathlib.Core.Path.{ap, _∙_}
 use borrow.Author.Needs.{needs}
 use Rattle.pruning.proofs.words.take_ends.Statement.{statement}
 use Rattle.pruning.proofs.words.take_ends.Tie as tie

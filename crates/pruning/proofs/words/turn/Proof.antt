@@ -1,6 +1,5 @@
 -- `turn` meets its contract: the two exclusive ors of the definition.
 use Rattle.pruning.specs.Word.{turned}
-use native.Mathlib.Omega.{arith}
 use borrow.Author.Needs.{needs}
 use Rattle.pruning.proofs.words.turn.Statement.{statement}
 use Rattle.pruning.proofs.words.turn.Tie as tie

@@ -2,8 +2,6 @@
 use Rattle.finite.specs.Laws.Below.{counted-true, counted-false}
 use borrow.Author.Tests.{eq-eqb, ne-eqb}
 use mathlib.Core.Path.{sym}
-use borrow.Author.Needs.{needs}
-use native.Mathlib.Omega.{arith}
 use Rattle.pruning.proofs.words.word_at.Statement.{statement}
 use Rattle.pruning.proofs.words.word_at.Tie as tie
 
