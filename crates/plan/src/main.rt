@@ -56,14 +56,7 @@ fn show(
 fn plan(groups: &[u8], firsts: &[u32], seconds: &[u32], weights: &[u32]) {
     let mut marks = [0u8; 2048];
     let mut records = [0u8; 20440];
-    let answer = planner::plan(
-        groups,
-        firsts,
-        seconds,
-        weights,
-        &mut marks,
-        &mut records,
-    );
+    let answer = planner::plan(groups, firsts, seconds, weights, &mut marks, &mut records);
     match answer {
         Planned::Refused { number, place } => refuse(number, place),
         Planned::Finished {
@@ -86,14 +79,7 @@ fn plan(groups: &[u8], firsts: &[u32], seconds: &[u32], weights: &[u32]) {
 }
 
 // The first n groups and m ends and prices, if the buffers have them.
-fn plan_first(
-    groups: &[u8],
-    firsts: &[u32],
-    seconds: &[u32],
-    weights: &[u32],
-    n: usize,
-    m: usize,
-) {
+fn plan_first(groups: &[u8], firsts: &[u32], seconds: &[u32], weights: &[u32], n: usize, m: usize) {
     if groups.len() < n {
         return;
     }
