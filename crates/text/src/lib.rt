@@ -122,7 +122,7 @@ fn digit(b: u8) -> u64
 
 // The number that decimal digits write.
 fn value(digits: &[u8]) -> u64
-    requires { ⌜ length (now digits) ≤ 9 ⌝ }
+    requires { ⌜ length (now digits) ≤ 10 ⌝ }
     ensures { λ r. ⌜ r ≡ decimalFrom 0 (now (digits .entry)) ⌝ }
 {
     let mut n: u64 = 0;
@@ -135,8 +135,8 @@ fn value(digits: &[u8]) -> u64
 }
 
 // The number of at most limit digits at the cursor.
-fn number_at(text: &[u8], cursor: Cursor, limit: usize) -> Number
-    requires { ⌜ (1 ≤ limit) × (limit ≤ 9) ⌝ }
+pub fn number_at(text: &[u8], cursor: Cursor, limit: usize) -> Number
+    requires { ⌜ (1 ≤ limit) × (limit ≤ 10) ⌝ }
     ensures { λ r. ⌜ numberStep r ≡ numberAt limit (now (text .entry)) (cursor .at) ⌝ }
 {
     let at = cursor.at;
@@ -168,8 +168,8 @@ fn ends(text: &[u8], at: usize, comma: bool) -> bool
 }
 
 // A number, and the byte that ends it.
-fn number_to(text: &[u8], cursor: Cursor, limit: usize, comma: bool) -> Number
-    requires { ⌜ (1 ≤ limit) × (limit ≤ 9) ⌝ }
+pub fn number_to(text: &[u8], cursor: Cursor, limit: usize, comma: bool) -> Number
+    requires { ⌜ (1 ≤ limit) × (limit ≤ 10) ⌝ }
     ensures { λ r. ⌜ numberStep r ≡ numberTo limit (stopOf comma) (now (text .entry)) (cursor .at) ⌝ }
 {
     let step = number_at(text, cursor, limit);
@@ -190,7 +190,7 @@ fn number_to(text: &[u8], cursor: Cursor, limit: usize, comma: bool) -> Number
 }
 
 // Fixed bytes.
-fn fixed(text: &[u8], cursor: Cursor, bytes: &[u8]) -> Number
+pub fn fixed(text: &[u8], cursor: Cursor, bytes: &[u8]) -> Number
     ensures { λ r. ⌜ numberStep r ≡ fixedAt (now (bytes .entry)) (now (text .entry)) (cursor .at) ⌝ }
 {
     let mut at = cursor.at;
@@ -411,7 +411,7 @@ fn stopped_head(step: Number) -> Head
 }
 
 // The two count lines, with which a text begins; the lengths are those of the lent buffers.
-fn counts(text: &[u8], groups: usize, firsts: usize, seconds: usize, weights: usize) -> Head
+pub fn counts(text: &[u8], groups: usize, firsts: usize, seconds: usize, weights: usize) -> Head
     ensures { λ r. ⌜ countsStep r ≡ countsAt (testsFor groups firsts seconds weights) (now (text .entry)) ⌝ }
 {
     let one = vertices_line(text, groups);
@@ -453,7 +453,7 @@ fn store32(buffer: &mut [u32], at: usize, value: u64)
 }
 
 // So many lines `node=g`; the groups up to the first refusal go into the buffer, as far as it reaches.
-fn group_lines(text: &[u8], cursor: Cursor, count: usize, groups: &mut [u8]) -> Number
+pub fn group_lines(text: &[u8], cursor: Cursor, count: usize, groups: &mut [u8]) -> Number
     ensures { λ r. ⌜ (numberStep r ≡ groupLines groupTest (now (text .entry)) count (cursor .at) .end) × (now (groups .exit) ≡ sets (now (groups .entry)) 0 (groupLines groupTest (now (text .entry)) count (cursor .at) .values)) ⌝ }
 {
     let mut next = cursor;
@@ -471,7 +471,7 @@ fn group_lines(text: &[u8], cursor: Cursor, count: usize, groups: &mut [u8]) -> 
 }
 
 // So many lines `link=u,v,price`, in the same way.
-fn edge_lines(
+pub fn edge_lines(
     text: &[u8],
     cursor: Cursor,
     count: usize,

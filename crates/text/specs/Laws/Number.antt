@@ -87,8 +87,8 @@ numeral-past t limit at h = by-start (leb at (length t)) refl
 pub value-step : (n d i : ℕ) → n + 23 ≤ 23 * 10 ^ i → d < 256 → n * 10 + (d - 48) + 23 ≤ 23 * 10 ^ (i + 1)
 value-step n d i h k = rw (add-one, pow-suc) (omega arith)
 
-pub value-fits : (n i : ℕ) → n + 23 ≤ 23 * 10 ^ i → i < 9 → n ≤ 2300000000
-value-fits n i h k = let p : 10 ^ i ≤ 10 ^ 8 = pow-le-pow-right {n = 10} (omega arith) {i = i} {j = 8} (omega arith) in omega arith
+pub value-fits : (n i : ℕ) → n + 23 ≤ 23 * 10 ^ i → i < 10 → n ≤ 23000000000
+value-fits n i h k = let p : 10 ^ i ≤ 10 ^ 9 = pow-le-pow-right {n = 10} (omega arith) {i = i} {j = 9} (omega arith) in omega arith
 
 pub decimal-more : (n i : ℕ) (s : List ℕ) → i < length s → decimalFrom n (drop i s) ≡ decimalFrom (n * 10 + (getD s i 0 - 48)) (drop (i + 1) s)
 unfolding decimalFrom

@@ -1,0 +1,6 @@
+pub mod Items
+pub mod Tests
+pub mod Puts
+pub mod Plan
+pub mod Fill
+pub mod Reading

@@ -1,0 +1,4 @@
+pub mod Items
+pub mod Plan
+pub mod Answer
+pub mod Laws
