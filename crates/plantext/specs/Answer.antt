@@ -8,6 +8,9 @@ use Rattle.limits.specs.Verdict.{Outcome, refusal, answer}
 use Rattle.text.specs.Step.{Step, found, refused, _then_, checked}
 use Rattle.plantext.specs.Items.{Each, puts}
 use Rattle.plantext.specs.Plan.{Moat, putMark, putMoat, Claims, Plan, Body, memberNumbers, marksOf, moatRecords, roomTest, marksAfter, recordsAfter}
+use Rattle.checker.specs.Check.{Checked}
+use Rattle.plantext.specs.declared.Verified.{Verified}
+use Rattle.plantext.specs.declared.Verified.the-variants.{Passed as VerifiedPassed, Refused as VerifiedRefused}
 use Rattle.plantext.specs.declared.PlanText.{PlanText}
 use Rattle.plantext.specs.declared.PlanText.the-variants.{Plan as PlanRead, Refused as PlanRefused}
 use Rattle.plantext.specs.declared.Claims.{Claims as ClaimsLines}
@@ -75,3 +78,8 @@ pub record Reads (o : Outcome Plan) (m : ℕ) (read : Outcome Read) (marks marks
   pub answered : read ≡ readOf o
   pub intoMarks : marks′ ≡ marksAfter o m marks
   pub intoRecords : records′ ≡ recordsAfter o records
+
+-- The answer of the check: k, kept cost and bound, or the refusal.
+unfoldable pub verifiedOutcome : Verified → Outcome Checked
+verifiedOutcome (VerifiedPassed k c b) = answer (record { terminals = k; cost = c; bound = b })
+verifiedOutcome (VerifiedRefused number place) = refusal number place

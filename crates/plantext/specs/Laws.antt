@@ -4,3 +4,4 @@ pub mod Puts
 pub mod Plan
 pub mod Fill
 pub mod Reading
+pub mod Verify

@@ -1,4 +1,5 @@
 pub mod Items
 pub mod Plan
+pub mod Verify
 pub mod Answer
 pub mod Laws
