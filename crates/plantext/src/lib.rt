@@ -593,7 +593,10 @@ pub fn verify(text: &[u8]) -> Verified
             );
             match step {
                 Number::Refused { number, place } => Verified::Refused { number, place },
-                Number::Value { value: _, next: end } => {
+                Number::Value {
+                    value: _,
+                    next: end,
+                } => {
                     let at = end.at;
                     verify_plan(
                         text,

@@ -1,0 +1,41 @@
+// Reads a survey text and the printed plan behind it on standard input, and prints what the plan is worth: `passed`, sites, cost and bound as
+// the checker finds them, or the refusal.
+use plantext::Verified;
+
+fn line(key: &[u8], value: u64) {
+    io::write_all(1, key);
+    io::print_decimal(1, value);
+    io::write_all(1, b"\n");
+}
+
+fn show(found: Verified) {
+    match found {
+        Verified::Passed {
+            terminals,
+            cost,
+            bound,
+        } => {
+            io::write_all(1, b"passed\n");
+            line(b"sites=", terminals);
+            line(b"cost=", cost);
+            line(b"bound=", bound);
+        }
+        Verified::Refused { number, place } => {
+            line(b"refused=", number);
+            line(b"place=", reads::wide(place));
+        }
+    }
+}
+
+// Room for every survey and plan within the limits.
+fn room() -> [u8; 1048576] {
+    [0; 1048576]
+}
+
+fn main() {
+    let mut text = room();
+    let n = io::read_full(0, &mut text);
+    if n <= text.len() {
+        show(plantext::verify(&text[0..n]));
+    }
+}
