@@ -2,4 +2,3 @@ pub mod Flags
 pub mod Winner
 pub mod Raise
 pub mod View
-pub mod Shown

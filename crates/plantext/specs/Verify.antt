@@ -26,7 +26,7 @@ unfoldable pub prefixAt : Tests → List ℕ → Step SurveyText
 prefixAt tests t =
     countsAt tests t then λ counts p.
     let body = linesAt t (counts .vertices) (counts .edges) p in
-    body .end then λ z q. found (surveyOf counts body) q
+    body .end then λ z q. found (surveyOf counts (body .groups) (body .edges)) q
 
 -- 25: a count that is not what the checker finds; 0 for sites, 1 for cost, 2 for bound.
 unfoldable pub claimTest : Checked → (terminals cost bound : ℕ) → Verdict

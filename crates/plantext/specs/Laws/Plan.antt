@@ -19,7 +19,7 @@ use Rattle.records.specs.Laws.Record.{started-whole, member-added-record, lengt
 use Rattle.text.specs.Step.{Step, found, refused, _then_, checked, Lines}
 use Rattle.printing.specs.Key.{newline}
 use Rattle.text.specs.Laws.Byte.{byte-inside}
-use Rattle.text.specs.Laws.Digits.{then-value}
+use Rattle.text.specs.Laws.Step.{then-value}
 use Rattle.text.specs.Laws.Tests.{checked-fine, checked-value}
 use Rattle.plantext.specs.Items.{Reader, following, itemsFrom, puts, Each, none, more}
 use Rattle.plantext.specs.Plan.{keptTest, keepLine, valueLine, risen, memberReader, membersAt, moatTest, moatLine, moatHead, moatOf, Moat, moatRecord, moatReader, putMember, putMoat, isIn}

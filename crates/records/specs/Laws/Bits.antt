@@ -168,10 +168,6 @@ pub byte-cong : (s t : ℕ → Bool) → ((k : ℕ) → k < 8 → s k ≡ t k) �
 unfolding byteOf
 byte-cong s t h = sum-cong 8 _ _ (λ k b. ap (λ x. counted x (2 ^ k)) (h k b))
 
--- Two bytes with the same bits are the same.
-pub byte-ext : (a b : ℕ) → a < 256 → b < 256 → ((k : ℕ) → k < 8 → bitAt a k ≡ bitAt b k) → a ≡ b
-byte-ext a b ha hb h = sym (byte-of-bits a ha) ∙ byte-cong (bitAt a) (bitAt b) h ∙ byte-of-bits b hb
-
 -- A test with one number added.
 or-same : (t : ℕ → Bool) (v w : ℕ) → w ≡ v → (t w || eqb w v) ≡ true
 or-same t v w e = or-right (t w) (eqb w v) (eq-eqb w v e)

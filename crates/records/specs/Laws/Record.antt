@@ -39,13 +39,6 @@ member-of-record value S v h =
 pub members-of-record : (value : ℕ) (S : ℕ → Bool) → thoseBelow (8 * memberBytes) (memberIn (recordOf value S)) ≡ thoseBelow (8 * memberBytes) S
 members-of-record value S = those-cong (8 * memberBytes) _ _ (member-of-record value S)
 
--- A record has no member past its bytes.
-pub member-past-record : (r : List ℕ) (v : ℕ) → length r ≤ recordBytes → 8 * memberBytes ≤ v → memberIn r v ≡ false
-unfolding memberIn
-member-past-record r v h k =
-    let l : length (drop valueBytes r) ≡ length r - valueBytes = length-drop valueBytes r in
-    member-past (drop valueBytes r) v (omega arith)
-
 -- The value of a record of bytes fits its bytes.
 pub value-lt : (r : List ℕ) → Bytes r → valueIn r < 256 ^ valueBytes
 unfolding valueIn
@@ -62,10 +55,6 @@ unfolding overwritten
 overwritten-fits old new h =
     let e : 0 + length new ≡ length new = omega arith in
     sets-eq new old 0 (omega arith) ∙ ap (λ n. new ++ drop n old) e
-
-pub length-overwritten : (old new : List ℕ) → length (overwritten old new) ≡ length old
-unfolding overwritten
-length-overwritten old new = length-sets old 0 new
 
 pub overwritten-whole : (old new : List ℕ) → length old ≡ length new → overwritten old new ≡ new
 overwritten-whole old new h =
@@ -111,19 +100,6 @@ unfolding recordAt
 record-at-right n xs ys i h =
     let e : recordBytes * (n + i) ≡ length xs + recordBytes * i = omega arith in
     ap (λ k. take recordBytes (drop k (xs ++ ys))) e ∙ ap (take recordBytes) (drop-append-add xs ys (recordBytes * i))
-
-pub record-at-left : (n : ℕ) (xs ys : List ℕ) (i : ℕ) → length xs ≡ recordBytes * n → i < n → recordAt (xs ++ ys) i ≡ recordAt xs i
-unfolding recordAt
-record-at-left n xs ys i h l =
-    let rest : length (drop (recordBytes * i) xs) ≡ length xs - recordBytes * i = length-drop (recordBytes * i) xs in
-    ap (take recordBytes) (drop-append-le (recordBytes * i) xs ys (omega arith))
-    ∙ take-append-le recordBytes (drop (recordBytes * i) xs) ys (omega arith)
-
-pub length-record-at : (records : List ℕ) (i : ℕ) → recordBytes * (i + 1) ≤ length records → length (recordAt records i) ≡ recordBytes
-unfolding recordAt
-length-record-at records i h =
-    let rest : length (drop (recordBytes * i) records) ≡ length records - recordBytes * i = length-drop (recordBytes * i) records in
-    length-take-le recordBytes (drop (recordBytes * i) records) (omega arith)
 
 -- A record as the part of the buffer between two bounds: past the end, at the end, and whole.
 pub record-at-past : (records : List ℕ) (i : ℕ) → length records / recordBytes < i

@@ -131,12 +131,6 @@ module _ (p : Problem) (ok : Sound p) (some : 0 < p .vertices) (joinable : Joins
 
   -- ---- kept edges at a cut
 
-  -- An active component is left by a kept edge.
-  pub active-left : (S : ℕ → Bool) → separates p S ≡ true → Crossing (p .first) (p .second) (kept p) S
-  active-left S a =
-      let split : Split p S = separates-elim p S a in
-      cut-crossed S (kept-joins (split .u) (split .v) (split .u-below) (split .v-below) (split .required)) (split .inside) (split .outside)
-
   -- Source 001, Lemma 22.7: a cut that separates no required pair is not crossed by exactly one kept edge.
   pub no-inactive-leaf : (S : ℕ → Bool) → separates p S ≡ false → (e : ℕ) → kept p e ≡ true → crosses (p .first) (p .second) S e ≡ true →
       ((f : ℕ) → kept p f ≡ true → crosses (p .first) (p .second) S f ≡ true → f ≡ e) → ⊥
