@@ -5,3 +5,4 @@ pub mod Plan
 pub mod Fill
 pub mod Reading
 pub mod Verify
+pub mod Accuracy
