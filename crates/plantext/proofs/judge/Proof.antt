@@ -21,31 +21,31 @@ returns : tie.Need-returns
 unfolding verifiedOutcome outcomeOf
 returns c =
     let a = c .before .before .before .before .before .before .before .before .before .before .before .args in
-    sym (claim-terminals (a .terminals) (a .cost) (a .bound) (sym (c .before .before .before .before .check .ensures) ∙ ap outcomeOf (c .before .before .k .given .1)) (c .if1 .taken))
+    sym (claim-terminals (a .terminals) (a .cost) (a .bound) (sym (c .before .before .before .before .check .ensures .0) ∙ ap outcomeOf (c .before .before .k .given .1)) (c .if1 .taken))
 
 returns-2 : tie.Need-returns-2
 unfolding verifiedOutcome outcomeOf
 returns-2 c =
     let a = c .before .before .before .before .before .before .before .before .before .before .before .before .args in
-    sym (claim-cost (a .terminals) (a .cost) (a .bound) (sym (c .before .before .before .before .before .check .ensures) ∙ ap outcomeOf (c .before .before .before .k .given .1)) (c .before .if1 .left) (c .if2 .taken))
+    sym (claim-cost (a .terminals) (a .cost) (a .bound) (sym (c .before .before .before .before .before .check .ensures .0) ∙ ap outcomeOf (c .before .before .before .k .given .1)) (c .before .if1 .left) (c .if2 .taken))
 
 returns-3 : tie.Need-returns-3
 unfolding verifiedOutcome outcomeOf
 returns-3 c =
     let a = c .before .before .before .before .before .before .before .before .before .before .before .before .before .args in
-    sym (claim-bound (a .terminals) (a .cost) (a .bound) (sym (c .before .before .before .before .before .before .check .ensures) ∙ ap outcomeOf (c .before .before .before .before .k .given .1)) (c .before .before .if1 .left) (c .before .if2 .left) (c .if3 .taken))
+    sym (claim-bound (a .terminals) (a .cost) (a .bound) (sym (c .before .before .before .before .before .before .check .ensures .0) ∙ ap outcomeOf (c .before .before .before .before .k .given .1)) (c .before .before .if1 .left) (c .before .if2 .left) (c .if3 .taken))
 
 returns-4 : tie.Need-returns-4
 unfolding verifiedOutcome outcomeOf
 returns-4 c =
     let a = c .before .before .before .before .before .before .before .before .before .before .args in
-    sym (judged-refused (a .terminals) (a .cost) (a .bound) (sym (c .before .before .before .check .ensures) ∙ ap outcomeOf (c .before .number .given .1)))
+    sym (judged-refused (a .terminals) (a .cost) (a .bound) (sym (c .before .before .before .check .ensures .0) ∙ ap outcomeOf (c .before .number .given .1)))
 
 returns-5 : tie.Need-returns-5
 unfolding verifiedOutcome outcomeOf
 returns-5 c =
     let a = c .before .before .before .before .before .before .before .before .before .before .before .before .before .args in
-    sym (claim-fine (a .terminals) (a .cost) (a .bound) (sym (c .before .before .before .before .before .before .check .ensures) ∙ ap outcomeOf (c .before .before .before .before .k .given .1)) (c .before .before .if1 .left) (c .before .if2 .left) (c .if3 .left))
+    sym (claim-fine (a .terminals) (a .cost) (a .bound) (sym (c .before .before .before .before .before .before .check .ensures .0) ∙ ap outcomeOf (c .before .before .before .before .k .given .1)) (c .before .before .if1 .left) (c .before .if2 .left) (c .if3 .left))
 
 pub judge-spec : {M : Type 1} → statement M
 judge-spec =

@@ -4,14 +4,14 @@ use native.Mathlib.Omega.{arith}
 use mathlib.Core.Path.{_≡_, refl, ap, sym, _∙_, subst}
 use mathlib.Core.List.{List, [], _∷_}
 use lib.ListN.{length, getD}
-use Rattle.limits.specs.Limits.{groupNumbers}
+use Rattle.limits.specs.Limits.{maxVertices, maxEdges, groupNumbers}
 use Rattle.limits.specs.Verdict.{Outcome, refusal, answer, outcome}
 use Rattle.limits.specs.declared.Verdict.{Verdict}
 use Rattle.limits.specs.declared.Verdict.the-variants.{Fine, Refused}
 use Rattle.text.specs.Step.{Step, found, refused, _then_, Lines, more, linesFrom, linesAfter}
 use Rattle.text.specs.Reading.{Counts, testsFor, groupTest, groupLine, groupLines, edgeLines, countsAt, surveyOf}
 use Rattle.text.specs.Reading.{Survey as SurveyText}
-use Rattle.text.specs.Laws.Digits.{then-value}
+use Rattle.text.specs.Laws.Step.{then-value}
 use Rattle.text.specs.Laws.Tests.{group-below}
 use Rattle.survey.specs.Survey.{Survey, surveyFrom, edgeCount}
 use Rattle.survey.specs.Accuracy.{Accurate}
@@ -25,13 +25,13 @@ use Rattle.plantext.specs.Verify.{linesAt, prefixAt, claimTest, judged, 
 abbrev pub surveyIn : SurveyText → Survey
 surveyIn s = surveyFrom (s .groups) (s .firsts) (s .seconds) (s .weights)
 
-groups-below : (t : List ℕ) (count i at v : ℕ) → getD (linesFrom (groupLine groupTest t) count i at .values) v 0 < 256
+groups-below : (t : List ℕ) (count i at v : ℕ) → getD (linesFrom (groupLine groupTest t) count i at .values) v 0 < groupNumbers
 unfolding linesFrom more
 groups-below t zero i at v = omega arith
 groups-below t (suc count) i at v = by-line (groupLine groupTest t i at) v refl (λ next w. groups-below t count (i + 1) next w)
   where
-    by-line : (s : Step ℕ) (v : ℕ) → groupLine groupTest t i at ≡ s → ((next w : ℕ) → getD (linesFrom (groupLine groupTest t) count (i + 1) next .values) w 0 < 256)
-        → getD (more s (λ next. linesFrom (groupLine groupTest t) count (i + 1) next) .values) v 0 < 256
+    by-line : (s : Step ℕ) (v : ℕ) → groupLine groupTest t i at ≡ s → ((next w : ℕ) → getD (linesFrom (groupLine groupTest t) count (i + 1) next .values) w 0 < groupNumbers)
+        → getD (more s (λ next. linesFrom (groupLine groupTest t) count (i + 1) next) .values) v 0 < groupNumbers
     by-line (found g next) zero e ih = group-below t i at e
     by-line (found g next) (suc v) e ih = ih next v
     by-line (refused n p) v e ih = omega arith
@@ -42,7 +42,8 @@ unfolding prefixAt linesAt surveyOf groupLines
 prefix-numbered a b c d t {s} {at} e =
     let one = then-value (countsAt (testsFor a b c d) t) _ e in
     let two = then-value (linesAt t (one .0 .vertices) (one .0 .edges) (one .1) .end) _ (one .3) in
-    let same : surveyOf (one .0) (linesAt t (one .0 .vertices) (one .0 .edges) (one .1)) ≡ s = cc (two .3) in
+    let body = linesAt t (one .0 .vertices) (one .0 .edges) (one .1) in
+    let same : surveyOf (one .0) (body .groups) (body .edges) ≡ s = cc (two .3) in
     subst (λ x. Numbered (surveyIn x)) same (λ v. groups-below t (one .0 .vertices) 0 (one .1) v)
 
 judged-answer : (o : Outcome Checked) (k c b : ℕ) {x : Checked} → judged o k c b ≡ answer x → o ≡ answer x
@@ -58,23 +59,23 @@ judged-answer (answer y) k c b {x} e = by-test (claimTest y k c b) e
 pub record Worth (t : List ℕ) (c : Checked) : Type 0 where
   pub survey : SurveyText
   pub next : ℕ
-  pub read : prefixAt (testsFor 256 2048 2048 2048) t ≡ found survey next
+  pub read : prefixAt (testsFor maxVertices maxEdges maxEdges maxEdges) t ≡ found survey next
   pub accurate : Accurate (surveyIn survey) (c .terminals) (c .cost)
 
 pub verified-accurate : (t : List ℕ) (c : Checked) → verifying t ≡ answer c → Worth t c
 unfolding verifying verifiedFrom planVerified
-verified-accurate t c e = by-survey (prefixAt (testsFor 256 2048 2048 2048) t) refl e
+verified-accurate t c e = by-survey (prefixAt (testsFor maxVertices maxEdges maxEdges maxEdges) t) refl e
   where
-    by-plan : (s : SurveyText) (at : ℕ) (o : Outcome Plan) → prefixAt (testsFor 256 2048 2048 2048) t ≡ found s at → planVerified (surveyIn s) o ≡ answer c → Worth t c
+    by-plan : (s : SurveyText) (at : ℕ) (o : Outcome Plan) → prefixAt (testsFor maxVertices maxEdges maxEdges maxEdges) t ≡ found s at → planVerified (surveyIn s) o ≡ answer c → Worth t c
     by-plan s at (refusal n p) q e = let z : _≡_ {A = ℕ} 0 1 = cc in absurd (omega arith)
     by-plan s at (answer p) q e =
         record {
           survey = s;
           next = at;
           read = q;
-          accurate = checking-accurate (surveyIn s) (prefix-numbered 256 2048 2048 2048 t q) (marksOf (edgeCount (surveyIn s)) (p .kept)) (moatRecords (p .moats)) c (judged-answer _ _ _ _ e);
+          accurate = checking-accurate (surveyIn s) (prefix-numbered maxVertices maxEdges maxEdges maxEdges t q) (marksOf (edgeCount (surveyIn s)) (p .kept)) (moatRecords (p .moats)) c (judged-answer _ _ _ _ e);
         }
 
-    by-survey : (x : Step SurveyText) → prefixAt (testsFor 256 2048 2048 2048) t ≡ x → verifiedFrom t x ≡ answer c → Worth t c
+    by-survey : (x : Step SurveyText) → prefixAt (testsFor maxVertices maxEdges maxEdges maxEdges) t ≡ x → verifiedFrom t x ≡ answer c → Worth t c
     by-survey (found s at) q e = by-plan s at (planFrom t (surveyIn s) at) q e
     by-survey (refused n p) q e = let z : _≡_ {A = ℕ} 0 1 = cc in absurd (omega arith)

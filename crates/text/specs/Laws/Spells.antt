@@ -75,8 +75,10 @@ reads-value {B} b =
   where
     never : {at n p : ℕ} → found b at ≡ refused n p → ⊥
     never e = let z : _≡_ {A = ℕ} 0 1 = cc in omega arith
+
     next-is : {at p : ℕ} {c : B} → found b at ≡ found c p → p ≡ at + 0
     next-is {at} {p} e = let q : at ≡ p = cc in omega arith
+
     at-end : (at : ℕ) (c : B) (w : List ℕ) → Empty b c w → found b at ≡ found c (at + length w)
     at-end at c w m =
         let l : length w ≡ 0 = ap length (m .word) in
@@ -112,8 +114,10 @@ reads-checked {B} (Refused n p) b h =
   where
     never : {c : B} {q : ℕ} → refused n p ≡ found c q → ⊥
     never e = let z : _≡_ {A = ℕ} 0 1 = cc in omega arith
+
     not-fine : Refused n p ≡ Fine → ⊥
     not-fine e = let z : _≡_ {A = ℕ} 0 1 = cc in omega arith
+
     number : {q : ℕ} → _≡_ {A = Step B} (refused n p) (refused 16 q) → n ≡ 16
     number e = cc
 
@@ -173,6 +177,7 @@ module _ {A B : Type 0} {f : List ℕ → ℕ → Step A} {W G : A → List ℕ 
           let k : at + length (m .left) + length (m .right) ≡ at + length w = omega arith in
           read (then-found _ e ∙ q ∙ ap (λ (k : ℕ). found b k) k)
       by-second e (otherwise q n) = otherwise (then-found _ e ∙ q) n
+
       by-first : Lively (f t at) (m .value) (at + length (m .left)) → Lively (g (m .value) t (at + length (m .left))) b (at + length (m .left) + length (m .right)) → Lively (next t at) b (at + length w)
       by-first (read e) y = by-second e y
       by-first (otherwise e n) y = otherwise (then-refused _ e) n
@@ -238,19 +243,20 @@ module _ {A B : Type 0} {f : List ℕ → ℕ → Step A} {W G : A → List ℕ 
         same = then-same;
         place = then-place;
         extends = then-extends;
-        some =
-          ( s (r .some .0) .some .0
-          , r .some .1 ++ s (r .some .0) .some .1
-          , record { value = r .some .0; left = r .some .1; right = s (r .some .0) .some .1; first = r .some .2; second = s (r .some .0) .some .2; whole = refl });
+        some = (
+          s (r .some .0) .some .0,
+          r .some .1 ++ s (r .some .0) .some .1,
+          record { value = r .some .0; left = r .some .1; right = s (r .some .0) .some .1; first = r .some .2; second = s (r .some .0) .some .2; whole = refl },
+        );
         well =
-          λ b w m. record { value = m .value; left = m .left; right = m .right; first = r .well (m .value) (m .left) (m .first); second = s (m .value) .well b (m .right) (m .second); whole = m .whole };
+            λ b w m. record { value = m .value; left = m .left; right = m .right; first = r .well (m .value) (m .left) (m .first); second = s (m .value) .well b (m .right) (m .second); whole = m .whole };
       }
 
 -- The same language in other words.
 pub reads-as : {A : Type 0} {f g : List ℕ → ℕ → Step A} {W G X H : A → List ℕ → Type 0} → ((t : List ℕ) (at : ℕ) → f t at ≡ g t at)
-  → ((a : A) (w : List ℕ) → W a w → X a w) → ((a : A) (w : List ℕ) → X a w → W a w)
-  → ((a : A) (w : List ℕ) → G a w → H a w) → ((a : A) (w : List ℕ) → H a w → G a w)
-  → Reads f W G → Reads g X H
+    → ((a : A) (w : List ℕ) → W a w → X a w) → ((a : A) (w : List ℕ) → X a w → W a w)
+    → ((a : A) (w : List ℕ) → G a w → H a w) → ((a : A) (w : List ℕ) → H a w → G a w)
+    → Reads f W G → Reads g X H
 reads-as {A} {f} {g} {W} {G} {X} {H} e wx xw gh hg r =
     record {
       complete = λ t at a w m s. sym (e t at) ∙ r .complete t at a w (xw a w m) s;

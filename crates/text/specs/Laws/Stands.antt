@@ -42,9 +42,9 @@ module _ {t : List ℕ} {at : ℕ} (v w : List ℕ) where
       let m : length (take at t ++ v) ≡ at + length v = length-append (take at t) v ∙ ap (λ (k : ℕ). k + length v) n in
       record {
         is =
-          sym (take-take (at + length v) (at + length (v ++ w)) t h)
-          ∙ ap (take (at + length v)) (s .is ∙ sym (append-assoc (take at t) v w))
-          ∙ take-at (take at t ++ v) w (at + length v) m;
+            sym (take-take (at + length v) (at + length (v ++ w)) t h)
+            ∙ ap (take (at + length v)) (s .is ∙ sym (append-assoc (take at t) v w))
+            ∙ take-at (take at t ++ v) w (at + length v) m;
         fits = omega arith;
       }
 
