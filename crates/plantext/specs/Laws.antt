@@ -6,3 +6,4 @@ pub mod Fill
 pub mod Reading
 pub mod Verify
 pub mod Accuracy
+pub mod Room

@@ -1,0 +1,93 @@
+-- Room for every plan within the limits: the check never wants for room, and marks that are read keep the tracks that were listed.
+use Prim.Native.Nat.{ℕ, zero, suc, _+_, _*_, _/_, _≤_, _<_}
+use native.Mathlib.Omega.{arith}
+use mathlib.Core.Path.{_≡_, refl, ap, sym, _∙_, subst}
+use mathlib.Core.Bool.{Bool, true, false, cond}
+use mathlib.Core.List.{List, [], _∷_}
+use lib.ListN.{length, getD}
+use lib.Dec.{eqb, ltb, leb}
+use borrow.Author.Tests.{ltb-true, ltb-false, leb-true, leb-false}
+use Rattle.finite.specs.Below.{tabulate}
+use Rattle.finite.specs.Laws.Below.{getD-tabulate}
+use Rattle.limits.specs.Limits.{recordBytes, maxDuals, maxEdges}
+use Rattle.limits.specs.Verdict.{Outcome, refusal, answer, outcome}
+use Rattle.limits.specs.declared.Verdict.{Verdict}
+use Rattle.limits.specs.declared.Verdict.the-variants.{Fine, Refused}
+use Rattle.text.specs.Step.{Step, found, refused, _then_, checked, Lines, linesAfter}
+use Rattle.text.specs.Reading.{outcomeOf}
+use Rattle.text.specs.Laws.Digits.{then-value}
+use Rattle.text.specs.Laws.Tests.{checked-fine}
+use Rattle.survey.specs.Survey.{Survey, edgeCount}
+use Rattle.checker.specs.Check.{keptBy}
+use Rattle.plantext.specs.Items.{following, itemsFrom}
+use Rattle.plantext.specs.Plan.{Moat, Plan, moatHead, membersAt, moatTest, moatOf, moatLine, moatReader, moatsAt, keptAt, bodyAt, claimsAt, planAt, withRoom, roomTest, marksOf, isIn}
+use Rattle.plantext.specs.Verify.{planFrom}
+use Rattle.plantext.specs.Laws.Tests.{moat-falls, moat-many}
+use Rattle.plantext.specs.Laws.Reading.{room-fine}
+
+no-refusal : {n p : ℕ} {w : Verdict} → w ≡ Refused n p → w ≡ Fine → ⊥
+no-refusal e f = let z : _≡_ {A = ℕ} 0 1 = cc in omega arith
+
+moat-passed : (i low : ℕ) → moatTest i low ≡ Fine → i < 511
+moat-passed i low f = by-tests (ltb 256 low) (leb 511 i) refl refl
+  where
+    by-tests : (a b : Bool) → ltb 256 low ≡ a → leb 511 i ≡ b → i < 511
+    by-tests true b p q = absurd (no-refusal (moat-falls i low (ltb-true 256 low p)) f)
+    by-tests false true p q = absurd (no-refusal (moat-many i low (ltb-false 256 low p) (leb-true 511 i q)) f)
+    by-tests false false p q = leb-false 511 i q
+
+line-passed : (t : List ℕ) (i at : ℕ) {d : Moat} {p : ℕ} → moatLine t i at ≡ found d p → i < 511
+unfolding moatLine
+line-passed t i at e =
+    let one = then-value (moatHead t at) _ e in
+    let two = then-value (membersAt t (one .1) .end) _ (one .3) in
+    moat-passed i (two .0) (checked-fine _ _ _ (two .3))
+
+-- No more than 511 moats are read.
+items-few : (t : List ℕ) (fuel low i at : ℕ) → i ≤ 511 → length (itemsFrom (moatReader t) fuel low i at .values) + i ≤ 511
+unfolding itemsFrom following moatReader
+items-few t zero low i at h = omega arith
+items-few t (suc fuel) low i at h = by-stop (moatReader t .stop at) (moatLine t i at) refl (λ l k b. items-few t fuel l (i + 1) k b)
+  where
+    by-stop : (b : Bool) (s : Step Moat) → moatLine t i at ≡ s → ((l k : ℕ) → i + 1 ≤ 511 → length (itemsFrom (moatReader t) fuel l (i + 1) k .values) + (i + 1) ≤ 511)
+        → length (cond b (record { values = []; end = found low at }) (following s (λ d next. itemsFrom (moatReader t) fuel (low + 1) (i + 1) next)) .values) + i ≤ 511
+    by-stop true s e ih = omega arith
+    by-stop false (found d next) e ih =
+        let few = line-passed t i at e in
+        let more = ih (low + 1) next (omega arith) in
+        omega arith
+    by-stop false (refused n p) e ih = omega arith
+
+body-few : (t : List ℕ) (m at : ℕ) → length (bodyAt t m at .moats) ≤ 511
+unfolding bodyAt linesAfter moatsAt
+body-few t m at = by-kept (keptAt t m at .end)
+  where
+    by-kept : (s : Step ℕ) → length (linesAfter s (moatsAt t) .values) ≤ 511
+    by-kept (found z p) = let few = items-few t (length t) 0 0 p (omega arith) in omega arith
+    by-kept (refused n p) = omega arith
+
+plan-few : (t : List ℕ) (m at : ℕ) {p : Plan} {q : ℕ} → planAt t m at ≡ found p q → length (p .moats) ≤ 511
+unfolding planAt
+plan-few t m at {p} {q} e =
+    let one = then-value (claimsAt t at) _ e in
+    let two = then-value (bodyAt t m (one .1) .end) _ (one .3) in
+    let same : _≡_ {A = Plan} (record { claims = one .0; kept = bodyAt t m (one .1) .kept; moats = bodyAt t m (one .1) .moats }) p = cc (two .3) in
+    subst (λ (x : Plan). length (x .moats) ≤ 511) same (body-few t m (one .1))
+
+-- 7 cannot come: the check answers what the text says.
+pub room-suffices : (t : List ℕ) (s : Survey) (at : ℕ) → edgeCount s ≤ maxEdges → planFrom t s at ≡ outcomeOf (planAt t (edgeCount s) at)
+unfolding planFrom withRoom outcomeOf outcome
+room-suffices t s at h = by-plan (planAt t (edgeCount s) at) refl
+  where
+    by-plan : (x : Step Plan) → planAt t (edgeCount s) at ≡ x → withRoom x (edgeCount s) maxEdges (recordBytes * maxDuals) ≡ outcomeOf x
+    by-plan (found p q) e = let f = plan-few t (edgeCount s) at e in rw (room-fine (edgeCount s) (length (p .moats)) maxEdges (recordBytes * maxDuals) h f) refl
+    by-plan (refused n q) e = refl
+
+-- The marks that are drawn for listed tracks keep these tracks and no others.
+pub kept-of-marks : (m : ℕ) (kept : List ℕ) (e : ℕ) → e < m → keptBy (marksOf m kept) e ≡ isIn kept e
+unfolding keptBy marksOf
+kept-of-marks m kept e h = ap (λ (x : ℕ). eqb x 2) (getD-tabulate m (λ x. cond (isIn kept x) 2 0) e 0 h) ∙ by-in (isIn kept e)
+  where
+    by-in : (b : Bool) → eqb (cond b 2 0) 2 ≡ b
+    by-in true = refl
+    by-in false = refl
