@@ -7,3 +7,4 @@ pub mod Reading
 pub mod Verify
 pub mod Accuracy
 pub mod Room
+pub mod Fuel
