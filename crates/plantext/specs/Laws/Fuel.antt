@@ -1,7 +1,7 @@
 -- A text has no more items than bytes: each item goes on by a byte at least, so that fuel past the bytes that are left changes nothing.
 use Prim.Native.Nat.{ℕ, zero, suc, _+_, _-_, _≤_, _<_}
 use native.Mathlib.Omega.{arith}
-use mathlib.Core.Path.{_≡_, refl, ap, sym, _∙_}
+use mathlib.Core.Path.{_≡_, refl}
 use mathlib.Core.Bool.{Bool, true, false, cond}
 use mathlib.Core.List.{List, [], _∷_}
 use lib.ListN.{length}
@@ -9,15 +9,16 @@ use lib.Dec.{eqb}
 use borrow.Author.Tests.{eqb-false}
 use Rattle.limits.specs.declared.Verdict.{Verdict}
 use Rattle.limits.specs.declared.Verdict.the-variants.{Fine, Refused}
-use Rattle.printing.specs.Key.{newline, keptKey}
+use Rattle.printing.specs.Key.{newline, colon, keptKey, dualKey}
 use Rattle.limits.specs.Limits.{maxDigits}
-use Rattle.text.specs.Step.{Step, found, refused, _then_, checked, Lines}
+use Rattle.text.specs.Step.{Step, found, refused, _then_, checked}
 use Rattle.text.specs.Number.{byteIs, fixedAt, numeralAt, numberAt, numberTo, decimalFrom}
 use Rattle.text.specs.Laws.Byte.{byte-inside}
 use Rattle.text.specs.Laws.Number.{numeral-width}
 use Rattle.text.specs.Laws.Digits.{then-value}
 use Rattle.plantext.specs.Items.{Reader, following, itemsFrom}
-use Rattle.plantext.specs.Plan.{valueLine, keptTest, keepLine, keepReader, separator, memberAt, memberReader}
+use Rattle.plantext.specs.Plan.{valueLine, keepLine, keepReader, separator, memberAt, memberReader, membersAt, Moat, moatHead, moatLine, moatReader}
+use Rattle.plantext.specs.Laws.Plan.{members-end}
 
 -- A step from one offset of a text to a later one.
 record Goes (t : List ℕ) (at p : ℕ) : Type 0 where
@@ -110,3 +111,43 @@ keep-fuel t m fuel low i at h k = items-fuel (keepReader t m) t (λ l j a e p b 
 pub member-fuel : (t : List ℕ) (fuel low i at : ℕ) → at ≤ length t → length t - at < fuel → itemsFrom (memberReader t) (suc fuel) low i at ≡ itemsFrom (memberReader t) fuel low i at
 unfolding memberReader
 member-fuel t fuel low i at h k = items-fuel (memberReader t) t (λ l j a v p b q. member-goes t l j a b q) fuel low i at h k
+
+items-forward : {A : Type 0} (r : Reader A) (t : List ℕ) → ((low i at : ℕ) (a : A) (p : ℕ) → at ≤ length t → r .item low i at ≡ found a p → Goes t at p)
+    → (fuel low i at : ℕ) {n p : ℕ} → at ≤ length t → itemsFrom r fuel low i at .end ≡ found n p → at ≤ p
+unfolding itemsFrom following
+items-forward r t goes zero low i at h e = let z : _≡_ {A = ℕ} 0 1 = cc in absurd (omega arith)
+items-forward {A} r t goes (suc fuel) low i at {n} {p} h e = by-stop (r .stop at) (r .item low i at) refl (λ a q g. items-forward r t goes fuel (r .after low a) (i + 1) q (g .inside)) e
+  where
+    by-stop : (b : Bool) (s : Step A) → r .item low i at ≡ s → ((a : A) (q : ℕ) → Goes t at q → itemsFrom r fuel (r .after low a) (i + 1) q .end ≡ found n p → q ≤ p)
+        → cond b (record { values = []; end = found low at }) (following s (λ a next. itemsFrom r fuel (r .after low a) (i + 1) next)) .end ≡ found n p → at ≤ p
+    by-stop true s q ih e = let same : at ≡ p = cc in omega arith
+    by-stop false (found a x) q ih e =
+        let g = goes low i at a x h q in
+        let k = g .on in
+        let f = ih a x g e in
+        omega arith
+    by-stop false (refused x y) q ih e = let z : _≡_ {A = ℕ} 0 1 = cc in absurd (omega arith)
+
+moat-goes : (t : List ℕ) (i at : ℕ) {d : Moat} {p : ℕ} → at ≤ length t → moatLine t i at ≡ found d p → Goes t at p
+unfolding moatLine moatHead membersAt memberReader
+moat-goes t i at {d} {p} h q =
+    let head = then-value (moatHead t at) _ q in
+    let list = then-value (membersAt t (head .1) .end) _ (head .3) in
+    let key = then-value (fixedAt dualKey t at) _ (head .2) in
+    let number = then-value (numberAt maxDigits t (key .1)) _ (key .3) in
+    let mark = then-value (fixedAt (colon ∷ []) t (number .1)) _ (number .3) in
+    let a = fixed-goes dualKey t at (key .2) .on in
+    let b = number-goes maxDigits t (key .1) (number .2) in
+    let b0 = b .on in
+    let c = fixed-goes (colon ∷ []) t (number .1) (mark .2) in
+    let c0 = c .on in
+    let c1 = c .inside (b .inside) in
+    let start : mark .1 ≡ head .1 = cc (mark .3) in
+    let f : head .1 ≤ list .1 = items-forward (memberReader t) t (λ l j x v y k r. member-goes t l j x k r) (length t) 0 0 (head .1) (omega arith) (list .2) in
+    let z : list .1 < length t = members-end t (head .1) (list .2) in
+    let same : list .1 + 1 ≡ p = checked-next _ _ _ (list .3) in
+    record { on = omega arith; inside = omega arith }
+
+pub moat-fuel : (t : List ℕ) (fuel low i at : ℕ) → at ≤ length t → length t - at < fuel → itemsFrom (moatReader t) (suc fuel) low i at ≡ itemsFrom (moatReader t) fuel low i at
+unfolding moatReader
+moat-fuel t fuel low i at h k = items-fuel (moatReader t) t (λ l j x d y b q. moat-goes t j x b q) fuel low i at h k
