@@ -8,7 +8,7 @@ use Rattle.records.specs.Record.{recordOf}
 use Rattle.printing.specs.Key.{ascii, terminalsKey, costKey, boundKey, roundsKey, keptKey, dualKey}
 use Rattle.printing.specs.Text.{planText}
 use Rattle.printing.specs.Examples.{p3-printed}
-use Rattle.text.specs.Step.{Step, found, _then_, checked, linesAfter}
+use Rattle.text.specs.Step.{found, _then_, checked, linesAfter}
 use Rattle.text.specs.Number.{classOf, isDigit, byteIs, fixedAt, digitsEnd, numeralEnd, numeralAt, decimalFrom, numberAt, numberTo}
 use Rattle.plantext.specs.Items.{following, itemsFrom}
 use Rattle.plantext.specs.Plan.{

@@ -1,9 +1,9 @@
 -- Reading a printed plan (document 01, 'Survey text and printed plan'): the counts, the kept tracks rising, the moats. A finding is 16 at the
 -- first offset whose byte no well-formed plan has there; 26 where a kept track is no track or does not rise; 27 where a moat's members are no
 -- members or do not rise; 28 for a moat too many. The earliest wins.
-use Prim.Native.Nat.{ℕ, zero, suc, _+_, _*_, _-_, _/_}
+use Prim.Native.Nat.{ℕ, zero, suc, _+_, _*_, _/_}
 use Prim.Native.Char.{code}
-use mathlib.Core.Bool.{Bool, true, false, not, _&&_, _||_, cond}
+use mathlib.Core.Bool.{Bool, false, not, _&&_, _||_, cond}
 use mathlib.Core.List.{List, [], _∷_, _++_}
 use lib.ListN.{length, set, drop}
 use lib.Seq.{sets}
@@ -13,11 +13,10 @@ use Rattle.limits.specs.Limits.{maxDigits, memberBytes, recordBytes, maxDuals}
 use Rattle.limits.specs.Verdict.{refuseIf, _before_, Outcome, refusal, answer, outcome}
 use Rattle.limits.specs.declared.Verdict.{Verdict}
 use Rattle.records.specs.Record.{recordOf, withMemberIn}
-use Rattle.printing.specs.Key.{ascii, terminalsKey, costKey, boundKey, roundsKey, keptKey, dualKey, colon, comma, newline}
+use Rattle.printing.specs.Key.{terminalsKey, costKey, boundKey, roundsKey, keptKey, dualKey, colon, comma, newline}
 use Rattle.text.specs.Step.{Step, found, refused, _then_, checked, Lines, linesAfter}
 use Rattle.text.specs.Number.{byteIs, fixedAt, numberAt, numberTo}
-use Rattle.text.specs.Reading.{outcomeOf}
-use Rattle.plantext.specs.Items.{Reader, itemsFrom, puts}
+use Rattle.plantext.specs.Items.{Reader, itemsFrom}
 
 -- digits of a count of the plan, at most
 abbrev pub countDigits : ℕ

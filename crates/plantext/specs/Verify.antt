@@ -8,11 +8,11 @@ use Rattle.limits.specs.Limits.{maxVertices, maxEdges, recordBytes, maxDuals}
 use Rattle.limits.specs.Verdict.{refuseIf, _before_, Outcome, refusal, answer, outcome}
 use Rattle.limits.specs.declared.Verdict.{Verdict}
 use Rattle.text.specs.Step.{Step, found, refused, _then_, linesAfter}
-use Rattle.text.specs.Reading.{Counts, Body, Tests, testsFor, groupTest, groupLines, edgeLines, countsAt, surveyOf}
+use Rattle.text.specs.Reading.{Body, Tests, testsFor, groupTest, groupLines, edgeLines, countsAt, surveyOf}
 use Rattle.text.specs.Reading.{Survey as SurveyText}
 use Rattle.survey.specs.Survey.{Survey, surveyFrom, edgeCount}
 use Rattle.checker.specs.Check.{Checked, checking}
-use Rattle.plantext.specs.Plan.{Claims, Plan, planAt, withRoom, marksOf, moatRecords}
+use Rattle.plantext.specs.Plan.{Plan, planAt, withRoom, marksOf, moatRecords}
 
 -- The lines of a survey after its counts, behind which more may follow.
 unfoldable pub linesAt : List ℕ → (vertices edges at : ℕ) → Body

@@ -1,5 +1,4 @@
 -- `plantext::byte_is` meets its contract: past the end no byte stands.
-use native.Mathlib.Omega.{arith}
 use borrow.Author.Needs.{needs}
 use mathlib.Core.Path.{sym}
 use borrow.Author.Tests.{lt-ltb}

@@ -1,5 +1,4 @@
 -- `plantext::claim_lines` meets its contract: a refusal of any line stays, and a value goes on to the next line.
-use native.Mathlib.Omega.{arith}
 use borrow.Author.Needs.{needs}
 use mathlib.Core.Path.{sym, _∙_}
 use Rattle.printing.specs.Key.{terminalsKey, costKey, boundKey, roundsKey}

@@ -1,8 +1,8 @@
 -- `plantext::clear` meets its contract: the marks before e are 0.
 use native.Mathlib.Omega.{arith}
 use borrow.Author.Needs.{needs}
-use Prim.Native.Nat.{ℕ, _-_, _≤_}
-use mathlib.Core.Path.{_≡_, refl, ap, sym, _∙_}
+use Prim.Native.Nat.{_-_, _≤_}
+use mathlib.Core.Path.{_≡_, refl, ap, _∙_}
 use lib.ListN.{length, set}
 use Rattle.plantext.specs.Plan.{cleared}
 use Rattle.plantext.specs.Laws.Puts.{cleared-length, cleared-next}

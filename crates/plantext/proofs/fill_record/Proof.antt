@@ -1,11 +1,9 @@
 -- `plantext::fill_record` meets its contract: a record that is started and gets its members is that of the moat.
-use native.Mathlib.Omega.{arith}
 use borrow.Author.Needs.{needs}
 use mathlib.Core.Path.{ap, sym, _∙_}
 use lib.ListN.{length}
 use Rattle.plantext.specs.Items.{puts}
 use Rattle.plantext.specs.Plan.{putMember, membersAt}
-use Rattle.plantext.specs.Laws.Puts.{puts-length, member-length}
 use Rattle.plantext.specs.Laws.Plan.{record-filled, length-moat}
 use Rattle.plantext.proofs.fill_record.Statement.{statement}
 use Rattle.plantext.proofs.fill_record.Tie as tie

@@ -1,5 +1,4 @@
 -- `plantext::judge` meets its contract: the checker's refusals first, then each claim.
-use native.Mathlib.Omega.{arith}
 use borrow.Author.Needs.{needs}
 use mathlib.Core.Path.{ap, sym, _∙_}
 use Rattle.checker.specs.Stage.{outcomeOf}

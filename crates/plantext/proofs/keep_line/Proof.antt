@@ -1,5 +1,4 @@
 -- `plantext::keep_line` meets its contract: the tests decide the case of the definition.
-use native.Mathlib.Omega.{arith}
 use borrow.Author.Needs.{needs}
 use Rattle.printing.specs.Key.{keptKey}
 use Rattle.text.specs.Answer.{numberStep}

@@ -1,7 +1,6 @@
 -- `plantext::member_at` meets its contract: the first member follows at once, a later one behind a comma.
-use native.Mathlib.Omega.{arith}
 use borrow.Author.Needs.{needs}
-use mathlib.Core.Path.{sym, ap, _∙_}
+use mathlib.Core.Path.{sym, _∙_}
 use Rattle.text.specs.Step.{_then_}
 use Rattle.text.specs.Number.{fixedAt}
 use Rattle.text.specs.Laws.Step.{refusal-stays, value-goes}

@@ -1,13 +1,10 @@
 -- `plantext::members` meets its contract: what is left to read and to store is what the whole reads and stores.
-use native.Mathlib.Omega.{arith}
 use borrow.Author.Needs.{needs}
-use Prim.Native.Nat.{ℕ, _-_}
-use mathlib.Core.Path.{_≡_, ap, sym, _∙_}
-use mathlib.Core.Bool.{not}
+use Prim.Native.Nat.{_-_}
+use mathlib.Core.Path.{ap, sym, _∙_}
 use lib.ListN.{length}
-use Rattle.text.specs.Step.{found}
 use Rattle.text.specs.Answer.{numberStep}
-use Rattle.plantext.specs.Plan.{memberReader, memberAt, membersAt, putMember}
+use Rattle.plantext.specs.Plan.{memberReader, membersAt, putMember}
 use Rattle.plantext.specs.Laws.Items.{Left, left-start, left-more, left-stop, left-refused, left-out}
 use Rattle.plantext.specs.Laws.Puts.{left-length, member-length}
 use Rattle.plantext.proofs.members.Statement.{statement}

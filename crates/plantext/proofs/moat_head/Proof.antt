@@ -1,5 +1,4 @@
 -- `plantext::moat_head` meets its contract: a refusal of any part stays, and a value goes on to the next part.
-use native.Mathlib.Omega.{arith}
 use borrow.Author.Needs.{needs}
 use mathlib.Core.Path.{sym, _∙_}
 use Rattle.printing.specs.Key.{dualKey}

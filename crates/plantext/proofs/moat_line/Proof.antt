@@ -1,10 +1,9 @@
 -- `plantext::moat_line` meets its contract: a refusal of the start, of the members or of a test stays; otherwise the record is stored.
 use native.Mathlib.Omega.{arith}
 use borrow.Author.Needs.{needs}
-use mathlib.Core.Path.{_≡_, refl, ap, sym, _∙_}
+use mathlib.Core.Path.{refl, ap, sym, _∙_}
 use Rattle.text.specs.Answer.{numberStep}
-use Rattle.text.specs.Laws.Byte.{byte-inside}
-use Rattle.plantext.specs.Plan.{membersAt, memberReader, putMember, putMoat, moatOf}
+use Rattle.plantext.specs.Plan.{putMember, putMoat, moatOf}
 use Rattle.plantext.specs.Laws.Tests.{moat-falls, moat-many, moat-fine}
 use Rattle.plantext.specs.Laws.Puts.{member-length}
 use Rattle.plantext.specs.Laws.Plan.{empty-pass, members-below, members-end, moat-stops, moat-unlisted, moat-refused, moat-read}

@@ -1,11 +1,9 @@
 -- `plantext::moat_lines` meets its contract: what is left to read and to store is what the whole reads and stores.
-use native.Mathlib.Omega.{arith}
 use borrow.Author.Needs.{needs}
-use Prim.Native.Nat.{ℕ, _-_}
-use mathlib.Core.Path.{_≡_, ap, sym, _∙_}
+use Prim.Native.Nat.{_-_}
+use mathlib.Core.Path.{ap, sym, _∙_}
 use lib.ListN.{length}
-use borrow.Author.Tests.{le-leb, lt-leb}
-use Rattle.text.specs.Step.{found}
+use borrow.Author.Tests.{le-leb}
 use Rattle.text.specs.Answer.{numberStep}
 use Rattle.plantext.specs.Plan.{moatReader, moatsAt, putMoat}
 use Rattle.plantext.specs.Laws.Items.{Left, left-start, left-stop, left-out}

@@ -1,7 +1,6 @@
 -- `plantext::plan_lines` meets its contract: the first pass stores nothing, and the second stores where nothing is refused.
-use native.Mathlib.Omega.{arith}
 use borrow.Author.Needs.{needs}
-use mathlib.Core.Path.{_≡_, refl, ap, sym, _∙_}
+use mathlib.Core.Path.{ap, sym, _∙_}
 use Rattle.text.specs.Answer.{numberStep}
 use Rattle.plantext.specs.Plan.{bodyAt, putMark, putMoat}
 use Rattle.plantext.specs.Laws.Puts.{mark-length, moat-length}

@@ -1,9 +1,8 @@
 -- `plantext::put_moat` meets its contract: the record takes the place of that of the buffer.
 use native.Mathlib.Omega.{arith}
 use borrow.Author.Needs.{needs}
-use Prim.Native.Nat.{_*_, _+_, _-_}
-use mathlib.Core.Path.{_≡_, ap, sym, _∙_}
-use lib.ListN.{length, length-take, length-drop}
+use mathlib.Core.Path.{sym}
+use lib.ListN.{length-take, length-drop}
 use Rattle.plantext.specs.Plan.{moatOf}
 use Rattle.plantext.specs.Laws.Plan.{moat-put-part, moat-left}
 use Rattle.plantext.proofs.put_moat.Statement.{statement}

@@ -1,5 +1,4 @@
 -- `plantext::read_plan` meets its contract, by the cases of the counts and of the lines after them.
-use native.Mathlib.Omega.{arith}
 use borrow.Author.Needs.{needs}
 use mathlib.Core.Path.{ap, sym, _∙_}
 use Rattle.text.specs.Answer.{numberStep}

@@ -1,5 +1,4 @@
 -- `plantext::risen_after` meets its contract: each test is a case of the definition.
-use native.Mathlib.Omega.{arith}
 use borrow.Author.Needs.{needs}
 use mathlib.Core.Path.{sym}
 use Rattle.plantext.specs.Laws.Tests.{risen-low, risen-high, risen-next}

@@ -1,5 +1,4 @@
 -- `plantext::stopped_claims` meets its contract, by the case that the step is.
-use native.Mathlib.Omega.{arith}
 use borrow.Author.Needs.{needs}
 use mathlib.Core.Path.{sym, ap}
 use Rattle.text.specs.Answer.{numberStep, stopped}

@@ -1,5 +1,4 @@
 -- `plantext::survey_lines` meets its contract: a refused group line stays, and the edge lines follow the group lines.
-use native.Mathlib.Omega.{arith}
 use borrow.Author.Needs.{needs}
 use mathlib.Core.Path.{refl, ap, sym, _∙_}
 use Rattle.text.specs.Answer.{numberStep}

@@ -1,5 +1,4 @@
 -- `plantext::value_line` meets its contract: a refusal stays, and after the key comes the number.
-use native.Mathlib.Omega.{arith}
 use borrow.Author.Needs.{needs}
 use mathlib.Core.Path.{sym, _∙_}
 use Rattle.text.specs.Number.{stopOf}

@@ -1,7 +1,5 @@
 -- `plantext::verify` meets its contract, by the cases of the counts and of the lines of the survey.
-use native.Mathlib.Omega.{arith}
 use borrow.Author.Needs.{needs}
-use Prim.Native.Nat.{_≤_}
 use mathlib.Core.Path.{ap, sym, _∙_}
 use Rattle.text.specs.Answer.{numberStep, countsStep}
 use Rattle.plantext.specs.Answer.{verifiedOutcome}

@@ -1,7 +1,6 @@
 -- `plantext::verify_plan` meets its contract: a refused plan stays, and what was read is judged.
 use native.Mathlib.Omega.{arith}
 use borrow.Author.Needs.{needs}
-use Prim.Native.Nat.{_≤_, _/_}
 use mathlib.Core.Path.{ap, sym, _∙_}
 use Rattle.survey.specs.Survey.{surveyFrom, edgeCount}
 use Rattle.plantext.specs.Plan.{planReading}

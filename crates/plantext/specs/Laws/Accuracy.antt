@@ -1,22 +1,22 @@
 -- Whatever passes obeys the accuracy rule, for the survey that the text begins with and the k and the cost reported.
-use Prim.Native.Nat.{ℕ, zero, suc, _+_, _≤_, _<_}
+use Prim.Native.Nat.{ℕ, zero, suc, _+_, _<_}
 use native.Mathlib.Omega.{arith}
-use mathlib.Core.Path.{_≡_, refl, ap, sym, _∙_, subst}
-use mathlib.Core.List.{List, [], _∷_}
-use lib.ListN.{length, getD}
+use mathlib.Core.Path.{_≡_, refl, subst}
+use mathlib.Core.List.{List}
+use lib.ListN.{getD}
 use Rattle.limits.specs.Limits.{maxVertices, maxEdges, groupNumbers}
 use Rattle.limits.specs.Verdict.{Outcome, refusal, answer, outcome}
 use Rattle.limits.specs.declared.Verdict.{Verdict}
 use Rattle.limits.specs.declared.Verdict.the-variants.{Fine, Refused}
-use Rattle.text.specs.Step.{Step, found, refused, _then_, Lines, more, linesFrom, linesAfter}
-use Rattle.text.specs.Reading.{Counts, testsFor, groupTest, groupLine, groupLines, edgeLines, countsAt, surveyOf}
+use Rattle.text.specs.Step.{Step, found, refused, more, linesFrom}
+use Rattle.text.specs.Reading.{testsFor, groupTest, groupLine, groupLines, countsAt, surveyOf}
 use Rattle.text.specs.Reading.{Survey as SurveyText}
 use Rattle.text.specs.Laws.Step.{then-value}
 use Rattle.text.specs.Laws.Tests.{group-below}
 use Rattle.survey.specs.Survey.{Survey, surveyFrom, edgeCount}
 use Rattle.survey.specs.Accuracy.{Accurate}
 use Rattle.survey.specs.Laws.Group.{Numbered}
-use Rattle.checker.specs.Check.{Checked, checking}
+use Rattle.checker.specs.Check.{Checked}
 use Rattle.checker.specs.Laws.Accuracy.{checking-accurate}
 use Rattle.plantext.specs.Plan.{Plan, marksOf, moatRecords}
 use Rattle.plantext.specs.Verify.{linesAt, prefixAt, claimTest, judged, planVerified, planFrom, verifiedFrom, verifying}

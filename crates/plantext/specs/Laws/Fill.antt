@@ -1,22 +1,21 @@
 -- What the stores of a whole plan leave in the lent buffers: the marks and the records that the definition draws.
 use Prim.Native.Nat.{ℕ, zero, suc, _+_, _*_, _-_, _/_, _≤_, _<_}
 use native.Mathlib.Omega.{arith}
-use native.Mathlib.Numerals.{add-one}
-use mathlib.Core.Path.{_≡_, refl, ap, sym, _∙_, subst}
-use mathlib.Core.Bool.{Bool, true, false, not, _&&_, _||_, cond}
+use mathlib.Core.Path.{_≡_, refl, ap, sym, _∙_}
+use mathlib.Core.Bool.{Bool, true, false, _||_, cond}
 use mathlib.Core.List.{List, [], _∷_, _++_, append-assoc}
-use lib.ListN.{length, getD, set, take, drop, length-append, length-drop, List·getD-append}
-use lib.Seq.{ext-getD, getD-set-same, getD-set-other, take-at, drop-at, drop-append-add, drop-drop, getD-append-add, getD-drop}
-use lib.Dec.{eqb, ltb, leb}
-use borrow.Author.Tests.{ltb-true, ltb-false, eqb-true, eqb-false, eq-eqb, ne-eqb, lt-ltb, le-ltb}
+use lib.ListN.{length, getD, set, drop, length-append, length-drop, List·getD-append}
+use lib.Seq.{ext-getD, getD-set-same, getD-set-other, take-at, drop-append-add, drop-drop, getD-append-add, getD-drop}
+use lib.Dec.{eqb, ltb}
+use borrow.Author.Tests.{ltb-true, ltb-false, eqb-true, eqb-false, ne-eqb, lt-ltb, le-ltb}
 use Rattle.finite.specs.Below.{tabulate}
 use Rattle.finite.specs.Laws.Below.{length-tabulate, getD-tabulate}
 use Rattle.limits.specs.Limits.{recordBytes}
-use Rattle.text.specs.Step.{Step, found, refused, Lines}
-use Rattle.plantext.specs.Items.{Reader, following, itemsFrom, puts, Each, none, more}
+use Rattle.text.specs.Step.{Step, found, refused}
+use Rattle.plantext.specs.Items.{following, itemsFrom, puts, Each, none, more}
 use Rattle.plantext.specs.Plan.{keepReader, keptAt, moatReader, moatsAt, Moat, isIn, marksOf, moatRecord, moatRecords, putMark, putMoat, cleared}
 use Rattle.plantext.specs.Laws.Puts.{puts-length, mark-length, cleared-length}
-use Rattle.plantext.specs.Laws.Plan.{Kept, keep-passed, length-moat, moat-put}
+use Rattle.plantext.specs.Laws.Plan.{keep-passed, length-moat, moat-put}
 
 -- ---- what the lines hold
 

@@ -11,11 +11,11 @@ use Rattle.limits.specs.declared.Verdict.{Verdict}
 use Rattle.limits.specs.declared.Verdict.the-variants.{Fine, Refused}
 use Rattle.printing.specs.Key.{newline, colon, keptKey, dualKey}
 use Rattle.limits.specs.Limits.{maxDigits}
-use Rattle.text.specs.Step.{Step, found, refused, _then_, checked}
+use Rattle.text.specs.Step.{Step, found, refused, checked}
 use Rattle.text.specs.Number.{byteIs, fixedAt, numeralAt, numberAt, numberTo, decimalFrom}
 use Rattle.text.specs.Laws.Byte.{byte-inside}
 use Rattle.text.specs.Laws.Number.{numeral-width}
-use Rattle.text.specs.Laws.Digits.{then-value}
+use Rattle.text.specs.Laws.Step.{then-value}
 use Rattle.plantext.specs.Items.{Reader, following, itemsFrom}
 use Rattle.plantext.specs.Plan.{valueLine, keepLine, keepReader, separator, memberAt, memberReader, membersAt, Moat, moatHead, moatLine, moatReader}
 use Rattle.plantext.specs.Laws.Plan.{members-end}

@@ -1,9 +1,8 @@
 -- Laws of the lines of a plan: what their numbers are, and what they store.
 use Prim.Native.Nat.{ℕ, zero, suc, _+_, _*_, _-_, _/_, _≤_, _<_}
 use native.Mathlib.Omega.{arith}
-use native.Mathlib.Nat.{zero-add}
 use mathlib.Core.Path.{_≡_, refl, ap, sym, _∙_, subst}
-use mathlib.Core.Bool.{Bool, true, false, not, _&&_, _||_, cond}
+use mathlib.Core.Bool.{Bool, true, false, _||_, cond}
 use mathlib.Core.List.{List, [], _∷_, _++_, append-assoc}
 use lib.ListN.{length, take, drop}
 use lib.Seq.{sets, sets-eq, drop-drop}
@@ -12,20 +11,20 @@ use borrow.Author.Tests.{lt-leb, ltb-true, ltb-false, leb-true, leb-false, lt-lt
 use Rattle.limits.specs.Limits.{valueBytes, memberBytes, recordBytes}
 use Rattle.limits.specs.declared.Verdict.{Verdict}
 use Rattle.limits.specs.declared.Verdict.the-variants.{Fine, Refused}
-use Rattle.records.specs.Bits.{bytesOf, lowBytes}
+use Rattle.records.specs.Bits.{lowBytes}
 use Rattle.records.specs.Laws.Bits.{bytes-cong}
-use Rattle.records.specs.Record.{recordOf, startedAs, withMemberIn}
+use Rattle.records.specs.Record.{recordOf, startedAs}
 use Rattle.records.specs.Laws.Record.{started-whole, member-added-record, length-record}
 use Rattle.text.specs.Step.{Step, found, refused, _then_, checked, Lines}
 use Rattle.printing.specs.Key.{newline}
 use Rattle.text.specs.Laws.Byte.{byte-inside}
 use Rattle.text.specs.Laws.Step.{then-value}
 use Rattle.text.specs.Laws.Tests.{checked-fine, checked-value}
-use Rattle.plantext.specs.Items.{Reader, following, itemsFrom, puts, Each, none, more}
-use Rattle.plantext.specs.Plan.{keptTest, keepLine, valueLine, risen, memberReader, membersAt, moatTest, moatLine, moatHead, moatOf, Moat, moatRecord, moatReader, putMember, putMoat, isIn}
+use Rattle.plantext.specs.Items.{Reader, following, itemsFrom, puts, none, more}
+use Rattle.plantext.specs.Plan.{keptTest, keepLine, risen, memberReader, membersAt, moatTest, moatLine, moatHead, moatOf, Moat, moatRecord, moatReader, putMember, putMoat, isIn}
 use Rattle.plantext.specs.Answer.{Members, forgotten, moatStored, MoatRead}
-use Rattle.plantext.specs.Laws.Tests.{kept-low, kept-high, risen-low, risen-high, risen-next}
-use Rattle.plantext.specs.Laws.Puts.{puts-length, member-length, left-length, moat-length}
+use Rattle.plantext.specs.Laws.Tests.{kept-low, kept-high, risen-low, risen-high}
+use Rattle.plantext.specs.Laws.Puts.{puts-length, left-length, moat-length}
 use Rattle.plantext.specs.Laws.Items.{Left, Ends, left-more, left-refused}
 
 no-refusal : {n p : ℕ} {w : Verdict} → w ≡ Refused n p → w ≡ Fine → ⊥

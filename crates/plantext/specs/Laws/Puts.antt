@@ -1,11 +1,10 @@
 -- Laws of stores one after another: they leave a buffer its length.
-use Prim.Native.Nat.{ℕ, zero, suc, _+_, _*_, _/_, _≤_, _<_}
-use native.Mathlib.Omega.{arith}
+use Prim.Native.Nat.{ℕ, zero, suc, _+_, _*_, _/_}
 use native.Mathlib.Numerals.{add-one}
 use mathlib.Core.Path.{_≡_, refl, ap, sym, _∙_}
 use mathlib.Core.Bool.{Bool, true, false, cond}
-use mathlib.Core.List.{List, [], _∷_, _++_}
-use lib.ListN.{length, set, take, drop, length-set, length-append, length-take, length-drop, take-append-drop}
+use mathlib.Core.List.{List, [], _∷_}
+use lib.ListN.{length, set, take, drop, length-set, length-append, take-append-drop}
 use lib.Seq.{length-sets, sets}
 use lib.Dec.{ltb}
 use Rattle.limits.specs.Limits.{valueBytes}
@@ -15,7 +14,7 @@ use Rattle.records.specs.Laws.Bits.{length-with-member}
 use Rattle.text.specs.Step.{Lines}
 use Rattle.plantext.specs.Items.{Reader, puts}
 use Rattle.plantext.specs.Plan.{Moat, putMark, putMember, putMoat, moatRecord, cleared}
-use Rattle.plantext.specs.Laws.Items.{Left, Ends}
+use Rattle.plantext.specs.Laws.Items.{Left}
 
 module _ {A : Type 0} (put : List ℕ → ℕ → A → List ℕ) (same : (l : List ℕ) (i : ℕ) (a : A) → length (put l i a) ≡ length l) where
   pub puts-length : (buffer : List ℕ) (i : ℕ) (l : List A) → length (puts put buffer i l) ≡ length buffer

@@ -1,21 +1,18 @@
 -- Laws of reading a whole plan: its outcome by the outcome of its parts, and what two passes leave in the lent buffers.
-use Prim.Native.Nat.{ℕ, zero, suc, _+_, _*_, _-_, _/_, _≤_, _<_}
+use Prim.Native.Nat.{ℕ, _*_, _/_, _≤_, _<_}
 use native.Mathlib.Omega.{arith}
-use mathlib.Core.Path.{_≡_, refl, ap, sym, _∙_, subst}
-use mathlib.Core.Bool.{Bool, true, false, _||_, cond}
-use mathlib.Core.List.{List, [], _∷_, _++_}
+use mathlib.Core.Path.{_≡_, refl, ap, sym, _∙_}
+use mathlib.Core.List.{List, [], _++_}
 use lib.ListN.{length, drop}
-use lib.Dec.{ltb}
 use borrow.Author.Tests.{lt-ltb, le-ltb}
 use Rattle.limits.specs.Limits.{recordBytes}
-use Rattle.limits.specs.Verdict.{refuseIf, Outcome, refusal, answer, outcome}
+use Rattle.limits.specs.Verdict.{refuseIf, refusal, answer, outcome}
 use Rattle.limits.specs.declared.Verdict.{Verdict}
 use Rattle.limits.specs.declared.Verdict.the-variants.{Fine, Refused}
-use Rattle.text.specs.Step.{Step, found, refused, _then_, checked, Lines, linesAfter}
-use Rattle.text.specs.Laws.Tests.{checked-fine}
+use Rattle.text.specs.Step.{Step, found, refused, _then_, checked, linesAfter}
 use Rattle.plantext.specs.Items.{puts, Each}
 use Rattle.plantext.specs.Plan.{Claims, Plan, Body, claimsAt, keptAt, moatsAt, bodyAt, planAt, marksOf, moatRecords, putMark, putMoat, cleared, roomTest, withRoom, planReading, marksAfter, recordsAfter}
-use Rattle.plantext.specs.Answer.{Stores, Fills, Reads, Read, roomed, storedIf, readOf}
+use Rattle.plantext.specs.Answer.{Stores, Fills, Reads, roomed, storedIf, readOf}
 use Rattle.plantext.specs.Laws.Fill.{kept-below, moats-count, marks-filled, records-filled}
 
 -- ---- one pass

@@ -1,26 +1,25 @@
 -- Room for every plan within the limits: the check never wants for room, and marks that are read keep the tracks that were listed.
-use Prim.Native.Nat.{ℕ, zero, suc, _+_, _*_, _/_, _≤_, _<_}
+use Prim.Native.Nat.{ℕ, zero, suc, _+_, _*_, _≤_, _<_}
 use native.Mathlib.Omega.{arith}
-use mathlib.Core.Path.{_≡_, refl, ap, sym, _∙_, subst}
+use mathlib.Core.Path.{_≡_, refl, ap, _∙_, subst}
 use mathlib.Core.Bool.{Bool, true, false, cond}
-use mathlib.Core.List.{List, [], _∷_}
-use lib.ListN.{length, getD}
+use mathlib.Core.List.{List, []}
+use lib.ListN.{length}
 use lib.Dec.{eqb, ltb, leb}
 use borrow.Author.Tests.{ltb-true, ltb-false, leb-true, leb-false}
-use Rattle.finite.specs.Below.{tabulate}
 use Rattle.finite.specs.Laws.Below.{getD-tabulate}
 use Rattle.limits.specs.Limits.{recordBytes, maxDuals, maxEdges}
-use Rattle.limits.specs.Verdict.{Outcome, refusal, answer, outcome}
+use Rattle.limits.specs.Verdict.{outcome}
 use Rattle.limits.specs.declared.Verdict.{Verdict}
 use Rattle.limits.specs.declared.Verdict.the-variants.{Fine, Refused}
-use Rattle.text.specs.Step.{Step, found, refused, _then_, checked, Lines, linesAfter}
+use Rattle.text.specs.Step.{Step, found, refused, linesAfter}
 use Rattle.text.specs.Reading.{outcomeOf}
-use Rattle.text.specs.Laws.Digits.{then-value}
+use Rattle.text.specs.Laws.Step.{then-value}
 use Rattle.text.specs.Laws.Tests.{checked-fine}
 use Rattle.survey.specs.Survey.{Survey, edgeCount}
 use Rattle.checker.specs.Check.{keptBy}
 use Rattle.plantext.specs.Items.{following, itemsFrom}
-use Rattle.plantext.specs.Plan.{Moat, Plan, moatHead, membersAt, moatTest, moatOf, moatLine, moatReader, moatsAt, keptAt, bodyAt, claimsAt, planAt, withRoom, roomTest, marksOf, isIn}
+use Rattle.plantext.specs.Plan.{Moat, Plan, moatHead, membersAt, moatTest, moatLine, moatReader, moatsAt, keptAt, bodyAt, claimsAt, planAt, withRoom, marksOf, isIn}
 use Rattle.plantext.specs.Verify.{planFrom}
 use Rattle.plantext.specs.Laws.Tests.{moat-falls, moat-many}
 use Rattle.plantext.specs.Laws.Reading.{room-fine}

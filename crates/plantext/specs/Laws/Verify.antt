@@ -1,27 +1,24 @@
 -- Laws of checking a survey text with a plan behind it: the outcome by the outcomes of its parts.
-use Prim.Native.Nat.{ℕ, zero, suc, _+_, _*_, _-_, _/_, _≤_, _<_}
+use Prim.Native.Nat.{ℕ, _*_, _-_, _/_, _≤_}
 use native.Mathlib.Omega.{arith}
 use native.Mathlib.Nat.{sub-zero}
-use mathlib.Core.Path.{_≡_, refl, ap, sym, _∙_, subst}
-use mathlib.Core.Bool.{Bool, true, false, not, _||_, cond}
-use mathlib.Core.List.{List, [], _∷_, _++_}
+use mathlib.Core.Path.{_≡_, refl, ap, sym, _∙_}
+use mathlib.Core.Bool.{Bool, true, false, _||_}
+use mathlib.Core.List.{List, [], _∷_}
 use lib.ListN.{length, take, drop, length-map, length-append}
 use lib.Seq.{sets, take-at}
-use lib.Dec.{eqb, ltb}
-use borrow.Author.Tests.{eq-eqb, ne-eqb, ltb-true, ltb-false}
-use Rattle.finite.specs.Below.{tabulate}
+use lib.Dec.{ltb}
+use borrow.Author.Tests.{eq-eqb, ne-eqb, ltb-false}
 use Rattle.finite.specs.Laws.Below.{length-tabulate}
-use Rattle.limits.specs.Limits.{maxVertices, maxEdges, recordBytes, maxDuals}
+use Rattle.limits.specs.Limits.{recordBytes}
 use Rattle.limits.specs.Verdict.{refuseIf, _before_, Outcome, refusal, answer, outcome}
-use Rattle.limits.specs.declared.Verdict.{Verdict}
-use Rattle.limits.specs.declared.Verdict.the-variants.{Fine, Refused}
 use Rattle.text.specs.Step.{Step, found, refused, _then_, linesAfter}
-use Rattle.text.specs.Reading.{Counts, Body, testsFor, groupTest, groupLines, edgeLines, countsAt, surveyOf, firstsOf, secondsOf, weightsOf}
+use Rattle.text.specs.Reading.{Body, testsFor, groupTest, groupLines, edgeLines, countsAt, surveyOf, firstsOf, secondsOf, weightsOf}
 use Rattle.text.specs.Answer.{Stores}
-use Rattle.text.specs.Laws.Reading.{lines-length, Fits, counts-fit, sets-filled}
+use Rattle.text.specs.Laws.Reading.{lines-length, counts-fit, sets-filled}
 use Rattle.survey.specs.Survey.{Survey, surveyFrom, edgeCount}
 use Rattle.checker.specs.Check.{Checked, checking}
-use Rattle.plantext.specs.Plan.{Claims, Plan, Moat, planAt, withRoom, roomTest, marksOf, moatRecord, moatRecords, isIn, marksAfter, recordsAfter, planReading}
+use Rattle.plantext.specs.Plan.{Claims, Plan, Moat, planAt, withRoom, roomTest, marksOf, moatRecord, moatRecords, marksAfter, recordsAfter}
 use Rattle.plantext.specs.Verify.{linesAt, prefixAt, claimTest, judged, planVerified, planFrom, verifiedFrom, verifying}
 use Rattle.plantext.specs.Answer.{Read, Reads, readOf}
 use Rattle.plantext.specs.Laws.Plan.{length-moat}
