@@ -2,15 +2,14 @@
 ghost use mathlib.Core.Path.{_≡_};
 ghost use Prim.Native.Nat.{_+_, _-_, _<_, _^_};
 ghost use mathlib.Core.Bool.{cond};
-ghost use lib.ListN.{getD, length};
+ghost use lib.ListN.{length};
 ghost use lib.Dec.{eqb};
 ghost use Rattle.records.specs.Record.{recordOf, withMemberIn};
-ghost use Rattle.survey.specs.Labels.{relabelled};
 ghost use Rattle.drawing.specs.Drawing.{recordsOver, recordsFrom, dualIf, labelled, PartFits, Fits};
 ghost use Rattle.drawing.specs.Trace.{endOf, arisen, traceFrom, dualsIn, Drawable};
 use limits::RECORD_BYTES;
+use survey::labels::merge;
 use survey::labels::own_labels;
-use survey::labels::relabel;
 use survey::store::at64;
 
 // Adds member v, if its label is c.
@@ -48,15 +47,6 @@ fn write_dual(records: &mut [u8], count: usize, x: u64, labels: &[u32], n: usize
     let end = at + RECORD_BYTES;
     write_record(&mut records[at..end], x, labels, n, c);
     count + 1
-}
-
-// The components of the ends of an edge become component c.
-fn merge(labels: &mut [u32], first: u32, second: u32, c: u32)
-    ensures { λ r. ⌜ now (labels .exit) ≡ relabelled (getD (now (labels .entry)) first 0) (getD (now (labels .entry)) second 0) c (now (labels .entry)) ⌝ }
-{
-    let x = reads::at32(labels, reads::index32(first));
-    let y = reads::at32(labels, reads::index32(second));
-    relabel(labels, x, y, c);
 }
 
 // Component c arises: a single vertex is one from the start, and component n + r is made of those of the ends of round r's edge.
