@@ -2,16 +2,18 @@
 //!
 //!     compare --program PATH [--count N] [--seed S] [--threads T] [--seconds W] [--argument A]..
 //!     compare --program PATH --case C [--seed S]
+//!     compare --verifier PATH [--count N] [--seed S] [--case C]
 //!     compare --emit C [--seed S]
 //!     compare --self N [--seed S]
 //!     compare --native N [--seed S]
 //!
+//! `--verifier` hands surveys with printed plans behind them, sound and damaged, to a program that checks plans.
 //! `--argument` is handed to the program. `--case` runs one case, `--emit` writes its input to standard output.
 //! `--self` holds the fast planner against the plain one, with no program; `--native` does so with the planner that the
 //! feature `native` links.
 
 use evidence::check::{check, Passed};
-use evidence::gen::{directed_texts, refused_survey, survey, text_case, Rng, Size};
+use evidence::gen::{directed_texts, plan_text_case, refused_survey, survey, text_case, Rng, Size};
 use evidence::plan::{fast, owned, record_room, reference, Counts, Plan, Planner, DROPPED};
 use evidence::print::{answer, plan_lines, refusal_lines};
 use evidence::{Refusal, Survey, AMOUNT_BYTES, RECORD_BYTES};
@@ -24,6 +26,7 @@ use std::time::{Duration, Instant};
 
 struct Options {
     program: Option<String>,
+    verifier: bool,
     arguments: Vec<String>,
     count: u64,
     seed: u64,
@@ -37,6 +40,7 @@ struct Options {
 
 const USAGE: &str =
     "compare --program PATH [--count N] [--seed S] [--threads T] [--seconds W] [--argument A].. [--case C]
+compare --verifier PATH [--count N] [--seed S] [--case C]
 compare --emit C [--seed S]
 compare --self N [--seed S]
 compare --native N [--seed S]";
@@ -44,6 +48,7 @@ compare --native N [--seed S]";
 fn options() -> Result<Options, String> {
     let mut options = Options {
         program: None,
+        verifier: false,
         arguments: Vec::new(),
         count: 20_000,
         seed: 1,
@@ -57,8 +62,9 @@ fn options() -> Result<Options, String> {
     let mut words = std::env::args().skip(1);
     while let Some(word) = words.next() {
         let value = words.next().ok_or_else(|| format!("{word} wants a value"))?;
-        if word == "--program" {
+        if word == "--program" || word == "--verifier" {
             options.program = Some(value);
+            options.verifier = word == "--verifier";
             continue;
         }
         if word == "--argument" {
@@ -164,6 +170,25 @@ impl Tally {
     }
 }
 
+/// The input of a case, the plan or refusal that it is counted as, and what a program is to print for it.
+fn case_of(options: &Options, case: u64) -> (Vec<u8>, Result<Plan, Refusal>, String) {
+    if options.verifier {
+        let (plan, input, expected) = plan_text_case(options.seed, case);
+        let lines = match &expected {
+            Ok(Passed { sites, cost, bound }) => format!("passed\nsites={sites}\ncost={cost}\nbound={bound}\n"),
+            Err(refusal) => refusal_lines(*refusal),
+        };
+        return (input, expected.map(|_| plan), lines);
+    }
+    let input = text_case(options.seed, case);
+    let answer = answer(reference, &input);
+    let lines = match &answer {
+        Ok(plan) => plan_lines(plan),
+        Err(refusal) => refusal_lines(*refusal),
+    };
+    (input, answer, lines)
+}
+
 fn compare(options: &Options, program: &str) -> bool {
     let cases = match options.case {
         Some(case) => case..case + 1,
@@ -186,12 +211,7 @@ fn compare(options: &Options, program: &str) -> bool {
                     if case >= cases.end || stop.load(Ordering::SeqCst) {
                         return;
                     }
-                    let input = text_case(options.seed, case);
-                    let answer = answer(reference, &input);
-                    let expected = match &answer {
-                        Ok(plan) => plan_lines(plan),
-                        Err(refusal) => refusal_lines(*refusal),
-                    };
+                    let (input, answer, expected) = case_of(options, case);
                     let report = match outside(program, &options.arguments, &input, case % 16 == 15, slot) {
                         Ok(output) if output == expected.as_bytes() => None,
                         Ok(output) => Some(format!("printed:\n{}", shown(&output))),

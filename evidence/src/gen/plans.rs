@@ -2,10 +2,10 @@
 
 use super::surveys::{refused_survey, survey, Size};
 use super::Rng;
-use crate::check::amount;
-use crate::plan::{fast, owned, Plan, KEPT};
-use crate::print::moat_line;
-use crate::{Survey, AMOUNT_BYTES, MAX_AMOUNT, MAX_JUNCTIONS, MAX_RECORDS, RECORD_BYTES};
+use crate::check::{amount, check, Passed};
+use crate::plan::{fast, owned, Counts, Plan, KEPT};
+use crate::print::{moat_line, plan_lines, survey_text};
+use crate::{refuse, Refusal, Survey, AMOUNT_BYTES, MAX_AMOUNT, MAX_JUNCTIONS, MAX_RECORDS, MAX_TRACKS, RECORD_BYTES};
 
 /// What the checker is given.
 #[derive(Clone, Debug, PartialEq, Eq)]
@@ -113,6 +113,52 @@ pub fn damaged_plan(seed: u64, case: u64) -> (Damage, PlanCase) {
     let (survey, plan) = planned(rng, size);
     let damage = DAMAGES[(case % DAMAGES.len() as u64) as usize];
     (damage, damaged_plan_of(rng, damage, survey, plan))
+}
+
+/// A survey text with a printed plan behind it, the plan, and what its check comes to. Only what a text can show is
+/// left of a damaged plan: kept tracks and whole moats with amounts of at most seven digits. A false figure is 25.
+pub fn plan_text_case(seed: u64, case: u64) -> (Plan, Vec<u8>, Result<Passed, Refusal>) {
+    let (_, PlanCase { mut survey, mut marks, mut records }) = damaged_plan(seed, case);
+    let rng = &mut Rng::of_case(!seed, case);
+    let m = survey.first.len();
+    survey.second.resize(m, 0);
+    survey.prices.resize(m, 0);
+    for number in survey.first.iter_mut().chain(&mut survey.second).chain(&mut survey.prices) {
+        *number = (*number).min(9_999_999);
+    }
+    marks.resize(m, 0);
+    marks.iter_mut().filter(|mark| **mark != KEPT).for_each(|mark| *mark = 0);
+    records.truncate(records.len() / RECORD_BYTES * RECORD_BYTES);
+    for record in records.chunks_exact_mut(RECORD_BYTES).filter(|record| amount(record) > 9_999_999) {
+        record[..AMOUNT_BYTES].copy_from_slice(&9_999_999u64.to_le_bytes());
+    }
+    let found = if survey.groups.is_empty() || survey.groups.len() > MAX_JUNCTIONS {
+        refuse(1, 0)
+    } else if m > MAX_TRACKS {
+        refuse(3, 0)
+    } else if records.len() > MAX_RECORDS * RECORD_BYTES {
+        refuse(28, MAX_RECORDS)
+    } else {
+        check(survey.view(), &marks, &records)
+    };
+    let Passed { sites, cost, bound } = found.unwrap_or(Passed { sites: 0, cost: 0, bound: 0 });
+    let mut claims = [sites, cost, bound];
+    let mut expected = found;
+    if rng.chance(1, 4) {
+        let which = rng.below(3);
+        claims[which] += 1 + rng.below(9) as u64;
+        expected = found.and(refuse(25, which));
+    }
+    let counts = Counts {
+        sites: claims[0],
+        cost: claims[1],
+        bound: claims[2],
+        rounds: rng.below(300) as u64,
+        ..Counts::default()
+    };
+    let plan = Plan { counts, marks, records };
+    let text = [survey_text(&survey), plan_lines(&plan).into_bytes()].concat();
+    (plan, text, expected)
 }
 
 /// The plan of a survey, damaged. Where a damage finds nothing to work on (no moat, no track), another byte or none
