@@ -8,3 +8,5 @@ pub mod Verify
 pub mod Accuracy
 pub mod Room
 pub mod Fuel
+pub mod Back
+pub mod Printed
