@@ -1,4 +1,5 @@
 pub mod Flags
-pub mod Winner
+pub mod Scan
+pub mod Blocks
 pub mod Raise
 pub mod View

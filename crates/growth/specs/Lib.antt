@@ -1,3 +1,4 @@
+pub mod Scan
 pub mod Tables
 pub mod View
 pub mod Laws

@@ -1,16 +1,16 @@
 -- What the arrays of a growth hold after r steps of the definition.
 use Prim.Native.Nat.{ℕ, _*_, _<_, _≤_, _^_}
 use mathlib.Core.Path.{_≡_}
-use mathlib.Core.Bool.{Bool, true, false}
 use mathlib.Core.List.{List}
 use lib.ListN.{length, getD}
 use lib.Dec.{ltb}
 use Rattle.finite.specs.Below.{counted, tabulate}
 use Rattle.limits.specs.Limits.{maxVertices, maxEdges, maxDuals}
 use Rattle.steiner.specs.Problem.{Problem}
-use Rattle.steiner.specs.Growth.{Winner, nobody, edge, winner, load, stateAt}
+use Rattle.steiner.specs.Growth.{Delay, never, after, Winner, nobody, edge, winner, load, stateAt}
 use Rattle.steiner.specs.Pruning.{dualBound}
 use Rattle.survey.specs.Survey.{Survey, problemOf}
+use Rattle.growth.specs.Scan.{Keyed, Floored}
 use Rattle.growth.specs.declared.Growth.{Growth}
 use Rattle.survey.specs.Laws.Refusal.{SurveySound}
 
@@ -18,9 +18,10 @@ unfoldable pub edgeOf : Winner → ℕ
 edgeOf nobody = 0
 edgeOf (edge e d) = e
 
-unfoldable pub wins : Winner → Bool
-wins nobody = false
-wins (edge e d) = true
+-- The delay of the winner, if there is one.
+unfoldable pub waitOf : Winner → Delay
+waitOf nobody = never
+waitOf (edge e d) = after d
 
 -- The edge picked in round r, counted from 0; 0 where there is none.
 unfoldable pub turn : Problem → ℕ → ℕ
@@ -34,10 +35,12 @@ pub record View (p : Problem) (r : ℕ) (labels loads values picked order : List
   pub order-is : order ≡ tabulate maxVertices (λ k. counted (ltb k r) (turn p k))
 
 -- What a round starts from.
-pub record Growing (s : Survey) (r : ℕ) (labels loads values picked order : List ℕ) : Type 0 where
+pub record Growing (s : Survey) (r time : ℕ) (keys floors labels loads values picked order : List ℕ) : Type 0 where
   pub sound : SurveySound s
   pub going : r < length (s .groups)
   pub rounds-are : stateAt (problemOf s) r .rounds ≡ r
+  pub keyed : Keyed (problemOf s) (stateAt (problemOf s) r) time keys
+  pub floored : Floored (length (s .firsts)) keys floors
   pub view : View (problemOf s) r labels loads values picked order
 
 abbrev pub growthFrom : (rounds bound : ℕ) → (labels values picked order : List ℕ) → Growth

@@ -1,6 +1,6 @@
 // How duals grow, over arrays: labels, loads, values, picked marks, and the order of the picks. Definitions in specs/.
 ghost use mathlib.Core.Path.{_≡_};
-ghost use Prim.Native.Nat.{_+_, _-_, _*_, _<_, _^_};
+ghost use Prim.Native.Nat.{_+_, _-_, _*_, _<_, _≤_, _^_};
 ghost use lib.ListN.{getD, set, length};
 ghost use lib.Dec.{eqb};
 ghost use Rattle.finite.specs.Below.{counted, sumBelow, tabulate};
@@ -10,8 +10,9 @@ ghost use Rattle.steiner.specs.Problem.{Problem};
 ghost use Rattle.survey.specs.Refusal.{surveyRefusal};
 ghost use Rattle.steiner.specs.Growth.{active, delayOf, better, winner, stateAt};
 ghost use Rattle.survey.specs.Survey.{surveyFrom, groupsAlone, problemOf};
-ghost use Rattle.growth.specs.Tables.{tablesFrom, delayIn, winnerIn, delayBetween, winnerBy, flagged, raisedValues, raisedLoads, Room};
-ghost use Rattle.growth.specs.View.{wins, View, Growing, Shows, growthFrom, Small};
+ghost use Rattle.growth.specs.Scan.{limitOf, blockEdges, blockSize, blocksOf, lowest, passOf};
+ghost use Rattle.growth.specs.Tables.{tablesFrom, delayIn, winnerIn, delayBetween, delayBy, keyBetween, keyBy, onBy, passBy, scanFrom, flagged, raisedValues, raisedLoads, Room};
+ghost use Rattle.growth.specs.View.{waitOf, View, Growing, Shows, growthFrom, Small};
 ghost use Rattle.survey.specs.Laws.Refusal.{SurveySound};
 use limits::Verdict;
 use survey::store::at64;
@@ -137,7 +138,168 @@ fn better_of(best: Winner, e: usize, delay: Delay) -> Winner
     Winner::Edge { e: f, d: c }
 }
 
-// The smallest delay, and among equals the lowest edge.
+// The key of an edge between two vertices.
+fn key_between(labels: &[u32], loads: &[u64], time: u64, a: usize, b: usize, weight: u32) -> u64
+    requires { ⌜ time < 2 ^ 62 ⌝ }
+    ensures { λ r. ⌜ r ≡ keyBetween (now (labels .entry)) (now (loads .entry)) time a b weight ⌝ }
+{
+    let x = reads::at32(labels, a);
+    let y = reads::at32(labels, b);
+    if x == y {
+        return 18446744073709551615;
+    }
+    let left = edge_slack(weight, at64(loads, a), at64(loads, b));
+    2 * time + left
+}
+
+// Twice the time of the best so far.
+fn limit_of(time: u64, best: Winner) -> u64
+    requires { ⌜ time < 2 ^ 62 ⌝ }
+    ensures { λ r. ⌜ r ≡ limitOf time (winnerIn best) ⌝ }
+{
+    let Winner::Edge { e: _, d } = best else {
+        return 18446744073709551615;
+    };
+    if d < 4611686018427387904 {
+        return 2 * (time + d);
+    }
+    18446744073709551615
+}
+
+// Looks at edge e: the best with it, and its key noted.
+fn look(
+    firsts: &[u32],
+    seconds: &[u32],
+    weights: &[u32],
+    labels: &[u32],
+    loads: &[u64],
+    flags: &[u8],
+    time: u64,
+    keys: &mut [u64],
+    e: usize,
+    best: Winner,
+) -> Winner
+    requires { ⌜ time < 2 ^ 62 ⌝ }
+    ensures { λ r. ⌜ winnerIn r ≡ better (winnerIn best) e (delayBy (tablesFrom (now (firsts .entry)) (now (seconds .entry)) (now (weights .entry)) (now (labels .entry)) (now (loads .entry)) (now (flags .entry))) e) ⌝ }
+    ensures { λ r. ⌜ now (keys .exit) ≡ set (now (keys .entry)) e (keyBy (tablesFrom (now (firsts .entry)) (now (seconds .entry)) (now (weights .entry)) (now (labels .entry)) (now (loads .entry)) (now (flags .entry))) time e) ⌝ }
+{
+    let a = reads::index32(reads::at32(firsts, e));
+    let b = reads::index32(reads::at32(seconds, e));
+    let weight = reads::at32(weights, e);
+    put64(keys, e, key_between(labels, loads, time, a, b, weight));
+    better_of(best, e, delay_between(labels, loads, flags, a, b, weight))
+}
+
+// Looks at the edges of a block whose noted keys do not say that they come later than the best so far.
+fn scan_block(
+    firsts: &[u32],
+    seconds: &[u32],
+    weights: &[u32],
+    labels: &[u32],
+    loads: &[u64],
+    flags: &[u8],
+    time: u64,
+    keys: &mut [u64],
+    from: usize,
+    to: usize,
+    best: Winner,
+) -> Winner
+    requires { ⌜ time < 2 ^ 62 ⌝ }
+    ensures { λ r. ⌜ winnerIn r ≡ onBy (tablesFrom (now (firsts .entry)) (now (seconds .entry)) (now (weights .entry)) (now (labels .entry)) (now (loads .entry)) (now (flags .entry))) time (scanFrom (winnerIn best) (now (keys .entry))) from (to - from) .best ⌝ }
+    ensures { λ r. ⌜ now (keys .exit) ≡ onBy (tablesFrom (now (firsts .entry)) (now (seconds .entry)) (now (weights .entry)) (now (labels .entry)) (now (loads .entry)) (now (flags .entry))) time (scanFrom (winnerIn best) (now (keys .entry))) from (to - from) .keys ⌝ }
+{
+    let mut champion = best;
+    let mut limit = limit_of(time, best);
+    let mut e = from;
+    while e < to {
+        if at64(keys, e) < limit {
+            champion = look(
+                firsts,
+                seconds,
+                weights,
+                labels,
+                loads,
+                flags,
+                time,
+                keys,
+                e,
+                champion,
+            );
+            limit = limit_of(time, champion);
+        }
+        e += 1;
+    }
+    champion
+}
+
+// The lowest of some keys.
+fn lowest_key(keys: &[u64], from: usize, to: usize) -> u64
+    ensures { λ r. ⌜ r ≡ lowest (now (keys .entry)) from (to - from) ⌝ }
+{
+    let mut low = 18446744073709551615;
+    let mut e = from;
+    while e < to {
+        let key = at64(keys, e);
+        if key < low {
+            low = key;
+        }
+        e += 1;
+    }
+    low
+}
+
+// How many edges block b has.
+fn block_size(m: usize, b: usize) -> usize
+    requires { ⌜ blockEdges * b ≤ m ⌝ }
+    ensures { λ r. ⌜ r ≡ blockSize m b ⌝ }
+{
+    let left = m - 16 * b;
+    if left < 16 {
+        return left;
+    }
+    16
+}
+
+// Looks through block b, and notes its floor.
+fn pass_block(
+    firsts: &[u32],
+    seconds: &[u32],
+    weights: &[u32],
+    labels: &[u32],
+    loads: &[u64],
+    flags: &[u8],
+    time: u64,
+    keys: &mut [u64],
+    floors: &mut [u64],
+    b: usize,
+    best: Winner,
+) -> Winner
+    requires { ⌜ time < 2 ^ 62 ⌝ }
+    requires { ⌜ blockEdges * b ≤ length (now firsts) ⌝ }
+    ensures { λ r. ⌜ winnerIn r ≡ onBy (tablesFrom (now (firsts .entry)) (now (seconds .entry)) (now (weights .entry)) (now (labels .entry)) (now (loads .entry)) (now (flags .entry))) time (scanFrom (winnerIn best) (now (keys .entry))) (blockEdges * b) (blockSize (length (now (firsts .entry))) b) .best ⌝ }
+    ensures { λ r. ⌜ now (keys .exit) ≡ onBy (tablesFrom (now (firsts .entry)) (now (seconds .entry)) (now (weights .entry)) (now (labels .entry)) (now (loads .entry)) (now (flags .entry))) time (scanFrom (winnerIn best) (now (keys .entry))) (blockEdges * b) (blockSize (length (now (firsts .entry))) b) .keys ⌝ }
+    ensures { λ r. ⌜ now (floors .exit) ≡ set (now (floors .entry)) b (lowest (now (keys .exit)) (blockEdges * b) (blockSize (length (now (firsts .entry))) b)) ⌝ }
+{
+    let from = 16 * b;
+    let to = from + block_size(firsts.len(), b);
+    let champion = scan_block(
+        firsts,
+        seconds,
+        weights,
+        labels,
+        loads,
+        flags,
+        time,
+        keys,
+        from,
+        to,
+        best,
+    );
+    put64(floors, b, lowest_key(keys, from, to));
+    champion
+}
+
+// The smallest delay, and among equals the lowest edge. Blocks whose floors say that all their edges come later are passed over.
 fn find_winner(
     firsts: &[u32],
     seconds: &[u32],
@@ -145,17 +307,37 @@ fn find_winner(
     labels: &[u32],
     loads: &[u64],
     flags: &[u8],
+    time: u64,
+    keys: &mut [u64],
+    floors: &mut [u64],
 ) -> Winner
-    ensures { λ r. ⌜ winnerIn r ≡ winnerBy (tablesFrom (now (firsts .entry)) (now (seconds .entry)) (now (weights .entry)) (now (labels .entry)) (now (loads .entry)) (now (flags .entry))) (length (now (firsts .entry))) ⌝ }
+    requires { ⌜ time < 2 ^ 62 ⌝ }
+    ensures { λ r. ⌜ winnerIn r ≡ passBy (tablesFrom (now (firsts .entry)) (now (seconds .entry)) (now (weights .entry)) (now (labels .entry)) (now (loads .entry)) (now (flags .entry))) time (now (keys .entry)) (now (floors .entry)) (blocksOf (length (now (firsts .entry)))) .scanned .best ⌝ }
+    ensures { λ r. ⌜ now (keys .exit) ≡ passBy (tablesFrom (now (firsts .entry)) (now (seconds .entry)) (now (weights .entry)) (now (labels .entry)) (now (loads .entry)) (now (flags .entry))) time (now (keys .entry)) (now (floors .entry)) (blocksOf (length (now (firsts .entry)))) .scanned .keys ⌝ }
+    ensures { λ r. ⌜ now (floors .exit) ≡ passBy (tablesFrom (now (firsts .entry)) (now (seconds .entry)) (now (weights .entry)) (now (labels .entry)) (now (loads .entry)) (now (flags .entry))) time (now (keys .entry)) (now (floors .entry)) (blocksOf (length (now (firsts .entry)))) .floors ⌝ }
 {
     let mut best = Winner::Nobody;
-    let mut e = 0;
-    while e < firsts.len() {
-        let a = reads::index32(reads::at32(firsts, e));
-        let b = reads::index32(reads::at32(seconds, e));
-        let delay = delay_between(labels, loads, flags, a, b, reads::at32(weights, e));
-        best = better_of(best, e, delay);
-        e += 1;
+    let mut limit = 18446744073709551615;
+    let blocks = firsts.len() / 16 + 1;
+    let mut b = 0;
+    while b < blocks {
+        if at64(floors, b) < limit {
+            best = pass_block(
+                firsts,
+                seconds,
+                weights,
+                labels,
+                loads,
+                flags,
+                time,
+                keys,
+                floors,
+                b,
+                best,
+            );
+            limit = limit_of(time, best);
+        }
+        b += 1;
     }
     best
 }
@@ -208,7 +390,7 @@ fn note_pick(picked: &mut [u8], order: &mut [u32], e: usize, r: usize)
     put32(order, r, e as u32);
 }
 
-// One round: whether there was a winner, and the arrays after it.
+// One round: the winner's delay if there was a winner, and the arrays after it.
 fn round(
     groups: &[u8],
     firsts: &[u32],
@@ -219,23 +401,38 @@ fn round(
     values: &mut [u64],
     picked: &mut [u8],
     order: &mut [u32],
+    keys: &mut [u64],
+    floors: &mut [u64],
     r: usize,
-) -> bool
-    requires { ⌜ Growing (surveyFrom (now groups) (now firsts) (now seconds) (now weights)) r (now labels) (now loads) (now values) (now picked) (now order) ⌝ }
-    ensures { λ x. ⌜ x ≡ wins (winner (problemOf (surveyFrom (now (groups .entry)) (now (firsts .entry)) (now (seconds .entry)) (now (weights .entry)))) (stateAt (problemOf (surveyFrom (now (groups .entry)) (now (firsts .entry)) (now (seconds .entry)) (now (weights .entry)))) r)) ⌝ }
+    time: u64,
+) -> Delay
+    requires { ⌜ Growing (surveyFrom (now groups) (now firsts) (now seconds) (now weights)) r time (now keys) (now floors) (now labels) (now loads) (now values) (now picked) (now order) ⌝ }
+    ensures { λ x. ⌜ delayIn x ≡ waitOf (winner (problemOf (surveyFrom (now (groups .entry)) (now (firsts .entry)) (now (seconds .entry)) (now (weights .entry)))) (stateAt (problemOf (surveyFrom (now (groups .entry)) (now (firsts .entry)) (now (seconds .entry)) (now (weights .entry)))) r)) ⌝ }
     ensures { λ x. ⌜ View (problemOf (surveyFrom (now (groups .entry)) (now (firsts .entry)) (now (seconds .entry)) (now (weights .entry)))) (r + 1) (now (labels .exit)) (now (loads .exit)) (now (values .exit)) (now (picked .exit)) (now (order .exit)) ⌝ }
+    ensures { λ x. ⌜ now (keys .exit) ≡ passOf (problemOf (surveyFrom (now (groups .entry)) (now (firsts .entry)) (now (seconds .entry)) (now (weights .entry)))) (stateAt (problemOf (surveyFrom (now (groups .entry)) (now (firsts .entry)) (now (seconds .entry)) (now (weights .entry)))) r) time (now (keys .entry)) (now (floors .entry)) .scanned .keys ⌝ }
+    ensures { λ x. ⌜ now (floors .exit) ≡ passOf (problemOf (surveyFrom (now (groups .entry)) (now (firsts .entry)) (now (seconds .entry)) (now (weights .entry)))) (stateAt (problemOf (surveyFrom (now (groups .entry)) (now (firsts .entry)) (now (seconds .entry)) (now (weights .entry)))) r) time (now (keys .entry)) (now (floors .entry)) .floors ⌝ }
 {
     let flags = active_flags(groups, labels);
-    let found = find_winner(firsts, seconds, weights, labels, loads, &flags);
+    let found = find_winner(
+        firsts,
+        seconds,
+        weights,
+        labels,
+        loads,
+        &flags,
+        time,
+        keys,
+        floors,
+    );
     let Winner::Edge { e, d } = found else {
-        return false;
+        return Delay::Never;
     };
     raise_values(values, &flags, d);
     raise_loads(loads, labels, &flags, groups.len(), d);
     let z = (groups.len() + r) as u32;
     survey::labels::merge(labels, reads::at32(firsts, e), reads::at32(seconds, e), z);
     note_pick(picked, order, e, r);
-    true
+    Delay::After(d)
 }
 
 // The sum of the first `count` values.
@@ -285,10 +482,13 @@ fn grow_rounds(groups: &[u8], firsts: &[u32], seconds: &[u32], weights: &[u32]) 
     let mut values = [0u64; 511];
     let mut picked = [0u8; 2048];
     let mut order = [0u32; 256];
+    let mut keys = [0u64; 2048];
+    let mut floors = [0u64; 129];
     survey::labels::own_labels(&mut labels);
+    let mut time = 0;
     let mut r = 0;
     while r < groups.len() {
-        let more = round(
+        let wait = round(
             groups,
             firsts,
             seconds,
@@ -298,11 +498,15 @@ fn grow_rounds(groups: &[u8], firsts: &[u32], seconds: &[u32], weights: &[u32]) 
             &mut values,
             &mut picked,
             &mut order,
+            &mut keys,
+            &mut floors,
             r,
+            time,
         );
-        if !more {
+        let Delay::After(d) = wait else {
             return finished(groups.len(), r, labels, values, picked, order);
-        }
+        };
+        time += d;
         r += 1;
     }
     finished(groups.len(), r, labels, values, picked, order)

@@ -89,8 +89,12 @@ pub fn merge(labels: &mut [u32], first: u32, second: u32, z: u32)
 fn join_ends(labels: &mut [u32], first: u32, second: u32)
     ensures { λ r. ⌜ now (labels .exit) ≡ endsJoined first second (now (labels .entry)) ⌝ }
 {
-    let z = reads::at32(labels, reads::index32(first));
-    merge(labels, first, second, z);
+    let x = reads::at32(labels, reads::index32(first));
+    let y = reads::at32(labels, reads::index32(second));
+    if x == y {
+        return;
+    }
+    relabel(labels, x, y, x);
 }
 
 // The ends of edge e become linked, if it is in the set.

@@ -4,7 +4,7 @@ use Prim.Native.Nat.{ℕ, zero, suc, _+_, _*_, _-_, _<_, _≤_, _^_}
 use native.Mathlib.Omega.{arith}
 use native.Mathlib.Numerals.{add-one}
 use native.Mathlib.Nat.{add-zero, add-suc}
-use mathlib.Core.Path.{_≡_, refl, ap, sym, _∙_}
+use mathlib.Core.Path.{_≡_, refl, ap, sym, _∙_, subst}
 use mathlib.Core.Logic.{_⊎_, inl, inr}
 use mathlib.Core.Bool.{Bool, true, false, _||_, not, cond, or-false}
 use mathlib.Core.List.{List}
@@ -16,7 +16,7 @@ use Rattle.finite.specs.Laws.Below.{sum-cong, sum-le, sum-const, sum-zero, leng
 use Rattle.graph.specs.Component.{merged}
 use Rattle.limits.specs.Limits.{maxVertices, maxEdges, maxWeight, maxDuals}
 use Rattle.steiner.specs.Problem.{Problem, Sound, separates}
-use Rattle.steiner.specs.Growth.{active, numbers, load, slack, delay, Winner, nobody, edge, winnerBelow, winner, start, pick, stateAt}
+use Rattle.steiner.specs.Growth.{active, numbers, load, slack, never, after, delay, Winner, nobody, edge, winner, start, pick, stateAt}
 use Rattle.steiner.specs.Pruning.{dualBound}
 use Rattle.growth.specs.declared.Growth.{Growth}
 use Rattle.steiner.specs.Laws.Joined.{separates-cong}
@@ -30,8 +30,11 @@ use Rattle.survey.specs.Labels.{relabelled}
 use Rattle.survey.specs.Laws.Refusal.{SurveySound, survey-sound}
 use Rattle.survey.specs.Laws.Store.{tabulate-cong, set-table, remade-table, remade-part}
 use Rattle.survey.specs.Laws.Labels.{relabelled-table}
-use Rattle.growth.specs.Tables.{tablesFrom, delayBetween, delayBy, winnerBy, raisedValues, raisedLoads, Room}
-use Rattle.growth.specs.View.{edgeOf, wins, turn, View, Growing, Small, growthFrom, Shows}
+use Rattle.growth.specs.Scan.{key, Scan, scanOf, Keyed, timeAfter, blocksOf, passOf, Floored}
+use Rattle.growth.specs.Tables.{tablesFrom, delayBetween, delayBy, keyBetween, keyBy, passBy, raisedValues, raisedLoads, Room}
+use Rattle.growth.specs.Laws.Scan.{scan-wins, keyed-next}
+use Rattle.growth.specs.Laws.Blocks.{passes-scan, passes-cong}
+use Rattle.growth.specs.View.{edgeOf, waitOf, turn, View, Growing, Small, growthFrom, Shows}
 
 -- A flag of 1 stands for the test.
 flag-is : (t : Bool) → eqb (counted t 1) 1 ≡ t
@@ -59,7 +62,7 @@ below-more k r d = by (lt-or-ge k r)
     by (inl h) = lt-ltb k r h ∙ sym (lt-ltb k (r + 1) (omega arith))
     by (inr h) = le-ltb k r h ∙ sym (le-ltb k (r + 1) (omega (arith, d)))
 
-module _ (s : Survey) (r : ℕ) {labels loads values picked order : List ℕ} (h : Growing s r labels loads values picked order) where
+module _ (s : Survey) (r : ℕ) {time : ℕ} {keys floors labels loads values picked order : List ℕ} (h : Growing s r time keys floors labels loads values picked order) where
   vertices-are : problemOf s .vertices ≡ length (s .groups)
   unfolding problemOf vertexCount
   vertices-are = refl
@@ -97,6 +100,36 @@ module _ (s : Survey) (r : ℕ) {labels loads values picked order : List ℕ} (h
       ∙ getD-tabulate maxVertices _ v 0 (omega arith)
       ∙ counted-true (lt-ltb v (problemOf s .vertices) (omega arith)) (load (problemOf s) (stateAt (problemOf s) r) v)
 
+  weights-light : (e : ℕ) → e < problemOf s .edges → problemOf s .weight e ≤ maxWeight
+  unfolding problemOf edgeCount
+  weights-light e b = h .sound .edges e b .weight-le
+
+  rounds-few : stateAt (problemOf s) r .rounds < maxVertices
+  rounds-few =
+      let q = h .rounds-are in
+      let g = h .going in
+      let few = h .sound .few in
+      omega arith
+
+  -- The blocks of the round scan all its edges.
+  passed : (passOf (problemOf s) (stateAt (problemOf s) r) time keys floors .scanned ≡ scanOf (problemOf s) (stateAt (problemOf s) r) time keys)
+      × Floored (length (s .firsts)) (passOf (problemOf s) (stateAt (problemOf s) r) time keys floors .scanned .keys) (passOf (problemOf s) (stateAt (problemOf s) r) time keys floors .floors)
+  unfolding passOf scanOf problemOf edgeCount
+  passed = passes-scan _ _ time (length (s .firsts)) keys floors (h .floored)
+
+  scan-is : (scanOf (problemOf s) (stateAt (problemOf s) r) time keys .best ≡ winner (problemOf s) (stateAt (problemOf s) r))
+      × Keyed (problemOf s) (stateAt (problemOf s) r) time (scanOf (problemOf s) (stateAt (problemOf s) r) time keys .keys)
+  scan-is = scan-wins (problemOf s) (stateAt (problemOf s) r) weights-light rounds-few time keys (h .keyed)
+
+  -- Time goes on, and keys and floors stay good.
+  pub keyed-on : (x : Winner) → winner (problemOf s) (stateAt (problemOf s) r) ≡ x
+      → Keyed (problemOf s) (stateAt (problemOf s) (r + 1)) (timeAfter time x) (passOf (problemOf s) (stateAt (problemOf s) r) time keys floors .scanned .keys)
+  keyed-on x w =
+      subst (λ (k : Scan). Keyed (problemOf s) (stateAt (problemOf s) (r + 1)) (timeAfter time x) (k .keys)) (sym (passed .0)) (keyed-next (problemOf s) ok weights-light r time x w (scan-is .1))
+
+  pub floored-on : Floored (length (s .firsts)) (passOf (problemOf s) (stateAt (problemOf s) r) time keys floors .scanned .keys) (passOf (problemOf s) (stateAt (problemOf s) r) time keys floors .floors)
+  floored-on = passed .1
+
   module _ {flags : List ℕ} (f : flags ≡ tabulate maxDuals (λ c. counted (active (problemOf (groupsAlone (s .groups))) (λ v. getD labels v 0) c) 1)) where
     flag-at : (c : ℕ) → c < maxDuals → eqb (getD flags c 0) 1 ≡ active (problemOf s) (stateAt (problemOf s) r .label) c
     flag-at c b =
@@ -123,20 +156,29 @@ module _ (s : Survey) (r : ℕ) {labels loads values picked order : List ℕ} (h
         )
         (turned (eqb (stateAt (problemOf s) r .label (getD (s .firsts) e 0)) (stateAt (problemOf s) r .label (getD (s .seconds) e 0))) _ _)
 
-    winner-to : (k : ℕ) → k ≤ length (s .firsts)
-        → winnerBy (tablesFrom (s .firsts) (s .seconds) (s .weights) labels loads flags) k ≡ winnerBelow (problemOf s) (stateAt (problemOf s) r) k
-    unfolding winnerBy winnerBelow
-    winner-to zero b = refl
-    winner-to (suc k) b = rw (winner-to k (omega arith), delay-at k (omega arith))
+    key-at : (e : ℕ) → e < length (s .firsts)
+        → keyBy (tablesFrom (s .firsts) (s .seconds) (s .weights) labels loads flags) time e ≡ key (problemOf s) (stateAt (problemOf s) r) time e
+    unfolding keyBy keyBetween key slack problemOf
+    key-at e b =
+        let a-below = h .sound .edges e b .first-below in
+        let b-below = h .sound .edges e b .second-below in
+        rw (
+          label-at (getD (s .firsts) e 0) a-below,
+          label-at (getD (s .seconds) e 0) b-below,
+          load-at (getD (s .firsts) e 0) a-below,
+          load-at (getD (s .seconds) e 0) b-below,
+        )
 
-    -- The scan's winner is the round's.
-    pub winner-is : winnerBy (tablesFrom (s .firsts) (s .seconds) (s .weights) labels loads flags) (length (s .firsts)) ≡ winner (problemOf s) (stateAt (problemOf s) r)
-    unfolding winner problemOf edgeCount
-    winner-is = winner-to (length (s .firsts)) (omega arith)
+    -- The passes over the tables are those of the definition.
+    pub pass-is : passBy (tablesFrom (s .firsts) (s .seconds) (s .weights) labels loads flags) time keys floors (blocksOf (length (s .firsts)))
+        ≡ passOf (problemOf s) (stateAt (problemOf s) r) time keys floors
+    unfolding passBy passOf problemOf edgeCount
+    pass-is = passes-cong _ _ _ _ time (length (s .firsts)) delay-at key-at keys floors (blocksOf (length (s .firsts)))
 
-  weights-light : (e : ℕ) → e < problemOf s .edges → problemOf s .weight e ≤ maxWeight
-  unfolding problemOf edgeCount
-  weights-light e b = h .sound .edges e b .weight-le
+    -- Their winner is the round's.
+    pub winner-is : passBy (tablesFrom (s .firsts) (s .seconds) (s .weights) labels loads flags) time keys floors (blocksOf (length (s .firsts))) .scanned .best
+        ≡ winner (problemOf s) (stateAt (problemOf s) r)
+    winner-is = ap (λ x. x .scanned .best) pass-is ∙ ap (λ x. x .best) (passed .0) ∙ scan-is .0
 
   module _ (e d : ℕ) (w : winner (problemOf s) (stateAt (problemOf s) r) ≡ edge e d) where
     pub winner-edge : e < length (s .firsts)
@@ -388,22 +430,25 @@ pub view-end : (p : Problem) (r n : ℕ) {labels loads values picked order : Lis
 view-end p r n b c v = let e : n ≡ r = omega arith in rw e v
 
 -- A round without a winner is not counted, one with a winner is.
-no-win : (w : Winner) → wins w ≡ false → w ≡ nobody
-unfolding wins
+no-win : (w : Winner) → never ≡ waitOf w → w ≡ nobody
+unfolding waitOf
 no-win nobody h = refl
 no-win (edge e d) h = let z : _≡_ {A = ℕ} 0 1 = cc in absurd (omega arith)
 
-pub still-winner : (p : Problem) (r : ℕ) → wins (winner p (stateAt p r)) ≡ false → winner p (stateAt p r) ≡ nobody
+pub still-winner : (p : Problem) (r : ℕ) → never ≡ waitOf (winner p (stateAt p r)) → winner p (stateAt p r) ≡ nobody
 still-winner p r = no-win (winner p (stateAt p r))
 
-pub rounds-more : (p : Problem) (r : ℕ) → wins (winner p (stateAt p r)) ≡ true → stateAt p r .rounds ≡ r → stateAt p (r + 1) .rounds ≡ r + 1
-unfolding wins
-rounds-more p r h k = by (winner p (stateAt p r)) refl h
-  where
-    by : (w : Winner) → winner p (stateAt p r) ≡ w → wins w ≡ true → stateAt p (r + 1) .rounds ≡ r + 1
-    by nobody e h = let z : _≡_ {A = ℕ} 0 1 = cc in absurd (omega arith)
-    by (edge e d) w h =
-        ap (λ t. t .rounds) (ap (stateAt p) (add-one r) ∙ stateAt-pick p r e d w) ∙ pick-rounds p (stateAt p r) e d ∙ ap suc k ∙ sym (add-one r)
+some-win : (d : ℕ) (w : Winner) → after d ≡ waitOf w → (e : ℕ) × (w ≡ edge e d)
+unfolding waitOf
+some-win d nobody h = let z : _≡_ {A = ℕ} 0 1 = cc in absurd (omega arith)
+some-win d (edge e c) h = let q : c ≡ d = cc in (e, rw q refl)
+
+pub next-winner : (p : Problem) (r d : ℕ) → after d ≡ waitOf (winner p (stateAt p r)) → (e : ℕ) × (winner p (stateAt p r) ≡ edge e d)
+next-winner p r d = some-win d (winner p (stateAt p r))
+
+pub rounds-more : (p : Problem) (r e d : ℕ) → winner p (stateAt p r) ≡ edge e d → stateAt p r .rounds ≡ r → stateAt p (r + 1) .rounds ≡ r + 1
+rounds-more p r e d w k =
+    ap (λ t. t .rounds) (ap (stateAt p) (add-one r) ∙ stateAt-pick p r e d w) ∙ pick-rounds p (stateAt p r) e d ∙ ap suc k ∙ sym (add-one r)
 
 pub rounds-still : (p : Problem) (r n : ℕ) → winner p (stateAt p r) ≡ nobody → r < n → stateAt p r .rounds ≡ r → r ≡ stateAt p n .rounds
 rounds-still p r n w b k = sym (ap (λ t. t .rounds) (still-state p r w n (omega arith)) ∙ k)

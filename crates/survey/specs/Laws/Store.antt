@@ -40,6 +40,13 @@ remade-suc f (suc i) [] = refl
 remade-suc f zero (x ∷ l) = refl
 remade-suc f (suc i) (x ∷ l) = ap (λ t. f 0 x ∷ t) (remade-suc (λ k. f (suc k)) i l)
 
+-- What every place keeps stays.
+pub remade-still : (f : ℕ → ℕ → ℕ) (i : ℕ) (l : List ℕ) → ((k x : ℕ) → f k x ≡ x) → remade f i l ≡ l
+unfolding remade
+remade-still f zero l h = refl
+remade-still f (suc i) [] h = refl
+remade-still f (suc i) (x ∷ l) h = ap (λ y. y ∷ remade (λ k. f (suc k)) i l) (h 0 x) ∙ ap (λ t. x ∷ t) (remade-still (λ k. f (suc k)) i l (λ k y. h (suc k) y))
+
 -- One store more: x is what f makes of the place and of what stood there.
 pub remade-more : (f : ℕ → ℕ → ℕ) (i : ℕ) (l now : List ℕ) (x : ℕ) → now ≡ remade f i l → x ≡ f i (getD now i 0) → set now i x ≡ remade f (i + 1) l
 remade-more f i l now x h k =
