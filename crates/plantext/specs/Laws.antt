@@ -10,3 +10,11 @@ pub mod Room
 pub mod Fuel
 pub mod Back
 pub mod Printed
+pub mod Prefix
+pub mod Same
+pub mod Passes
+pub mod Listing
+pub mod Listed
+pub mod Accepted
+pub mod Malformed
+pub mod Length

@@ -14,8 +14,10 @@ use lib.Dec.{eqb, ltb}
 use borrow.Author.Tests.{eq-eqb, ne-eqb, eqb-true, lt-ltb, le-ltb, ltb-true}
 use Rattle.finite.specs.Laws.Test.{same-test, and-both, and-left, and-right, or-cases, or-left, or-right}
 use Rattle.limits.specs.Limits.{maxVertices, recordBytes}
+use Rattle.records.specs.Bits.{Bytes}
 use Rattle.records.specs.Record.{recordOf, recordAt, withMemberIn, startedAs}
-use Rattle.records.specs.Laws.Record.{length-record, record-at-first, record-at-right, started-whole, member-added-record}
+use Rattle.records.specs.Laws.Amount.{bytes-append}
+use Rattle.records.specs.Laws.Record.{length-record, bytes-record, record-at-first, record-at-right, started-whole, member-added-record}
 use Rattle.steiner.specs.Dual.{Dual}
 use Rattle.drawing.specs.Drawing.{recordsOf, recordsOver, recordsFrom, dualIf, dualsBelow, labelled, Drawn, Fits}
 
@@ -30,6 +32,12 @@ unfolding recordsOf
 length-records [] = refl
 length-records (d ∷ ds) =
     omega (arith, length-append (recordOf (d .value) (d .holds)) (recordsOf ds), length-record (d .value) (d .holds), length-records ds)
+
+-- They are bytes.
+pub bytes-records : (ds : List Dual) → Bytes (recordsOf ds)
+unfolding recordsOf
+bytes-records [] i = omega arith
+bytes-records (d ∷ ds) i = bytes-append (recordOf (d .value) (d .holds)) (recordsOf ds) (bytes-record (d .value) (d .holds)) (bytes-records ds) i
 
 pub record-at : (ds : List Dual) (i : ℕ) → i < length ds → recordAt (recordsOf ds) i ≡ recordOf (getD ds i nothing .value) (getD ds i nothing .holds)
 unfolding recordsOf

@@ -159,13 +159,14 @@ pub record FinishedPlan (s : Survey) (marks records : List ℕ) (c : Counts) : T
   pub accurate : Accurate s (c .terminals) (c .cost)
 
 module _ (s : Survey) (numbered : Numbered s) (marks records : List ℕ) (fine : planRefusal s (length marks) (length records) ≡ Fine) where
-  cut-marks : take (edgeCount s) (marksAfter s marks records) ≡ planOf (problemOf s) .marks
+  -- The marks and the records of a finished plan, cut from the buffers.
+  pub cut-marks : take (edgeCount s) (marksAfter s marks records) ≡ planOf (problemOf s) .marks
   unfolding marksAfter written planOf problemOf
   cut-marks =
       ap (λ v. take (edgeCount s) (written v (planOf (problemOf s) .marks ++ drop (edgeCount s) marks) marks)) fine
       ∙ take-at (planOf (problemOf s) .marks) (drop (edgeCount s) marks) (edgeCount s) (length-tabulate (edgeCount s) _)
 
-  cut-records : take (recordBytes * length (planOf (problemOf s) .duals)) (recordsAfter s marks records) ≡ recordsOf (planOf (problemOf s) .duals)
+  pub cut-records : take (recordBytes * length (planOf (problemOf s) .duals)) (recordsAfter s marks records) ≡ recordsOf (planOf (problemOf s) .duals)
   unfolding recordsAfter written recordsOver
   cut-records =
       let new = recordsOf (planOf (problemOf s) .duals) in

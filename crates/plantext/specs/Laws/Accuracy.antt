@@ -16,7 +16,7 @@ use Rattle.text.specs.Laws.Tests.{group-below}
 use Rattle.survey.specs.Survey.{Survey, surveyFrom, edgeCount}
 use Rattle.survey.specs.Accuracy.{Accurate}
 use Rattle.survey.specs.Laws.Group.{Numbered}
-use Rattle.checker.specs.Check.{Checked}
+use Rattle.checker.specs.Check.{Checked, checking}
 use Rattle.checker.specs.Laws.Accuracy.{checking-accurate}
 use Rattle.plantext.specs.Plan.{Plan, marksOf, moatRecords}
 use Rattle.plantext.specs.Verify.{linesAt, prefixAt, claimTest, judged, planVerified, planFrom, verifiedFrom, verifying}
@@ -55,6 +55,28 @@ judged-answer (answer y) k c b {x} e = by-test (claimTest y k c b) e
     by-test Fine e = e
     by-test (Refused n p) e = let z : _≡_ {A = ℕ} 0 1 = cc in absurd (omega arith)
 
+-- What passes, part by part: the survey, the plan behind it, and that the checker passes both with what is reported.
+pub record Parts (t : List ℕ) (c : Checked) : Type 0 where
+  pub survey : SurveyText
+  pub next : ℕ
+  pub plan : Plan
+  pub read : prefixAt (testsFor maxVertices maxEdges maxEdges maxEdges) t ≡ found survey next
+  pub behind : planFrom t (surveyIn survey) next ≡ answer plan
+  pub passes : checking (surveyIn survey) (marksOf (edgeCount (surveyIn survey)) (plan .kept)) (moatRecords (plan .moats)) ≡ answer c
+
+pub verified-parts : (t : List ℕ) (c : Checked) → verifying t ≡ answer c → Parts t c
+unfolding verifying verifiedFrom planVerified
+verified-parts t c e = by-survey (prefixAt (testsFor maxVertices maxEdges maxEdges maxEdges) t) refl e
+  where
+    by-plan : (s : SurveyText) (at : ℕ) (o : Outcome Plan) → prefixAt (testsFor maxVertices maxEdges maxEdges maxEdges) t ≡ found s at → planFrom t (surveyIn s) at ≡ o
+        → planVerified (surveyIn s) o ≡ answer c → Parts t c
+    by-plan s at (refusal n p) q b e = let z : _≡_ {A = ℕ} 0 1 = cc in absurd (omega arith)
+    by-plan s at (answer p) q b e = record { survey = s; next = at; plan = p; read = q; behind = b; passes = judged-answer _ _ _ _ e }
+
+    by-survey : (x : Step SurveyText) → prefixAt (testsFor maxVertices maxEdges maxEdges maxEdges) t ≡ x → verifiedFrom t x ≡ answer c → Parts t c
+    by-survey (found s at) q e = by-plan s at (planFrom t (surveyIn s) at) q refl e
+    by-survey (refused n p) q e = let z : _≡_ {A = ℕ} 0 1 = cc in absurd (omega arith)
+
 -- What passes: the text begins with a survey, of which the k and the cost that are reported obey the accuracy rule.
 pub record Worth (t : List ℕ) (c : Checked) : Type 0 where
   pub survey : SurveyText
@@ -63,19 +85,12 @@ pub record Worth (t : List ℕ) (c : Checked) : Type 0 where
   pub accurate : Accurate (surveyIn survey) (c .terminals) (c .cost)
 
 pub verified-accurate : (t : List ℕ) (c : Checked) → verifying t ≡ answer c → Worth t c
-unfolding verifying verifiedFrom planVerified
-verified-accurate t c e = by-survey (prefixAt (testsFor maxVertices maxEdges maxEdges maxEdges) t) refl e
-  where
-    by-plan : (s : SurveyText) (at : ℕ) (o : Outcome Plan) → prefixAt (testsFor maxVertices maxEdges maxEdges maxEdges) t ≡ found s at → planVerified (surveyIn s) o ≡ answer c → Worth t c
-    by-plan s at (refusal n p) q e = let z : _≡_ {A = ℕ} 0 1 = cc in absurd (omega arith)
-    by-plan s at (answer p) q e =
-        record {
-          survey = s;
-          next = at;
-          read = q;
-          accurate = checking-accurate (surveyIn s) (prefix-numbered maxVertices maxEdges maxEdges maxEdges t q) (marksOf (edgeCount (surveyIn s)) (p .kept)) (moatRecords (p .moats)) c (judged-answer _ _ _ _ e);
-        }
-
-    by-survey : (x : Step SurveyText) → prefixAt (testsFor maxVertices maxEdges maxEdges maxEdges) t ≡ x → verifiedFrom t x ≡ answer c → Worth t c
-    by-survey (found s at) q e = by-plan s at (planFrom t (surveyIn s) at) q e
-    by-survey (refused n p) q e = let z : _≡_ {A = ℕ} 0 1 = cc in absurd (omega arith)
+verified-accurate t c e =
+    let v = verified-parts t c e in
+    let s = surveyIn (v .survey) in
+    record {
+      survey = v .survey;
+      next = v .next;
+      read = v .read;
+      accurate = checking-accurate s (prefix-numbered maxVertices maxEdges maxEdges maxEdges t (v .read)) (marksOf (edgeCount s) (v .plan .kept)) (moatRecords (v .plan .moats)) c (v .passes);
+    }

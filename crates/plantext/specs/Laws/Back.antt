@@ -7,11 +7,9 @@ use mathlib.Core.Path.{_≡_, refl, ap, sym, _∙_, subst}
 use mathlib.Core.Bool.{Bool, true, false, not, cond}
 use mathlib.Core.List.{List, [], _∷_, _++_, append-assoc, append-nil}
 use lib.ListN.{length, getD, length-append}
-use borrow.Author.Tests.{le-ltb, lt-leb, le-leb, lt-ltb}
+use borrow.Author.Tests.{lt-leb, le-leb}
 use Rattle.limits.specs.Limits.{maxDigits, maxDuals}
-use Rattle.limits.specs.Verdict.{refuseIf, _before_}
 use Rattle.limits.specs.declared.Verdict.{Verdict}
-use Rattle.limits.specs.declared.Verdict.the-variants.{Fine}
 use Rattle.printing.specs.Key.{newline, comma, colon, dualKey, keptKey, terminalsKey, costKey, boundKey, roundsKey}
 use Rattle.printing.specs.Decimal.{decimal}
 use Rattle.printing.specs.Text.{lineOf, listed, countLines}
@@ -24,12 +22,10 @@ use Rattle.text.specs.Laws.Stands.{Stands, stands-append, stands-first, stands-
 use Rattle.text.specs.Laws.Digits.{Digits, one}
 use Rattle.text.specs.Laws.Decimal.{decimal-numeral}
 use Rattle.text.specs.Laws.Words.{reads-fixed, reads-number}
+use Rattle.text.specs.Laws.Content.{Small, newline-no-digit, comma-no-digit}
+use Rattle.plantext.specs.Laws.Tests.{kept-fine, risen-next, moat-fine}
 use Rattle.plantext.specs.Items.{Reader, following, itemsFrom, Each, none, more}
 use Rattle.plantext.specs.Plan.{countDigits, valueLine, Claims, claimsAt, keptTest, keepLine, keepReader, separator, memberNumbers, memberAt, risen, memberReader, membersAt, Moat, moatTest, moatHead, moatOf, moatLine, moatReader, moatsAt, keptAt, bodyAt, Plan, planAt}
-
-newline-ends : isDigit (classOf newline) ≡ false
-unfolding isDigit classOf
-newline-ends = refl
 
 -- A key and a number with the byte that ends it, where they stand.
 keyed-back : (key : List ℕ) (limit b : ℕ) (t : List ℕ) (at x : ℕ) → 1 ≤ limit → x < 10 ^ limit → isDigit (classOf b) ≡ false → Stands t at (key ++ numberText b x)
@@ -47,7 +43,7 @@ pub value-back : (key : List ℕ) (limit : ℕ) (t : List ℕ) (at x : ℕ) → 
 unfolding valueLine lineOf numberText
 value-back key limit t at x pos h s =
     let e : key ++ decimal x ++ (newline ∷ []) ≡ key ++ numberText newline x = append-assoc key (decimal x) (newline ∷ []) in
-    keyed-back key limit newline t at x pos h newline-ends (subst (Stands t at) e s) ∙ ap (λ (w : List ℕ). found x (at + length w)) (sym e)
+    keyed-back key limit newline t at x pos h newline-no-digit (subst (Stands t at) e s) ∙ ap (λ (w : List ℕ). found x (at + length w)) (sym e)
 
 -- Items that stand one after another from an offset on, and what follows them.
 pub data Standing {A : Type 0} (r : Reader A) : (low i at : ℕ) → List A → (last end : ℕ) → Type 0 where
@@ -69,14 +65,19 @@ pub data Rising (m : ℕ) : (low : ℕ) → List ℕ → Type 0 where
   ended : {low : ℕ} → Rising m low []
   rising : {low e : ℕ} {es : List ℕ} → low ≤ e → e < m → Rising m (e + 1) es → Rising m low (e ∷ es)
 
-kept-fine : (m low i e : ℕ) → low ≤ e → e < m → keptTest m low i e ≡ Fine
-unfolding keptTest refuseIf
-kept-fine m low i e a b = rw (le-ltb e low a, lt-leb m e b)
+-- A keep line where it stands: a line begins there, and only the test of its track is left.
+pub keep-line-back : (t : List ℕ) (m low i at e : ℕ) → Small e → Stands t at (lineOf keptKey e)
+    → (keepReader t m .stop at ≡ false) × (keepLine t m low i at ≡ checked (keptTest m low i e) e (at + length (lineOf keptKey e)))
+unfolding keepReader keepLine lineOf keptKey
+keep-line-back t m low i at e h s =
+    let f = s .fits in
+    let here : byteIs t at (code "k") ≡ true = byte-is t at (code "k") (omega arith) (stands-head s) in
+    (ap not here, then-found (λ x p. checked (keptTest m low i x) x p) (value-back keptKey maxDigits t at e (omega arith) h s))
 
 -- Keep lines, where the byte behind them begins none.
 pub keep-back : (t : List ℕ) (m : ℕ) → m ≤ 10 ^ maxDigits → {low : ℕ} {ks : List ℕ} → Rising m low ks → (i at end : ℕ) → Stands t at (textOf (lineOf keptKey) ks)
     → end ≡ at + length (textOf (lineOf keptKey) ks) → byteIs t end (code "k") ≡ false → (last : ℕ) × Standing (keepReader t m) low i at ks last end
-unfolding keepReader keepLine textOf lineOf keptKey checked
+unfolding keepReader textOf checked
 keep-back t m few {low} ended i at end s q e =
     let same : end ≡ at = omega arith in
     (low, subst (λ (z : ℕ). Standing (keepReader t m) low i at [] low z) (sym same) (stop (ap not (subst (λ (z : ℕ). byteIs t z (code "k") ≡ false) same e))))
@@ -84,12 +85,10 @@ keep-back t m few {low} (rising {e = e} {es = es} h k r) i at end s q f =
     let line = lineOf keptKey e in
     let a : Stands t at line = stands-first line (textOf (lineOf keptKey) es) s in
     let b : Stands t (at + length line) (textOf (lineOf keptKey) es) = stands-second line (textOf (lineOf keptKey) es) s in
-    let w = a .fits in
-    let here : byteIs t at (code "k") ≡ true = byte-is t at (code "k") (omega arith) (stands-head a) in
-    let v = value-back keptKey maxDigits t at e (omega arith) (omega arith) a in
+    let w = keep-line-back t m low i at e (omega arith) a in
     let l = length-append line (textOf (lineOf keptKey) es) in
     let rest = keep-back t m few r (i + 1) (at + length line) end b (omega arith) f in
-    (rest .0, item (ap not here) (then-found (λ x p. checked (keptTest m low i x) x p) v ∙ ap (λ (x : _). checked x e (at + length line)) (kept-fine m low i e h k)) (rest .1))
+    (rest .0, item (w .0) (w .1 ∙ ap (λ (x : Verdict). checked x e (at + length line)) (kept-fine m low i e h k)) (rest .1))
 
 fixed-one : (b : ℕ) (t : List ℕ) (p : ℕ) {z q : ℕ} → fixedAt (b ∷ []) t p ≡ found z q → q ≡ p + 1
 unfolding fixedAt
@@ -124,11 +123,7 @@ unfoldable pub memberText : (i : ℕ) → List ℕ → List ℕ
 memberText i [] = []
 memberText i (v ∷ vs) = separator i ++ decimal v ++ followers vs
 
-comma-ends : isDigit (classOf comma) ≡ false
-unfolding isDigit classOf
-comma-ends = refl
-
-later-text : (i : ℕ) (vs : List ℕ) → memberText (i + 1) vs ≡ followers vs
+pub later-text : (i : ℕ) (vs : List ℕ) → memberText (i + 1) vs ≡ followers vs
 unfolding memberText followers separator
 later-text i [] = refl
 later-text i (v ∷ vs) = rw (add-one i)
@@ -144,8 +139,8 @@ listed-text (v ∷ w ∷ vs) =
 -- A byte that is no digit ends a member.
 byte-after : (vs : List ℕ) → (b : ℕ) × (w : List ℕ) × (followers vs ++ (newline ∷ []) ≡ b ∷ w) × (isDigit (classOf b) ≡ false)
 unfolding followers
-byte-after [] = (newline, [], refl, newline-ends)
-byte-after (v ∷ vs) = (comma, decimal v ++ followers vs ++ (newline ∷ []), refl, comma-ends)
+byte-after [] = (newline, [], refl, newline-no-digit)
+byte-after (v ∷ vs) = (comma, decimal v ++ followers vs ++ (newline ∷ []), refl, comma-no-digit)
 
 followers-long : (vs : List ℕ) → length vs ≤ length (followers vs)
 unfolding followers
@@ -183,19 +178,15 @@ no-end zero t at v s = by-digits (decimal v) s (decimal-numeral v .digits) (deci
     by-digits (d ∷ ds) s (one lo hi r) h = other-byte t at d newline (stands-head s) (λ q. omega arith)
 no-end (suc i) t at v s = other-byte t at comma newline (stands-head s) (λ q. omega arith)
 
-risen-of : (low v : ℕ) → low ≤ v → v < memberNumbers → risen low v ≡ v + 1
-unfolding risen
-risen-of low v h k = rw (le-leb low v h, lt-ltb v memberNumbers k)
-
 -- Members, where their line ends behind them.
-pub members-back : (t : List ℕ) {low : ℕ} {vs : List ℕ} → low ≤ memberNumbers → Rising memberNumbers low vs → (i at end : ℕ) → Stands t at (memberText i vs ++ (newline ∷ []))
-    → end ≡ at + length (memberText i vs) → (last : ℕ) × (last ≤ memberNumbers) × Standing (memberReader t) low i at vs last end
+pub members-back : (t : List ℕ) {vs : List ℕ} → Each Small vs → (low i at end : ℕ) → Stands t at (memberText i vs ++ (newline ∷ []))
+    → end ≡ at + length (memberText i vs) → (last : ℕ) × Standing (memberReader t) low i at vs last end
 unfolding memberReader memberAt memberText numberText
-members-back t {low} few ended i at end s q =
+members-back t none low i at end s q =
     let same : at ≡ end = omega arith in
     let f = s .fits in
-    (low, few, subst (λ (z : ℕ). Standing (memberReader t) low i at [] low z) same (stop (byte-is t at newline (omega arith) (stands-head s))))
-members-back t {low} few (rising {e = v} {es = vs} h k r) i at end s q =
+    (low, subst (λ (z : ℕ). Standing (memberReader t) low i at [] low z) same (stop (byte-is t at newline (omega arith) (stands-head s))))
+members-back t (more {a = v} {l = vs} h r) low i at end s q =
     let R = followers vs ++ (newline ∷ []) in
     let p = at + length (separator i) in
     let e : separator i ++ decimal v ++ followers vs ++ (newline ∷ []) ≡ separator i ++ decimal v ++ R = append-assoc (separator i ++ decimal v) (followers vs) (newline ∷ []) in
@@ -209,21 +200,32 @@ members-back t {low} few (rising {e = v} {es = vs} h k r) i at end s q =
     let l₁ : at + length (separator i ++ decimal v) ≡ p + length (decimal v) = omega arith in
     let rest′ : Stands t (p + length (decimal v)) (n .0 ∷ n .1) = subst (λ (x : ℕ). Stands t x (n .0 ∷ n .1)) l₁ (subst (Stands t (at + length (separator i ++ decimal v))) (n .2) rest) in
     let y′ : Stands t p (numberText (n .0) v) = stands-append (decimal v) (n .0 ∷ []) y (stands-first (n .0 ∷ []) (n .1) rest′) in
-    let x = number-back maxDigits (n .0) t p v (omega arith) (omega arith) (n .3) y′ in
+    let x = number-back maxDigits (n .0) t p v (omega arith) h (n .3) y′ in
     let f = reads-fixed (separator i) .complete t at 0 (separator i) (record { value = refl; word = refl }) z in
     let w = length-append (separator i ++ decimal v) (followers vs) in
     let m = later-text i vs in
     let lm : length (memberText (i + 1) vs) ≡ length (followers vs) = ap length m in
     let text : Stands t (p + length (decimal v)) (memberText (i + 1) vs ++ (newline ∷ [])) =
     subst (λ (g : List ℕ). Stands t (p + length (decimal v)) (g ++ (newline ∷ []))) (sym m) (subst (λ (g : ℕ). Stands t g R) l₁ rest) in
-    let tail = members-back t (omega arith) r (i + 1) (p + length (decimal v)) end text (omega arith) in
-    (tail .0, tail .1, item (no-end i t at v a) (then-found (λ z q. numberAt maxDigits t q) f ∙ x) (subst (λ (g : ℕ). Standing (memberReader t) g (i + 1) (p + length (decimal v)) vs (tail .0) end) (sym (risen-of low v h k)) (tail .2)))
+    let tail = members-back t r (risen low v) (i + 1) (p + length (decimal v)) end text (omega arith) in
+    (tail .0, item (no-end i t at v a) (then-found (λ z q. numberAt maxDigits t q) f ∙ x) (tail .1))
+
+rising-small : {low : ℕ} {vs : List ℕ} → Rising memberNumbers low vs → Each Small vs
+rising-small ended = none
+rising-small (rising {e = v} {es = vs} h k r) = more {a = v} {l = vs} (omega arith) (rising-small r)
+
+-- Members that rise leave no more than the number of members.
+rising-last : (t : List ℕ) {low i at last end : ℕ} {vs : List ℕ} → low ≤ memberNumbers → Rising memberNumbers low vs → Standing (memberReader t) low i at vs last end → last ≤ memberNumbers
+unfolding memberReader
+rising-last t few ended (stop e) = few
+rising-last t {low} {i} {at} {last} {end} few (rising {e = v} {es = vs} h k r) (item {next = next} e f s) =
+    rising-last t (omega arith) r (subst (λ (g : ℕ). Standing (memberReader t) g (i + 1) next vs last end) (risen-next low v h k) s)
 
 -- A moat line as it is printed.
 unfoldable pub moatText : Moat → List ℕ
 moatText d = dualKey ++ decimal (d .value) ++ (colon ∷ []) ++ listed (d .members) ++ (newline ∷ [])
 
-colon-ends : isDigit (classOf colon) ≡ false
+pub colon-ends : isDigit (classOf colon) ≡ false
 unfolding isDigit classOf
 colon-ends = refl
 
@@ -233,18 +235,22 @@ head-back t at x h s =
     let e : dualKey ++ decimal x ++ (colon ∷ []) ≡ dualKey ++ numberText colon x = append-assoc dualKey (decimal x) (colon ∷ []) in
     keyed-back dualKey maxDigits colon t at x (omega arith) h colon-ends (subst (Stands t at) e s) ∙ ap (λ (w : List ℕ). found x (at + length w)) (sym e)
 
-moat-fine : (i low : ℕ) → low ≤ memberNumbers → i < maxDuals → moatTest i low ≡ Fine
-unfolding moatTest refuseIf _before_
-moat-fine i low h k = rw (le-ltb memberNumbers low h, lt-leb maxDuals i k)
+-- A moat whose numbers fit its line.
+pub record SmallMoat (d : Moat) : Type 0 where
+  pub value : Small (d .value)
+  pub members : Each Small (d .members)
 
--- A moat that fits its line.
-pub record Printed (d : Moat) : Type 0 where
-  pub small : d .value < 10 ^ maxDigits
-  pub rises : Rising memberNumbers 0 (d .members)
+-- A moat line where it stands: its members are read, and only the test of what they leave is left.
+pub record MoatStands (t : List ℕ) (i at : ℕ) (d : Moat) : Type 0 where
+  pub from : ℕ
+  pub last : ℕ
+  pub end : ℕ
+  pub members : Standing (memberReader t) 0 0 from (d .members) last end
+  pub line : moatLine t i at ≡ checked (moatTest i last) d (at + length (moatText d))
 
-pub moat-back : (t : List ℕ) (i at : ℕ) (d : Moat) → Printed d → i < maxDuals → Stands t at (moatText d) → moatLine t i at ≡ found d (at + length (moatText d))
-unfolding moatText moatLine membersAt _then_ checked
-moat-back t i at d p few s =
+pub moat-line-back : (t : List ℕ) (i at : ℕ) (d : Moat) → SmallMoat d → Stands t at (moatText d) → MoatStands t i at d
+unfolding moatText moatLine membersAt _then_
+moat-line-back t i at d p s =
     let H = dualKey ++ decimal (d .value) ++ (colon ∷ []) in
     let M = memberText 0 (d .members) in
     let x = listed-text (d .members) in
@@ -253,21 +259,38 @@ moat-back t i at d p few s =
     let a = stands-first H (M ++ (newline ∷ [])) s′ in
     let b = stands-second H (M ++ (newline ∷ [])) s′ in
     let c = at + length H in
-    let ms = members-back t (omega arith) (p .rises) 0 c (c + length M) b refl in
+    let ms = members-back t (p .members) 0 0 c (c + length M) b refl in
     let f = b .fits in
     let l = members-long 0 (d .members) in
     let n = length-append M (newline ∷ []) in
     let o = length-append H (M ++ (newline ∷ [])) in
     let u : length (H ++ listed (d .members) ++ (newline ∷ [])) ≡ length (H ++ (M ++ (newline ∷ []))) = ap length e in
-    let g = items-back (memberReader t) (length t) (omega arith) (ms .2) in
+    let g = items-back (memberReader t) (length t) (omega arith) (ms .1) in
     let q : c + length M + 1 ≡ at + length (H ++ listed (d .members) ++ (newline ∷ [])) = omega arith in
-    then-found (λ amount k. membersAt t k .end then λ low y. checked (moatTest i low) (moatOf t amount k) (y + 1)) (head-back t at (d .value) (p .small) a)
-    ∙ ap (λ (L : Lines ℕ). L .end then λ low y. checked (moatTest i low) (record { value = d .value; members = L .values }) (y + 1)) g
-    ∙ ap (λ (v : Verdict). checked v d (c + length M + 1)) (moat-fine i (ms .0) (ms .1) few)
-    ∙ ap (λ (k : ℕ). found d k) q
+    record {
+      from = c;
+      last = ms .0;
+      end = c + length M;
+      members = ms .1;
+      line =
+          then-found (λ amount k. membersAt t k .end then λ low y. checked (moatTest i low) (moatOf t amount k) (y + 1)) (head-back t at (d .value) (p .value) a)
+          ∙ ap (λ (L : Lines ℕ). L .end then λ low y. checked (moatTest i low) (record { value = d .value; members = L .values }) (y + 1)) g
+          ∙ ap (λ (k : ℕ). checked (moatTest i (ms .0)) d k) q;
+    }
+
+-- A moat that fits its line.
+pub record Printed (d : Moat) : Type 0 where
+  pub small : d .value < 10 ^ maxDigits
+  pub rises : Rising memberNumbers 0 (d .members)
+
+pub moat-back : (t : List ℕ) (i at : ℕ) (d : Moat) → Printed d → i < maxDuals → Stands t at (moatText d) → moatLine t i at ≡ found d (at + length (moatText d))
+unfolding checked
+moat-back t i at d p few s =
+    let m = moat-line-back t i at d (record { value = p .small; members = rising-small (p .rises) }) s in
+    m .line ∙ ap (λ (v : Verdict). checked v d (at + length (moatText d))) (moat-fine i (m .last) (rising-last t (omega arith) (p .rises) (m .members)) few)
 
 -- Every line has a byte, so that there are no more lines than bytes.
-lines-long : {A : Type 0} (f : A → List ℕ) → ((a : A) → 0 < length (f a)) → (l : List A) → length l ≤ length (textOf f l)
+pub lines-long : {A : Type 0} (f : A → List ℕ) → ((a : A) → 0 < length (f a)) → (l : List A) → length l ≤ length (textOf f l)
 unfolding textOf
 lines-long f h [] = omega arith
 lines-long f h (a ∷ l) =
@@ -276,11 +299,11 @@ lines-long f h (a ∷ l) =
     let r = lines-long f h l in
     omega arith
 
-line-some : (key : List ℕ) (x : ℕ) → 0 < length (lineOf key x)
+pub line-some : (key : List ℕ) (x : ℕ) → 0 < length (lineOf key x)
 unfolding lineOf
 line-some key x = let n = length-append (key ++ decimal x) (newline ∷ []) in omega arith
 
-moat-some : (d : Moat) → 0 < length (moatText d)
+pub moat-some : (d : Moat) → 0 < length (moatText d)
 unfolding moatText
 moat-some d = let n = length-append (dualKey ++ decimal (d .value) ++ (colon ∷ []) ++ listed (d .members)) (newline ∷ []) in omega arith
 
@@ -341,7 +364,7 @@ pub record Printable (m : ℕ) (p : Plan) : Type 0 where
   pub count : length (p .moats) ≤ maxDuals
 
 -- No keep line begins where the moats do.
-no-keep : (t : List ℕ) (ds : List Moat) (at : ℕ) → Stands t at (textOf moatText ds) → at + length (textOf moatText ds) ≡ length t → byteIs t at (code "k") ≡ false
+pub no-keep : (t : List ℕ) (ds : List Moat) (at : ℕ) → Stands t at (textOf moatText ds) → at + length (textOf moatText ds) ≡ length t → byteIs t at (code "k") ≡ false
 unfolding textOf moatText dualKey
 no-keep t [] at s q = by-test (byteIs t at (code "k")) refl
   where
@@ -350,7 +373,7 @@ no-keep t [] at s q = by-test (byteIs t at (code "k")) refl
     by-test false e = e
 no-keep t (d ∷ ds) at s q = other-byte t at (code "m") (code "k") (stands-head (stands-first (moatText d) (textOf moatText ds) s)) (λ e. omega arith)
 
-claims-some : (c : Claims) → 0 < length (claimsText c)
+pub claims-some : (c : Claims) → 0 < length (claimsText c)
 unfolding claimsText countLines
 claims-some c =
     let n = length-append (lineOf terminalsKey (c .terminals) ++ lineOf costKey (c .cost) ++ lineOf boundKey (c .bound)) (lineOf roundsKey (c .rounds)) in

@@ -21,9 +21,9 @@ use Rattle.plantext.specs.Plan.{valueLine, keepLine, keepReader, separat
 use Rattle.plantext.specs.Laws.Plan.{members-end}
 
 -- A step from one offset of a text to a later one.
-record Goes (t : List ℕ) (at p : ℕ) : Type 0 where
-  on : at < p
-  inside : p ≤ length t
+pub record Goes (t : List ℕ) (at p : ℕ) : Type 0 where
+  pub on : at < p
+  pub inside : p ≤ length t
 
 record Stays (t : List ℕ) (at p : ℕ) : Type 0 where
   on : at ≤ p
@@ -55,7 +55,7 @@ number-goes limit t at {v} {p} e = by-width (eqb (length (numeralAt limit t at))
         let same : at + length (numeralAt limit t at) ≡ p = cc in
         record { on = omega arith; inside = omega arith }
 
-checked-next : {A : Type 0} {b : A} {q : ℕ} (w : Verdict) (a : A) (p : ℕ) → checked w a p ≡ found b q → p ≡ q
+pub checked-next : {A : Type 0} {b : A} {q : ℕ} (w : Verdict) (a : A) (p : ℕ) → checked w a p ≡ found b q → p ≡ q
 unfolding checked
 checked-next Fine a p e = cc
 checked-next (Refused n r) a p e = let z : _≡_ {A = ℕ} 0 1 = cc in absurd (omega arith)

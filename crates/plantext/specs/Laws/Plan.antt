@@ -66,7 +66,7 @@ record Risen (low : ℕ) (vs : List ℕ) : Type 0 where
   start : low ≤ 256
   all : Members vs
 
-risen-back : (low v : ℕ) → risen low v ≤ 256 → (low ≤ v) × (v < 256)
+pub risen-back : (low v : ℕ) → risen low v ≤ 256 → (low ≤ v) × (v < 256)
 risen-back low v h = by-tests (ltb v low) (leb 256 v) refl refl
   where
     by-tests : (a b : Bool) → ltb v low ≡ a → leb 256 v ≡ b → (low ≤ v) × (v < 256)

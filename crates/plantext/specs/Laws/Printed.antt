@@ -1,7 +1,6 @@
 -- Printing a plan and reading it back gives the same counts, kept tracks and moats (document 01, 'Survey text and printed plan').
 use Prim.Native.Nat.{ℕ, zero, suc, _/_, _^_, _≤_, _<_}
 use native.Mathlib.Omega.{arith}
-use native.Mathlib.Nat.{zero-add}
 use mathlib.Core.Path.{_≡_, refl, ap, sym, _∙_, subst}
 use mathlib.Core.Bool.{Bool, true, false, cond}
 use mathlib.Core.List.{List, [], _∷_, _++_, append-assoc, append-nil}
@@ -15,7 +14,7 @@ use Rattle.printing.specs.Key.{keptKey}
 use Rattle.printing.specs.Text.{lineOf, membersOf, dualLine, textBelow, keptLine, keptLines, dualLines, countLines, planText}
 use Rattle.text.specs.Step.{found}
 use Rattle.text.specs.Render.{textOf}
-use Rattle.text.specs.Laws.Stands.{Stands, stands-second, stands-whole}
+use Rattle.text.specs.Laws.Stands.{Stands, stands-end}
 use Rattle.plantext.specs.Items.{Each, none, more}
 use Rattle.plantext.specs.Plan.{memberNumbers, Claims, Moat, Plan, planAt}
 use Rattle.plantext.specs.Laws.Back.{Rising, ended, rising, Printed, Few, Printable, moatText, claimsText, planWords, plan-back}
@@ -121,7 +120,7 @@ read-back u k c b r marks records f =
     let p = planIn (record { terminals = k; cost = c; bound = b; rounds = r }) marks records in
     let W = planText k c b r marks records in
     let e = plan-words k c b r marks records in
-    let s : Stands (u ++ W) (length u) W = subst (λ (z : ℕ). Stands (u ++ W) z W) (zero-add (length u)) (stands-second u W (stands-whole (u ++ W))) in
+    let s : Stands (u ++ W) (length u) W = stands-end u W in
     let l = length-append u W in
     let n : length W ≡ length (planWords p) = ap length e in
     let few = f .tracks in

@@ -1,15 +1,15 @@
 -- Room for every plan within the limits: the check never wants for room, and marks that are read keep the tracks that were listed.
-use Prim.Native.Nat.{ℕ, zero, suc, _+_, _*_, _≤_, _<_}
+use Prim.Native.Nat.{ℕ, zero, suc, _+_, _*_, _/_, _≤_, _<_}
 use native.Mathlib.Omega.{arith}
-use mathlib.Core.Path.{_≡_, refl, ap, _∙_, subst}
-use mathlib.Core.Bool.{Bool, true, false, cond}
+use mathlib.Core.Path.{_≡_, refl, ap, sym, _∙_, subst}
+use mathlib.Core.Bool.{Bool, true, false, _||_, cond}
 use mathlib.Core.List.{List, []}
 use lib.ListN.{length}
 use lib.Dec.{eqb, ltb, leb}
 use borrow.Author.Tests.{ltb-true, ltb-false, leb-true, leb-false}
 use Rattle.finite.specs.Laws.Below.{getD-tabulate}
 use Rattle.limits.specs.Limits.{recordBytes, maxDuals, maxEdges}
-use Rattle.limits.specs.Verdict.{outcome}
+use Rattle.limits.specs.Verdict.{refuseIf, refusal, answer, outcome}
 use Rattle.limits.specs.declared.Verdict.{Verdict}
 use Rattle.limits.specs.declared.Verdict.the-variants.{Fine, Refused}
 use Rattle.text.specs.Step.{Step, found, refused, linesAfter}
@@ -19,28 +19,63 @@ use Rattle.text.specs.Laws.Tests.{checked-fine}
 use Rattle.survey.specs.Survey.{Survey, edgeCount}
 use Rattle.checker.specs.Check.{keptBy}
 use Rattle.plantext.specs.Items.{following, itemsFrom}
-use Rattle.plantext.specs.Plan.{Moat, Plan, moatHead, membersAt, moatTest, moatLine, moatReader, moatsAt, keptAt, bodyAt, claimsAt, planAt, withRoom, marksOf, isIn}
+use Rattle.plantext.specs.Plan.{Moat, Plan, moatHead, membersAt, moatTest, moatLine, moatReader, moatsAt, keptAt, bodyAt, claimsAt, planAt, roomTest, withRoom, marksOf, isIn}
 use Rattle.plantext.specs.Verify.{planFrom}
 use Rattle.plantext.specs.Laws.Tests.{moat-falls, moat-many}
-use Rattle.plantext.specs.Laws.Reading.{room-fine}
+use Rattle.plantext.specs.Laws.Reading.{room-marks, room-records, room-fine}
 
 no-refusal : {n p : ℕ} {w : Verdict} → w ≡ Refused n p → w ≡ Fine → ⊥
 no-refusal e f = let z : _≡_ {A = ℕ} 0 1 = cc in omega arith
 
-moat-passed : (i low : ℕ) → moatTest i low ≡ Fine → i < 511
+-- What the test of room says that passes.
+pub room-passed : (m count marks records : ℕ) → roomTest m count marks records ≡ Fine → (m ≤ marks) × (recordBytes * count ≤ records)
+room-passed m count marks records f = by-tests (ltb marks m) (ltb (records / recordBytes) count) refl refl
+  where
+    by-tests : (a b : Bool) → ltb marks m ≡ a → ltb (records / recordBytes) count ≡ b → (m ≤ marks) × (recordBytes * count ≤ records)
+    by-tests true b p q = absurd (no-refusal (room-marks m count marks records (ltb-true marks m p)) f)
+    by-tests false true p q = absurd (no-refusal (room-records m count marks records (ltb-false marks m p) (ltb-true (records / recordBytes) count q)) f)
+    by-tests false false p q = let k = ltb-false (records / recordBytes) count q in (ltb-false marks m p, omega arith)
+
+-- A plan for which there is room was read whole.
+pub room-answer : (x : Step Plan) (m marks records : ℕ) {p : Plan} → withRoom x m marks records ≡ answer p
+    → (q : ℕ) × (x ≡ found p q) × (m ≤ marks) × (recordBytes * length (p .moats) ≤ records)
+unfolding withRoom outcome
+room-answer (found y q) m marks records {p} e = by-test (roomTest m (length (y .moats)) marks records) refl e
+  where
+    by-test : (v : Verdict) → roomTest m (length (y .moats)) marks records ≡ v → outcome v y ≡ answer p
+        → (r : ℕ) × (found y q ≡ found p r) × (m ≤ marks) × (recordBytes * length (p .moats) ≤ records)
+    by-test Fine f e =
+        let same : y ≡ p = cc in
+        let h = room-passed m (length (y .moats)) marks records f in
+        (q, ap (λ (z : Plan). found z q) same, h .0, subst (λ (z : Plan). recordBytes * length (z .moats) ≤ records) same (h .1))
+    by-test (Refused n r) f e = let z : _≡_ {A = ℕ} 0 1 = cc in absurd (omega arith)
+room-answer (refused n q) m marks records e = let z : _≡_ {A = ℕ} 0 1 = cc in absurd (omega arith)
+
+-- Want of room is refused with 7: another number comes from the text.
+pub room-refusal : (x : Step Plan) (m marks records : ℕ) {n q : ℕ} → (n ≡ 7 → ⊥) → withRoom x m marks records ≡ refusal n q → x ≡ refused n q
+unfolding withRoom roomTest refuseIf outcome
+room-refusal (found y next) m marks records {n} {q} h e = by-test (ltb marks m || ltb (records / recordBytes) (length (y .moats))) e
+  where
+    by-test : (b : Bool) → outcome (refuseIf b 7 0) y ≡ refusal n q → found y next ≡ refused n q
+    by-test true e = let z : 7 ≡ n = cc in absurd (h (sym z))
+    by-test false e = let z : _≡_ {A = ℕ} 0 1 = cc in absurd (omega arith)
+room-refusal (refused i j) m marks records {n} {q} h e = let a : i ≡ n = cc in let b : j ≡ q = cc in cc
+
+-- What a moat's test says that passes.
+pub moat-passed : (i low : ℕ) → moatTest i low ≡ Fine → (low ≤ 256) × (i < 511)
 moat-passed i low f = by-tests (ltb 256 low) (leb 511 i) refl refl
   where
-    by-tests : (a b : Bool) → ltb 256 low ≡ a → leb 511 i ≡ b → i < 511
+    by-tests : (a b : Bool) → ltb 256 low ≡ a → leb 511 i ≡ b → (low ≤ 256) × (i < 511)
     by-tests true b p q = absurd (no-refusal (moat-falls i low (ltb-true 256 low p)) f)
     by-tests false true p q = absurd (no-refusal (moat-many i low (ltb-false 256 low p) (leb-true 511 i q)) f)
-    by-tests false false p q = leb-false 511 i q
+    by-tests false false p q = (ltb-false 256 low p, leb-false 511 i q)
 
 line-passed : (t : List ℕ) (i at : ℕ) {d : Moat} {p : ℕ} → moatLine t i at ≡ found d p → i < 511
 unfolding moatLine
 line-passed t i at e =
     let one = then-value (moatHead t at) _ e in
     let two = then-value (membersAt t (one .1) .end) _ (one .3) in
-    moat-passed i (two .0) (checked-fine _ _ _ (two .3))
+    moat-passed i (two .0) (checked-fine _ _ _ (two .3)) .1
 
 -- No more than 511 moats are read.
 items-few : (t : List ℕ) (fuel low i at : ℕ) → i ≤ 511 → length (itemsFrom (moatReader t) fuel low i at .values) + i ≤ 511

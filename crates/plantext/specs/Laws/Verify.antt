@@ -53,7 +53,7 @@ unfolding readOf planVerified
 plan-refused s (refusal x y) e = cc
 plan-refused s (answer p) e = let z : _≡_ {A = ℕ} 0 1 = cc in absurd (omega arith)
 
-length-marks : (m : ℕ) (kept : List ℕ) → length (marksOf m kept) ≡ m
+pub length-marks : (m : ℕ) (kept : List ℕ) → length (marksOf m kept) ≡ m
 unfolding marksOf
 length-marks m kept = length-tabulate m _
 

@@ -28,8 +28,8 @@ use Rattle.printing.specs.Laws.Text.{listed-snoc}
 -- ---- a list of members
 
 -- What the numbers below n take at most, each with a comma after it.
-room : ℕ → ℕ
-room n = sumBelow n (λ v. length (decimal v) + 1)
+unfoldable pub roomBelow : ℕ → ℕ
+roomBelow n = sumBelow n (λ v. length (decimal v) + 1)
 
 -- What a list takes, with a comma after it unless it is empty.
 taken : List ℕ → ℕ
@@ -45,17 +45,17 @@ taken-more (x ∷ xs) true v =
     length-append (listed (x ∷ xs)) (itemOf false v) in
     omega arith
 
-taken-below : (n : ℕ) (t : ℕ → Bool) → taken (thoseBelow n t) ≤ room n
-unfolding thoseBelow room sumBelow taken listed isNone
+taken-below : (n : ℕ) (t : ℕ → Bool) → taken (thoseBelow n t) ≤ roomBelow n
+unfolding thoseBelow roomBelow sumBelow taken listed isNone
 taken-below zero t = omega arith
 taken-below (suc n) t =
-    let ih : taken (thoseBelow n t) ≤ room n = taken-below n t in
+    let ih : taken (thoseBelow n t) ≤ roomBelow n = taken-below n t in
     let more : taken (thoseBelow n t ++ cond (t n) (n ∷ []) []) ≤ taken (thoseBelow n t) + (length (decimal n) + 1) = taken-more (thoseBelow n t) (t n) n in
     omega arith
 
 -- All members: 658 digits and 255 commas.
-room-of-members : room (8 * memberBytes) ≡ 914
-unfolding room sumBelow decimal digitsWithin
+pub room-of-members : roomBelow (8 * memberBytes) ≡ 914
+unfolding roomBelow sumBelow decimal digitsWithin
 room-of-members = refl
 
 -- The last number has no comma after it.
@@ -67,7 +67,7 @@ taken-last (x ∷ xs) n h = omega arith
 length-members : (r : List ℕ) → length (listed (membersOf r)) ≤ 913
 unfolding membersOf
 length-members r =
-    let all : taken (thoseBelow (8 * memberBytes) (memberIn r)) ≤ room (8 * memberBytes) = taken-below (8 * memberBytes) (memberIn r) in
+    let all : taken (thoseBelow (8 * memberBytes) (memberIn r)) ≤ roomBelow (8 * memberBytes) = taken-below (8 * memberBytes) (memberIn r) in
     let e = room-of-members in
     taken-last (thoseBelow (8 * memberBytes) (memberIn r)) 913 (omega arith)
 
@@ -84,18 +84,25 @@ length-line key x =
     let b : length (key ++ decimal x) ≡ length key + length (decimal x) = length-append key (decimal x) in
     omega arith
 
-pub dual-line-le : (r : List ℕ) → Bytes r → length (dualLine r) ≤ longestDual
-unfolding dualLine dualKey
-dual-line-le r h =
-    let digits = decimal (valueIn r) in
-    let members = listed (membersOf r) in
-    let value : length digits ≤ 20 = word-digits (valueIn r) (value-lt r h) in
-    let most : length members ≤ 913 = length-members r in
+-- A moat line's length by its amount and its members.
+pub length-dual : (x : ℕ) (vs : List ℕ) → length (dualKey ++ decimal x ++ (colon ∷ []) ++ listed vs ++ (newline ∷ [])) ≡ 7 + length (decimal x) + length (listed vs)
+unfolding dualKey
+length-dual x vs =
+    let digits = decimal x in
+    let members = listed vs in
     let a : length (dualKey ++ digits) ≡ 5 + length digits = length-append dualKey digits in
     let b : length (dualKey ++ digits ++ (colon ∷ [])) ≡ length (dualKey ++ digits) + 1 = length-append (dualKey ++ digits) (colon ∷ []) in
     let c : length (dualKey ++ digits ++ (colon ∷ []) ++ members) ≡ length (dualKey ++ digits ++ (colon ∷ [])) + length members =
     length-append (dualKey ++ digits ++ (colon ∷ [])) members in
     let d = length-append (dualKey ++ digits ++ (colon ∷ []) ++ members) (newline ∷ []) in
+    omega arith
+
+pub dual-line-le : (r : List ℕ) → Bytes r → length (dualLine r) ≤ longestDual
+unfolding dualLine
+dual-line-le r h =
+    let value : length (decimal (valueIn r)) ≤ 20 = word-digits (valueIn r) (value-lt r h) in
+    let most : length (listed (membersOf r)) ≤ 913 = length-members r in
+    let l = length-dual (valueIn r) (membersOf r) in
     omega arith
 
 -- Room for every moat line: it is never refused with 7.
@@ -117,7 +124,8 @@ length-text-below (suc n) f most h =
     let sum : length (textBelow n f ++ f n) ≡ length (textBelow n f) + length (f n) = length-append (textBelow n f) (f n) in
     omega arith
 
-kept-line-le : (mark e : ℕ) → e < maxEdges → length (keptLine mark e) ≤ 10
+-- A keep line has at most four digits.
+pub kept-line-le : (mark e : ℕ) → e < maxEdges → length (keptLine mark e) ≤ 10
 unfolding keptLine keptKey
 kept-line-le mark e h =
     let digits : length (decimal e) ≤ 4 = length-decimal 3 e (omega arith) in
@@ -138,7 +146,8 @@ length-dual-lines records h few =
     (λ i l. dual-line-le (recordAt records i) (bytes-record-at records i h)) in
     omega arith
 
-length-count-lines : (k c b r : ℕ) → k < 2 ^ 64 → c < 2 ^ 64 → b < 2 ^ 64 → r < 2 ^ 64 → length (countLines k c b r) ≤ 24 + 4 * 21
+-- Four counts of 64 bits.
+pub length-count-lines : (k c b r : ℕ) → k < 2 ^ 64 → c < 2 ^ 64 → b < 2 ^ 64 → r < 2 ^ 64 → length (countLines k c b r) ≤ 24 + 4 * 21
 unfolding countLines terminalsKey costKey boundKey roundsKey
 length-count-lines k c b r hk hc hb hr =
     let l₁ = lineOf terminalsKey k in

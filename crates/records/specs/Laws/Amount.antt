@@ -76,6 +76,12 @@ number-down n i bytes pos le =
     ∙ number-at (n - i) (i - 1) bytes
     ∙ ap (λ k. getD bytes (i - 1) 0 + 256 * numberOf (take (n - i) (drop k bytes))) next
 
+-- Bytes after bytes are bytes.
+pub bytes-append : (xs ys : List ℕ) → Bytes xs → Bytes ys → Bytes (xs ++ ys)
+bytes-append [] ys h k i = k i
+bytes-append (x ∷ xs) ys h k zero = h 0
+bytes-append (x ∷ xs) ys h k (suc i) = bytes-append xs ys (λ j. h (suc j)) k i
+
 -- A part of bytes is bytes.
 pub bytes-part : (n i : ℕ) (bytes : List ℕ) → Bytes bytes → Bytes (take n (drop i bytes))
 bytes-part n i bytes h j =

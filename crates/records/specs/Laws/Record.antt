@@ -12,8 +12,8 @@ use Rattle.finite.specs.Below.{thoseBelow}
 use Rattle.limits.specs.Limits.{valueBytes, memberBytes, recordBytes}
 use Rattle.records.specs.Bits.{Bytes, bytesOf, memberAt, lowBytes, numberOf}
 use Rattle.records.specs.Record.{recordOf, valueIn, memberIn, recordAt, overwritten, withMemberIn, startedAs}
-use Rattle.records.specs.Laws.Bits.{length-bytes, member-of-bytes, member-past, bytes-add, those-cong}
-use Rattle.records.specs.Laws.Amount.{length-low, number-of-low, number-part-lt, bytes-part, low-append, bytes-of-none}
+use Rattle.records.specs.Laws.Bits.{length-bytes, bytes-bytes, member-of-bytes, member-past, bytes-add, those-cong}
+use Rattle.records.specs.Laws.Amount.{length-low, low-bytes, bytes-append, number-of-low, number-part-lt, bytes-part, low-append, bytes-of-none}
 
 pub length-record : (value : ℕ) (S : ℕ → Bool) → length (recordOf value S) ≡ recordBytes
 unfolding recordOf
@@ -22,6 +22,11 @@ length-record value S =
     let b : length (bytesOf memberBytes S) ≡ memberBytes = length-bytes memberBytes S in
     let c = length-append (lowBytes valueBytes value) (bytesOf memberBytes S) in
     omega arith
+
+-- A record is one of bytes.
+pub bytes-record : (value : ℕ) (S : ℕ → Bool) → Bytes (recordOf value S)
+unfolding recordOf
+bytes-record value S = bytes-append (lowBytes valueBytes value) (bytesOf memberBytes S) (low-bytes valueBytes value) (bytes-bytes memberBytes S)
 
 -- Reading back the value and the members.
 pub value-of-record : (value : ℕ) (S : ℕ → Bool) → value < 256 ^ valueBytes → valueIn (recordOf value S) ≡ value

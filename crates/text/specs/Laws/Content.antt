@@ -1,5 +1,5 @@
 -- The words that lines read: each line the text of its values, many lines their texts one after another.
-use Prim.Native.Nat.{ℕ, zero, suc, _+_, _^_, _<_}
+use Prim.Native.Nat.{ℕ, zero, suc, _+_, _^_, _≤_, _<_}
 use native.Mathlib.Omega.{arith}
 use mathlib.Core.Path.{_≡_, refl, ap, sym, _∙_, subst}
 use mathlib.Core.Bool.{false}
@@ -12,7 +12,7 @@ use Rattle.printing.specs.Key.{comma, newline}
 use Rattle.printing.specs.Decimal.{decimal}
 use Rattle.printing.specs.Text.{lineOf}
 use Rattle.text.specs.Step.{Step, found, refused, _then_, checked, Lines, more, linesFrom}
-use Rattle.text.specs.Number.{isDigit, classOf}
+use Rattle.text.specs.Number.{isDigit, classOf, fixedAt, numberTo}
 use Rattle.text.specs.Reading.{linkKey, numberLine, Edge, edgeLine}
 use Rattle.text.specs.Render.{numberText, edgeText, textOf}
 use Rattle.text.specs.Laws.Spells.{Reads, Seq, Empty, reads-then, reads-as, reads-value, reads-checked}
@@ -27,35 +27,41 @@ pub record Text {A : Type 0} (P : A → Type 0) (text : A → List ℕ) (a : A) 
 abbrev pub Small : ℕ → Type 0
 Small x = x < 10 ^ maxDigits
 
-newline-no-digit : isDigit (classOf newline) ≡ false
+pub newline-no-digit : isDigit (classOf newline) ≡ false
 unfolding isDigit classOf
 newline-no-digit = refl
 
-comma-no-digit : isDigit (classOf comma) ≡ false
+pub comma-no-digit : isDigit (classOf comma) ≡ false
 unfolding isDigit classOf
 comma-no-digit = refl
 
-pub reads-line : (key : List ℕ) → Reads (numberLine key) (Text Small (lineOf key)) (Text Small (lineOf key))
-unfolding numberLine lineOf numberText
-reads-line key = reads-as (λ t at. refl) to from to from (reads-then (reads-fixed key) (λ z. reads-number maxDigits newline (omega arith) newline-no-digit))
+-- A key, a number of at most limit digits, and the byte that ends it.
+pub reads-keyed : (key : List ℕ) (limit stop : ℕ) → 1 ≤ limit → isDigit (classOf stop) ≡ false
+    → Reads (λ t at. fixedAt key t at then λ z p. numberTo limit stop t p) (Text (λ x. x < 10 ^ limit) (λ x. key ++ decimal x ++ (stop ∷ []))) (Text (λ x. x < 10 ^ limit) (λ x. key ++ decimal x ++ (stop ∷ [])))
+unfolding numberText
+reads-keyed key limit stop positive no-digit = reads-as (λ t at. refl) to from to from (reads-then (reads-fixed key) (λ z. reads-number limit stop positive no-digit))
   where
-    to : (a : ℕ) (w : List ℕ) → Seq (Fixed key) (λ z. Numeral maxDigits newline) a w → Text Small (lineOf key) a w
+    to : (a : ℕ) (w : List ℕ) → Seq (Fixed key) (λ z. Numeral limit stop) a w → Text (λ x. x < 10 ^ limit) (λ x. key ++ decimal x ++ (stop ∷ [])) a w
     to a w m =
         record {
           holds = m .second .below;
-          word = m .whole ∙ ap (λ (x : List ℕ). x ++ m .right) (m .first .word) ∙ ap (λ (x : List ℕ). key ++ x) (m .second .word) ∙ sym (append-assoc key (decimal a) (newline ∷ []));
+          word = m .whole ∙ ap (λ (x : List ℕ). x ++ m .right) (m .first .word) ∙ ap (λ (x : List ℕ). key ++ x) (m .second .word) ∙ sym (append-assoc key (decimal a) (stop ∷ []));
         }
 
-    from : (a : ℕ) (w : List ℕ) → Text Small (lineOf key) a w → Seq (Fixed key) (λ z. Numeral maxDigits newline) a w
+    from : (a : ℕ) (w : List ℕ) → Text (λ x. x < 10 ^ limit) (λ x. key ++ decimal x ++ (stop ∷ [])) a w → Seq (Fixed key) (λ z. Numeral limit stop) a w
     from a w m =
         record {
           value = 0;
           left = key;
-          right = numberText newline a;
+          right = numberText stop a;
           first = record { value = refl; word = refl };
           second = record { below = m .holds; word = refl };
-          whole = m .word ∙ append-assoc key (decimal a) (newline ∷ []);
+          whole = m .word ∙ append-assoc key (decimal a) (stop ∷ []);
         }
+
+pub reads-line : (key : List ℕ) → Reads (numberLine key) (Text Small (lineOf key)) (Text Small (lineOf key))
+unfolding numberLine lineOf
+reads-line key = reads-keyed key maxDigits newline (omega arith) newline-no-digit
 
 -- A line whose number is tested: what passes is read, and what fails is refused for another reason than its form.
 pub record Passes (test : ℕ → Verdict) (x : ℕ) : Type 0 where

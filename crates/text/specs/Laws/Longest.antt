@@ -1,18 +1,19 @@
 -- How long a well-formed text whose counts escape 1 and 3 can be (document 01, 'Survey text and printed plan': 62,741 bytes).
 use Prim.Native.Nat.{ℕ, suc, _+_, _*_, _^_, _≤_, _<_}
 use native.Mathlib.Omega.{arith}
-use mathlib.Core.Path.{_≡_, refl, ap}
+use mathlib.Core.Path.{_≡_, refl, ap, sym, subst}
 use mathlib.Core.List.{List, [], _∷_, _++_}
 use lib.ListN.{length, length-append}
 use Rattle.limits.specs.Limits.{maxVertices, maxEdges, maxDigits}
+use Rattle.limits.specs.Verdict.{answer}
 use Rattle.printing.specs.Key.{comma, newline}
 use Rattle.printing.specs.Decimal.{decimal}
 use Rattle.printing.specs.Text.{lineOf}
 use Rattle.printing.specs.Laws.Decimal.{length-decimal}
-use Rattle.text.specs.Reading.{nodesKey, linksKey, nodeKey, linkKey, Edge}
+use Rattle.text.specs.Reading.{nodesKey, linksKey, nodeKey, linkKey, Edge, Survey, reading}
 use Rattle.text.specs.Render.{numberText, edgeText, textOf, render}
 use Rattle.text.specs.Laws.Content.{SmallEdge, Each, none, next}
-use Rattle.text.specs.Laws.WellFormed.{WellFormed}
+use Rattle.text.specs.Laws.WellFormed.{WellFormed, Within, each-map, accepted-render}
 
 -- The longest lines: a key and a number of so many digits; an edge's.
 abbrev lineMost : List ℕ → ℕ → ℕ
@@ -81,6 +82,29 @@ longest-text {t} w h k =
     let r : length g ≤ length gs * lineMost nodeKey maxDigits = texts-most (lineOf nodeKey) (lineMost nodeKey maxDigits) (λ i x s. line-most nodeKey 6 x s) (w .eachGroup) in
     let s : length e ≤ length es * edgeMost = texts-most edgeText edgeMost (λ i x s. edge-most x s) (w .eachEdge) in
     omega arith
+
+-- The text of a survey within the counts is no longer.
+pub longest-within : {groups : List ℕ} {edges : List Edge} → Within groups edges → length (render groups edges) ≤ longestText
+longest-within {groups} {edges} w =
+    let few = w .fewGroups in
+    let some = w .fewEdges in
+    longest-text
+    (record {
+      groups = groups;
+      edges = edges;
+      fewGroups = omega arith;
+      fewEdges = omega arith;
+      eachGroup = each-map (λ v g h. omega arith) (w .eachGroup);
+      eachEdge = w .eachEdge;
+      word = refl;
+    })
+    few some
+
+-- A text that is read is no longer.
+pub longest-read : (t gb fb sb wb : List ℕ) (s : Survey) → reading t gb fb sb wb ≡ answer s → length t ≤ longestText
+longest-read t gb fb sb wb s e =
+    let a = accepted-render gb fb sb wb t s e in
+    subst (λ (x : List ℕ). length x ≤ longestText) (sym (a .word)) (longest-within (a .within))
 
 pub longest-is : longestText ≡ 62741
 longest-is = refl

@@ -1,13 +1,14 @@
 -- A whole text as a word: the lines that are read are the rendering of what they say.
 use Prim.Native.Nat.{ℕ}
-use mathlib.Core.Path.{_≡_, refl, ap, sym, _∙_, subst}
+use mathlib.Core.Path.{_≡_, refl, ap, sym, _∙_, subst, fun-ext}
 use mathlib.Core.List.{List, [], _++_}
 use lib.ListN.{length}
 use Rattle.limits.specs.declared.Verdict.the-variants.{Refused}
 use Rattle.printing.specs.Text.{lineOf}
 use Rattle.text.specs.Step.{Step, found, refused, _then_, linesAfter}
-use Rattle.text.specs.Reading.{nodesKey, linksKey, nodeKey, Tests, countLine, countsAt, groupLine, groupLines, Edge, edgeLine, edgeLines, endAt, Counts, bodyAt, Survey, surveyOf, surveyAt}
+use Rattle.text.specs.Reading.{nodesKey, linksKey, nodeKey, Tests, countLine, countsAt, groupLine, groupLines, Edge, edgeLine, edgeLines, endAt, Counts, bodyAt, surveyOf, surveyAt}
 use Rattle.text.specs.Render.{edgeText, textOf, render}
+use Rattle.text.specs.Laws.Step.{then-then}
 use Rattle.text.specs.Laws.Spells.{Reads, Seq, Empty, reads-then, reads-as, reads-value}
 use Rattle.text.specs.Laws.Content.{Text, Small, Passes, SmallEdge, Each, Texts, whole, reads-tested, reads-edge, reads-lines, joined}
 
@@ -125,33 +126,53 @@ reads-said tests h =
     reads-then (reads-lines edgeLine (λ e. SmallEdge) (λ e. SmallEdge) edgeText reads-edge m 0) λ es.
     reads-value (record { counts = record { vertices = n; edges = m }; groups = gs; edges = es }))
 
--- A survey's text, read to its end.
-pub said-survey : (tests : Tests) (t : List ℕ) → surveyAt tests t ≡ (saidAt tests t 0 then λ x p. endAt t p then λ z q. found (surveyOf (x .counts) (x .groups) (x .edges)) q)
-unfolding surveyAt saidAt countsAt bodyAt linesAfter whole _then_
-said-survey tests t = by-vertices (countLine nodesKey (tests .vertices) t 0)
-  where
-    last : Said → ℕ → Step Survey
-    last x p = endAt t p then λ z q. found (surveyOf (x .counts) (x .groups) (x .edges)) q
+-- The groups and the edges from an offset on, and what is read behind them.
+abbrev pub linesThen : {B : Type 0} → Tests → List ℕ → (Said → ℕ → Step B) → Counts → ℕ → Step B
+linesThen tests t last c p =
+    let gs = groupLines (tests .group) t (c .vertices) p in
+    let es = linesAfter (gs .end) (edgeLines t (c .edges)) in
+    es .end then λ z q. last (record { counts = c; groups = gs .values; edges = es .values }) q
 
+-- What is read behind the lines of a survey is read behind what they say.
+pub said-then : {B : Type 0} (tests : Tests) (t : List ℕ) (last : Said → ℕ → Step B) → (countsAt tests t then linesThen tests t last) ≡ (saidAt tests t 0 then last)
+unfolding saidAt countsAt linesAfter whole _then_
+said-then tests t last = by-vertices (countLine nodesKey (tests .vertices) t 0)
+  where
     by-edges : (c : Counts) (gs : List ℕ) (es : List Edge) (s : Step ℕ)
-        → ((s then λ z p. endAt t p) then λ z q. found (surveyOf c gs es) q) ≡ (((s then λ z p. found es p) then λ l q. found (record { counts = c; groups = gs; edges = l }) q) then last)
+        → (s then λ z q. last (record { counts = c; groups = gs; edges = es }) q) ≡ (((s then λ z p. found es p) then λ l q. found (record { counts = c; groups = gs; edges = l }) q) then last)
     by-edges c gs es (found z p) = refl
     by-edges c gs es (refused n p) = refl
 
     by-groups : (c : Counts) (gs : List ℕ) (s : Step ℕ)
-        → (let es = linesAfter s (edgeLines t (c .edges)) in (es .end then λ z p. endAt t p) then λ z q. found (surveyOf c gs (es .values)) q)
+        → (let es = linesAfter s (edgeLines t (c .edges)) in es .end then λ z q. last (record { counts = c; groups = gs; edges = es .values }) q)
         ≡ (((s then λ z p. found gs p) then λ l r. whole (edgeLines t (c .edges) r) then λ es s. found (record { counts = c; groups = l; edges = es }) s) then last)
     by-groups c gs (found z p) = by-edges c gs (edgeLines t (c .edges) p .values) (edgeLines t (c .edges) p .end)
     by-groups c gs (refused n p) = refl
 
     by-links : (n : ℕ) (s : Step ℕ)
-        → ((s then λ m q. found (record { vertices = n; edges = m }) q) then λ c p. bodyAt (tests .group) t c p .end then λ z q. found (surveyOf c (bodyAt (tests .group) t c p .groups) (bodyAt (tests .group) t c p .edges)) q)
-        ≡ ((s then λ m q. whole (groupLines (tests .group) t n q) then λ gs r. whole (edgeLines t m r) then λ es s. found (record { counts = record { vertices = n; edges = m }; groups = gs; edges = es }) s) then last)
+        → ((s then λ m q. found (record { vertices = n; edges = m }) q) then linesThen tests t last)
+        ≡ ((s then λ m q.
+        whole (groupLines (tests .group) t n q) then λ gs r.
+        whole (edgeLines t m r) then λ es s.
+        found (record { counts = record { vertices = n; edges = m }; groups = gs; edges = es }) s)
+        then last)
     by-links n (found m q) = by-groups (record { vertices = n; edges = m }) (groupLines (tests .group) t n q .values) (groupLines (tests .group) t n q .end)
     by-links n (refused i p) = refl
 
     by-vertices : (s : Step ℕ)
-        → ((s then λ n p. countLine linksKey (tests .edges) t p then λ m q. found (record { vertices = n; edges = m }) q) then λ c p. bodyAt (tests .group) t c p .end then λ z q. found (surveyOf c (bodyAt (tests .group) t c p .groups) (bodyAt (tests .group) t c p .edges)) q)
-        ≡ ((s then λ n p. countLine linksKey (tests .edges) t p then λ m q. whole (groupLines (tests .group) t n q) then λ gs r. whole (edgeLines t m r) then λ es s. found (record { counts = record { vertices = n; edges = m }; groups = gs; edges = es }) s) then last)
+        → ((s then λ n p. countLine linksKey (tests .edges) t p then λ m q. found (record { vertices = n; edges = m }) q) then linesThen tests t last)
+        ≡ ((s then λ n p.
+        countLine linksKey (tests .edges) t p then λ m q.
+        whole (groupLines (tests .group) t n q) then λ gs r.
+        whole (edgeLines t m r) then λ es s.
+        found (record { counts = record { vertices = n; edges = m }; groups = gs; edges = es }) s)
+        then last)
     by-vertices (found n p) = by-links n (countLine linksKey (tests .edges) t p)
     by-vertices (refused i p) = refl
+
+-- A survey's text, read to its end.
+pub said-survey : (tests : Tests) (t : List ℕ) → surveyAt tests t ≡ (saidAt tests t 0 then λ x p. endAt t p then λ z q. found (surveyOf (x .counts) (x .groups) (x .edges)) q)
+unfolding surveyAt bodyAt
+said-survey tests t =
+    ap (λ k. countsAt tests t then k) (fun-ext (λ c. fun-ext (λ p. then-then (linesAfter (groupLines (tests .group) t (c .vertices) p .end) (edgeLines t (c .edges)) .end) _ _)))
+    ∙ said-then tests t (λ x p. endAt t p then λ z q. found (surveyOf (x .counts) (x .groups) (x .edges)) q)

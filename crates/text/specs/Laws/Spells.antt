@@ -8,7 +8,7 @@ use lib.ListN.{length, take, length-append}
 use Rattle.limits.specs.declared.Verdict.{Verdict}
 use Rattle.limits.specs.declared.Verdict.the-variants.{Fine, Refused}
 use Rattle.text.specs.Step.{Step, found, refused, _then_, checked}
-use Rattle.text.specs.Laws.Step.{then-found, then-refused, then-value}
+use Rattle.text.specs.Laws.Step.{then-found, then-refused, then-value, Stops, early, late, then-stops}
 use Rattle.text.specs.Laws.Stands.{Stands, stands-none, stands-append, stands-first, stands-second, stands-same}
 
 -- A word of G is read, or refused for another reason than its form.
@@ -58,6 +58,14 @@ pub record Empty {B : Type 0} (b : B) (c : B) (w : List ℕ) : Type 0 where
 module _ {A : Type 0} where
   pub bound : {t : List ℕ} {at : ℕ} {W : A → List ℕ → Type 0} {a : A} {p : ℕ} → Word W t at a p → (at ≤ p) × (p ≤ length t)
   bound r = let e = r .ends in let f = r .stands .fits in (omega arith, omega arith)
+
+-- What is read is read again from a text with the same bytes up to there.
+pub read-again : {A : Type 0} {f : List ℕ → ℕ → Step A} {W G : A → List ℕ → Type 0} → Reads f W G → (t u : List ℕ) (at : ℕ) (a : A) (p q : ℕ) → at ≤ length t → p ≤ q → take q t ≡ take q u
+    → f t at ≡ found a p → f u at ≡ found a p
+read-again r t u at a p q h l k e =
+    let w = r .sound t at a p h e in
+    let we = w .ends in
+    r .complete u at a (w .word) (w .member) (stands-same q k (omega arith) (w .stands)) ∙ ap (λ (z : ℕ). found a z) (sym we)
 
 -- The value b, for nothing.
 pub reads-value : {B : Type 0} (b : B) → Reads (λ t at. found b at) (Empty b) (Empty b)
@@ -125,22 +133,6 @@ module _ {A B : Type 0} {f : List ℕ → ℕ → Step A} {W G : A → List ℕ 
   abbrev next : List ℕ → ℕ → Step B
   next t at = f t at then λ a p. g a t p
 
-  -- How a step after a step is refused: in the first, or after a value of the first.
-  data Where (t : List ℕ) (at n p : ℕ) : Type 0 where
-    early : f t at ≡ refused n p → Where t at n p
-    late : (a : A) (q : ℕ) → f t at ≡ found a q → g a t q ≡ refused n p → Where t at n p
-
-  where-refused : (t : List ℕ) (at n p : ℕ) → next t at ≡ refused n p → Where t at n p
-  unfolding _then_
-  where-refused t at n p e = by-first (f t at) refl e
-    where
-      by-first : (x : Step A) → f t at ≡ x → (x then λ a q. g a t q) ≡ refused n p → Where t at n p
-      by-first (found a q) h e = late a q h e
-      by-first (refused i j) h e = early (h ∙ same-refusal e)
-        where
-          same-refusal : _≡_ {A = Step B} (refused i j) (refused n p) → _≡_ {A = Step A} (refused i j) (refused n p)
-          same-refusal e = let a : i ≡ n = cc in let b : j ≡ p = cc in cc
-
   then-complete : (t : List ℕ) (at : ℕ) (b : B) (w : List ℕ) → Seq W X b w → Stands t at w → next t at ≡ found b (at + length w)
   then-complete t at b w m st =
       let st′ : Stands t at (m .left ++ m .right) = subst (Stands t at) (m .whole) st in
@@ -183,26 +175,19 @@ module _ {A B : Type 0} {f : List ℕ → ℕ → Step A} {W G : A → List ℕ 
       by-first (otherwise e n) y = otherwise (then-refused _ e) n
 
   then-same : (t u : List ℕ) (at p : ℕ) → at ≤ length t → next t at ≡ refused 16 p → take (p + 1) t ≡ take (p + 1) u → next u at ≡ refused 16 p
-  then-same t u at p h e k = by-place (where-refused t at 16 p e)
+  then-same t u at p h e k = by-place (then-stops (f t at) _ e)
     where
-      by-place : Where t at 16 p → next u at ≡ refused 16 p
+      by-place : Stops (f t at) (λ a p. g a t p) 16 p → next u at ≡ refused 16 p
       by-place (early q) = then-refused _ (r .same t u at p h q k)
       by-place (late a q x y) =
-          let w = r .sound t at a q h x in
-          let i = bound w in
+          let i = bound (r .sound t at a q h x) in
           let l = s a .place t q p (i .1) y in
-          let we = w .ends in
-          let st : Stands u at (w .word) = stands-same (p + 1) k (omega arith) (w .stands) in
-          let c : f u at ≡ found a q = refound w st in
-          then-found _ c ∙ s a .same t u q p (i .1) y k
-        where
-          refound : (w : Word W t at a q) → Stands u at (w .word) → f u at ≡ found a q
-          refound w st = r .complete u at a (w .word) (w .member) st ∙ ap (λ (k : ℕ). found a k) (sym (w .ends))
+          then-found _ (read-again r t u at a q (p + 1) h (omega arith) k x) ∙ s a .same t u q p (i .1) y k
 
   then-place : (t : List ℕ) (at p : ℕ) → at ≤ length t → next t at ≡ refused 16 p → (at ≤ p) × (p ≤ length t)
-  then-place t at p h e = by-place (where-refused t at 16 p e)
+  then-place t at p h e = by-place (then-stops (f t at) _ e)
     where
-      by-place : Where t at 16 p → (at ≤ p) × (p ≤ length t)
+      by-place : Stops (f t at) (λ a p. g a t p) 16 p → (at ≤ p) × (p ≤ length t)
       by-place (early q) = r .place t at p h q
       by-place (late a q x y) =
           let i = bound (r .sound t at a q h x) in
@@ -210,9 +195,9 @@ module _ {A B : Type 0} {f : List ℕ → ℕ → Step A} {W G : A → List ℕ 
           (omega arith, l .1)
 
   then-extends : (t : List ℕ) (at p : ℕ) → at ≤ length t → next t at ≡ refused 16 p → Extends (Seq G H) t at p
-  then-extends t at p h e = by-place (where-refused t at 16 p e)
+  then-extends t at p h e = by-place (then-stops (f t at) _ e)
     where
-      by-place : Where t at 16 p → Extends (Seq G H) t at p
+      by-place : Stops (f t at) (λ a p. g a t p) 16 p → Extends (Seq G H) t at p
       by-place (early q) =
           let x = r .extends t at p h q in
           let y = s (x .value) .some in

@@ -2,8 +2,8 @@
 use Prim.Native.Nat.{ℕ, suc, _+_, _≤_, _<_}
 use native.Mathlib.Omega.{arith}
 use native.Mathlib.Numerals.{add-one}
-use native.Mathlib.Nat.{add-zero}
-use mathlib.Core.Path.{_≡_, ap, sym, _∙_}
+use native.Mathlib.Nat.{add-zero, zero-add}
+use mathlib.Core.Path.{_≡_, ap, sym, _∙_, subst}
 use mathlib.Core.List.{List, [], _∷_, _++_, append-assoc, append-nil}
 use lib.ListN.{length, getD, take, length-append, length-take}
 use lib.Seq.{take-suc, take-take, take-at, getD-take, getD-append-add, length-take-le, take-all}
@@ -88,3 +88,7 @@ stands-whole w = record { is = ap (λ (k : ℕ). take k w) (zero-plus (length w)
   where
     zero-plus : (k : ℕ) → 0 + k ≡ k
     zero-plus k = omega arith
+
+-- A word at the end of a text.
+pub stands-end : (u w : List ℕ) → Stands (u ++ w) (length u) w
+stands-end u w = subst (λ (k : ℕ). Stands (u ++ w) k w) (zero-add (length u)) (stands-second u w (stands-whole (u ++ w)))

@@ -31,6 +31,25 @@ unfolding _then_
 then-value (found a p) k e = (a, p, refl, e)
 then-value (refused n p) k e = let z : _≡_ {A = ℕ} 0 1 = cc in absurd (omega arith)
 
+-- Steps one after another, taken together either way.
+pub then-then : {A B C : Type 0} (s : Step A) (f : A → ℕ → Step B) (g : B → ℕ → Step C) → ((s then f) then g) ≡ (s then λ a p. f a p then g)
+unfolding _then_
+then-then (found a p) f g = refl
+then-then (refused n p) f g = refl
+
+-- How a step after a step is refused: in the first, or after a value of the first.
+pub data Stops {A B : Type 0} (s : Step A) (k : A → ℕ → Step B) (n p : ℕ) : Type 0 where
+  early : s ≡ refused n p → Stops s k n p
+  late : (a : A) (q : ℕ) → s ≡ found a q → k a q ≡ refused n p → Stops s k n p
+
+pub then-stops : {A B : Type 0} (s : Step A) (k : A → ℕ → Step B) {n p : ℕ} → (s then k) ≡ refused n p → Stops s k n p
+unfolding _then_
+then-stops (found a q) k e = late a q refl e
+then-stops {A} {B} (refused i j) k {n} {p} e = early (same-refusal e)
+  where
+    same-refusal : _≡_ {A = Step B} (refused i j) (refused n p) → _≡_ {A = Step A} (refused i j) (refused n p)
+    same-refusal e = let a : i ≡ n = cc in let b : j ≡ p = cc in cc
+
 -- The same of the code's answers.
 pub value-goes : {B : Type 0} {r : Number} {s : Step ℕ} {v : ℕ} {c : Cursor} (k : ℕ → ℕ → Step B) → numberStep r ≡ s → r ≡ Value v c → (s then k) ≡ k v (c .at)
 unfolding numberStep

@@ -18,8 +18,8 @@ use Rattle.text.specs.Render.{render}
 use Rattle.text.specs.Laws.Step.{then-found, then-value}
 use Rattle.text.specs.Laws.Tests.{vertices-fine, edges-fine, group-fine, vertices-passed, edges-passed, group-passed}
 use Rattle.text.specs.Laws.Lines.{end-here, end-later}
-use Rattle.text.specs.Laws.Stands.{Stands, stands-whole, stands-same}
-use Rattle.text.specs.Laws.Spells.{Reads, Lively, read, otherwise}
+use Rattle.text.specs.Laws.Stands.{stands-whole}
+use Rattle.text.specs.Laws.Spells.{Reads, Lively, read, otherwise, read-again}
 use Rattle.text.specs.Laws.Content.{Small, SmallEdge, Each, none, next}
 use Rattle.text.specs.Laws.Said.{Said, saidAt, Sparing, Accepted, Formed, reads-said, said-survey}
 
@@ -45,22 +45,22 @@ pub record Within (groups : List ℕ) (edges : List Edge) : Type 0 where
 unfoldable pub surveyFrom : List ℕ → List Edge → Survey
 surveyFrom groups edges = surveyOf (record { vertices = length groups; edges = length edges }) groups edges
 
-each-map : {A : Type 0} {P Q : ℕ → A → Type 0} {i : ℕ} {l : List A} → ((i : ℕ) (a : A) → P i a → Q i a) → Each P i l → Each Q i l
+pub each-map : {A : Type 0} {P Q : ℕ → A → Type 0} {i : ℕ} {l : List A} → ((i : ℕ) (a : A) → P i a → Q i a) → Each P i l → Each Q i l
 each-map h none = none
 each-map h (next p r) = next (h _ _ p) (each-map h r)
 
 -- No test gives 16.
-one-spares : (x : Bool) (i u n p : ℕ) → (i ≡ 16 → ⊥) → refuseIf x i u ≡ Refused n p → n ≡ 16 → ⊥
+pub one-spares : (x : Bool) (i u n p : ℕ) → (i ≡ 16 → ⊥) → refuseIf x i u ≡ Refused n p → n ≡ 16 → ⊥
 unfolding refuseIf
 one-spares true i u n p h e z = let s : i ≡ n = cc in h (s ∙ z)
 one-spares false i u n p h e z = let s : _≡_ {A = ℕ} 0 1 = cc in omega arith
 
-two-spare : (x y : Bool) (i j u v n p : ℕ) → (i ≡ 16 → ⊥) → (j ≡ 16 → ⊥) → (refuseIf x i u before refuseIf y j v) ≡ Refused n p → n ≡ 16 → ⊥
+pub two-spare : (x y : Bool) (i j u v n p : ℕ) → (i ≡ 16 → ⊥) → (j ≡ 16 → ⊥) → (refuseIf x i u before refuseIf y j v) ≡ Refused n p → n ≡ 16 → ⊥
 unfolding refuseIf _before_
 two-spare true y i j u v n p h k e z = one-spares true i u n p h e z
 two-spare false y i j u v n p h k e z = one-spares y j v n p k e z
 
-sparing : (a b c d : ℕ) → Sparing (testsFor a b c d)
+pub sparing : (a b c d : ℕ) → Sparing (testsFor a b c d)
 unfolding testsFor verticesTest edgesTest groupTest
 sparing a b c d =
     record {
@@ -100,6 +100,36 @@ survey-said tests t s p e =
     let h = then-value (endAt t (g .1)) (λ z q. found (surveyOf (g .0 .counts) (g .0 .groups) (g .0 .edges)) q) (g .3) in
     record { said = g .0; next = g .1; found-it = g .2; last = ends-at t (g .1) (h .2); says = cc (h .3) }
 
+-- The same as what its lines say.
+abbrev pub saidFrom : List ℕ → List Edge → Said
+saidFrom groups edges = record { counts = record { vertices = length groups; edges = length edges }; groups = groups; edges = edges }
+
+-- Tests with room for these groups and edges accept their text.
+pub within-accepted : (a b c d : ℕ) (groups : List ℕ) (edges : List Edge) → Within groups edges → length groups ≤ a → length edges ≤ b → length edges ≤ c → length edges ≤ d
+    → Accepted (testsFor a b c d) (saidFrom groups edges) (render groups edges)
+unfolding testsFor
+within-accepted a b c d groups edges w hg hf hs hw =
+    let x = w .some in
+    let y = w .fewGroups in
+    let z = w .fewEdges in
+    record {
+      vertices = refl;
+      edges = refl;
+      someVertices = record { small = omega arith; passes = vertices-fine a (length groups) (λ z. omega arith) (w .fewGroups) hg };
+      someEdges = record { small = omega arith; passes = edges-fine b c d (length edges) (w .fewEdges) hf hs hw };
+      eachGroup = each-map (λ v g h. record { small = omega arith; passes = group-fine v g h }) (w .eachGroup);
+      eachEdge = w .eachEdge;
+      word = refl;
+    }
+
+-- What these tests accept is within the counts.
+pub accepted-within : (a b c d : ℕ) {x : Said} {w : List ℕ} → Accepted (testsFor a b c d) x w → Within (x .groups) (x .edges)
+unfolding testsFor
+accepted-within a b c d {x} m =
+    let v = vertices-passed a (length (x .groups)) (m .someVertices .passes) in
+    let e = edges-passed b c d (length (x .edges)) (m .someEdges .passes) in
+    record { some = v .some; fewGroups = v .most; fewEdges = e .most; eachGroup = each-map (λ v g p. group-passed v g (p .passes)) (m .eachGroup); eachEdge = m .eachEdge }
+
 module _ (gb fb sb wb : List ℕ) where
   abbrev tests : Tests
   tests = testsFor (length gb) (length fb) (length sb) (length wb)
@@ -111,30 +141,14 @@ module _ (gb fb sb wb : List ℕ) where
     pub forSeconds : length edges ≤ length sb
     pub forWeights : length edges ≤ length wb
 
-  within-accepted : (groups : List ℕ) (edges : List Edge) → Within groups edges → Room groups edges
-      → Accepted tests (record { counts = record { vertices = length groups; edges = length edges }; groups = groups; edges = edges }) (render groups edges)
-  unfolding testsFor
-  within-accepted groups edges w r =
-      let a = w .some in
-      let b = w .fewGroups in
-      let c = w .fewEdges in
-      record {
-        vertices = refl;
-        edges = refl;
-        someVertices = record { small = omega arith; passes = vertices-fine (length gb) (length groups) (λ z. omega arith) (w .fewGroups) (r .forGroups) };
-        someEdges = record { small = omega arith; passes = edges-fine (length fb) (length sb) (length wb) (length edges) (w .fewEdges) (r .forFirsts) (r .forSeconds) (r .forWeights) };
-        eachGroup = each-map (λ v g h. record { small = omega arith; passes = group-fine v g h }) (w .eachGroup);
-        eachEdge = w .eachEdge;
-        word = refl;
-      }
-
   -- A rendering is read back.
   pub read-render : (groups : List ℕ) (edges : List Edge) → Within groups edges → Room groups edges → reading (render groups edges) gb fb sb wb ≡ answer (surveyFrom groups edges)
   unfolding reading surveyFrom outcomeOf
   read-render groups edges w r =
       let t = render groups edges in
-      let x : Said = record { counts = record { vertices = length groups; edges = length edges }; groups = groups; edges = edges } in
-      let c : saidAt tests t 0 ≡ found x (0 + length t) = reads-said tests (sparing _ _ _ _) .complete t 0 x t (within-accepted groups edges w r) (stands-whole t) in
+      let x = saidFrom groups edges in
+      let a = within-accepted (length gb) (length fb) (length sb) (length wb) groups edges w (r .forGroups) (r .forFirsts) (r .forSeconds) (r .forWeights) in
+      let c : saidAt tests t 0 ≡ found x (0 + length t) = reads-said tests (sparing _ _ _ _) .complete t 0 x t a (stands-whole t) in
       ap outcomeOf (said-survey tests t ∙ then-found _ c ∙ then-found _ (end-here t (0 + length t) (omega arith)))
 
   -- An accepted text is a rendering, and what is read is what was rendered.
@@ -160,7 +174,7 @@ module _ (gb fb sb wb : List ℕ) where
       record {
         groups = g .said .groups;
         edges = g .said .edges;
-        within = record { some = v .some; fewGroups = v .most; fewEdges = c .most; eachGroup = each-map (λ v g p. group-passed v g (p .passes)) (m .eachGroup); eachEdge = m .eachEdge };
+        within = accepted-within (length gb) (length fb) (length sb) (length wb) m;
         room = record { forGroups = v .room; forFirsts = c .first; forSeconds = c .second; forWeights = c .weight };
         word = sym (take-all (0 + length (w .word)) t (omega arith)) ∙ w .stands .is ∙ m .word;
         says = g .says ∙ (λ i. surveyOf (record { vertices = m .vertices i; edges = m .edges i }) (g .said .groups) (g .said .edges));
@@ -170,7 +184,7 @@ formed-well : {x : Said} {w : List ℕ} → Formed x w → WellFormed w
 formed-well {x} m = record { groups = x .groups; edges = x .edges; fewGroups = m .someVertices; fewEdges = m .someEdges; eachGroup = m .eachGroup; eachEdge = m .eachEdge; word = m .word }
 
 well-said : {t : List ℕ} → WellFormed t → Said
-well-said w = record { counts = record { vertices = length (w .groups); edges = length (w .edges) }; groups = w .groups; edges = w .edges }
+well-said w = saidFrom (w .groups) (w .edges)
 
 well-formed : {t : List ℕ} (w : WellFormed t) → Formed (well-said w) t
 unfolding well-said
@@ -259,11 +273,7 @@ module _ (gb fb sb wb t : List ℕ) (p : ℕ) (e : reading t gb fb sb wb ≡ ref
       by-place (in-line h) (read q) = let z : _≡_ {A = ℕ} 0 1 = cc (reads .same t u 0 p (omega arith) h same) in omega arith
       by-place (in-line h) (otherwise {n = i} {q = j} q k) = let z : 16 ≡ i = cc (reads .same t u 0 p (omega arith) h same) in k (sym z)
       by-place (after-lines x h i) y =
-          let v = reads .sound t 0 x p (omega arith) h in
-          let ve = v .ends in
-          let st : Stands u 0 (v .word) = stands-same (p + 1) same (omega arith) (v .stands) in
-          let c : saidAt tests′ u 0 ≡ found x p = reads .complete u 0 x (v .word) (v .member) st ∙ ap (λ (k : ℕ). found x k) (sym ve) in
-          by-found c y
+          by-found (read-again reads t u 0 x p (p + 1) (omega arith) (omega arith) same h) y
         where
           by-found : saidAt tests′ u 0 ≡ found x p → Lively (saidAt tests′ u 0) (well-said w) (0 + length u) → ⊥
           by-found c (read q) = let z : p ≡ 0 + length u = cc in let b = long in omega arith

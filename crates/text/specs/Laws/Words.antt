@@ -131,7 +131,7 @@ reads-fixed (b ∷ bytes) = reads-as (fixed-step b bytes) to from to from (reads
     from a w m = record { value = 0; left = b ∷ []; right = bytes; first = record { value = refl; word = refl }; second = record { value = m .value; word = refl }; whole = m .word }
 
 -- Two texts with the same beginning read the same there.
-read-same : (t u : List ℕ) (q i : ℕ) → take q t ≡ take q u → i < q → getD t i 0 ≡ getD u i 0
+pub read-same : (t u : List ℕ) (q i : ℕ) → take q t ≡ take q u → i < q → getD t i 0 ≡ getD u i 0
 read-same t u q i e h = sym (getD-take q t i 0 h) ∙ ap (λ (l : List ℕ). getD l i 0) e ∙ getD-take q u i 0 h
 
 digits-same : (t u : List ℕ) (limit at q : ℕ) → take q t ≡ take q u → digitsEnd limit t at < q → digitsEnd limit u at ≡ digitsEnd limit t at
@@ -222,17 +222,17 @@ unfolding numeralAt
 numeral-of-end t limit at w e s = rw (e, add-sub-cancel-left at (length w)) (stands-part w s)
 
 -- A number that stands at an offset is read.
-number-is : (t : List ℕ) (limit at v : ℕ) → numeralEnd limit t at ≡ at + length (decimal v) → Stands t at (decimal v) → numberAt limit t at ≡ found v (at + length (decimal v))
+pub number-is : (t : List ℕ) (limit at v : ℕ) → numeralEnd limit t at ≡ at + length (decimal v) → Stands t at (decimal v) → numberAt limit t at ≡ found v (at + length (decimal v))
 number-is t limit at v e s =
     let n = decimal-numeral v in
     number-of t limit at (numeral-of-end t limit at (decimal v) e s) (n .some) ∙ ap (λ (x : ℕ). found x (at + length (decimal v))) (n .value)
 
 -- What stands at an offset: no digit, or a number.
-data Numbered (t : List ℕ) (limit at : ℕ) : Type 0 where
+pub data Numbered (t : List ℕ) (limit at : ℕ) : Type 0 where
   absent : isDigit (classOf (getD t at 0)) ≡ false → Numbered t limit at
   present : (v : ℕ) → v < 10 ^ limit → Stands t at (decimal v) → numeralEnd limit t at ≡ at + length (decimal v) → Numbered t limit at
 
-no-digit-number : (t : List ℕ) (limit at : ℕ) → isDigit (classOf (getD t at 0)) ≡ false → numberAt limit t at ≡ refused 16 at
+pub no-digit-number : (t : List ℕ) (limit at : ℕ) → isDigit (classOf (getD t at 0)) ≡ false → numberAt limit t at ≡ refused 16 at
 unfolding numeralAt numeralEnd isDigit classOf
 no-digit-number t limit at e = number-none t limit at (empty e)
   where
@@ -283,7 +283,7 @@ numeral-decimal t limit at (d ∷ ds) g h s e = by-zero (eqb d 48) refl
         above : (d ≡ 48 → ⊥) → Digits (d ∷ ds) → 48 < d
         above n (one low high r) = omega arith
 
-numbered : (t : List ℕ) (limit at : ℕ) → 1 ≤ limit → Numbered t limit at
+pub numbered : (t : List ℕ) (limit at : ℕ) → 1 ≤ limit → Numbered t limit at
 numbered t limit at h = by-digit (isDigit (classOf (getD t at 0))) refl
   where
     by-digit : (b : Bool) → isDigit (classOf (getD t at 0)) ≡ b → Numbered t limit at

@@ -1,0 +1,1 @@
+// What planning and checking promise together: theorems in specs/, no functions.
