@@ -13,6 +13,7 @@ fn main() {
     let directory = var("EVIDENCE_NATIVE_DIR").expect("the feature native wants EVIDENCE_NATIVE_DIR");
     let library = var("EVIDENCE_NATIVE_LIB").expect("the feature native wants EVIDENCE_NATIVE_LIB");
     let kind = var("EVIDENCE_NATIVE_KIND").unwrap_or_else(|_| "dylib".to_string());
+    println!("cargo:rerun-if-changed={directory}");
     println!("cargo:rustc-link-search=native={directory}");
     println!("cargo:rustc-link-lib={kind}={library}");
     if kind == "dylib" {

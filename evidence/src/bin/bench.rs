@@ -1,4 +1,5 @@
-//! Nanoseconds per plan on seeded surveys of 64, 128 and 256 junctions with 2,048 tracks:
+//! Nanoseconds per plan on seeded surveys of 64, 128 and 256 junctions with 2,048 tracks, and of 256 junctions with
+//! fewer tracks:
 //!
 //!     bench [--seed S] [--surveys N] [--repeats R]
 //!
@@ -65,11 +66,11 @@ fn main() -> ExitCode {
     #[cfg(feature = "native")]
     let mut outside = evidence::native::plan;
 
-    for n in [64, 128, 256] {
+    for (n, m) in [(64, 2048), (128, 2048), (256, 2048), (256, 1024), (256, 512)] {
         let mut sums: Vec<[u64; 2]> = Vec::new();
         let mut rounds = 0;
         for i in 0..surveys {
-            let survey = timed(&mut Rng::of_case(seed, (1_000 * n + i) as u64), n, i);
+            let survey = timed(&mut Rng::of_case(seed, (1_000 * n + i) as u64), n, m, i);
             let mut planners: Vec<Timed> = vec![&mut ours];
             #[cfg(feature = "native")]
             planners.push(&mut outside);
@@ -88,7 +89,7 @@ fn main() -> ExitCode {
         }
         let mean: Vec<[u64; 2]> = sums.iter().map(|sum| sum.map(|time| time / surveys as u64)).collect();
         let line = |name: &str, [median, least]: [u64; 2]| format!("{name} {median} ns per plan (least {least})");
-        print!("{n} junctions, 2048 tracks, {} rounds: {}", rounds / surveys as u64, line("fast", mean[0]));
+        print!("{n} junctions, {m} tracks, {} rounds: {}", rounds / surveys as u64, line("fast", mean[0]));
         if let Some(outside) = mean.get(1) {
             print!(", {}, {:.2} times", line("native", *outside), outside[1] as f64 / mean[0][1] as f64);
         }

@@ -342,18 +342,23 @@ pub fn tiny(rng: &mut Rng) -> Survey {
 
 /// A survey of n junctions and 2,048 tracks that can be joined, n 2 or more.
 pub fn full(rng: &mut Rng, n: usize) -> Survey {
+    filled(rng, n, MAX_TRACKS)
+}
+
+/// A survey of n junctions and m tracks that can be joined, n 2 or more, m at least n - 1.
+pub fn filled(rng: &mut Rng, n: usize, m: usize) -> Survey {
     let mut ends = Ends::new();
     tree(rng, 0, n, &mut ends);
-    while ends.len() < MAX_TRACKS {
+    while ends.len() < m {
         anywhere(rng, 0, n, &mut ends);
     }
     assemble(rng, n, ends)
 }
 
-/// A survey to time: n junctions, 2,048 tracks with prices all over their range, and sites by one of three schemes:
-/// all in one group, pairs, or half of the junctions in eight groups.
-pub fn timed(rng: &mut Rng, n: usize, scheme: usize) -> Survey {
-    let mut survey = full(rng, n);
+/// A survey to time: n junctions, m tracks with prices all over their range, and sites by one of three schemes: all in
+/// one group, pairs, or half of the junctions in eight groups.
+pub fn timed(rng: &mut Rng, n: usize, m: usize, scheme: usize) -> Survey {
+    let mut survey = filled(rng, n, m);
     for price in survey.prices.iter_mut() {
         *price = rng.between(1, MAX_PRICE as usize) as u32;
     }
