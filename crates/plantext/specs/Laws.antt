@@ -18,3 +18,4 @@ pub mod Listed
 pub mod Accepted
 pub mod Malformed
 pub mod Length
+pub mod Whole

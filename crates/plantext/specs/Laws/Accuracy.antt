@@ -2,10 +2,13 @@
 use Prim.Native.Nat.{ℕ, zero, suc, _+_, _<_}
 use native.Mathlib.Omega.{arith}
 use mathlib.Core.Path.{_≡_, refl, subst}
+use mathlib.Core.Bool.{Bool, true, false, not}
 use mathlib.Core.List.{List}
 use lib.ListN.{getD}
+use lib.Dec.{eqb}
+use borrow.Author.Tests.{eqb-true}
 use Rattle.limits.specs.Limits.{maxVertices, maxEdges, groupNumbers}
-use Rattle.limits.specs.Verdict.{Outcome, refusal, answer, outcome}
+use Rattle.limits.specs.Verdict.{refuseIf, _before_, Outcome, refusal, answer, outcome}
 use Rattle.limits.specs.declared.Verdict.{Verdict}
 use Rattle.limits.specs.declared.Verdict.the-variants.{Fine, Refused}
 use Rattle.text.specs.Step.{Step, found, refused, more, linesFrom}
@@ -18,7 +21,7 @@ use Rattle.survey.specs.Accuracy.{Accurate}
 use Rattle.survey.specs.Laws.Group.{Numbered}
 use Rattle.checker.specs.Check.{Checked, checking}
 use Rattle.checker.specs.Laws.Accuracy.{checking-accurate}
-use Rattle.plantext.specs.Plan.{Plan, marksOf, moatRecords}
+use Rattle.plantext.specs.Plan.{Claims, Plan, marksOf, moatRecords}
 use Rattle.plantext.specs.Verify.{linesAt, prefixAt, claimTest, judged, planVerified, planFrom, verifiedFrom, verifying}
 
 -- The survey that a text says.
@@ -55,7 +58,27 @@ judged-answer (answer y) k c b {x} e = by-test (claimTest y k c b) e
     by-test Fine e = e
     by-test (Refused n p) e = let z : _≡_ {A = ℕ} 0 1 = cc in absurd (omega arith)
 
--- What passes, part by part: the survey, the plan behind it, and that the checker passes both with what is reported.
+-- Counts that are what the checker found.
+pub record Claimed (x : Claims) (c : Checked) : Type 0 where
+  pub terminals : c .terminals ≡ x .terminals
+  pub cost : c .cost ≡ x .cost
+  pub bound : c .bound ≡ x .bound
+
+judged-claims : (o : Outcome Checked) (x : Claims) {c : Checked} → judged o (x .terminals) (x .cost) (x .bound) ≡ answer c → Claimed x c
+unfolding judged claimTest refuseIf _before_ outcome
+judged-claims (refusal n p) x e = let z : _≡_ {A = ℕ} 0 1 = cc in absurd (omega arith)
+judged-claims (answer y) x {c} e = by-tests (eqb (y .terminals) (x .terminals)) (eqb (y .cost) (x .cost)) (eqb (y .bound) (x .bound)) refl refl refl e
+  where
+    by-tests : (k d b : Bool) → eqb (y .terminals) (x .terminals) ≡ k → eqb (y .cost) (x .cost) ≡ d → eqb (y .bound) (x .bound) ≡ b
+        → outcome (refuseIf (not k) 25 0 before refuseIf (not d) 25 1 before refuseIf (not b) 25 2) y ≡ answer c → Claimed x c
+    by-tests true true true k d b e =
+        let same : y ≡ c = cc in
+        subst (Claimed x) same (record { terminals = eqb-true _ _ k; cost = eqb-true _ _ d; bound = eqb-true _ _ b })
+    by-tests true true false k d b e = let z : _≡_ {A = ℕ} 0 1 = cc in absurd (omega arith)
+    by-tests true false b′ k d b e = let z : _≡_ {A = ℕ} 0 1 = cc in absurd (omega arith)
+    by-tests false d′ b′ k d b e = let z : _≡_ {A = ℕ} 0 1 = cc in absurd (omega arith)
+
+-- What passes, part by part: the survey, the plan behind it, that the checker passes both with what is reported, and that the plan claims no other counts.
 pub record Parts (t : List ℕ) (c : Checked) : Type 0 where
   pub survey : SurveyText
   pub next : ℕ
@@ -63,6 +86,7 @@ pub record Parts (t : List ℕ) (c : Checked) : Type 0 where
   pub read : prefixAt (testsFor maxVertices maxEdges maxEdges maxEdges) t ≡ found survey next
   pub behind : planFrom t (surveyIn survey) next ≡ answer plan
   pub passes : checking (surveyIn survey) (marksOf (edgeCount (surveyIn survey)) (plan .kept)) (moatRecords (plan .moats)) ≡ answer c
+  pub claims : Claimed (plan .claims) c
 
 pub verified-parts : (t : List ℕ) (c : Checked) → verifying t ≡ answer c → Parts t c
 unfolding verifying verifiedFrom planVerified
@@ -71,7 +95,7 @@ verified-parts t c e = by-survey (prefixAt (testsFor maxVertices maxEdges maxEdg
     by-plan : (s : SurveyText) (at : ℕ) (o : Outcome Plan) → prefixAt (testsFor maxVertices maxEdges maxEdges maxEdges) t ≡ found s at → planFrom t (surveyIn s) at ≡ o
         → planVerified (surveyIn s) o ≡ answer c → Parts t c
     by-plan s at (refusal n p) q b e = let z : _≡_ {A = ℕ} 0 1 = cc in absurd (omega arith)
-    by-plan s at (answer p) q b e = record { survey = s; next = at; plan = p; read = q; behind = b; passes = judged-answer _ _ _ _ e }
+    by-plan s at (answer p) q b e = record { survey = s; next = at; plan = p; read = q; behind = b; passes = judged-answer _ _ _ _ e; claims = judged-claims _ (p .claims) e }
 
     by-survey : (x : Step SurveyText) → prefixAt (testsFor maxVertices maxEdges maxEdges maxEdges) t ≡ x → verifiedFrom t x ≡ answer c → Parts t c
     by-survey (found s at) q e = by-plan s at (planFrom t (surveyIn s) at) q refl e
