@@ -294,6 +294,7 @@ pub record FewParts (m : ℕ) (p : Plan) : Type 0 where
   pub moats : length (p .moats) ≤ maxDuals
   pub members : Each (λ d. length (d .members) ≤ memberNumbers) (p .moats)
 
+-- Moats that rise have few members.
 members-few : {ds : List Moat} → Each Printed ds → Each (λ d. length (d .members) ≤ memberNumbers) ds
 members-few none = none
 members-few (more {a = d} {l = ds} p r) = let n = rising-few (p .rises) in more {a = d} {l = ds} (omega arith) (members-few r)

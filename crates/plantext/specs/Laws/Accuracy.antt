@@ -88,6 +88,7 @@ pub record Parts (t : List ℕ) (c : Checked) : Type 0 where
   pub passes : checking (surveyIn survey) (marksOf (edgeCount (surveyIn survey)) (plan .kept)) (moatRecords (plan .moats)) ≡ answer c
   pub claims : Claimed (plan .claims) c
 
+-- Nothing else passes.
 pub verified-parts : (t : List ℕ) (c : Checked) → verifying t ≡ answer c → Parts t c
 unfolding verifying verifiedFrom planVerified
 verified-parts t c e = by-survey (prefixAt (testsFor maxVertices maxEdges maxEdges maxEdges) t) refl e

@@ -83,6 +83,7 @@ moat-most d p =
     let m = listed-most (d .members) (p .rises) in
     omega arith
 
+-- Nor do moat lines one after another.
 moats-most : {ds : List Moat} → Each Printed ds → length (textOf moatText ds) ≤ longestDual * length ds
 unfolding textOf
 moats-most none = omega arith

@@ -97,6 +97,7 @@ length-dual x vs =
     let d = length-append (dualKey ++ digits ++ (colon ∷ []) ++ members) (newline ∷ []) in
     omega arith
 
+-- No moat line is longer than the longest.
 pub dual-line-le : (r : List ℕ) → Bytes r → length (dualLine r) ≤ longestDual
 unfolding dualLine
 dual-line-le r h =
