@@ -1,6 +1,7 @@
 -- A scan for the winner that passes over edges which cannot win yet. An edge's key is twice the time at which it is reached if both its ends are active from now
 -- on; time is the sum of the delays so far. Keys that were noted in earlier rounds still bound that time from below (law `keyed-next`), so that an edge whose key is
--- not below twice the time of the best so far needs no look, and the winner is the winner among all edges (law `scan-wins`).
+-- not below twice the time of the best so far needs no look, and the winner is the winner among all edges (law `scan-wins`). This is how the code looks for it; what
+-- `grow` answers is said without it, by the rounds of `steiner: Growth`.
 use Prim.Native.Nat.{ℕ, zero, suc, _+_, _*_, _-_, _/_, _<_, _≤_, _^_}
 use mathlib.Core.Path.{_≡_}
 use mathlib.Core.Bool.{cond}

@@ -1,7 +1,6 @@
 -- `block_size` meets its contract: whole, or what is left.
 use borrow.Author.Tests.{lt-ltb, le-ltb}
 use Rattle.growth.specs.Scan.{blockSize}
-use native.Mathlib.Omega.{arith}
 use borrow.Author.Needs.{needs}
 use Rattle.growth.proofs.block_size.Statement.{statement}
 use Rattle.growth.proofs.block_size.Tie as tie

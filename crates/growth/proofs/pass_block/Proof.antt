@@ -1,5 +1,4 @@
 -- `pass_block` meets its contract: the edges of the block, and then the lowest of their keys.
-use Prim.Native.Nat.{_-_}
 use mathlib.Core.Path.{ap, _∙_}
 use lib.ListN.{length, set}
 use Rattle.growth.specs.Tables.{onBy}

@@ -8,7 +8,7 @@ use mathlib.Core.List.{List}
 use lib.ListN.{length, getD, set, length-set, List·getD-eq-default}
 use lib.Seq.{getD-set-same, getD-set-other}
 use lib.Dec.{eqb, ltb}
-use borrow.Author.Tests.{eqb-true, eqb-false, ne-eqb, ltb-true, ltb-false, le-ltb, lt-ltb}
+use borrow.Author.Tests.{eqb-true, eqb-false, ne-eqb, ltb-false, le-ltb}
 use Rattle.finite.specs.Below.{counted, tabulate}
 use Rattle.finite.specs.Laws.Below.{counted-le, lt-or-ge, length-tabulate, getD-tabulate}
 use Rattle.limits.specs.Limits.{maxWeight}
@@ -16,7 +16,7 @@ use mathlib.Core.Logic.{_⊎_, inl, inr}
 use Rattle.steiner.specs.Problem.{Problem, Sound}
 use Rattle.steiner.specs.Growth.{State, active, load, slack, Delay, never, after, delay, Winner, nobody, edge, better, winnerBelow, winner, pick, stateAt}
 use Rattle.steiner.specs.Laws.Winner.{Waits, one-first, one-second, both, delay-elim}
-use Rattle.steiner.specs.Laws.Round.{Reached, stateAt-reached, pick-rounds}
+use Rattle.steiner.specs.Laws.Round.{stateAt-reached, pick-rounds}
 use Rattle.steiner.specs.Laws.Rounds.{stateAt-pick, stateAt-still, delay-le}
 use Rattle.steiner.specs.Laws.Partition.{winner-below}
 use Rattle.steiner.specs.Laws.Weighed.{load-pick}

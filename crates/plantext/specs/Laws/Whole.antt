@@ -1,12 +1,11 @@
 -- A text passes exactly if it is a survey's text with a plan's text behind it, the checker passes the plan for that survey, and the plan claims the counts that the checker finds.
 use Prim.Native.Nat.{ℕ, _+_, _*_}
 use native.Mathlib.Omega.{arith}
-use native.Mathlib.Nat.{zero-add}
-use mathlib.Core.Path.{_≡_, refl, ap, sym, _∙_, subst}
+use mathlib.Core.Path.{_≡_, ap, sym, _∙_, subst}
 use mathlib.Core.Logic.{_↔_}
 use mathlib.Core.List.{List, _++_}
 use lib.ListN.{length, take, length-append, length-map}
-use Rattle.limits.specs.Limits.{recordBytes, maxDigits, maxVertices, maxEdges, maxDuals}
+use Rattle.limits.specs.Limits.{recordBytes, maxVertices, maxEdges, maxDuals}
 use Rattle.limits.specs.Verdict.{answer}
 use Rattle.text.specs.Step.{found}
 use Rattle.text.specs.Reading.{Edge, testsFor, surveyOf, firstsOf, outcomeOf}
