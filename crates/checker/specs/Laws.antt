@@ -1,5 +1,3 @@
-pub mod Meaning
-pub mod Accuracy
 pub mod Scan
 pub mod Refusal
 pub mod Duals

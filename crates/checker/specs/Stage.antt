@@ -13,7 +13,7 @@ use Rattle.steiner.specs.Problem.{separates, terminals, cost}
 use Rattle.steiner.specs.Dual.{Dual, weigh, total, felt}
 use Rattle.survey.specs.Survey.{Survey, surveyFrom, groupsAlone, edgeCount, problemOf}
 use Rattle.survey.specs.Refusal.{surveyRefusal, groupRefusal}
-use Rattle.checker.specs.Check.{Checked, dualAt, dualsIn, keptBy, shapeRefusal, dualRefusal}
+use Rattle.certificate.specs.Check.{Checked, dualAt, dualsIn, keptBy, shapeRefusal, dualRefusal}
 use Rattle.checker.specs.declared.Checking.{Checking}
 use Rattle.checker.specs.declared.Checking.the-variants.{Passed, Refused}
 

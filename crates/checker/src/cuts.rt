@@ -9,7 +9,7 @@ ghost use Rattle.limits.specs.Verdict.{refuseIf, lowestBelow};
 ghost use Rattle.records.specs.Record.{memberIn};
 ghost use Rattle.steiner.specs.Problem.{separates};
 ghost use Rattle.survey.specs.Survey.{groupsAlone, problemOf};
-ghost use Rattle.checker.specs.Check.{dualAt};
+ghost use Rattle.certificate.specs.Check.{dualAt};
 use limits::MAX_VERTICES;
 use limits::RECORD_BYTES;
 use limits::Verdict;

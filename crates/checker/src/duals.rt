@@ -11,7 +11,7 @@ ghost use Rattle.limits.specs.Verdict.{refuseIf, lowestBelow};
 ghost use Rattle.records.specs.Record.{valueIn, memberIn};
 ghost use Rattle.steiner.specs.Dual.{total, felt};
 ghost use Rattle.survey.specs.Survey.{surveyFrom, groupsAlone, problemOf};
-ghost use Rattle.checker.specs.Check.{dualAt, dualsIn, dualRefusal};
+ghost use Rattle.certificate.specs.Check.{dualAt, dualsIn, dualRefusal};
 ghost use Rattle.checker.specs.Stage.{dualOf, feltBetween, DualsFit};
 use limits::MAX_VALUE;
 use limits::MEMBER_BYTES;

@@ -9,7 +9,7 @@ ghost use Rattle.limits.specs.Limits.{maxEdges};
 ghost use Rattle.limits.specs.Verdict.{refuseIf, lowestBelow};
 ghost use Rattle.steiner.specs.Problem.{cost};
 ghost use Rattle.survey.specs.Survey.{surveyFrom, problemOf};
-ghost use Rattle.checker.specs.Check.{keptBy, shapeRefusal};
+ghost use Rattle.certificate.specs.Check.{keptBy, shapeRefusal};
 use limits::MAX_DUALS;
 use limits::RECORD_BYTES;
 use limits::Verdict;

@@ -1,6 +1,6 @@
 // The accuracy rule's premise over counts.
 ghost use mathlib.Core.Path.{_≡_};
-ghost use Rattle.checker.specs.Check.{ruleRefusal};
+ghost use Rattle.certificate.specs.Check.{ruleRefusal};
 ghost use Rattle.checker.specs.Stage.{checkedAs, CountsFit};
 use limits::Verdict;
 

@@ -8,7 +8,7 @@ use Rattle.limits.specs.Verdict.{Outcome, refusal, answer}
 use Rattle.text.specs.Step.{Step, found, refused, _then_, checked}
 use Rattle.plantext.specs.Items.{Each, puts}
 use Rattle.plantext.specs.Plan.{Moat, putMark, putMoat, Claims, Plan, Body, memberNumbers, marksOf, moatRecords, roomTest, marksAfter, recordsAfter}
-use Rattle.checker.specs.Check.{Checked}
+use Rattle.certificate.specs.Check.{Checked}
 use Rattle.plantext.specs.declared.Verified.{Verified}
 use Rattle.plantext.specs.declared.Verified.the-variants.{Passed as VerifiedPassed, Refused as VerifiedRefused}
 use Rattle.plantext.specs.declared.PlanText.{PlanText}

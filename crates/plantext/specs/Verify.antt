@@ -11,7 +11,7 @@ use Rattle.text.specs.Step.{Step, found, refused, _then_, linesAfter}
 use Rattle.text.specs.Reading.{Body, Tests, testsFor, groupTest, groupLines, edgeLines, countsAt, surveyOf}
 use Rattle.text.specs.Reading.{Survey as SurveyText}
 use Rattle.survey.specs.Survey.{Survey, surveyFrom, edgeCount}
-use Rattle.checker.specs.Check.{Checked, checking}
+use Rattle.certificate.specs.Check.{Checked, checking}
 use Rattle.plantext.specs.Plan.{Plan, planAt, withRoom, marksOf, moatRecords}
 
 -- The lines of a survey after its counts, behind which more may follow.

@@ -11,7 +11,7 @@ ghost use Rattle.plantext.specs.Answer.{Members, MoatRead, Stores, Fills
 ghost use Rattle.plantext.specs.Laws.Items.{Ends};
 ghost use Rattle.text.specs.Answer.{Stores as SurveyStores};
 ghost use Rattle.survey.specs.Survey.{surveyFrom};
-ghost use Rattle.checker.specs.Check.{checking};
+ghost use Rattle.certificate.specs.Check.{checking};
 ghost use Rattle.plantext.specs.Verify.{linesAt, judged, planVerified, planFrom, verifying};
 use checker::Checking;
 use limits::MAX_DIGITS;

@@ -14,8 +14,8 @@ use Rattle.steiner.specs.Laws.Rounds.{rounds-lt, grown-reached}
 use Rattle.survey.specs.Survey.{Survey, vertexCount, edgeCount, problemOf}
 use Rattle.survey.specs.Laws.Refusal.{SurveySound, survey-sound}
 use Rattle.survey.specs.Laws.Group.{Numbered}
-use Rattle.checker.specs.Check.{Checked}
-use Rattle.checker.specs.Laws.Accuracy.{answered}
+use Rattle.certificate.specs.Check.{Checked}
+use Rattle.certificate.specs.Laws.Accuracy.{answered}
 use Rattle.drawing.specs.Drawing.{recordsOf}
 use Rattle.drawing.specs.Laws.Drawing.{bytes-records}
 use Rattle.planner.specs.Plan.{Plan, planOf, planRefusal, Counts, countsOf, counting, marksAfter, recordsAfter}

@@ -2,10 +2,10 @@
 use mathlib.Core.Path.{ap, sym, _∙_}
 use native.Mathlib.Omega.{arith}
 use borrow.Author.Needs.{needs}
-use Rattle.checker.specs.Laws.Accuracy.{promises}
+use Rattle.certificate.specs.Laws.Accuracy.{promises}
 use Rattle.limits.specs.Verdict.{outcome}
 use Rattle.checker.specs.Stage.{outcomeOf}
-use Rattle.checker.specs.Check.{ruleRefusal}
+use Rattle.certificate.specs.Check.{ruleRefusal}
 use Rattle.checker.specs.Laws.Stage.{check-stops, rule-decides, plan-fits, checked-seconds}
 use Rattle.checker.proofs.check.Statement.{statement}
 use Rattle.checker.proofs.check.Tie as tie

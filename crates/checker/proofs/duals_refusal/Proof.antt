@@ -6,7 +6,7 @@ use Rattle.steiner.specs.Dual.{felt}
 use Rattle.steiner.specs.Problem.{separates}
 use Rattle.survey.specs.Survey.{vertexCount, edgeCount, member, sameGroup, problemOf}
 use Rattle.checker.specs.Stage.{dualsRefusal}
-use Rattle.checker.specs.Check.{dualRefusal}
+use Rattle.certificate.specs.Check.{dualRefusal}
 use Rattle.checker.specs.Laws.Duals.{duals-fit}
 use Rattle.checker.proofs.duals_refusal.Statement.{statement}
 use Rattle.checker.proofs.duals_refusal.Tie as tie

@@ -4,7 +4,7 @@ use borrow.Author.Needs.{needs}
 use Rattle.limits.specs.Laws.Verdict.{before-fine, before-refused}
 use Rattle.survey.specs.Survey.{edgeCount}
 use Rattle.checker.specs.Stage.{inputRefusal}
-use Rattle.checker.specs.Check.{shapeRefusal}
+use Rattle.certificate.specs.Check.{shapeRefusal}
 use Rattle.checker.proofs.input_refusal.Statement.{statement}
 use Rattle.checker.proofs.input_refusal.Tie as tie
 

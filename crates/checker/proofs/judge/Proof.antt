@@ -4,7 +4,7 @@ use borrow.Author.Needs.{needs}
 use Rattle.steiner.specs.Problem.{terminal, terminals, cost}
 use Rattle.survey.specs.Survey.{surveyFrom, vertexCount, edgeCount, member, sameGroup, problemOf}
 use Rattle.checker.specs.Stage.{outcomeOf}
-use Rattle.checker.specs.Check.{checkedOf}
+use Rattle.certificate.specs.Check.{checkedOf}
 use Rattle.checker.specs.Laws.Stage.{judged-passed, judged-refused}
 use Rattle.checker.proofs.judge.Statement.{statement}
 use Rattle.checker.proofs.judge.Tie as tie

@@ -22,7 +22,7 @@ use Rattle.steiner.specs.Laws.Dual.{weigh-append}
 use Rattle.survey.specs.Survey.{Survey, vertexCount, edgeCount, problemOf}
 use Rattle.survey.specs.Laws.Count.{sum-end}
 use Rattle.survey.specs.Laws.Refusal.{SurveySound}
-use Rattle.checker.specs.Check.{dualAt, dualsIn, keptBy, dualRefusal}
+use Rattle.certificate.specs.Check.{dualAt, dualsIn, keptBy, dualRefusal}
 use Rattle.checker.specs.Stage.{feltBetween, DualsFit, CountsFit}
 use Rattle.checker.specs.Laws.Scan.{sum-limit}
 use Rattle.checker.specs.Laws.Refusal.{fine-dual}

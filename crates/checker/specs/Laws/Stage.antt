@@ -17,7 +17,7 @@ use Rattle.survey.specs.Refusal.{surveyRefusal, groupRefusal}
 use Rattle.survey.specs.Labels.{chosenMark, chosen}
 use Rattle.survey.specs.declared.labels.Chosen.the-variants.{Kept}
 use Rattle.survey.specs.Laws.Refusal.{SurveySound, fine-survey}
-use Rattle.checker.specs.Check.{Checked, dualAt, dualsIn, keptBy, shapeRefusal, dualRefusal, ruleRefusal, checkedOf, checkRefusal, checking}
+use Rattle.certificate.specs.Check.{Checked, dualAt, dualsIn, keptBy, shapeRefusal, dualRefusal, ruleRefusal, checkedOf, checkRefusal, checking}
 use Rattle.checker.specs.Stage.{checkedAs, inputRefusal, dualsRefusal, allButRule, PlanFits}
 use Rattle.checker.specs.Laws.Refusal.{fine-shape}
 use Rattle.checker.specs.Laws.Duals.{duals-fit, counts-fit}

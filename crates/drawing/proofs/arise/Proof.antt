@@ -32,7 +32,7 @@ same-length c = search needs
 
 returns-2 : tie.Need-returns-2
 unfolding arisen endOf
-returns-2 c = rw (le-ltb (c .before .before .before .before .before .before .before .before .before .before .before .before .before .args .c) (c .before .before .before .before .before .before .before .before .before .before .before .before .before .args .n) (c .before .before .before .before .before .before .before .before .if1 .left)) cc
+returns-2 c = rw (le-ltb (c .before .before .before .before .before .before .before .before .before .before .before .before .before .args .c) (c .before .before .before .before .before .before .before .before .before .before .before .before .before .args .n) (c .before .before .before .before .before .before .before .before .if1 .left), ← c .before .before .before .before .before .before .before .at32 .ensures, ← c .before .before .before .before .before .before .index32 .ensures, ← c .before .before .before .before .at322 .ensures, ← c .before .before .before .at323 .ensures) (c .before .before .merge .ensures)
 
 pub arise-spec : {M : Type 1} → statement M
 arise-spec =

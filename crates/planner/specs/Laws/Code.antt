@@ -34,7 +34,7 @@ use Rattle.growth.specs.View.{Shows, turn, edgeOf}
 use Rattle.growth.specs.declared.Growth.{Growth}
 use Rattle.drawing.specs.Trace.{traceFrom, dualsIn, Drawable, Traces}
 use Rattle.drawing.specs.Laws.Growth.{trace-duals, trace-drawable, traces-from}
-use Rattle.checker.specs.Check.{keptBy}
+use Rattle.certificate.specs.Check.{keptBy}
 use Rattle.planner.specs.Laws.Ready.{Ready}
 use Rattle.planner.specs.Laws.Passes.{marks-cost}
 use Rattle.drawing.specs.Drawing.{recordsOver}

@@ -33,9 +33,9 @@ use Rattle.survey.specs.Survey.{Survey, vertexCount, edgeCount, problemOf}
 use Rattle.survey.specs.Accuracy.{Accurate}
 use Rattle.survey.specs.Laws.Refusal.{SurveySound, survey-sound}
 use Rattle.survey.specs.Laws.Group.{Numbered}
-use Rattle.checker.specs.Check.{dualAt, dualsIn, keptBy, checkedOf, checking}
-use Rattle.checker.specs.Laws.Meaning.{DualSound, Passing, passing-check}
-use Rattle.checker.specs.Laws.Accuracy.{passing-accurate}
+use Rattle.certificate.specs.Check.{dualAt, dualsIn, keptBy, checkedOf, checking}
+use Rattle.certificate.specs.Laws.Meaning.{DualSound, Passing, passing-check}
+use Rattle.certificate.specs.Laws.Accuracy.{passing-accurate}
 use Rattle.drawing.specs.Drawing.{recordsOf}
 use Rattle.drawing.specs.Laws.Drawing.{nothing, length-records, record-at}
 use Rattle.planner.specs.Plan.{planOf}

@@ -28,8 +28,8 @@ use Rattle.survey.specs.Laws.Refusal.{SurveySound, survey-fine, fine-survey, su
 use Rattle.survey.specs.Laws.Group.{Numbered, JoinsGroup, LowestUnjoined, group-joined-elim, group-joined-intro, group-refused, unjoinable-iff}
 use Rattle.survey.specs.Laws.Spread.{member-elim}
 use Rattle.steiner.specs.Laws.Finish.{allUsable-edges}
-use Rattle.checker.specs.Check.{checking}
-use Rattle.checker.specs.Laws.Accuracy.{answered}
+use Rattle.certificate.specs.Check.{checking}
+use Rattle.certificate.specs.Laws.Accuracy.{answered}
 use Rattle.drawing.specs.Drawing.{recordsOf, recordsOver}
 use Rattle.drawing.specs.Laws.Drawing.{length-records}
 use Rattle.planner.specs.Plan.{planOf, planRefusal, Counts, countsOf, counting, marksAfter, recordsAfter}

@@ -19,8 +19,8 @@ use Rattle.text.specs.Laws.Tests.{group-below}
 use Rattle.survey.specs.Survey.{Survey, surveyFrom, edgeCount}
 use Rattle.survey.specs.Accuracy.{Accurate}
 use Rattle.survey.specs.Laws.Group.{Numbered}
-use Rattle.checker.specs.Check.{Checked, checking}
-use Rattle.checker.specs.Laws.Accuracy.{checking-accurate}
+use Rattle.certificate.specs.Check.{Checked, checking}
+use Rattle.certificate.specs.Laws.Accuracy.{checking-accurate}
 use Rattle.plantext.specs.Plan.{Claims, Plan, marksOf, moatRecords}
 use Rattle.plantext.specs.Verify.{linesAt, prefixAt, claimTest, judged, planVerified, planFrom, verifiedFrom, verifying}
 

@@ -25,7 +25,7 @@ use Rattle.text.specs.Laws.Said.{saidAt, reads-said}
 use Rattle.text.specs.Laws.WellFormed.{sparing, accepted-within}
 use Rattle.text.specs.Laws.Longest.{longestText, longest-within}
 use Rattle.survey.specs.Survey.{edgeCount}
-use Rattle.checker.specs.Check.{Checked}
+use Rattle.certificate.specs.Check.{Checked}
 use Rattle.plantext.specs.Items.{Each, none, more}
 use Rattle.plantext.specs.Plan.{separator, memberNumbers, Moat, Plan, planAt}
 use Rattle.plantext.specs.Verify.{prefixAt, planFrom, verifying}

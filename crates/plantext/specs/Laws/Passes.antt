@@ -19,9 +19,9 @@ use Rattle.text.specs.Laws.WellFormed.{surveyFrom as surveyOfText}
 use Rattle.text.specs.Laws.Longest.{longestText, longest-read}
 use Rattle.survey.specs.Survey.{Survey, edgeCount}
 use Rattle.survey.specs.Laws.Group.{Numbered}
-use Rattle.checker.specs.Check.{Checked, dualAt, checkedOf, checking}
+use Rattle.certificate.specs.Check.{Checked, dualAt, checkedOf, checking}
 use Rattle.checker.specs.Stage.{DualsFit, CountsFit}
-use Rattle.checker.specs.Laws.Accuracy.{checking-passing}
+use Rattle.certificate.specs.Laws.Accuracy.{checking-passing}
 use Rattle.checker.specs.Laws.Duals.{counts-fit}
 use Rattle.plantext.specs.Plan.{countDigits, Claims, planAt}
 use Rattle.plantext.specs.Verify.{planVerified, planFrom, verifiedFrom, verifying}

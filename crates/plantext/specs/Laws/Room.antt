@@ -17,7 +17,7 @@ use Rattle.text.specs.Reading.{outcomeOf}
 use Rattle.text.specs.Laws.Step.{then-value}
 use Rattle.text.specs.Laws.Tests.{checked-fine}
 use Rattle.survey.specs.Survey.{Survey, edgeCount}
-use Rattle.checker.specs.Check.{keptBy}
+use Rattle.certificate.specs.Check.{keptBy}
 use Rattle.plantext.specs.Items.{following, itemsFrom}
 use Rattle.plantext.specs.Plan.{Moat, Plan, moatHead, membersAt, moatTest, moatLine, moatReader, moatsAt, keptAt, bodyAt, claimsAt, planAt, roomTest, withRoom, marksOf, isIn}
 use Rattle.plantext.specs.Verify.{planFrom}

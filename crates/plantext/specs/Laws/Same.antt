@@ -24,9 +24,9 @@ use Rattle.steiner.specs.Problem.{Joins, terminals, cost}
 use Rattle.steiner.specs.Dual.{total}
 use Rattle.survey.specs.Survey.{Survey, edgeCount, problemOf}
 use Rattle.survey.specs.Laws.Group.{Numbered}
-use Rattle.checker.specs.Check.{Checked, dualsIn, keptBy, checkedOf, checking}
-use Rattle.checker.specs.Laws.Meaning.{Passing}
-use Rattle.checker.specs.Laws.Accuracy.{checking-passing}
+use Rattle.certificate.specs.Check.{Checked, dualsIn, keptBy, checkedOf, checking}
+use Rattle.certificate.specs.Laws.Meaning.{Passing}
+use Rattle.certificate.specs.Laws.Accuracy.{checking-passing}
 use Rattle.plantext.specs.Plan.{Moat, isIn, marksOf, moatRecord, moatRecords}
 use Rattle.plantext.specs.Laws.Printed.{keptIn, moatIn, moatsIn}
 use Rattle.plantext.specs.Laws.Room.{kept-of-marks}

@@ -17,7 +17,7 @@ use Rattle.text.specs.Reading.{Body, testsFor, groupTest, groupLines, edgeLines
 use Rattle.text.specs.Answer.{Stores}
 use Rattle.text.specs.Laws.Reading.{lines-length, counts-fit, sets-filled}
 use Rattle.survey.specs.Survey.{Survey, surveyFrom, edgeCount}
-use Rattle.checker.specs.Check.{Checked, checking}
+use Rattle.certificate.specs.Check.{Checked, checking}
 use Rattle.plantext.specs.Plan.{Claims, Plan, Moat, planAt, withRoom, roomTest, marksOf, moatRecord, moatRecords, marksAfter, recordsAfter}
 use Rattle.plantext.specs.Verify.{linesAt, prefixAt, claimTest, judged, planVerified, planFrom, verifiedFrom, verifying}
 use Rattle.plantext.specs.Answer.{Read, Reads, readOf}

@@ -17,7 +17,7 @@ use Rattle.text.specs.Laws.Said.{saidAt, reads-said}
 use Rattle.text.specs.Laws.WellFormed.{Within, sparing, accepted-within}
 use Rattle.text.specs.Laws.WellFormed.{surveyFrom as surveyOfText}
 use Rattle.survey.specs.Survey.{Survey, edgeCount}
-use Rattle.checker.specs.Check.{Checked, checking}
+use Rattle.certificate.specs.Check.{Checked, checking}
 use Rattle.plantext.specs.Plan.{Plan, planAt, marksOf, moatRecords}
 use Rattle.plantext.specs.Verify.{prefixAt, planVerified, planFrom, verifiedFrom, verifying}
 use Rattle.plantext.specs.Laws.Verify.{claim-fine}

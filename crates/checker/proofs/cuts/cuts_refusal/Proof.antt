@@ -12,7 +12,7 @@ use Rattle.limits.specs.Limits.{recordBytes}
 use Rattle.records.specs.Record.{memberIn}
 use Rattle.steiner.specs.Problem.{separates}
 use Rattle.survey.specs.Survey.{groupsAlone, problemOf}
-use Rattle.checker.specs.Check.{dualAt}
+use Rattle.certificate.specs.Check.{dualAt}
 use Rattle.checker.proofs.cuts.cuts_refusal.Statement.{statement}
 use Rattle.checker.proofs.cuts.cuts_refusal.Tie as tie
 

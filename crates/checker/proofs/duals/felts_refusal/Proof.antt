@@ -11,7 +11,7 @@ use Rattle.limits.specs.declared.Verdict.the-variants.{Fine}
 use Rattle.limits.specs.Verdict.{refuseIf, lowestBelow}
 use Rattle.steiner.specs.Dual.{felt}
 use Rattle.survey.specs.Survey.{surveyFrom, problemOf}
-use Rattle.checker.specs.Check.{dualsIn}
+use Rattle.certificate.specs.Check.{dualsIn}
 use Rattle.checker.specs.Laws.Duals.{felt-item}
 use Rattle.checker.proofs.duals.felts_refusal.Statement.{statement}
 use Rattle.checker.proofs.duals.felts_refusal.Tie as tie

@@ -10,7 +10,7 @@ use Rattle.limits.specs.Verdict.{lowestBelow}
 use Rattle.limits.specs.Limits.{recordBytes}
 use Rattle.survey.specs.Survey.{groupsAlone}
 use Rattle.checker.specs.Stage.{dualOf}
-use Rattle.checker.specs.Check.{dualAt, dualRefusal}
+use Rattle.certificate.specs.Check.{dualAt, dualRefusal}
 use Rattle.checker.proofs.duals.values_refusal.Statement.{statement}
 use Rattle.checker.proofs.duals.values_refusal.Tie as tie
 

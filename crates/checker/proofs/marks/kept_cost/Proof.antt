@@ -10,7 +10,7 @@ use Rattle.finite.specs.Below.{counted, sumBelow}
 use Rattle.steiner.specs.Problem.{cost}
 use Rattle.survey.specs.Survey.{problemOf, edgeCount}
 use Rattle.survey.specs.Laws.Count.{sum-more, sum-end}
-use Rattle.checker.specs.Check.{keptBy}
+use Rattle.certificate.specs.Check.{keptBy}
 use Rattle.checker.specs.Laws.Scan.{sum-limit}
 use Rattle.checker.proofs.marks.kept_cost.Statement.{statement}
 use Rattle.checker.proofs.marks.kept_cost.Tie as tie

@@ -34,7 +34,7 @@ one-if-split-requires c κs = search needs
 
 step : (c : tie.After-one-if-split Inv-loop μ-loop)
     → c .one-if-split .result ≡ counted (eqb (getD (c .before .before .before .before .before .before .before .before .args .table .now) (getD (c .before .before .before .before .before .before .before .before .args .groups .now) (c .before .before .before .before .before .loop .v) 0) 0) 1) 1
-step c = cc
+step c = rw (← c .before .before .before .at8 .ensures, ← c .before .before .index8 .ensures, ← c .before .at64 .ensures) (c .one-if-split .ensures)
 
 add-count : tie.Need-add-count Inv-loop μ-loop
 add-count c = let b = count-bound _ _ (c .before .before .before .before .before .loop .inv .1) (step c) in omega arith

@@ -26,7 +26,7 @@ same-length c = c .before .before .put64 .kept .0
 
 returns-2 : tie.Need-returns-2
 unfolding notedIn
-returns-2 c = rw (ne-eqb (c .before .before .before .before .before .before .before .before .before .before .args .group) 0 (c .before .before .before .before .before .before .before .before .if1 .left)) cc
+returns-2 c = rw (ne-eqb (c .before .before .before .before .before .before .before .before .before .before .args .group) 0 (c .before .before .before .before .before .before .before .before .if1 .left), ← c .before .before .before .before .before .before .before .index8 .ensures, ← c .before .before .before .before .before .at64 .ensures, ← c .before .before .before .before .noted-label .ensures) (c .before .before .put64 .ensures)
 
 pub note-spec : {M : Type 1} → statement M
 note-spec =

@@ -21,7 +21,7 @@ same-length : tie.Need-same-length
 same-length c = search needs
 
 returns : tie.Need-returns
-returns c = joined-already (c .before .before .before .before .before .before .before .before .args .first) (c .before .before .before .before .before .before .before .before .args .second) (c .before .before .before .before .before .before .before .before .args .labels .now) (cc)
+returns c = joined-already (c .before .before .before .before .before .before .before .before .args .first) (c .before .before .before .before .before .before .before .before .args .second) (c .before .before .before .before .before .before .before .before .args .labels .now) (rw (← c .before .before .before .before .before .index32 .ensures, ← c .before .before .index322 .ensures, ← c .before .before .before .before .at32 .ensures, ← c .before .at322 .ensures) (c .if1 .taken))
 
 relabel-requires : tie.Need-relabel-requires
 relabel-requires c κs = search needs
@@ -31,7 +31,7 @@ same-length-2 c = search needs
 
 returns-2 : tie.Need-returns-2
 unfolding endsJoined
-returns-2 c = cc
+returns-2 c = rw (← c .before .before .before .before .before .before .before .before .before .index32 .ensures, ← c .before .before .before .before .before .before .index322 .ensures, ← c .before .before .before .before .before .before .before .before .at32 .ensures, ← c .before .before .before .before .before .at322 .ensures) (c .before .before .relabel .ensures)
 
 pub join-ends-spec : {M : Type 1} → statement M
 join-ends-spec =

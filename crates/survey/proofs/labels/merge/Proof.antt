@@ -22,7 +22,7 @@ same-length : tie.Need-same-length
 same-length c = search needs
 
 returns : tie.Need-returns
-returns c = cc
+returns c = rw (← c .before .before .before .before .before .before .before .before .index32 .ensures, ← c .before .before .before .before .before .index322 .ensures, ← c .before .before .before .before .before .before .before .at32 .ensures, ← c .before .before .before .before .at322 .ensures) (c .before .before .relabel .ensures)
 
 pub merge-spec : {M : Type 1} → statement M
 merge-spec =

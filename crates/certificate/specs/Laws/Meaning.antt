@@ -23,7 +23,7 @@ use Rattle.steiner.specs.Laws.Joined.{Bounded}
 use Rattle.survey.specs.Survey.{Survey, vertexCount, edgeCount, problemOf}
 use Rattle.survey.specs.Laws.Refusal.{SurveySound, survey-fine, fine-survey}
 use Rattle.survey.specs.Laws.Group.{Numbered, group-fine, joins-fine}
-use Rattle.checker.specs.Check.{
+use Rattle.certificate.specs.Check.{
   Checked,
   dualAt,
   dualsIn,

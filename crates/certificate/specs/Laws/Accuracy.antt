@@ -17,8 +17,8 @@ use Rattle.steiner.specs.Laws.Accuracy.{within-factor}
 use Rattle.survey.specs.Survey.{Survey, problemOf}
 use Rattle.survey.specs.Accuracy.{Accurate}
 use Rattle.survey.specs.Laws.Group.{Numbered}
-use Rattle.checker.specs.Check.{Checked, dualAt, dualsIn, keptBy, checkedOf, checkRefusal, checking}
-use Rattle.checker.specs.Laws.Meaning.{Passing, check-passing, passing-check}
+use Rattle.certificate.specs.Check.{Checked, dualAt, dualsIn, keptBy, checkedOf, checkRefusal, checking}
+use Rattle.certificate.specs.Laws.Meaning.{Passing, check-passing, passing-check}
 
 each-tabulate : {P : Dual → Type 0} (n : ℕ) (f : ℕ → Dual) → ((i : ℕ) → i < n → P (f i)) → Each P (tabulate n f)
 unfolding tabulate
