@@ -1,4 +1,3 @@
 pub mod Scan
-pub mod Refusal
 pub mod Duals
 pub mod Stage

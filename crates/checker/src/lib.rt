@@ -15,7 +15,6 @@ use survey::labels::Chosen;
 
 mod cuts;
 mod duals;
-pub mod marks;
 mod rule;
 
 // k, kept cost and bound of a plan that passes; or a refusal's number and place.

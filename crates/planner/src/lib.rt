@@ -108,7 +108,7 @@ fn finish(
         records,
     );
     let terminals = survey::groups::terminals(groups);
-    let cost = checker::marks::kept_cost(firsts, weights, marks);
+    let cost = marks::kept_cost(firsts, weights, marks);
     Planned::Finished {
         terminals,
         cost,

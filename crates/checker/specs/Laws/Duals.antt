@@ -8,7 +8,7 @@ use mathlib.Core.List.{List, [], _∷_}
 use lib.ListN.{length, getD}
 use lib.Dec.{ltb}
 use Rattle.finite.specs.Below.{counted, sumBelow, tabulate}
-use Rattle.finite.specs.Laws.Below.{counted-le, count-le}
+use Rattle.finite.specs.Laws.Below.{counted-le, count-le, sum-limit}
 use Rattle.limits.specs.Limits.{maxVertices, maxWeight, maxValue, recordBytes, maxDuals}
 use Rattle.graph.specs.Path.{crosses}
 use Rattle.limits.specs.Verdict.{refuseIf, lowestBelow}
@@ -24,8 +24,7 @@ use Rattle.survey.specs.Laws.Count.{sum-end}
 use Rattle.survey.specs.Laws.Refusal.{SurveySound}
 use Rattle.certificate.specs.Check.{dualAt, dualsIn, keptBy, dualRefusal}
 use Rattle.checker.specs.Stage.{feltBetween, DualsFit, CountsFit}
-use Rattle.checker.specs.Laws.Scan.{sum-limit}
-use Rattle.checker.specs.Laws.Refusal.{fine-dual}
+use Rattle.certificate.specs.Laws.Refusal.{fine-dual}
 
 -- What record i adds to the duals that pass the test.
 abbrev pub weighedAt : List ℕ → ((ℕ → Bool) → Bool) → ℕ → ℕ

@@ -1,13 +1,12 @@
--- What a loop that looks for a number knows while it runs and at its end, and bounds of the sums that a loop gathers.
-use Prim.Native.Nat.{ℕ, _+_, _*_, _<_, _≤_}
+-- What a loop that looks for a number, or stores a table, knows while it runs and at its end.
+use Prim.Native.Nat.{ℕ, _+_, _<_, _≤_}
 use native.Mathlib.Omega.{arith}
 use native.Mathlib.Numerals.{add-one}
 use mathlib.Core.Path.{_≡_, _∙_}
 use mathlib.Core.Bool.{Bool, false}
 use mathlib.Core.List.{List}
 use lib.ListN.{length, getD}
-use Rattle.finite.specs.Below.{sumBelow, anyBelow, tabulate}
-use Rattle.finite.specs.Laws.Below.{sum-le, sum-const}
+use Rattle.finite.specs.Below.{anyBelow, tabulate}
 use Rattle.survey.specs.Store.{remade}
 use Rattle.survey.specs.Laws.Store.{remade-table}
 
@@ -17,10 +16,6 @@ any-more i t h k = rw (add-one i, h, k)
 
 pub any-end : (n i : ℕ) (t : ℕ → Bool) → i ≤ n → n ≤ i → anyBelow i t ≡ false → anyBelow n t ≡ false
 any-end n i t b c h = let e : n ≡ i = omega arith in rw e h
-
--- A sum of n numbers, none above k.
-pub sum-limit : (n k : ℕ) (f : ℕ → ℕ) → ((i : ℕ) → i < n → f i ≤ k) → sumBelow n f ≤ n * k
-sum-limit n k f h = omega (arith, sum-le n f (λ i. k) h, sum-const n k)
 
 -- A table that a loop has stored to its end.
 pub remade-end : (f : ℕ → ℕ → ℕ) (n v : ℕ) (l : List ℕ) (g : ℕ → ℕ) {after : List ℕ} → v ≤ n → n ≤ v → length l ≡ n → ((k : ℕ) → k < n → f k (getD l k 0) ≡ g k)

@@ -19,7 +19,7 @@ use Rattle.survey.specs.declared.labels.Chosen.the-variants.{Kept}
 use Rattle.survey.specs.Laws.Refusal.{SurveySound, fine-survey}
 use Rattle.certificate.specs.Check.{Checked, dualAt, dualsIn, keptBy, shapeRefusal, dualRefusal, ruleRefusal, checkedOf, checkRefusal, checking}
 use Rattle.checker.specs.Stage.{checkedAs, inputRefusal, dualsRefusal, allButRule, PlanFits}
-use Rattle.checker.specs.Laws.Refusal.{fine-shape}
+use Rattle.certificate.specs.Laws.Refusal.{fine-shape}
 use Rattle.checker.specs.Laws.Duals.{duals-fit, counts-fit}
 
 module _ (s : Survey) (marks records : List ℕ) where

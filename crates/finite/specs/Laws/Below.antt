@@ -149,6 +149,10 @@ unfolding sumBelow
 sum-const zero k = omega arith
 sum-const (suc n) k = let ih : sumBelow n (λ i. k) ≡ n * k = sum-const n k in omega arith
 
+-- A sum of n numbers, none above k.
+pub sum-limit : (n k : ℕ) (f : ℕ → ℕ) → ((i : ℕ) → i < n → f i ≤ k) → sumBelow n f ≤ n * k
+sum-limit n k f h = omega (arith, sum-le n f (λ i. k) h, sum-const n k)
+
 -- ---- numbers that count where a test holds
 
 pub counted-true : {t : Bool} → t ≡ true → (x : ℕ) → counted t x ≡ x

@@ -2,7 +2,7 @@
 use native.Mathlib.Omega.{arith}
 use mathlib.Core.Path.{sym, _∙_}
 use borrow.Author.Needs.{needs}
-use Rattle.checker.specs.Laws.Refusal.{dual-zero, dual-large, dual-stray, dual-fine}
+use Rattle.certificate.specs.Laws.Refusal.{dual-zero, dual-large, dual-stray, dual-fine}
 use Rattle.checker.proofs.duals.dual_refusal.Statement.{statement}
 use Rattle.checker.proofs.duals.dual_refusal.Tie as tie
 

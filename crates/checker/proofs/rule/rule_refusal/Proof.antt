@@ -2,7 +2,7 @@
 use native.Mathlib.Omega.{arith}
 use mathlib.Core.Path.{sym}
 use borrow.Author.Needs.{needs}
-use Rattle.checker.specs.Laws.Refusal.{rule-none, rule-cost, rule-exceeded, rule-met}
+use Rattle.certificate.specs.Laws.Refusal.{rule-none, rule-cost, rule-exceeded, rule-met}
 use Rattle.checker.specs.Laws.Duals.{product-fits}
 use Rattle.checker.proofs.rule.rule_refusal.Statement.{statement}
 use Rattle.checker.proofs.rule.rule_refusal.Tie as tie

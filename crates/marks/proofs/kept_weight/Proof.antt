@@ -4,8 +4,8 @@ use mathlib.Core.Path.{sym, _∙_}
 use borrow.Author.Tests.{eq-eqb, ne-eqb}
 use borrow.Author.Needs.{needs}
 use Rattle.finite.specs.Laws.Below.{counted-true, counted-false}
-use Rattle.checker.proofs.marks.kept_weight.Statement.{statement}
-use Rattle.checker.proofs.marks.kept_weight.Tie as tie
+use Rattle.marks.proofs.kept_weight.Statement.{statement}
+use Rattle.marks.proofs.kept_weight.Tie as tie
 
 wide32-requires : tie.Need-wide32-requires
 wide32-requires c κs = search needs

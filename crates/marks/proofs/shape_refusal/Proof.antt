@@ -1,9 +1,9 @@
 -- `shape_refusal` meets its contract: each return by the law of its case.
 use native.Mathlib.Omega.{arith}
 use mathlib.Core.Path.{sym}
-use Rattle.checker.specs.Laws.Refusal.{shape-marks, shape-uneven, shape-many, shape-fine}
-use Rattle.checker.proofs.marks.shape_refusal.Statement.{statement}
-use Rattle.checker.proofs.marks.shape_refusal.Tie as tie
+use Rattle.certificate.specs.Laws.Refusal.{shape-marks, shape-uneven, shape-many, shape-fine}
+use Rattle.marks.proofs.shape_refusal.Statement.{statement}
+use Rattle.marks.proofs.shape_refusal.Tie as tie
 
 returns : tie.Need-returns
 returns c = sym (shape-marks _ _ _ (c .if1 .taken))

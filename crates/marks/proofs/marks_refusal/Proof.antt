@@ -8,8 +8,8 @@ use borrow.Author.Needs.{needs}
 use Rattle.limits.specs.Verdict.{refuseIf, lowestBelow}
 use Rattle.limits.specs.declared.Verdict.the-variants.{Fine}
 use Rattle.limits.specs.Laws.Verdict.{lowest-more, lowest-found, lowest-end}
-use Rattle.checker.proofs.marks.marks_refusal.Statement.{statement}
-use Rattle.checker.proofs.marks.marks_refusal.Tie as tie
+use Rattle.marks.proofs.marks_refusal.Statement.{statement}
+use Rattle.marks.proofs.marks_refusal.Tie as tie
 
 abbrev Inv-loop : tie.InvT-loop
 Inv-loop m marks e₀ e = (e ≤ m) × (lowestBelow e (λ e. refuseIf (ltb 2 (getD marks e 0)) 10 e) ≡ Fine)

@@ -3,8 +3,8 @@ use native.Mathlib.Omega.{arith}
 use mathlib.Core.Path.{sym}
 use borrow.Author.Tests.{le-ltb, lt-ltb}
 use Rattle.limits.specs.Laws.Verdict.{refuse-true, refuse-false}
-use Rattle.checker.proofs.marks.mark_refusal.Statement.{statement}
-use Rattle.checker.proofs.marks.mark_refusal.Tie as tie
+use Rattle.marks.proofs.mark_refusal.Statement.{statement}
+use Rattle.marks.proofs.mark_refusal.Tie as tie
 
 returns : tie.Need-returns
 returns c = sym (refuse-false (le-ltb 2 (c .before .args .mark) (omega arith)) 10 _)

@@ -5,15 +5,14 @@ use mathlib.Core.Path.{ap₂, _≡_, refl, _∙_}
 use lib.Dec.{eqb}
 use lib.ListN.{length, getD}
 use borrow.Author.Needs.{needs}
-use Rattle.finite.specs.Laws.Below.{counted-le}
+use Rattle.finite.specs.Laws.Below.{counted-le, sum-limit}
 use Rattle.finite.specs.Below.{counted, sumBelow}
 use Rattle.steiner.specs.Problem.{cost}
 use Rattle.survey.specs.Survey.{problemOf, edgeCount}
 use Rattle.survey.specs.Laws.Count.{sum-more, sum-end}
 use Rattle.certificate.specs.Check.{keptBy}
-use Rattle.checker.specs.Laws.Scan.{sum-limit}
-use Rattle.checker.proofs.marks.kept_cost.Statement.{statement}
-use Rattle.checker.proofs.marks.kept_cost.Tie as tie
+use Rattle.marks.proofs.kept_cost.Statement.{statement}
+use Rattle.marks.proofs.kept_cost.Tie as tie
 
 abbrev Inv-loop : tie.InvT-loop
 Inv-loop firsts weights marks cost₀ e₀ cost e = (e ≤ length firsts) × (cost ≡ sumBelow e (λ e. counted (keptBy marks e) (getD weights e 0)))
