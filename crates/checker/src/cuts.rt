@@ -43,7 +43,7 @@ fn cut_refusal(groups: &[u8], part: &[u8], i: usize) -> Verdict
     ensures { λ r. ⌜ r ≡ refuseIf (not (separates (problemOf (groupsAlone (now (groups .entry)))) (memberIn (now (part .entry))))) 12 i ⌝ }
 {
     let labels = sides(part);
-    let split = survey::groups::split_refusal(groups, &labels, 12);
+    let split = groups::split_refusal(groups, &labels, 12);
     match split {
         Verdict::Fine => Verdict::Refused {
             number: 12,

@@ -11,7 +11,7 @@ ghost use Rattle.certificate.specs.Laws.Meaning.{Passing};
 ghost use Rattle.certificate.specs.Check.{Checked, ruleRefusal, checkedOf, checking};
 ghost use Rattle.checker.specs.Stage.{inputRefusal, dualsRefusal, allButRule, PlanFits, outcomeOf};
 use limits::Verdict;
-use survey::labels::Chosen;
+use components::Chosen;
 
 mod cuts;
 mod duals;
@@ -93,7 +93,7 @@ fn all_but_rule(
     if let Verdict::Refused { number, place } = unsound {
         return Verdict::Refused { number, place };
     }
-    survey::labels::group_refusal(groups, firsts, seconds, weights, Chosen::Kept, marks, 14)
+    components::group_refusal(groups, firsts, seconds, weights, Chosen::Kept, marks, 14)
 }
 
 // The counts, if the accuracy rule's premise holds of them; else 15.
@@ -101,7 +101,7 @@ fn judge(groups: &[u8], firsts: &[u32], weights: &[u32], marks: &[u8], records: 
     requires { ⌜ PlanFits (now groups) (now firsts) (now weights) (now marks) (now records) ⌝ }
     ensures { λ r. ⌜ outcomeOf r ≡ outcome (ruleRefusal (checkedOf (surveyFrom (now (groups .entry)) (now (firsts .entry)) [] (now (weights .entry))) (now (marks .entry)) (now (records .entry)))) (checkedOf (surveyFrom (now (groups .entry)) (now (firsts .entry)) [] (now (weights .entry))) (now (marks .entry)) (now (records .entry))) ⌝ }
 {
-    let terminals = survey::groups::terminals(groups);
+    let terminals = groups::terminals(groups);
     let cost = marks::kept_cost(firsts, weights, marks);
     let bound = duals::bound(records);
     let found = rule::rule_refusal(terminals, cost, bound);

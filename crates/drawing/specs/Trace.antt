@@ -10,7 +10,7 @@ use Rattle.limits.specs.Limits.{maxVertices, recordBytes}
 use Rattle.steiner.specs.Problem.{Problem}
 use Rattle.steiner.specs.Growth.{winner, edge, stateAt, grown}
 use Rattle.steiner.specs.Dual.{Dual}
-use Rattle.survey.specs.Labels.{relabelled}
+use Rattle.components.specs.Labels.{relabelled}
 use Rattle.drawing.specs.Drawing.{dualsBelow}
 
 -- Rounds are counted from 0; `first` and `second` are the ends of the edge that a round picked, and `value` is that of a component number.

@@ -8,9 +8,9 @@ ghost use Rattle.records.specs.Record.{recordOf, withMemberIn};
 ghost use Rattle.drawing.specs.Drawing.{recordsOver, recordsFrom, dualIf, labelled, PartFits, Fits};
 ghost use Rattle.drawing.specs.Trace.{endOf, arisen, traceFrom, dualsIn, Drawable};
 use limits::RECORD_BYTES;
-use survey::labels::merge;
-use survey::labels::own_labels;
-use survey::store::at64;
+use components::merge;
+use components::own_labels;
+use reads::at64;
 
 // Adds member v, if its label is c.
 fn add_labelled(part: &mut [u8], v: usize, label: u32, c: u32)

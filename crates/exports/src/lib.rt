@@ -10,11 +10,11 @@ use planner::Planned;
 fn store_counts(counts: &mut [u64], terminals: u64, cost: u64, bound: u64, rounds: u64, duals: u64)
     ensures { λ _. ⌜ now (counts .exit) ≡ set (set (set (set (set (now (counts .entry)) 0 terminals) 1 cost) 2 bound) 3 rounds) 4 duals ⌝ }
 {
-    survey::store::put64(counts, 0, terminals);
-    survey::store::put64(counts, 1, cost);
-    survey::store::put64(counts, 2, bound);
-    survey::store::put64(counts, 3, rounds);
-    survey::store::put64(counts, 4, duals);
+    stores::put64(counts, 0, terminals);
+    stores::put64(counts, 1, cost);
+    stores::put64(counts, 2, bound);
+    stores::put64(counts, 3, rounds);
+    stores::put64(counts, 4, duals);
 }
 
 // Plans a survey: 0 with the counts stored, or the refusal's number plus 256 times its place, with nothing written.

@@ -1,2 +1,3 @@
 pub mod Test
 pub mod Below
+pub mod Count

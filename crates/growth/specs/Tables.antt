@@ -5,7 +5,7 @@ use mathlib.Core.List.{List}
 use lib.ListN.{getD, set, length}
 use lib.Dec.{eqb}
 use Rattle.finite.specs.Below.{counted}
-use Rattle.survey.specs.Store.{remade}
+use Rattle.stores.specs.Store.{remade}
 use Rattle.steiner.specs.Growth.{Delay, never, after, delayOf, Winner, nobody, edge}
 use Rattle.growth.specs.Scan.{noKey, Scan, scanOn, Pass, passes}
 use Rattle.growth.specs.declared.Delay.{Delay as CodeDelay}

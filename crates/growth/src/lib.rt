@@ -15,10 +15,10 @@ ghost use Rattle.growth.specs.Tables.{tablesFrom, delayIn, winnerIn, del
 ghost use Rattle.growth.specs.View.{waitOf, View, Growing, Shows, growthFrom, Small};
 ghost use Rattle.survey.specs.Laws.Refusal.{SurveySound};
 use limits::Verdict;
-use survey::store::at64;
-use survey::store::put8;
-use survey::store::put32;
-use survey::store::put64;
+use reads::at64;
+use stores::put8;
+use stores::put32;
+use stores::put64;
 
 // What growing leaves: how many rounds there were, the sum of all duals, the component numbers of the vertices, the values of the component numbers, 1 for each
 // picked edge, and the edges in the order of the rounds.
@@ -56,7 +56,7 @@ fn flag_label(flags: &mut [u8], summary: u64, label: u32)
 fn active_flags(groups: &[u8], labels: &[u32]) -> [u8; 511]
     ensures { λ r. ⌜ r ≡ tabulate maxDuals (λ c. counted (active (problemOf (groupsAlone (now (groups .entry)))) (λ v. getD (now (labels .entry)) v 0) c) 1) ⌝ }
 {
-    let table = survey::groups::spreads(groups, labels);
+    let table = groups::spreads(groups, labels);
     let mut flags = [0u8; 511];
     let mut v = 0;
     while v < groups.len() {
@@ -430,7 +430,7 @@ fn round(
     raise_values(values, &flags, d);
     raise_loads(loads, labels, &flags, groups.len(), d);
     let z = (groups.len() + r) as u32;
-    survey::labels::merge(labels, reads::at32(firsts, e), reads::at32(seconds, e), z);
+    components::merge(labels, reads::at32(firsts, e), reads::at32(seconds, e), z);
     note_pick(picked, order, e, r);
     Delay::After(d)
 }
@@ -484,7 +484,7 @@ fn grow_rounds(groups: &[u8], firsts: &[u32], seconds: &[u32], weights: &[u32]) 
     let mut order = [0u32; 256];
     let mut keys = [0u64; 2048];
     let mut floors = [0u64; 129];
-    survey::labels::own_labels(&mut labels);
+    components::own_labels(&mut labels);
     let mut time = 0;
     let mut r = 0;
     while r < groups.len() {
@@ -517,7 +517,7 @@ fn no_rounds() -> Growth
     ensures { λ r. ⌜ ((p : Problem) → Shows p 0 r) ⌝ }
 {
     let mut labels = [0u32; 256];
-    survey::labels::own_labels(&mut labels);
+    components::own_labels(&mut labels);
     Growth {
         rounds: 0,
         bound: 0,

@@ -15,7 +15,7 @@ ghost use Rattle.planner.specs.Laws.Ready.{Ready};
 ghost use Rattle.planner.specs.Laws.Promise.{Promises};
 use limits::RECORD_BYTES;
 use limits::Verdict;
-use survey::labels::Chosen;
+use components::Chosen;
 
 // What planning answers: k, cost, bound, rounds and the number of moats; or a refusal's number and place.
 pub enum Planned {
@@ -74,7 +74,7 @@ fn plan_refusal(
     if let Verdict::Refused { number, place } = short {
         return Verdict::Refused { number, place };
     }
-    survey::labels::group_refusal(groups, firsts, seconds, weights, Chosen::All, &[], 8)
+    components::group_refusal(groups, firsts, seconds, weights, Chosen::All, &[], 8)
 }
 
 // The plan of a survey that no refusal stops: growing, dropping, drawing, and the counts.
@@ -107,7 +107,7 @@ fn finish(
         rounds,
         records,
     );
-    let terminals = survey::groups::terminals(groups);
+    let terminals = groups::terminals(groups);
     let cost = marks::kept_cost(firsts, weights, marks);
     Planned::Finished {
         terminals,

@@ -102,7 +102,7 @@ fn keep_lines(text: &[u8], cursor: Cursor, edges: usize, marks: &mut [u8]) -> Nu
         let Number::Value { value, next: after } = step else {
             return step;
         };
-        records::store8(marks, value as usize, 2);
+        stores::put8(marks, value as usize, 2);
         low = value + 1;
         next = after;
         i += 1;
@@ -343,7 +343,7 @@ fn clear(marks: &mut [u8], count: usize)
 {
     let mut e = 0;
     while e < count {
-        records::store8(marks, e, 0);
+        stores::put8(marks, e, 0);
         e += 1;
     }
 }

@@ -29,7 +29,7 @@ const FARTHEST: usize = 9223372036854775808;
 fn put(out: &mut [u8], at: usize, b: u8) -> usize
     ensures { λ r. ⌜ Wrote (now (out .entry)) at (b ∷ []) (now (out .exit)) r ⌝ }
 {
-    records::store8(out, at, b);
+    stores::put8(out, at, b);
     if at < FARTHEST {
         return at + 1;
     }

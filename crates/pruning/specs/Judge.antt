@@ -10,7 +10,7 @@ use Rattle.records.specs.Bits.{bitAt}
 use Rattle.steiner.specs.Problem.{Problem, separates}
 use Rattle.steiner.specs.Pruning.{needed, markOf}
 use Rattle.survey.specs.Survey.{groupsAlone, problemOf}
-use Rattle.survey.specs.Store.{remade}
+use Rattle.stores.specs.Store.{remade}
 use Rattle.pruning.specs.Word.{wordBits, inBatch}
 
 -- A set of vertices: those whose word has bit k.

@@ -10,7 +10,7 @@ use Rattle.limits.specs.Limits.{maxVertices, maxEdges}
 use Rattle.steiner.specs.Problem.{Problem, Sound, Joins}
 use Rattle.steiner.specs.Laws.Joined.{Bounded}
 use Rattle.survey.specs.Survey.{surveyFrom, problemOf}
-use Rattle.survey.specs.Labels.{endsJoined}
+use Rattle.components.specs.Labels.{endsJoined}
 use Rattle.pruning.specs.Word.{pickedIn, ownWord, edgeTaken}
 
 -- A survey within the limits has its edges and their ends below these.

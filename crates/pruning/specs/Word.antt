@@ -8,7 +8,7 @@ use lib.Dec.{eqb, ltb, leb}
 use lib.Bits.{bitXor}
 use Rattle.finite.specs.Below.{counted, countBelow}
 use Rattle.graph.specs.Component.{components}
-use Rattle.survey.specs.Store.{remade}
+use Rattle.stores.specs.Store.{remade}
 
 abbrev pub wordBits : ℕ
 wordBits = 64

@@ -7,15 +7,15 @@ ghost use Rattle.limits.specs.Limits.{maxVertices, maxEdges};
 ghost use Rattle.records.specs.Bits.{bitAt};
 ghost use Rattle.steiner.specs.Problem.{separates};
 ghost use Rattle.survey.specs.Survey.{groupsAlone, problemOf};
-ghost use Rattle.survey.specs.Store.{remade};
+ghost use Rattle.stores.specs.Store.{remade};
 ghost use Rattle.pruning.specs.Word.{wordBits, pickedIn};
 ghost use Rattle.pruning.specs.Judge.{sideIn, judged, raised, MarkStep, Judging};
 use crate::words::WORD_BITS;
 use crate::words::is_picked;
 use limits::MAX_VERTICES;
 use limits::Verdict;
-use survey::store::at64;
-use survey::store::put8;
+use reads::at64;
+use stores::put8;
 
 // 1 where bit k is set, else 0.
 fn side(word: u64, k: usize) -> u32
@@ -48,7 +48,7 @@ fn parts_group(groups: &[u8], words: &[u64], k: usize) -> bool
     ensures { λ r. ⌜ r ≡ separates (problemOf (groupsAlone (now (groups .entry)))) (sideIn (now (words .entry)) k) ⌝ }
 {
     let labels = sides(words, k);
-    let split = survey::groups::split_refusal(groups, &labels, 0);
+    let split = groups::split_refusal(groups, &labels, 0);
     match split {
         Verdict::Fine => false,
         Verdict::Refused {

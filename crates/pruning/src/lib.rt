@@ -9,7 +9,7 @@ ghost use Rattle.steiner.specs.Pruning.{markOf};
 ghost use Rattle.pruning.specs.Word.{pickedIn};
 ghost use Rattle.pruning.specs.Prunable.{Prunable, unweighted};
 ghost use Rattle.pruning.specs.Judge.{droppedMarks, batchMarks, prunedMarks};
-use survey::store::put8;
+use stores::put8;
 
 pub mod judge;
 pub mod words;

@@ -5,11 +5,11 @@ ghost use lib.ListN.{getD, length};
 ghost use lib.Dec.{eqb};
 ghost use Rattle.finite.specs.Below.{counted, tabulate};
 ghost use Rattle.limits.specs.Limits.{maxVertices, maxEdges};
-ghost use Rattle.survey.specs.Labels.{endsJoined};
+ghost use Rattle.components.specs.Labels.{endsJoined};
 ghost use Rattle.pruning.specs.Word.{pickedIn, ownWord, turned, turnedAll, edgeTaken, sideWords};
 ghost use Rattle.pruning.specs.Prunable.{EndsBelow, EdgeStep};
-use survey::store::at64;
-use survey::store::put64;
+use reads::at64;
+use stores::put64;
 
 // Edges of one batch.
 pub const WORD_BITS: usize = 64;
@@ -76,7 +76,7 @@ fn take_ends(a: u32, b: u32, own: u64, labels: &mut [u32], words: &mut [u64])
     let y = reads::at32(labels, v);
     let delta = at64(words, u) ^ at64(words, v);
     turn_all(x, y, delta, own, labels, words);
-    survey::labels::relabel(labels, x, y, x);
+    components::relabel(labels, x, y, x);
 }
 
 // Edge e comes in, if it is picked; the answer is the next index.
@@ -112,7 +112,7 @@ pub fn side_words(firsts: &[u32], seconds: &[u32], picked: &[u8], base: usize) -
     ensures { λ r. ⌜ r ≡ tabulate maxVertices (sideWords maxVertices (λ e. getD (now (firsts .entry)) e 0) (λ e. getD (now (seconds .entry)) e 0) (pickedIn (now (picked .entry))) base (length (now (firsts .entry)))) ⌝ }
 {
     let mut labels = [0u32; 256];
-    survey::labels::own_labels(&mut labels);
+    components::own_labels(&mut labels);
     let mut words = [0u64; 256];
     let mut i = 0;
     let mut e = 0;

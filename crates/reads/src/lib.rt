@@ -22,6 +22,16 @@ pub fn at32(s: &[u32], i: usize) -> u32
     0
 }
 
+// The wide number at i, or 0 past the end.
+pub fn at64(s: &[u64], i: usize) -> u64
+    ensures { λ r. ⌜ r ≡ getD (now (s .entry)) i 0 ⌝ }
+{
+    if i < s.len() {
+        return s[i];
+    }
+    0
+}
+
 pub fn wide8(x: u8) -> u64
     ensures { λ r. ⌜ r ≡ x ⌝ }
 {

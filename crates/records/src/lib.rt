@@ -2,9 +2,9 @@
 // Every function is total: bytes that a part lacks read as 0, and what has no room is not written.
 use limits::RECORD_BYTES;
 use limits::VALUE_BYTES;
+use stores::put8;
 ghost use mathlib.Core.Path.{_≡_};
 ghost use Prim.Native.Nat.{_%_};
-ghost use lib.ListN.{set};
 ghost use Rattle.records.specs.Bits.{bitAt, withBit, lowBytes};
 ghost use Rattle.records.specs.Record.{valueIn, memberIn, recordAt, overwritten, withValue, withMemberIn, startedAs};
 
@@ -54,15 +54,6 @@ pub fn member(part: &[u8], v: usize) -> bool
     bit(reads::at8(part, VALUE_BYTES + v / 8), v % 8)
 }
 
-// Stores a byte, where there is room at i.
-pub fn store8(s: &mut [u8], i: usize, b: u8)
-    ensures { λ _. ⌜ now (s .exit) ≡ set (now (s .entry)) i b ⌝ }
-{
-    if i < s.len() {
-        s[i] = b;
-    }
-}
-
 // Writes the lowest `count` bytes of x, lowest first.
 fn write_low(s: &mut [u8], count: usize, x: u64)
     ensures { λ _. ⌜ now (s .exit) ≡ overwritten (now (s .entry)) (lowBytes count x) ⌝ }
@@ -70,7 +61,7 @@ fn write_low(s: &mut [u8], count: usize, x: u64)
     let mut rest = x;
     let mut i = 0;
     while i < count {
-        store8(s, i, (rest % 256) as u8);
+        put8(s, i, (rest % 256) as u8);
         rest = rest / 256;
         i += 1;
     }
@@ -107,5 +98,5 @@ pub fn add_member(part: &mut [u8], v: usize)
 {
     let at = VALUE_BYTES + v / 8;
     let old = reads::at8(part, at);
-    store8(part, at, with_bit(old, v));
+    put8(part, at, with_bit(old, v));
 }

@@ -1,7 +1,4 @@
-pub mod Store
-pub mod Count
+pub mod Member
 pub mod Refusal
 pub mod Group
-pub mod Spread
-pub mod Labels
 pub mod Cut

@@ -6,11 +6,6 @@ ghost use Rattle.survey.specs.Refusal.{edgeRefusal, surveyRefusal};
 use limits::MAX_EDGES;
 use limits::MAX_VERTICES;
 use limits::MAX_WEIGHT;
-
-pub mod groups;
-pub mod labels;
-pub mod store;
-
 use limits::Verdict;
 
 // What is wrong with one track: 4, 5 or 6.

@@ -20,7 +20,7 @@ use Rattle.steiner.specs.Problem.{terminal, terminals, cost}
 use Rattle.steiner.specs.Dual.{Dual, weigh, total, felt}
 use Rattle.steiner.specs.Laws.Dual.{weigh-append}
 use Rattle.survey.specs.Survey.{Survey, vertexCount, edgeCount, problemOf}
-use Rattle.survey.specs.Laws.Count.{sum-end}
+use Rattle.finite.specs.Laws.Count.{sum-end}
 use Rattle.survey.specs.Laws.Refusal.{SurveySound}
 use Rattle.certificate.specs.Check.{dualAt, dualsIn, keptBy, dualRefusal}
 use Rattle.checker.specs.Stage.{feltBetween, DualsFit, CountsFit}

@@ -7,8 +7,8 @@ use mathlib.Core.Bool.{Bool, false}
 use mathlib.Core.List.{List}
 use lib.ListN.{length, getD}
 use Rattle.finite.specs.Below.{anyBelow, tabulate}
-use Rattle.survey.specs.Store.{remade}
-use Rattle.survey.specs.Laws.Store.{remade-table}
+use Rattle.stores.specs.Store.{remade}
+use Rattle.stores.specs.Laws.Store.{remade-table}
 
 pub any-more : (i : ℕ) (t : ℕ → Bool) → anyBelow i t ≡ false → t i ≡ false → anyBelow (i + 1) t ≡ false
 unfolding anyBelow

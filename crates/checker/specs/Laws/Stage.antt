@@ -14,8 +14,8 @@ use Rattle.steiner.specs.Problem.{separates, terminal, terminals, cost}
 use Rattle.steiner.specs.Dual.{felt}
 use Rattle.survey.specs.Survey.{Survey, surveyFrom, vertexCount, edgeCount, member, sameGroup, problemOf}
 use Rattle.survey.specs.Refusal.{surveyRefusal, groupRefusal}
-use Rattle.survey.specs.Labels.{chosenMark, chosen}
-use Rattle.survey.specs.declared.labels.Chosen.the-variants.{Kept}
+use Rattle.components.specs.Labels.{chosenMark, chosen}
+use Rattle.components.specs.declared.Chosen.the-variants.{Kept}
 use Rattle.survey.specs.Laws.Refusal.{SurveySound, fine-survey}
 use Rattle.certificate.specs.Check.{Checked, dualAt, dualsIn, keptBy, shapeRefusal, dualRefusal, ruleRefusal, checkedOf, checkRefusal, checking}
 use Rattle.checker.specs.Stage.{checkedAs, inputRefusal, dualsRefusal, allButRule, PlanFits}

@@ -5,7 +5,7 @@ use mathlib.Core.Path.{refl, ap, sym, _∙_}
 use lib.ListN.{length}
 use Rattle.finite.specs.Laws.Below.{length-tabulate}
 use Rattle.limits.specs.Limits.{maxVertices}
-use Rattle.survey.specs.Laws.Store.{remade-table}
+use Rattle.stores.specs.Laws.Store.{remade-table}
 use Rattle.drawing.specs.Trace.{traceFrom}
 use Rattle.drawing.specs.Laws.Drawing.{drawn-fits, drawn-length}
 use Rattle.drawing.specs.Laws.Trace.{Replayed, replayed-none, replayed-more, replayed-end}

@@ -13,8 +13,8 @@ use borrow.Author.Tests.{lt-ltb, le-ltb}
 use Rattle.finite.specs.Below.{tabulate}
 use Rattle.finite.specs.Laws.Below.{lt-or-ge, getD-tabulate}
 use Rattle.limits.specs.Limits.{maxVertices}
-use Rattle.survey.specs.Labels.{relabelled}
-use Rattle.survey.specs.Laws.Labels.{relabelled-table}
+use Rattle.components.specs.Labels.{relabelled}
+use Rattle.components.specs.Laws.Labels.{relabelled-table}
 use Rattle.drawing.specs.Drawing.{recordsFrom, dualIf, dualsBelow, labelled, Drawn}
 use Rattle.drawing.specs.Trace.{Trace, labelAfter, arisen, memberOf, dualsIn, Drawable}
 use Rattle.drawing.specs.Laws.Drawing.{drawn-none, drawn-more, drawn-end}

@@ -7,8 +7,8 @@ use Rattle.finite.specs.Below.{counted, tabulate}
 use Rattle.finite.specs.Laws.Below.{length-tabulate}
 use Rattle.limits.specs.Limits.{maxDuals, groupNumbers}
 use Rattle.survey.specs.Survey.{groupsAlone, vertexCount}
-use Rattle.survey.specs.Laws.Spread.{split-read}
-use Rattle.survey.specs.Laws.Store.{replicate-table}
+use Rattle.groups.specs.Laws.Spread.{split-read}
+use Rattle.stores.specs.Laws.Store.{replicate-table}
 use Rattle.growth.specs.Laws.Flags.{activeBelow, flags-none, flags-step, flags-end, flags-active}
 use native.Mathlib.Omega.{arith}
 use borrow.Author.Needs.{needs}

@@ -6,7 +6,7 @@ use Rattle.finite.specs.Laws.Below.{length-tabulate}
 use Rattle.limits.specs.Limits.{maxVertices, maxEdges, maxDuals}
 use Rattle.steiner.specs.Growth.{start, stateAt}
 use Rattle.survey.specs.Survey.{surveyFrom, problemOf}
-use Rattle.survey.specs.Laws.Store.{remade-table, replicate-table}
+use Rattle.stores.specs.Laws.Store.{remade-table, replicate-table}
 use Rattle.growth.specs.Scan.{passOf, Keyed, timeAfter, blockEdges, blocksOf, Floored}
 use Rattle.growth.specs.Tables.{delayIn}
 use Rattle.growth.specs.View.{View}

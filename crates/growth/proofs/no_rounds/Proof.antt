@@ -2,7 +2,7 @@
 use mathlib.Core.Path.{refl, _∙_}
 use Rattle.limits.specs.Limits.{maxVertices, maxEdges, maxDuals}
 use Rattle.steiner.specs.Growth.{start, stateAt}
-use Rattle.survey.specs.Laws.Store.{remade-table, replicate-table}
+use Rattle.stores.specs.Laws.Store.{remade-table, replicate-table}
 use Rattle.growth.specs.Laws.View.{view-start, start-bound}
 use borrow.Author.Needs.{needs}
 use Rattle.growth.proofs.no_rounds.Statement.{statement}

@@ -4,8 +4,8 @@ use mathlib.Core.Path.{_≡_, refl, ap, _∙_}
 use lib.ListN.{length, getD}
 use lib.Dec.{eqb}
 use Rattle.finite.specs.Below.{counted}
-use Rattle.survey.specs.Store.{remade}
-use Rattle.survey.specs.Laws.Store.{length-remade, remade-more, remade-end}
+use Rattle.stores.specs.Store.{remade}
+use Rattle.stores.specs.Laws.Store.{length-remade, remade-more, remade-end}
 use Rattle.growth.specs.Tables.{raisedLoads}
 use Rattle.growth.specs.Laws.Raise.{room-ahead}
 use native.Mathlib.Omega.{arith}

@@ -3,7 +3,7 @@ use Prim.Native.Nat.{_≤_, _-_, _^_}
 use mathlib.Core.Path.{_≡_, refl}
 use lib.ListN.{getD}
 use Rattle.finite.specs.Below.{sumBelow}
-use Rattle.survey.specs.Laws.Count.{sum-more, sum-end}
+use Rattle.finite.specs.Laws.Count.{sum-more, sum-end}
 use Rattle.growth.specs.Laws.View.{sum-bounded}
 use native.Mathlib.Omega.{arith}
 use borrow.Author.Needs.{needs}

@@ -15,9 +15,9 @@ use Rattle.finite.specs.Laws.Test.{either, and-both, or-right}
 use Rattle.limits.specs.Limits.{maxDuals}
 use Rattle.steiner.specs.Growth.{active}
 use Rattle.survey.specs.Survey.{Survey, vertexCount, problemOf}
-use Rattle.survey.specs.Spread.{split}
-use Rattle.survey.specs.Laws.Spread.{active-split}
-use Rattle.survey.specs.Laws.Store.{tabulate-cong, set-table}
+use Rattle.groups.specs.Spread.{split}
+use Rattle.groups.specs.Laws.Spread.{active-split}
+use Rattle.stores.specs.Laws.Store.{tabulate-cong, set-table}
 use Rattle.growth.specs.Tables.{flagged}
 
 -- A vertex below v makes component c active.

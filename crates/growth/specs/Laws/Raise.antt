@@ -4,8 +4,8 @@ use native.Mathlib.Omega.{arith}
 use mathlib.Core.Path.{_≡_, ap, _∙_}
 use mathlib.Core.List.{List}
 use lib.ListN.{getD}
-use Rattle.survey.specs.Store.{remade}
-use Rattle.survey.specs.Laws.Store.{remade-ahead}
+use Rattle.stores.specs.Store.{remade}
+use Rattle.stores.specs.Laws.Store.{remade-ahead}
 use Rattle.growth.specs.Tables.{Room}
 
 pub room-ahead : (f : ℕ → ℕ → ℕ) (i : ℕ) {l now : List ℕ} {d x : ℕ} → Room l d → now ≡ remade f i l → x ≡ getD now i 0 → x + d < 2 ^ 64

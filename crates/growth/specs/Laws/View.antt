@@ -26,10 +26,10 @@ use Rattle.steiner.specs.Laws.Partition.{label-below, winner-below}
 use Rattle.steiner.specs.Laws.Feasible.{load-start}
 use Rattle.steiner.specs.Laws.Weighed.{load-pick}
 use Rattle.survey.specs.Survey.{Survey, groupsAlone, vertexCount, edgeCount, sameGroup, member, problemOf}
-use Rattle.survey.specs.Labels.{relabelled}
+use Rattle.components.specs.Labels.{relabelled}
 use Rattle.survey.specs.Laws.Refusal.{SurveySound, survey-sound}
-use Rattle.survey.specs.Laws.Store.{tabulate-cong, set-table, remade-table, remade-part}
-use Rattle.survey.specs.Laws.Labels.{relabelled-table}
+use Rattle.stores.specs.Laws.Store.{tabulate-cong, set-table, remade-table, remade-part}
+use Rattle.components.specs.Laws.Labels.{relabelled-table}
 use Rattle.growth.specs.Scan.{key, Scan, scanOf, Keyed, timeAfter, blocksOf, passOf, Floored}
 use Rattle.growth.specs.Tables.{tablesFrom, delayBetween, delayBy, keyBetween, keyBy, passBy, raisedValues, raisedLoads, Room}
 use Rattle.growth.specs.Laws.Scan.{scan-wins, keyed-next}

@@ -9,7 +9,7 @@ use Rattle.finite.specs.Laws.Below.{counted-le, sum-limit}
 use Rattle.finite.specs.Below.{counted, sumBelow}
 use Rattle.steiner.specs.Problem.{cost}
 use Rattle.survey.specs.Survey.{problemOf, edgeCount}
-use Rattle.survey.specs.Laws.Count.{sum-more, sum-end}
+use Rattle.finite.specs.Laws.Count.{sum-more, sum-end}
 use Rattle.certificate.specs.Check.{keptBy}
 use Rattle.marks.proofs.kept_cost.Statement.{statement}
 use Rattle.marks.proofs.kept_cost.Tie as tie

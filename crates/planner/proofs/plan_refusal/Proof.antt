@@ -8,7 +8,7 @@ use borrow.Author.Needs.{needs}
 use Rattle.planner.proofs.plan_refusal.Statement.{statement}
 use Rattle.planner.proofs.plan_refusal.Tie as tie
 use Rattle.planner.proofs.room_refusal.Reads as room-refusal-reads
-use Rattle.survey.proofs.labels.group_refusal.Reads as group-refusal-reads
+use Rattle.components.proofs.group_refusal.Reads as group-refusal-reads
 use Rattle.survey.proofs.survey_refusal.Reads as survey-refusal-reads
 
 survey-refusal-requires : tie.Need-survey-refusal-requires

@@ -25,8 +25,8 @@ use Rattle.steiner.specs.Laws.Partition.{picked-usable, picked-forest}
 use Rattle.survey.specs.Survey.{Survey, surveyFrom, groupsAlone, vertexCount, edgeCount, member, sameGroup, problemOf}
 use Rattle.survey.specs.Refusal.{surveyRefusal}
 use Rattle.survey.specs.Laws.Refusal.{survey-fine, survey-sound}
-use Rattle.survey.specs.Store.{remade}
-use Rattle.survey.specs.Laws.Store.{tabulate-cong, length-remade, remade-passed, remade-ahead}
+use Rattle.stores.specs.Store.{remade}
+use Rattle.stores.specs.Laws.Store.{tabulate-cong, length-remade, remade-passed, remade-ahead}
 use Rattle.pruning.specs.Word.{pickedIn}
 use Rattle.pruning.specs.Prunable.{Prunable, unweighted}
 use Rattle.pruning.specs.Judge.{prunedMarks}

@@ -26,7 +26,7 @@ use Rattle.survey.specs.Refusal.{edgeRefusal, surveyRefusal, groupRefusal}
 use Rattle.survey.specs.Accuracy.{Accurate}
 use Rattle.survey.specs.Laws.Refusal.{SurveySound, survey-fine, fine-survey, survey-sound}
 use Rattle.survey.specs.Laws.Group.{Numbered, JoinsGroup, LowestUnjoined, group-joined-elim, group-joined-intro, group-refused, unjoinable-iff}
-use Rattle.survey.specs.Laws.Spread.{member-elim}
+use Rattle.survey.specs.Laws.Member.{member-elim}
 use Rattle.steiner.specs.Laws.Finish.{allUsable-edges}
 use Rattle.certificate.specs.Check.{checking}
 use Rattle.certificate.specs.Laws.Accuracy.{answered}

@@ -16,8 +16,8 @@ use Rattle.steiner.specs.Problem.{Joins, allUsable}
 use Rattle.steiner.specs.Laws.Finish.{allUsable-edges}
 use Rattle.graph.specs.Laws.Component.{components-cong}
 use Rattle.survey.specs.Survey.{Survey, vertexCount, edgeCount, problemOf, groupJoined, componentsOf}
-use Rattle.survey.specs.Labels.{chosenMark, chosen}
-use Rattle.survey.specs.declared.labels.Chosen.the-variants.{All}
+use Rattle.components.specs.Labels.{chosenMark, chosen}
+use Rattle.components.specs.declared.Chosen.the-variants.{All}
 use Rattle.survey.specs.Refusal.{surveyRefusal, groupRefusal}
 use Rattle.survey.specs.Laws.Refusal.{SurveySound, survey-fine, fine-survey}
 use Rattle.survey.specs.Laws.Group.{Numbered, group-fine, joins-fine}

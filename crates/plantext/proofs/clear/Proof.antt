@@ -19,8 +19,8 @@ loop-holds : tie.Need-loop-holds Inv-loop μ-loop
 unfolding cleared
 loop-holds c = (search needs, refl)
 
-store8-requires : tie.Need-store8-requires Inv-loop μ-loop
-store8-requires c κs = search needs
+put8-requires : tie.Need-put8-requires Inv-loop μ-loop
+put8-requires c κs = search needs
 
 add-e : tie.Need-add-e Inv-loop μ-loop
 add-e c = search needs
@@ -31,7 +31,7 @@ loop-less c = search needs
 loop-again : tie.Need-loop-again Inv-loop μ-loop
 loop-again c =
     let m = c .before .before .before .before .before .before .before .args .marks .now in
-    (omega arith, c .before .before .store8 .ensures ∙ ap (λ l. set l (c .before .before .before .before .before .loop .e) 0) (c .before .before .before .before .before .loop .inv .1) ∙ cleared-next m (c .before .before .before .before .before .loop .e))
+    (omega arith, c .before .before .put8 .ensures ∙ ap (λ l. set l (c .before .before .before .before .before .loop .e) 0) (c .before .before .before .before .before .loop .inv .1) ∙ cleared-next m (c .before .before .before .before .before .loop .e))
 
 same-length : tie.Need-same-length Inv-loop μ-loop
 same-length c = ap length (c .before .loop .inv .1) ∙ cleared-length (c .before .loop .e) (c .before .before .before .args .marks .now)
@@ -49,7 +49,7 @@ clear-spec =
     Inv-loop
     μ-loop
     loop-holds
-    store8-requires
+    put8-requires
     add-e
     loop-less
     loop-again

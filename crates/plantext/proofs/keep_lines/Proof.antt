@@ -53,8 +53,8 @@ returns-2 c =
     rw (c .enum-told .given .1)
     (left-refused _ _ _ _ _ _ _ _ _ (c .before .before .before .before .before .loop-test .taken) (ap not (sym (c .before .before .before .before .byte-is .ensures)) ∙ c .before .before .before .if1 .left) (sym (c .before .before .keep-line .ensures) ∙ ap numberStep (c .enum-told .given .1)) (c .before .before .before .before .before .before .loop .inv))
 
-store8-requires : tie.Need-store8-requires Inv-loop μ-loop
-store8-requires c κs = search needs
+put8-requires : tie.Need-put8-requires Inv-loop μ-loop
+put8-requires c κs = search needs
 
 add-low : tie.Need-add-low Inv-loop μ-loop
 unfolding numberStep
@@ -73,7 +73,7 @@ loop-less c = search needs
 loop-again : tie.Need-loop-again Inv-loop μ-loop
 unfolding numberStep keepReader
 loop-again c =
-    rw (c .before .before .store8 .ensures)
+    rw (c .before .before .put8 .ensures)
     (left-more _ putMark _ _ _ _ _ _ _ (c .before .before .before .before .before .before .before .before .before .before .loop-test .taken) (ap not (sym (c .before .before .before .before .before .before .before .before .before .byte-is .ensures)) ∙ c .before .before .before .before .before .before .before .before .if1 .left) (sym (c .before .before .before .before .before .before .before .keep-line .ensures) ∙ ap numberStep (c .before .before .before .before .before .step .given .1)) (c .before .before .before .before .before .before .before .before .before .before .before .loop .inv))
 
 same-length-3 : tie.Need-same-length-3 Inv-loop μ-loop
@@ -98,7 +98,7 @@ keep-lines-spec =
     enum-told
     same-length-2
     returns-2
-    store8-requires
+    put8-requires
     add-low
     add-i
     loop-less

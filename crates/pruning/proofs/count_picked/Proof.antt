@@ -2,7 +2,7 @@
 use Rattle.pruning.specs.Laws.Judge.{dropped-counts}
 use Rattle.pruning.specs.Laws.Word.{count-none}
 use Rattle.pruning.specs.Word.{pickedIn}
-use Rattle.survey.specs.Laws.Count.{count-more, count-end, count-bound}
+use Rattle.finite.specs.Laws.Count.{count-more, count-end, count-bound}
 use Rattle.finite.specs.Below.{countBelow}
 use mathlib.Core.Path.{_≡_, _∙_}
 use Prim.Native.Nat.{_≤_, _-_}

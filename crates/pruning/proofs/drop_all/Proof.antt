@@ -1,8 +1,8 @@
 -- `drop_all` meets its contract: it stores at rising places.
 use Rattle.pruning.specs.Judge.{droppedMarks}
 use Rattle.pruning.specs.Word.{pickedIn}
-use Rattle.survey.specs.Store.{remade}
-use Rattle.survey.specs.Laws.Store.{length-remade, remade-more, remade-end}
+use Rattle.stores.specs.Store.{remade}
+use Rattle.stores.specs.Laws.Store.{length-remade, remade-more, remade-end}
 use Rattle.steiner.specs.Pruning.{markOf}
 use lib.ListN.{length}
 use mathlib.Core.Bool.{false}

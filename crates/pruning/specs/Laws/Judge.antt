@@ -16,8 +16,8 @@ use Rattle.records.specs.Bits.{bitAt}
 use Rattle.steiner.specs.Problem.{Problem, separates}
 use Rattle.steiner.specs.Pruning.{needed, markOf}
 use Rattle.survey.specs.Survey.{groupsAlone, problemOf, vertexCount, edgeCount, sameGroup, member}
-use Rattle.survey.specs.Store.{remade}
-use Rattle.survey.specs.Laws.Store.{length-remade, remade-more}
+use Rattle.stores.specs.Store.{remade}
+use Rattle.stores.specs.Laws.Store.{length-remade, remade-more}
 use Rattle.pruning.specs.Side.{sides}
 use Rattle.pruning.specs.Word.{wordBits, pickedIn, inBatch, sideWords}
 use Rattle.pruning.specs.Prunable.{EndsBelow, Prunable, unweighted}

@@ -17,8 +17,8 @@ use Rattle.finite.specs.Laws.Test.{either, and-left, and-right, and-both, not-t
 use Rattle.graph.specs.Component.{components}
 use Rattle.records.specs.Bits.{bitAt, withBit}
 use Rattle.records.specs.Laws.Bits.{bit-of-zero, bit-set, bit-set-other, with-bit-clear}
-use Rattle.survey.specs.Laws.Store.{remade-table, tabulate-cong}
-use Rattle.survey.specs.Labels.{relabelled, endsJoined}
+use Rattle.stores.specs.Laws.Store.{remade-table, tabulate-cong}
+use Rattle.components.specs.Labels.{relabelled, endsJoined}
 use Rattle.pruning.specs.Side.{sideStep, sides}
 use Rattle.pruning.specs.Prunable.{EdgeStep}
 use Rattle.pruning.specs.Word.{wordBits, pickedIn, inBatch, ownWord, turned, sideWords, turnedAll, edgeTaken}

@@ -19,8 +19,8 @@ at8-requires c κs = search needs
 with-bit-requires : tie.Need-with-bit-requires
 with-bit-requires c κs = search needs
 
-store8-requires : tie.Need-store8-requires
-store8-requires c κs = search needs
+put8-requires : tie.Need-put8-requires
+put8-requires c κs = search needs
 
 same-length : tie.Need-same-length
 same-length c = search needs
@@ -30,11 +30,11 @@ unfolding withMemberIn withMember
 returns c =
     let a = c .before .before .before .before .before .before .before .before .args in
     let r = a .part .now in
-    c .before .before .store8 .ensures
+    c .before .before .put8 .ensures
     ∙ ap (set r (8 + a .v / 8))
     (c .before .before .before .with-bit .ensures
     ∙ ap (λ b. withBit b (a .v % 8)) (c .before .before .before .before .before .at8 .ensures ∙ sym (getD-drop 8 r (a .v / 8) 0)))
     ∙ set-past 8 (a .v / 8) (withBit (getD (drop 8 r) (a .v / 8) 0) (a .v % 8)) r
 
 pub add-member-spec : {M : Type 1} → statement M
-add-member-spec = tie.close (tie.spec add-at at8-requires with-bit-requires store8-requires same-length returns)
+add-member-spec = tie.close (tie.spec add-at at8-requires with-bit-requires put8-requires same-length returns)

@@ -21,11 +21,11 @@ abbrev μ-loop : tie.MeasureT-loop
 loop-holds : tie.Need-loop-holds Inv-loop μ-loop
 loop-holds c = (refl, rw (sub-zero (c .before .args .count)))
 
-cast-store8 : tie.Need-cast-store8 Inv-loop μ-loop
-cast-store8 c = search needs
+cast-put8 : tie.Need-cast-put8 Inv-loop μ-loop
+cast-put8 c = search needs
 
-store8-requires : tie.Need-store8-requires Inv-loop μ-loop
-store8-requires c κs = search needs
+put8-requires : tie.Need-put8-requires Inv-loop μ-loop
+put8-requires c κs = search needs
 
 add-i : tie.Need-add-i Inv-loop μ-loop
 add-i c = search needs
@@ -37,7 +37,7 @@ loop-again : tie.Need-loop-again Inv-loop μ-loop
 loop-again c =
     let l = c .before .before .before .before .before .loop in
     let count = c .before .before .before .before .before .before .before .args .count in
-    let done = c .before .before .store8 .ensures in (
+    let done = c .before .before .put8 .ensures in (
       search needs,
       ap (λ s. sets s (l .i + 1) (lowBytes (count - (l .i + 1)) (l .rest / 256))) done
           ∙ store-low (l .s) (l .i) count (l .rest) (c .before .before .before .before .loop-test .taken)
@@ -62,8 +62,8 @@ write-low-spec =
     Inv-loop
     μ-loop
     loop-holds
-    cast-store8
-    store8-requires
+    cast-put8
+    put8-requires
     add-i
     loop-less
     loop-again

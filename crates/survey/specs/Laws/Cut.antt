@@ -18,7 +18,7 @@ use Rattle.limits.specs.Laws.Verdict.{refuse-true, refuse-false, fine-refuse, l
 use Rattle.steiner.specs.Problem.{separates}
 use Rattle.steiner.specs.Laws.Joined.{Split, separates-elim, separates-intro}
 use Rattle.survey.specs.Survey.{Survey, vertexCount, member, sameGroup, problemOf, groupJoined}
-use Rattle.survey.specs.Laws.Spread.{member-elim, member-intro}
+use Rattle.survey.specs.Laws.Member.{member-elim, member-intro}
 
 -- The test of `groupJoined` at two vertices.
 abbrev test : Survey → (label : ℕ → ℕ) → (g u v : ℕ) → Bool

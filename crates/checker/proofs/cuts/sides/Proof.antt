@@ -7,8 +7,8 @@ use borrow.Author.Needs.{needs}
 use Rattle.finite.specs.Below.{counted}
 use Rattle.limits.specs.Limits.{maxVertices}
 use Rattle.records.specs.Record.{memberIn}
-use Rattle.survey.specs.Laws.Store.{remade-more}
-use Rattle.survey.specs.Store.{remade}
+use Rattle.stores.specs.Laws.Store.{remade-more}
+use Rattle.stores.specs.Store.{remade}
 use Rattle.checker.specs.Laws.Scan.{remade-end}
 use Rattle.checker.proofs.cuts.sides.Statement.{statement}
 use Rattle.checker.proofs.cuts.sides.Tie as tie

@@ -9,7 +9,7 @@ use Rattle.finite.specs.Below.{counted, sumBelow}
 use Rattle.limits.specs.Limits.{recordBytes}
 use Rattle.records.specs.Record.{valueIn}
 use Rattle.steiner.specs.Dual.{total}
-use Rattle.survey.specs.Laws.Count.{sum-more}
+use Rattle.finite.specs.Laws.Count.{sum-more}
 use Rattle.checker.specs.Laws.Duals.{weighedAt, weigh-end, weighed-fits}
 use Rattle.checker.proofs.duals.bound.Statement.{statement}
 use Rattle.checker.proofs.duals.bound.Tie as tie

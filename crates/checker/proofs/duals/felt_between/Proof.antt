@@ -8,7 +8,7 @@ use borrow.Author.Needs.{needs}
 use Rattle.finite.specs.Below.{counted, sumBelow}
 use Rattle.limits.specs.Limits.{recordBytes}
 use Rattle.records.specs.Record.{memberIn, valueIn}
-use Rattle.survey.specs.Laws.Count.{sum-more}
+use Rattle.finite.specs.Laws.Count.{sum-more}
 use Rattle.checker.specs.Stage.{feltBetween}
 use Rattle.checker.specs.Laws.Duals.{weighedAt, weigh-end, weighed-fits}
 use Rattle.checker.proofs.duals.felt_between.Statement.{statement}

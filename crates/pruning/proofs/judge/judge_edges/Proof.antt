@@ -2,8 +2,8 @@ use Rattle.pruning.specs.Laws.Judge.{marks-more}
 use Rattle.pruning.specs.Laws.Word.{count-none, next-index}
 use Rattle.pruning.specs.Judge.{judged, raised}
 use Rattle.pruning.specs.Word.{pickedIn}
-use Rattle.survey.specs.Store.{remade}
-use Rattle.survey.specs.Laws.Store.{length-remade, remade-end}
+use Rattle.stores.specs.Store.{remade}
+use Rattle.stores.specs.Laws.Store.{length-remade, remade-end}
 use Rattle.finite.specs.Laws.Below.{count-le}
 use Rattle.finite.specs.Below.{countBelow}
 use lib.ListN.{length}

@@ -1,6 +1,6 @@
 use Rattle.pruning.specs.Judge.{sideIn}
-use Rattle.survey.specs.Store.{remade}
-use Rattle.survey.specs.Laws.Store.{remade-more, remade-end, remade-table}
+use Rattle.stores.specs.Store.{remade}
+use Rattle.stores.specs.Laws.Store.{remade-more, remade-end, remade-table}
 use Rattle.records.specs.Bits.{bitAt}
 use Rattle.limits.specs.Limits.{maxVertices}
 use Rattle.finite.specs.Below.{counted}

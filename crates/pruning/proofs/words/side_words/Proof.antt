@@ -1,7 +1,7 @@
 use Rattle.pruning.specs.Laws.Word.{words-none, words-more, words-end, count-none, next-index}
 use Rattle.pruning.specs.Word.{pickedIn, sideWords}
-use Rattle.survey.specs.Laws.Labels.{components-none, components-more}
-use Rattle.survey.specs.Laws.Store.{remade-table, replicate-table}
+use Rattle.components.specs.Laws.Labels.{components-none, components-more}
+use Rattle.stores.specs.Laws.Store.{remade-table, replicate-table}
 use Rattle.limits.specs.Limits.{maxVertices}
 use Rattle.graph.specs.Component.{components}
 use Rattle.finite.specs.Laws.Below.{length-tabulate, count-le}

@@ -1,6 +1,6 @@
 use Rattle.pruning.specs.Word.{turned, turnedAll}
-use Rattle.survey.specs.Laws.Store.{length-remade, remade-more, remade-end}
-use Rattle.survey.specs.Store.{remade}
+use Rattle.stores.specs.Laws.Store.{length-remade, remade-more, remade-end}
+use Rattle.stores.specs.Store.{remade}
 use lib.ListN.{length, getD}
 use mathlib.Core.Path.{_≡_, refl, ap, _∙_}
 use Prim.Native.Nat.{_≤_, _-_}
