@@ -11,7 +11,7 @@ use Rattle.steiner.specs.Problem.{Problem, separates}
 use Rattle.steiner.specs.Pruning.{needed, markOf}
 use Rattle.survey.specs.Survey.{groupsAlone, problemOf}
 use Rattle.stores.specs.Store.{remade}
-use Rattle.pruning.specs.Word.{wordBits, inBatch}
+use Rattle.sides.specs.Word.{wordBits, inBatch}
 
 -- A set of vertices: those whose word has bit k.
 unfoldable pub sideIn : (words : List ℕ) → (k v : ℕ) → Bool

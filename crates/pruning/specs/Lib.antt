@@ -1,5 +1,3 @@
-pub mod Side
-pub mod Laws
-pub mod Word
 pub mod Prunable
 pub mod Judge
+pub mod Laws

@@ -6,19 +6,18 @@ ghost use lib.ListN.{length};
 ghost use Rattle.finite.specs.Below.{countBelow};
 ghost use Rattle.limits.specs.Limits.{maxEdges};
 ghost use Rattle.steiner.specs.Pruning.{markOf};
-ghost use Rattle.pruning.specs.Word.{pickedIn};
+ghost use Rattle.sides.specs.Word.{pickedIn};
 ghost use Rattle.pruning.specs.Prunable.{Prunable, unweighted};
 ghost use Rattle.pruning.specs.Judge.{droppedMarks, batchMarks, prunedMarks};
 use stores::put8;
 
 pub mod judge;
-pub mod words;
 
 // 1 for a picked edge, else 0.
 fn dropped_mark(picked: &[u8], e: usize) -> u8
     ensures { λ r. ⌜ r ≡ markOf (pickedIn (now (picked .entry)) e) false ⌝ }
 {
-    if words::is_picked(picked, e) {
+    if sides::is_picked(picked, e) {
         return 1;
     }
     0
@@ -61,7 +60,7 @@ fn prune_batch(
     requires { ⌜ Prunable (now groups) (now firsts) (now seconds) (now picked) ⌝ }
     ensures { λ r. ⌜ now (marks .exit) ≡ batchMarks (unweighted (now (groups .entry)) (now (firsts .entry)) (now (seconds .entry))) (pickedIn (now (picked .entry))) base (length (now (firsts .entry))) (now (marks .entry)) ⌝ }
 {
-    let words = words::side_words(firsts, seconds, picked, base);
+    let words = sides::side_words(firsts, seconds, picked, base);
     judge::judge_edges(groups, &words, picked, base, marks, firsts.len());
 }
 
@@ -76,6 +75,6 @@ pub fn prune(groups: &[u8], firsts: &[u32], seconds: &[u32], picked: &[u8], mark
     let mut base = 0;
     while base < count {
         prune_batch(groups, firsts, seconds, picked, marks, base);
-        base += words::WORD_BITS;
+        base += sides::WORD_BITS;
     }
 }

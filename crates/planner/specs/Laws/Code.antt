@@ -27,7 +27,7 @@ use Rattle.survey.specs.Refusal.{surveyRefusal}
 use Rattle.survey.specs.Laws.Refusal.{survey-fine, survey-sound}
 use Rattle.stores.specs.Store.{remade}
 use Rattle.stores.specs.Laws.Store.{tabulate-cong, length-remade, remade-passed, remade-ahead}
-use Rattle.pruning.specs.Word.{pickedIn}
+use Rattle.sides.specs.Word.{pickedIn}
 use Rattle.pruning.specs.Prunable.{Prunable, unweighted}
 use Rattle.pruning.specs.Judge.{prunedMarks}
 use Rattle.growth.specs.View.{Shows, turn, edgeOf}

@@ -1,7 +1,7 @@
 -- `count_picked` meets its contract: it counts upwards.
 use Rattle.pruning.specs.Laws.Judge.{dropped-counts}
-use Rattle.pruning.specs.Laws.Word.{count-none}
-use Rattle.pruning.specs.Word.{pickedIn}
+use Rattle.sides.specs.Laws.Word.{count-none}
+use Rattle.sides.specs.Word.{pickedIn}
 use Rattle.finite.specs.Laws.Count.{count-more, count-end, count-bound}
 use Rattle.finite.specs.Below.{countBelow}
 use mathlib.Core.Path.{_≡_, _∙_}

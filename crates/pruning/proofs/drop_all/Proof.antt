@@ -1,6 +1,6 @@
 -- `drop_all` meets its contract: it stores at rising places.
 use Rattle.pruning.specs.Judge.{droppedMarks}
-use Rattle.pruning.specs.Word.{pickedIn}
+use Rattle.sides.specs.Word.{pickedIn}
 use Rattle.stores.specs.Store.{remade}
 use Rattle.stores.specs.Laws.Store.{length-remade, remade-more, remade-end}
 use Rattle.steiner.specs.Pruning.{markOf}

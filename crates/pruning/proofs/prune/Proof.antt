@@ -1,6 +1,6 @@
 use Rattle.pruning.specs.Laws.Judge.{marksBelow, length-dropped, length-below, below-start, below-more, below-end}
 use Rattle.pruning.specs.Prunable.{unweighted}
-use Rattle.pruning.specs.Word.{pickedIn}
+use Rattle.sides.specs.Word.{pickedIn}
 use Rattle.finite.specs.Laws.Below.{count-le}
 use lib.ListN.{length}
 use mathlib.Core.Path.{_≡_, ap, _∙_}

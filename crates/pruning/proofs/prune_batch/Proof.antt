@@ -1,12 +1,11 @@
 -- `prune_batch` meets its contract: judging by the words is judging by need.
-use Rattle.pruning.specs.Laws.Judge.{prunable-ends, batch-is}
+use Rattle.pruning.specs.Laws.Judge.{batch-is}
 use borrow.Author.Needs.{needs}
 use Rattle.pruning.proofs.prune_batch.Statement.{statement}
 use Rattle.pruning.proofs.prune_batch.Tie as tie
 
 side-words-requires : tie.Need-side-words-requires
-side-words-requires c κs =
-    prunable-ends _ _ _ _ (c .before .before .before .before .before .pre)
+side-words-requires c κs = search needs
 
 slice-aggregate-judge-edges : tie.Need-slice-aggregate-judge-edges
 slice-aggregate-judge-edges c = search needs

@@ -18,12 +18,14 @@ use Rattle.steiner.specs.Pruning.{needed, markOf}
 use Rattle.survey.specs.Survey.{groupsAlone, problemOf, vertexCount, edgeCount, sameGroup, member}
 use Rattle.stores.specs.Store.{remade}
 use Rattle.stores.specs.Laws.Store.{length-remade, remade-more}
-use Rattle.pruning.specs.Side.{sides}
-use Rattle.pruning.specs.Word.{wordBits, pickedIn, inBatch, sideWords}
-use Rattle.pruning.specs.Prunable.{EndsBelow, Prunable, unweighted}
+use Rattle.sides.specs.Side.{sides}
+use Rattle.sides.specs.Word.{wordBits, pickedIn, inBatch, sideWords}
+use Rattle.sides.specs.Taken.{takenBelow}
+use Rattle.pruning.specs.Prunable.{Prunable, unweighted}
 use Rattle.pruning.specs.Judge.{sideIn, judged, raised, prunedMarks, droppedMarks, batchMarks, MarkStep}
-use Rattle.pruning.specs.Laws.Side.{needed-by-side}
-use Rattle.pruning.specs.Laws.Word.{word-side, count-lt}
+use Rattle.sides.specs.Laws.Side.{needed-by-side}
+use Rattle.sides.specs.Laws.Word.{word-side, count-lt}
+use Rattle.sides.specs.Laws.Taken.{taken-words}
 
 -- ---- stores at rising places
 
@@ -140,15 +142,16 @@ module _ (groups firsts seconds picked : List ℕ) (ok : Prunable groups firsts 
   abbrev words : ℕ → List ℕ
   words base = tabulate maxVertices (sideWords maxVertices (λ e. getD firsts e 0) (λ e. getD seconds e 0) F base (length firsts))
 
-  pub prunable-ends : EndsBelow firsts seconds
+  -- The buffer that holds them: the ends are vertices.
+  words-held : (base : ℕ) {held : List ℕ} → held ≡ takenBelow maxVertices (λ e. getD firsts e 0) (λ e. getD seconds e 0) F base (length firsts) .words → held ≡ words base
   unfolding problemOf edgeCount vertexCount
-  prunable-ends =
+  words-held base h =
       let few = ok .few in
-      record {
-        edges-few = ok .edges-few;
-        first-below = λ e b. let l : getD firsts e 0 < length groups = ok .sound .first-below e b in omega arith;
-        second-below = λ e b. let l : getD seconds e 0 < length groups = ok .sound .second-below e b in omega arith;
-      }
+      h
+      ∙ taken-words maxVertices (λ e. getD firsts e 0) (λ e. getD seconds e 0) F base (length firsts)
+      (λ e b. let l : getD firsts e 0 < length groups = ok .sound .first-below e b in omega arith)
+      (λ e b. let l : getD seconds e 0 < length groups = ok .sound .second-below e b in omega arith)
+      .1
 
   -- Judging a picked edge by its bit is finding whether it is needed.
   bit-needed : (base e : ℕ) → e < length firsts → F e ≡ true → InBatch base (countBelow e F)
@@ -167,12 +170,13 @@ module _ (groups firsts seconds picked : List ℕ) (ok : Prunable groups firsts 
       ∙ sym (needed-by-side p (ok .sound) F (ok .bounded) (ok .joins) (ok .forest) maxVertices e t)
 
   -- A batch by the words is the batch of the definition.
-  pub batch-is : (base : ℕ) (marks : List ℕ) {after held : List ℕ} → held ≡ words base
+  pub batch-is : (base : ℕ) (marks : List ℕ) {after held : List ℕ}
+      → held ≡ takenBelow maxVertices (λ e. getD firsts e 0) (λ e. getD seconds e 0) F base (length firsts) .words
       → after ≡ remade (raised F (judged groups held base)) (length firsts) marks
       → after ≡ batchMarks p F base (length firsts) marks
   unfolding batchMarks raised judged
   batch-is base marks {after} {held} h r =
-      r ∙ rw h
+      r ∙ rw (words-held base h)
       (remade-cong _ _ (length firsts) marks (λ e x b. ap (λ t. cond t 2 x) (by e b (either (F e)) (either (inBatch base (countBelow e F))))))
     where
       by : (e : ℕ) → e < length firsts → (F e ≡ true) ⊎ (F e ≡ false) → (inBatch base (countBelow e F) ≡ true) ⊎ (inBatch base (countBelow e F) ≡ false)

@@ -1,7 +1,7 @@
 use Rattle.pruning.specs.Laws.Judge.{marks-more}
-use Rattle.pruning.specs.Laws.Word.{count-none, next-index}
+use Rattle.sides.specs.Laws.Word.{count-none, next-index}
 use Rattle.pruning.specs.Judge.{judged, raised}
-use Rattle.pruning.specs.Word.{pickedIn}
+use Rattle.sides.specs.Word.{pickedIn}
 use Rattle.stores.specs.Store.{remade}
 use Rattle.stores.specs.Laws.Store.{length-remade, remade-end}
 use Rattle.finite.specs.Laws.Below.{count-le}

@@ -1,8 +1,8 @@
 -- `turn` meets its contract: the two exclusive ors of the definition.
-use Rattle.pruning.specs.Word.{turned}
+use Rattle.sides.specs.Word.{turned}
 use borrow.Author.Needs.{needs}
-use Rattle.pruning.proofs.words.turn.Statement.{statement}
-use Rattle.pruning.proofs.words.turn.Tie as tie
+use Rattle.sides.proofs.turn.Statement.{statement}
+use Rattle.sides.proofs.turn.Tie as tie
 
 word-at-requires : tie.Need-word-at-requires
 word-at-requires c κs = search needs

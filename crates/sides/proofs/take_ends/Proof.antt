@@ -1,10 +1,10 @@
 -- `take_ends` meets its contract: what it reads is what the definitions read.
-use Rattle.pruning.specs.Laws.Word.{edge-taken-by, ends-joined-by}
+use Rattle.sides.specs.Laws.Word.{edge-taken-by, ends-joined-by}
 use lib.ListN.{getD}
 use mathlib.Core.Path.{ap, _∙_}
 use borrow.Author.Needs.{needs}
-use Rattle.pruning.proofs.words.take_ends.Statement.{statement}
-use Rattle.pruning.proofs.words.take_ends.Tie as tie
+use Rattle.sides.proofs.take_ends.Statement.{statement}
+use Rattle.sides.proofs.take_ends.Tie as tie
 
 index32-requires : tie.Need-index32-requires
 index32-requires c κs = search needs

@@ -1,9 +1,9 @@
 -- `is_picked` meets its contract: each return by its test.
-use Rattle.pruning.specs.Laws.Word.{picked-not, picked-is}
+use Rattle.sides.specs.Laws.Word.{picked-not, picked-is}
 use mathlib.Core.Path.{sym, _∙_}
 use borrow.Author.Needs.{needs}
-use Rattle.pruning.proofs.words.is_picked.Statement.{statement}
-use Rattle.pruning.proofs.words.is_picked.Tie as tie
+use Rattle.sides.proofs.is_picked.Statement.{statement}
+use Rattle.sides.proofs.is_picked.Tie as tie
 
 at8-requires : tie.Need-at8-requires
 at8-requires c κs = search needs

@@ -2,8 +2,8 @@
 use Rattle.finite.specs.Laws.Below.{counted-true, counted-false}
 use borrow.Author.Tests.{eq-eqb, ne-eqb}
 use mathlib.Core.Path.{sym}
-use Rattle.pruning.proofs.words.word_at.Statement.{statement}
-use Rattle.pruning.proofs.words.word_at.Tie as tie
+use Rattle.sides.proofs.word_at.Statement.{statement}
+use Rattle.sides.proofs.word_at.Tie as tie
 
 returns : tie.Need-returns
 returns c =

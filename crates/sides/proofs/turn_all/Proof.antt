@@ -1,4 +1,4 @@
-use Rattle.pruning.specs.Word.{turned, turnedAll}
+use Rattle.sides.specs.Word.{turned, turnedAll}
 use Rattle.stores.specs.Laws.Store.{length-remade, remade-more, remade-end}
 use Rattle.stores.specs.Store.{remade}
 use lib.ListN.{length, getD}
@@ -6,8 +6,8 @@ use mathlib.Core.Path.{_≡_, refl, ap, _∙_}
 use Prim.Native.Nat.{_≤_, _-_}
 use borrow.Author.Needs.{needs}
 use native.Mathlib.Omega.{arith}
-use Rattle.pruning.proofs.words.turn_all.Statement.{statement}
-use Rattle.pruning.proofs.words.turn_all.Tie as tie
+use Rattle.sides.proofs.turn_all.Statement.{statement}
+use Rattle.sides.proofs.turn_all.Tie as tie
 
 abbrev Inv-loop : tie.InvT-loop
 Inv-loop x y delta own labels words₀ w₀ words w =

@@ -1,14 +1,14 @@
 -- `own_word` meets its contract: each return by the law of its case.
 use Prim.Native.Nat.{_-_, _^_}
-use Rattle.pruning.specs.Laws.Word.{own-before, own-after, own-in}
+use Rattle.sides.specs.Laws.Word.{own-before, own-after, own-in}
 use lib.Pow.{shl-exact}
 use lib.Dec.{lit<}
 use native.Mathlib.Nat.{one-mul}
 use mathlib.Core.Path.{sym, _∙_}
 use native.Mathlib.Omega.{arith}
 use borrow.Author.Needs.{needs}
-use Rattle.pruning.proofs.words.own_word.Statement.{statement}
-use Rattle.pruning.proofs.words.own_word.Tie as tie
+use Rattle.sides.proofs.own_word.Statement.{statement}
+use Rattle.sides.proofs.own_word.Tie as tie
 
 returns : tie.Need-returns
 returns c =

@@ -19,9 +19,8 @@ use Rattle.records.specs.Bits.{bitAt, withBit}
 use Rattle.records.specs.Laws.Bits.{bit-of-zero, bit-set, bit-set-other, with-bit-clear}
 use Rattle.stores.specs.Laws.Store.{remade-table, tabulate-cong}
 use Rattle.components.specs.Labels.{relabelled, endsJoined}
-use Rattle.pruning.specs.Side.{sideStep, sides}
-use Rattle.pruning.specs.Prunable.{EdgeStep}
-use Rattle.pruning.specs.Word.{wordBits, pickedIn, inBatch, ownWord, turned, sideWords, turnedAll, edgeTaken}
+use Rattle.sides.specs.Side.{sideStep, sides}
+use Rattle.sides.specs.Word.{wordBits, pickedIn, inBatch, ownWord, turned, sideWords, turnedAll, edgeTaken}
 
 pub picked-not : (picked : List ℕ) (e : ℕ) → getD picked e 0 ≡ 0 → pickedIn picked e ≡ false
 unfolding pickedIn
@@ -307,12 +306,3 @@ pub ends-joined-by : (a b : ℕ) (labels : List ℕ) {after : List ℕ} {x y : �
     → after ≡ endsJoined a b labels
 unfolding endsJoined
 ends-joined-by a b labels hx hy r = r ∙ rw (hx, hy)
-
--- An edge of the set.
-pub step-taken : {in-set : Bool} (a b base i : ℕ) {labels words labels-after words-after : List ℕ} → in-set ≡ true → labels-after ≡ endsJoined a b labels
-    → words-after ≡ edgeTaken a b (ownWord base i) labels words → EdgeStep in-set a b base i labels words (i + 1) labels-after words-after
-step-taken a b base i t l w = record { index = rw (t, counted-true refl 1); labels-are = rw t l; words-are = rw t w }
-
--- And another.
-pub step-passed : {in-set : Bool} (a b base i : ℕ) (labels words : List ℕ) → in-set ≡ false → EdgeStep in-set a b base i labels words i labels words
-step-passed a b base i labels words t = record { index = omega (arith, counted-false t 1); labels-are = rw t; words-are = rw t }

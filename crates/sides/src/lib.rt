@@ -1,13 +1,13 @@
 // One word for each vertex: its sides of up to 64 picked edges.
 ghost use mathlib.Core.Path.{_≡_};
-ghost use Prim.Native.Nat.{_≤_};
+ghost use Prim.Native.Nat.{_+_, _<_, _^_};
 ghost use lib.ListN.{getD, length};
 ghost use lib.Dec.{eqb};
-ghost use Rattle.finite.specs.Below.{counted, tabulate};
-ghost use Rattle.limits.specs.Limits.{maxVertices, maxEdges};
+ghost use Rattle.finite.specs.Below.{counted};
+ghost use Rattle.limits.specs.Limits.{maxVertices};
 ghost use Rattle.components.specs.Labels.{endsJoined};
-ghost use Rattle.pruning.specs.Word.{pickedIn, ownWord, turned, turnedAll, edgeTaken, sideWords};
-ghost use Rattle.pruning.specs.Prunable.{EndsBelow, EdgeStep};
+ghost use Rattle.sides.specs.Word.{pickedIn, ownWord, turned, turnedAll, edgeTaken};
+ghost use Rattle.sides.specs.Taken.{EdgeStep, takenBelow};
 use reads::at64;
 use stores::put64;
 
@@ -90,7 +90,7 @@ fn take_edge(
     e: usize,
     i: usize,
 ) -> usize
-    requires { ⌜ i ≤ maxEdges ⌝ }
+    requires { ⌜ i + 1 < 2 ^ 64 ⌝ }
     ensures { λ r. ⌜ EdgeStep (pickedIn (now (picked .entry)) e) (getD (now (firsts .entry)) e 0) (getD (now (seconds .entry)) e 0) base i (now (labels .entry)) (now (words .entry)) r (now (labels .exit)) (now (words .exit)) ⌝ }
 {
     if is_picked(picked, e) {
@@ -108,8 +108,7 @@ fn take_edge(
 
 // The words of all vertices for the picked edges whose indexes are the 64 from base on.
 pub fn side_words(firsts: &[u32], seconds: &[u32], picked: &[u8], base: usize) -> [u64; 256]
-    requires { ⌜ EndsBelow (now firsts) (now seconds) ⌝ }
-    ensures { λ r. ⌜ r ≡ tabulate maxVertices (sideWords maxVertices (λ e. getD (now (firsts .entry)) e 0) (λ e. getD (now (seconds .entry)) e 0) (pickedIn (now (picked .entry))) base (length (now (firsts .entry)))) ⌝ }
+    ensures { λ r. ⌜ r ≡ takenBelow maxVertices (λ e. getD (now (firsts .entry)) e 0) (λ e. getD (now (seconds .entry)) e 0) (pickedIn (now (picked .entry))) base (length (now (firsts .entry))) .words ⌝ }
 {
     let mut labels = [0u32; 256];
     components::own_labels(&mut labels);

@@ -1,9 +1,9 @@
 -- `take_edge` meets its contract: a branch on whether the edge is picked.
-use Rattle.pruning.specs.Laws.Word.{step-taken, step-passed}
+use Rattle.sides.specs.Laws.Taken.{step-taken, step-passed}
 use mathlib.Core.Path.{sym, _∙_}
 use borrow.Author.Needs.{needs}
-use Rattle.pruning.proofs.words.take_edge.Statement.{statement}
-use Rattle.pruning.proofs.words.take_edge.Tie as tie
+use Rattle.sides.proofs.take_edge.Statement.{statement}
+use Rattle.sides.proofs.take_edge.Tie as tie
 
 is-picked-requires : tie.Need-is-picked-requires
 is-picked-requires c κs = search needs

@@ -17,7 +17,7 @@ use Rattle.steiner.specs.Problem.{Problem, Sound, Joins, separates}
 use Rattle.steiner.specs.Pruning.{needed}
 use Rattle.steiner.specs.Laws.Joined.{Bounded}
 use Rattle.steiner.specs.Laws.Cut.{needed-by-cut}
-use Rattle.pruning.specs.Side.{sideStep, sides}
+use Rattle.sides.specs.Side.{sideStep, sides}
 
 -- ---- exclusive or
 
