@@ -10,8 +10,8 @@ ghost use Rattle.survey.specs.Accuracy.{Accurate};
 ghost use Rattle.certificate.specs.Laws.Meaning.{Passing};
 ghost use Rattle.certificate.specs.Check.{Checked, ruleRefusal, checkedOf, checking};
 ghost use Rattle.checker.specs.Stage.{inputRefusal, dualsRefusal, allButRule, PlanFits, outcomeOf};
-use limits::Verdict;
 use components::Chosen;
+use limits::Verdict;
 
 mod cuts;
 mod duals;

@@ -12,9 +12,9 @@ ghost use Rattle.survey.specs.Survey.{surveyFrom};
 ghost use Rattle.survey.specs.Refusal.{surveyRefusal, groupRefusal};
 ghost use Rattle.stores.specs.Store.{remade};
 ghost use Rattle.components.specs.Labels.{chosenMark, chosen, relabelled, endsJoined, EndsFit};
-use stores::put32;
 use limits::MAX_VERTICES;
 use limits::Verdict;
+use stores::put32;
 
 // A set of edges: all of a survey's, or those that are marked kept.
 pub enum Chosen {

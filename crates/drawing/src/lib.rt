@@ -7,9 +7,9 @@ ghost use lib.Dec.{eqb};
 ghost use Rattle.records.specs.Record.{recordOf, withMemberIn};
 ghost use Rattle.drawing.specs.Drawing.{recordsOver, recordsFrom, dualIf, labelled, PartFits, Fits};
 ghost use Rattle.drawing.specs.Trace.{endOf, arisen, traceFrom, dualsIn, Drawable};
-use limits::RECORD_BYTES;
 use components::merge;
 use components::own_labels;
+use limits::RECORD_BYTES;
 use reads::at64;
 
 // Adds member v, if its label is c.

@@ -10,10 +10,10 @@ ghost use Rattle.limits.specs.Verdict.{refuseIf, lowestBelow};
 ghost use Rattle.steiner.specs.Problem.{terminals};
 ghost use Rattle.survey.specs.Survey.{groupsAlone, groupJoined, problemOf};
 ghost use Rattle.groups.specs.Spread.{noted, notedIn, spread};
-use reads::at64;
-use stores::put64;
 use limits::GROUP_NUMBERS;
 use limits::Verdict;
+use reads::at64;
+use stores::put64;
 
 // What one more member's label makes of a group's summary.
 fn noted_label(summary: u64, label: u64) -> u64

@@ -13,9 +13,9 @@ ghost use Rattle.planner.specs.Plan.{planRefusal, planOf, countsOf, coun
 ghost use Rattle.planner.specs.Answer.{outcomeOf};
 ghost use Rattle.planner.specs.Laws.Ready.{Ready};
 ghost use Rattle.planner.specs.Laws.Promise.{Promises};
+use components::Chosen;
 use limits::RECORD_BYTES;
 use limits::Verdict;
-use components::Chosen;
 
 // What planning answers: k, cost, bound, rounds and the number of moats; or a refusal's number and place.
 pub enum Planned {

@@ -5,8 +5,8 @@ use mathlib.Core.List.{[], _∷_, _++_}
 use lib.Dec.{eqb}
 use Rattle.limits.specs.Verdict.{refuseIf, _before_}
 use Rattle.records.specs.Record.{recordOf}
-use Rattle.printing.specs.Key.{ascii, terminalsKey, costKey, boundKey, roundsKey, keptKey, dualKey}
-use Rattle.printing.specs.Text.{planText}
+use Rattle.writing.specs.Key.{ascii, terminalsKey, costKey, boundKey, roundsKey, keptKey, dualKey}
+use Rattle.writing.specs.Text.{planText}
 use Rattle.printing.specs.Examples.{p3-printed}
 use Rattle.text.specs.Step.{found, _then_, checked, linesAfter}
 use Rattle.text.specs.Number.{classOf, isDigit, byteIs, fixedAt, digitsEnd, numeralEnd, numeralAt, decimalFrom, numberAt, numberTo}

@@ -13,7 +13,7 @@ use Rattle.limits.specs.Limits.{maxDigits, memberBytes, recordBytes, maxDuals}
 use Rattle.limits.specs.Verdict.{refuseIf, _before_, Outcome, refusal, answer, outcome}
 use Rattle.limits.specs.declared.Verdict.{Verdict}
 use Rattle.records.specs.Record.{recordOf, withMemberIn}
-use Rattle.printing.specs.Key.{terminalsKey, costKey, boundKey, roundsKey, keptKey, dualKey, colon, comma, newline}
+use Rattle.writing.specs.Key.{terminalsKey, costKey, boundKey, roundsKey, keptKey, dualKey, colon, comma, newline}
 use Rattle.text.specs.Step.{Step, found, refused, _then_, checked, Lines, linesAfter}
 use Rattle.text.specs.Number.{byteIs, fixedAt, numberAt, numberTo}
 use Rattle.plantext.specs.Items.{Reader, itemsFrom}

@@ -6,9 +6,9 @@ use lib.Dec.{eqb}
 use Rattle.finite.specs.Below.{counted, sumBelow, thoseBelow, tabulate}
 use Rattle.records.specs.Bits.{bitAt, byteOf, bytesOf, memberAt, lowBytes, numberOf}
 use Rattle.records.specs.Record.{recordOf, valueIn, memberIn, recordAt}
-use Rattle.printing.specs.Key.{ascii, terminalsKey, costKey, boundKey, roundsKey, keptKey, dualKey}
-use Rattle.printing.specs.Decimal.{digitsWithin, decimal}
-use Rattle.printing.specs.Text.{lineOf, listed, membersOf, dualLine, textBelow, keptLine, keptLines, dualLines, countLines, planText}
+use Rattle.writing.specs.Key.{ascii, terminalsKey, costKey, boundKey, roundsKey, keptKey, dualKey}
+use Rattle.writing.specs.Decimal.{digitsWithin, decimal}
+use Rattle.writing.specs.Text.{lineOf, listed, membersOf, dualLine, textBelow, keptLine, keptLines, dualLines, countLines, planText}
 
 -- P3's plan: k, cost, bound, rounds, marks, moats.
 pub p3-printed : planText

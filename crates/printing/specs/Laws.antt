@@ -1,5 +1,2 @@
-pub mod Decimal
-pub mod Text
-pub mod Wrote
 pub mod Print
 pub mod Room

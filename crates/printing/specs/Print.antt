@@ -12,7 +12,7 @@ use Rattle.limits.specs.declared.Verdict.the-variants.{Fine, Refused}
 use Rattle.printing.specs.declared.Printed.{Printed}
 use Rattle.printing.specs.declared.Printed.the-variants.{Length}
 use Rattle.printing.specs.declared.Printed.the-variants.{Refused as RefusedPrint}
-use Rattle.printing.specs.Text.{dualLine}
+use Rattle.writing.specs.Text.{dualLine}
 
 -- The answer: the text's length, or the refusal.
 unfoldable pub answerOf : Verdict → (text : List ℕ) → Printed

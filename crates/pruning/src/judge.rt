@@ -10,11 +10,11 @@ ghost use Rattle.survey.specs.Survey.{groupsAlone, problemOf};
 ghost use Rattle.stores.specs.Store.{remade};
 ghost use Rattle.sides.specs.Word.{wordBits, pickedIn};
 ghost use Rattle.pruning.specs.Judge.{sideIn, judged, raised, MarkStep, Judging};
-use sides::WORD_BITS;
-use sides::is_picked;
 use limits::MAX_VERTICES;
 use limits::Verdict;
 use reads::at64;
+use sides::WORD_BITS;
+use sides::is_picked;
 use stores::put8;
 
 // 1 where bit k is set, else 0.

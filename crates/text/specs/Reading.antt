@@ -7,7 +7,7 @@ use lib.Dec.{eqb, ltb, leb}
 use Rattle.limits.specs.Limits.{maxVertices, maxEdges, groupNumbers, maxDigits}
 use Rattle.limits.specs.Verdict.{refuseIf, _before_, Outcome, refusal, answer}
 use Rattle.limits.specs.declared.Verdict.{Verdict}
-use Rattle.printing.specs.Key.{ascii, comma, newline}
+use Rattle.writing.specs.Key.{ascii, comma, newline}
 use Rattle.text.specs.Step.{Step, found, refused, _then_, checked, Lines, linesFrom, linesAfter}
 use Rattle.text.specs.Number.{fixedAt, numberTo}
 

@@ -2,9 +2,9 @@
 use Prim.Native.Nat.{ℕ}
 use mathlib.Core.List.{List, [], _∷_, _++_}
 use lib.ListN.{length}
-use Rattle.printing.specs.Key.{comma, newline}
-use Rattle.printing.specs.Decimal.{decimal}
-use Rattle.printing.specs.Text.{lineOf}
+use Rattle.writing.specs.Key.{comma, newline}
+use Rattle.writing.specs.Decimal.{decimal}
+use Rattle.writing.specs.Text.{lineOf}
 use Rattle.text.specs.Reading.{nodesKey, linksKey, nodeKey, linkKey, Edge}
 
 -- A number and the byte that ends it.

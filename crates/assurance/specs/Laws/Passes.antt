@@ -7,7 +7,7 @@ use lib.ListN.{length, take}
 use Rattle.limits.specs.Limits.{recordBytes}
 use Rattle.limits.specs.Verdict.{answer}
 use Rattle.limits.specs.declared.Verdict.the-variants.{Fine}
-use Rattle.printing.specs.Text.{planText}
+use Rattle.writing.specs.Text.{planText}
 use Rattle.text.specs.Reading.{reading}
 use Rattle.text.specs.Reading.{Survey as SurveyText}
 use Rattle.steiner.specs.Laws.Rounds.{rounds-lt, grown-reached}

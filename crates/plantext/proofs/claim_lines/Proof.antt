@@ -1,7 +1,7 @@
 -- `plantext::claim_lines` meets its contract: a refusal of any line stays, and a value goes on to the next line.
 use borrow.Author.Needs.{needs}
 use mathlib.Core.Path.{sym, _∙_}
-use Rattle.printing.specs.Key.{terminalsKey, costKey, boundKey, roundsKey}
+use Rattle.writing.specs.Key.{terminalsKey, costKey, boundKey, roundsKey}
 use Rattle.text.specs.Laws.Step.{stopped-stays, value-goes}
 use Rattle.plantext.specs.Plan.{claimsAt}
 use Rattle.plantext.specs.Answer.{claimsStep}

@@ -1,6 +1,6 @@
 -- `plantext::keep_line` meets its contract: the tests decide the case of the definition.
 use borrow.Author.Needs.{needs}
-use Rattle.printing.specs.Key.{keptKey}
+use Rattle.writing.specs.Key.{keptKey}
 use Rattle.text.specs.Answer.{numberStep}
 use Rattle.text.specs.Laws.Step.{refusal-stays, check-refused, check-fine}
 use Rattle.plantext.specs.Plan.{keepLine, keptTest}

@@ -1,7 +1,7 @@
 -- `plantext::moat_head` meets its contract: a refusal of any part stays, and a value goes on to the next part.
 use borrow.Author.Needs.{needs}
 use mathlib.Core.Path.{sym, _∙_}
-use Rattle.printing.specs.Key.{dualKey}
+use Rattle.writing.specs.Key.{dualKey}
 use Rattle.text.specs.Answer.{numberStep}
 use Rattle.text.specs.Laws.Step.{refusal-stays, value-goes}
 use Rattle.plantext.specs.Plan.{moatHead}

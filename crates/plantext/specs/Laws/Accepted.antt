@@ -11,8 +11,8 @@ use lib.Dec.{leb}
 use borrow.Author.Tests.{leb-true, leb-false}
 use Rattle.limits.specs.Limits.{maxDigits, recordBytes, maxDuals}
 use Rattle.limits.specs.Verdict.{answer, outcome}
-use Rattle.printing.specs.Key.{keptKey, terminalsKey, costKey, boundKey, roundsKey, newline}
-use Rattle.printing.specs.Text.{lineOf, countLines}
+use Rattle.writing.specs.Key.{keptKey, terminalsKey, costKey, boundKey, roundsKey, newline}
+use Rattle.writing.specs.Text.{lineOf, countLines}
 use Rattle.text.specs.Step.{Step, found, refused, _then_, linesAfter}
 use Rattle.text.specs.Render.{textOf}
 use Rattle.text.specs.Laws.Step.{then-value, then-refused, fixed-short}

@@ -10,9 +10,9 @@ use lib.ListN.{length, getD, length-append}
 use borrow.Author.Tests.{lt-leb, le-leb}
 use Rattle.limits.specs.Limits.{maxDigits, maxDuals}
 use Rattle.limits.specs.declared.Verdict.{Verdict}
-use Rattle.printing.specs.Key.{newline, comma, colon, dualKey, keptKey, terminalsKey, costKey, boundKey, roundsKey}
-use Rattle.printing.specs.Decimal.{decimal}
-use Rattle.printing.specs.Text.{lineOf, listed, countLines}
+use Rattle.writing.specs.Key.{newline, comma, colon, dualKey, keptKey, terminalsKey, costKey, boundKey, roundsKey}
+use Rattle.writing.specs.Decimal.{decimal}
+use Rattle.writing.specs.Text.{lineOf, listed, countLines}
 use Rattle.text.specs.Step.{found, refused, _then_, checked, Lines, linesAfter}
 use Rattle.text.specs.Number.{isDigit, classOf, byteIs, fixedAt, numberAt, numberTo}
 use Rattle.text.specs.Render.{numberText, textOf}

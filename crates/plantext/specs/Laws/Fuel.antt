@@ -9,7 +9,7 @@ use lib.Dec.{eqb}
 use borrow.Author.Tests.{eqb-false}
 use Rattle.limits.specs.declared.Verdict.{Verdict}
 use Rattle.limits.specs.declared.Verdict.the-variants.{Fine, Refused}
-use Rattle.printing.specs.Key.{newline, colon, keptKey, dualKey}
+use Rattle.writing.specs.Key.{newline, colon, keptKey, dualKey}
 use Rattle.limits.specs.Limits.{maxDigits}
 use Rattle.text.specs.Step.{Step, found, refused, checked}
 use Rattle.text.specs.Number.{byteIs, fixedAt, numeralAt, numberAt, numberTo, decimalFrom}

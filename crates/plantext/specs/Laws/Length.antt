@@ -10,11 +10,11 @@ use Rattle.finite.specs.Below.{sumBelow}
 use Rattle.finite.specs.Laws.Below.{lt-or-ge}
 use Rattle.limits.specs.Limits.{recordBytes, maxVertices, maxEdges, maxDuals}
 use Rattle.limits.specs.Verdict.{answer}
-use Rattle.printing.specs.Key.{keptKey, comma}
-use Rattle.printing.specs.Decimal.{decimal}
-use Rattle.printing.specs.Text.{lineOf, listed, keptLine}
+use Rattle.writing.specs.Key.{keptKey, comma}
+use Rattle.writing.specs.Decimal.{decimal}
+use Rattle.writing.specs.Text.{lineOf, listed, keptLine}
 use Rattle.printing.specs.Room.{longestDual, planRoom}
-use Rattle.printing.specs.Laws.Decimal.{length-decimal}
+use Rattle.writing.specs.Laws.Decimal.{length-decimal}
 use Rattle.printing.specs.Laws.Room.{roomBelow, room-of-members, length-dual, kept-line-le, length-count-lines}
 use Rattle.text.specs.Step.{found}
 use Rattle.text.specs.Reading.{testsFor}

@@ -11,9 +11,9 @@ use borrow.Author.Tests.{leb-true, leb-false}
 use Rattle.limits.specs.Limits.{maxDigits}
 use Rattle.limits.specs.declared.Verdict.{Verdict}
 use Rattle.limits.specs.declared.Verdict.the-variants.{Fine, Refused}
-use Rattle.printing.specs.Key.{keptKey, dualKey, colon, newline}
-use Rattle.printing.specs.Decimal.{decimal}
-use Rattle.printing.specs.Text.{lineOf, listed}
+use Rattle.writing.specs.Key.{keptKey, dualKey, colon, newline}
+use Rattle.writing.specs.Decimal.{decimal}
+use Rattle.writing.specs.Text.{lineOf, listed}
 use Rattle.text.specs.Step.{Step, found, refused, _then_, checked, Lines}
 use Rattle.text.specs.Number.{isDigit, classOf, byteIs, fixedAt, numberAt, numberTo}
 use Rattle.text.specs.Reading.{numberLine}

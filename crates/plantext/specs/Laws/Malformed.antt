@@ -11,8 +11,8 @@ use borrow.Author.Tests.{le-leb, lt-leb}
 use Rattle.limits.specs.Verdict.{refusal}
 use Rattle.limits.specs.declared.Verdict.{Verdict}
 use Rattle.limits.specs.declared.Verdict.the-variants.{Fine, Refused}
-use Rattle.printing.specs.Key.{keptKey}
-use Rattle.printing.specs.Text.{lineOf}
+use Rattle.writing.specs.Key.{keptKey}
+use Rattle.writing.specs.Text.{lineOf}
 use Rattle.text.specs.Step.{Step, found, refused, _then_, checked, Lines, linesAfter}
 use Rattle.text.specs.Number.{byteIs}
 use Rattle.text.specs.Render.{textOf}

@@ -8,7 +8,7 @@ use Rattle.limits.specs.Limits.{maxVertices, maxEdges}
 use Rattle.limits.specs.Verdict.{answer}
 use Rattle.records.specs.Bits.{Bytes}
 use Rattle.printing.specs.Room.{planRoom}
-use Rattle.printing.specs.Text.{planText}
+use Rattle.writing.specs.Text.{planText}
 use Rattle.printing.specs.Laws.Room.{plan-text-le}
 use Rattle.text.specs.Step.{found}
 use Rattle.text.specs.Reading.{Edge, outcomeOf, reading}

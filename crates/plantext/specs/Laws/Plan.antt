@@ -16,7 +16,7 @@ use Rattle.records.specs.Laws.Bits.{bytes-cong}
 use Rattle.records.specs.Record.{recordOf, startedAs}
 use Rattle.records.specs.Laws.Record.{started-whole, member-added-record, length-record}
 use Rattle.text.specs.Step.{Step, found, refused, _then_, checked, Lines}
-use Rattle.printing.specs.Key.{newline}
+use Rattle.writing.specs.Key.{newline}
 use Rattle.text.specs.Laws.Byte.{byte-inside}
 use Rattle.text.specs.Laws.Step.{then-value}
 use Rattle.text.specs.Laws.Tests.{checked-fine, checked-value}

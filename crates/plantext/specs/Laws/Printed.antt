@@ -10,8 +10,8 @@ use Rattle.finite.specs.Below.{thoseBelow, tabulate}
 use Rattle.finite.specs.Laws.Below.{length-tabulate}
 use Rattle.limits.specs.Limits.{maxDigits, recordBytes, maxEdges, maxDuals}
 use Rattle.records.specs.Record.{valueIn, memberIn, recordAt}
-use Rattle.printing.specs.Key.{keptKey}
-use Rattle.printing.specs.Text.{lineOf, membersOf, dualLine, textBelow, keptLine, keptLines, dualLines, countLines, planText}
+use Rattle.writing.specs.Key.{keptKey}
+use Rattle.writing.specs.Text.{lineOf, membersOf, dualLine, textBelow, keptLine, keptLines, dualLines, countLines, planText}
 use Rattle.text.specs.Step.{found}
 use Rattle.text.specs.Render.{textOf}
 use Rattle.text.specs.Laws.Stands.{Stands, stands-end}

@@ -18,7 +18,7 @@ use Rattle.records.specs.Record.{recordOf, valueIn, memberIn, recordAt}
 use Rattle.records.specs.Laws.Bits.{bytes-cong, bytes-of-members}
 use Rattle.records.specs.Laws.Amount.{low-of-number, bytes-part}
 use Rattle.records.specs.Laws.Record.{bytes-record-at}
-use Rattle.printing.specs.Text.{membersOf}
+use Rattle.writing.specs.Text.{membersOf}
 use Rattle.limits.specs.Verdict.{answer}
 use Rattle.steiner.specs.Problem.{Joins, terminals, cost}
 use Rattle.steiner.specs.Dual.{total}

@@ -5,7 +5,7 @@ use mathlib.Core.List.{[], _∷_}
 use borrow.Author.Tests.{lt-ltb, le-ltb, le-leb, lt-leb}
 use Rattle.limits.specs.Verdict.{refuseIf, _before_}
 use Rattle.limits.specs.declared.Verdict.the-variants.{Fine, Refused}
-use Rattle.printing.specs.Key.{comma}
+use Rattle.writing.specs.Key.{comma}
 use Rattle.plantext.specs.Plan.{keptTest, risen, moatTest, separator}
 
 module _ (m low i e : ℕ) where

@@ -3,8 +3,8 @@ use Prim.Native.Nat.{_<_}
 use native.Mathlib.Omega.{arith}
 use mathlib.Core.Path.{_∙_}
 use lib.ListN.{length}
-use Rattle.printing.specs.Wrote.{farthest}
-use Rattle.printing.specs.Text.{dualLine}
+use Rattle.writing.specs.Wrote.{farthest}
+use Rattle.writing.specs.Text.{dualLine}
 use Rattle.printing.specs.Laws.Print.{short-prints, fit-prints, dual-short-answer, dual-short-out, dual-answer, dual-out}
 use borrow.Author.Needs.{needs}
 use Rattle.printing.proofs.print_dual.Statement.{statement}

@@ -2,8 +2,8 @@
 use Prim.Native.Nat.{_<_}
 use native.Mathlib.Omega.{arith}
 use lib.ListN.{length}
-use Rattle.printing.specs.Wrote.{farthest}
-use Rattle.printing.specs.Text.{planText}
+use Rattle.writing.specs.Wrote.{farthest}
+use Rattle.writing.specs.Text.{planText}
 use Rattle.printing.specs.Laws.Print.{short-prints, fit-prints}
 use borrow.Author.Needs.{needs}
 use Rattle.printing.proofs.print_plan.Statement.{statement}

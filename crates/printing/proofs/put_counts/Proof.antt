@@ -1,11 +1,11 @@
 -- `put_counts`: four lines.
 use native.Mathlib.Omega.{arith}
 use lib.ListN.{length}
-use Rattle.printing.specs.Wrote.{farthest}
-use Rattle.printing.specs.Laws.Wrote.{wrote-then}
+use Rattle.writing.specs.Wrote.{farthest}
+use Rattle.writing.specs.Laws.Wrote.{wrote-then}
 use Prim.Native.Nat.{_≤_}
-use Rattle.printing.specs.Key.{terminalsKey, costKey, boundKey, roundsKey}
-use Rattle.printing.specs.Text.{countLines}
+use Rattle.writing.specs.Key.{terminalsKey, costKey, boundKey, roundsKey}
+use Rattle.writing.specs.Text.{countLines}
 use borrow.Author.Needs.{needs}
 use Rattle.printing.proofs.put_counts.Statement.{statement}
 use Rattle.printing.proofs.put_counts.Tie as tie

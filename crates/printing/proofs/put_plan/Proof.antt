@@ -2,9 +2,9 @@
 use Prim.Native.Nat.{_≤_}
 use native.Mathlib.Omega.{arith}
 use lib.ListN.{length}
-use Rattle.printing.specs.Wrote.{farthest}
-use Rattle.printing.specs.Laws.Wrote.{wrote-then}
-use Rattle.printing.specs.Text.{planText}
+use Rattle.writing.specs.Wrote.{farthest}
+use Rattle.writing.specs.Laws.Wrote.{wrote-then}
+use Rattle.writing.specs.Text.{planText}
 use borrow.Author.Needs.{needs}
 use Rattle.printing.proofs.put_plan.Statement.{statement}
 use Rattle.printing.proofs.put_plan.Tie as tie

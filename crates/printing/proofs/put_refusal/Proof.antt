@@ -3,10 +3,10 @@ use Prim.Native.Nat.{_≤_}
 use native.Mathlib.Omega.{arith}
 use mathlib.Core.Path.{ap}
 use lib.ListN.{length}
-use Rattle.printing.specs.Wrote.{farthest}
-use Rattle.printing.specs.Laws.Wrote.{wrote-then, wrote-as}
-use Rattle.printing.specs.Key.{refusedKey, placeKey}
-use Rattle.printing.specs.Text.{lineOf, refusalText}
+use Rattle.writing.specs.Wrote.{farthest}
+use Rattle.writing.specs.Laws.Wrote.{wrote-then, wrote-as}
+use Rattle.writing.specs.Key.{refusedKey, placeKey}
+use Rattle.writing.specs.Text.{lineOf, refusalText}
 use borrow.Author.Needs.{needs}
 use Rattle.printing.proofs.put_refusal.Statement.{statement}
 use Rattle.printing.proofs.put_refusal.Tie as tie

@@ -10,10 +10,10 @@ use Rattle.limits.specs.Limits.{recordBytes}
 use Rattle.limits.specs.Verdict.{refuseIf, _before_, written}
 use Rattle.printing.specs.declared.Printed.{Printed}
 use Rattle.printing.specs.declared.Printed.the-variants.{Length, Refused}
-use Rattle.printing.specs.Text.{dualLine}
+use Rattle.writing.specs.Text.{dualLine}
 use Rattle.printing.specs.Print.{printRefusal, answerOf, outAfter, printed, printedOut, dualPrintRefusal, dualPrinted, dualPrintedOut}
-use Rattle.printing.specs.Wrote.{farthest, Wrote}
-use Rattle.printing.specs.Laws.Wrote.{sets-past}
+use Rattle.writing.specs.Wrote.{farthest, Wrote}
+use Rattle.writing.specs.Laws.Wrote.{sets-past}
 
 -- What a print call does, the answer and the buffer at once.
 pub record Prints (text out new : List ℕ) (r : Printed) : Type 0 where

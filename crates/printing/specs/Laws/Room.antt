@@ -16,14 +16,14 @@ use Rattle.records.specs.Bits.{Bytes}
 use Rattle.records.specs.Record.{valueIn, memberIn, recordAt}
 use Rattle.records.specs.Laws.Record.{value-lt, bytes-record-at}
 use Rattle.printing.specs.declared.Printed.the-variants.{Length}
-use Rattle.printing.specs.Key.{terminalsKey, costKey, boundKey, roundsKey, keptKey, dualKey, refusedKey, placeKey, colon, newline}
-use Rattle.printing.specs.Decimal.{digitsWithin, decimal}
-use Rattle.printing.specs.Text.{lineOf, listed, membersOf, dualLine, textBelow, keptLine, keptLines, dualLines, countLines, planText, refusalText}
-use Rattle.printing.specs.Wrote.{isNone, itemOf}
+use Rattle.writing.specs.Key.{terminalsKey, costKey, boundKey, roundsKey, keptKey, dualKey, refusedKey, placeKey, colon, newline}
+use Rattle.writing.specs.Decimal.{digitsWithin, decimal}
+use Rattle.writing.specs.Text.{lineOf, listed, membersOf, dualLine, textBelow, keptLine, keptLines, dualLines, countLines, planText, refusalText}
+use Rattle.writing.specs.Wrote.{isNone, itemOf}
 use Rattle.printing.specs.Print.{printRefusal, answerOf, printed, dualPrintRefusal, dualPrinted}
 use Rattle.printing.specs.Room.{dualRoom, longestDual, planRoom, refusalRoom}
-use Rattle.printing.specs.Laws.Decimal.{length-decimal}
-use Rattle.printing.specs.Laws.Text.{listed-snoc}
+use Rattle.writing.specs.Laws.Decimal.{length-decimal}
+use Rattle.writing.specs.Laws.Text.{listed-snoc}
 
 -- ---- a list of members
 

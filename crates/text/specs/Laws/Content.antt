@@ -8,9 +8,9 @@ use lib.ListN.{length}
 use Rattle.limits.specs.Limits.{maxDigits}
 use Rattle.limits.specs.declared.Verdict.{Verdict}
 use Rattle.limits.specs.declared.Verdict.the-variants.{Fine, Refused}
-use Rattle.printing.specs.Key.{comma, newline}
-use Rattle.printing.specs.Decimal.{decimal}
-use Rattle.printing.specs.Text.{lineOf}
+use Rattle.writing.specs.Key.{comma, newline}
+use Rattle.writing.specs.Decimal.{decimal}
+use Rattle.writing.specs.Text.{lineOf}
 use Rattle.text.specs.Step.{Step, found, refused, _then_, checked, Lines, more, linesFrom}
 use Rattle.text.specs.Number.{isDigit, classOf, fixedAt, numberTo}
 use Rattle.text.specs.Reading.{linkKey, numberLine, Edge, edgeLine}

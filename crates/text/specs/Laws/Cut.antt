@@ -13,7 +13,7 @@ use borrow.Author.Tests.{leb-true, leb-false}
 use Rattle.limits.specs.Limits.{maxVertices, maxEdges, maxDigits}
 use Rattle.limits.specs.declared.Verdict.{Verdict}
 use Rattle.limits.specs.declared.Verdict.the-variants.{Fine, Refused}
-use Rattle.printing.specs.Key.{comma, newline}
+use Rattle.writing.specs.Key.{comma, newline}
 use Rattle.text.specs.Step.{Step, found, refused, _then_, checked, linesFrom}
 use Rattle.text.specs.Number.{byteIs, fixedAt, numeralEnd, numeralAt, decimalFrom, numberAt, numberTo}
 use Rattle.text.specs.Reading.{nodesKey, linksKey, nodeKey, linkKey, Tests, testsFor, verticesTest, edgesTest, groupTest, numberLine, countLine, groupLine, groupLines, edgeLine, edgeLines, endAt, surveyOf, surveyAt, outcomeOf, reading}

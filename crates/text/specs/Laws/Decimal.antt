@@ -6,8 +6,8 @@ use mathlib.Core.Logic.{⊎-elim}
 use mathlib.Core.List.{List, [], _∷_, _++_, append-assoc, append-nil}
 use lib.ListN.{length, getD, length-append}
 use Rattle.finite.specs.Laws.Below.{lt-or-ge}
-use Rattle.printing.specs.Decimal.{decimal}
-use Rattle.printing.specs.Laws.Decimal.{decimal-small, decimal-more}
+use Rattle.writing.specs.Decimal.{decimal}
+use Rattle.writing.specs.Laws.Decimal.{decimal-small, decimal-more}
 use Rattle.text.specs.Number.{decimalFrom}
 use Rattle.text.specs.Laws.Digits.{Digits, none, one}
 

@@ -6,10 +6,10 @@ use mathlib.Core.List.{List, [], _∷_, _++_}
 use lib.ListN.{length, length-append}
 use Rattle.limits.specs.Limits.{maxVertices, maxEdges, maxDigits}
 use Rattle.limits.specs.Verdict.{answer}
-use Rattle.printing.specs.Key.{comma, newline}
-use Rattle.printing.specs.Decimal.{decimal}
-use Rattle.printing.specs.Text.{lineOf}
-use Rattle.printing.specs.Laws.Decimal.{length-decimal}
+use Rattle.writing.specs.Key.{comma, newline}
+use Rattle.writing.specs.Decimal.{decimal}
+use Rattle.writing.specs.Text.{lineOf}
+use Rattle.writing.specs.Laws.Decimal.{length-decimal}
 use Rattle.text.specs.Reading.{nodesKey, linksKey, nodeKey, linkKey, Edge, Survey, reading}
 use Rattle.text.specs.Render.{numberText, edgeText, textOf, render}
 use Rattle.text.specs.Laws.Content.{SmallEdge, Each, none, next}

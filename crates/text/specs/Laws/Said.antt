@@ -4,7 +4,7 @@ use mathlib.Core.Path.{_≡_, refl, ap, sym, _∙_, subst, fun-ext}
 use mathlib.Core.List.{List, [], _++_}
 use lib.ListN.{length}
 use Rattle.limits.specs.declared.Verdict.the-variants.{Refused}
-use Rattle.printing.specs.Text.{lineOf}
+use Rattle.writing.specs.Text.{lineOf}
 use Rattle.text.specs.Step.{Step, found, refused, _then_, linesAfter}
 use Rattle.text.specs.Reading.{nodesKey, linksKey, nodeKey, Tests, countLine, countsAt, groupLine, groupLines, Edge, edgeLine, edgeLines, endAt, Counts, bodyAt, surveyOf, surveyAt}
 use Rattle.text.specs.Render.{edgeText, textOf, render}

@@ -10,7 +10,7 @@ use Rattle.limits.specs.Limits.{maxVertices, maxEdges, groupNumbers, maxDigits}
 use Rattle.limits.specs.Verdict.{refuseIf, _before_}
 use Rattle.limits.specs.declared.Verdict.{Verdict}
 use Rattle.limits.specs.declared.Verdict.the-variants.{Fine, Refused}
-use Rattle.printing.specs.Key.{comma, newline}
+use Rattle.writing.specs.Key.{comma, newline}
 use Rattle.text.specs.Step.{found, checked}
 use Rattle.text.specs.Reading.{verticesTest, edgesTest, groupTest, nodeKey, linkKey, numberLine, groupLine, Edge, edgeLine}
 use Rattle.text.specs.Number.{fixedAt, numberTo}

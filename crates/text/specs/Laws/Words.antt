@@ -9,8 +9,8 @@ use lib.ListN.{length, getD, take, drop, length-append, length-drop}
 use lib.Seq.{take-add, drop-at, getD-take, length-take-le}
 use lib.Dec.{eqb}
 use borrow.Author.Tests.{eq-eqb, ne-eqb, eqb-true, eqb-false}
-use Rattle.printing.specs.Decimal.{decimal}
-use Rattle.printing.specs.Laws.Decimal.{length-decimal, decimal-small}
+use Rattle.writing.specs.Decimal.{decimal}
+use Rattle.writing.specs.Laws.Decimal.{length-decimal, decimal-small}
 use Rattle.text.specs.Step.{Step, found, refused, _then_}
 use Rattle.text.specs.Number.{classOf, isDigit, byteIs, fixedAt, digitsEnd, numeralEnd, numeralAt, decimalFrom, numberAt, numberTo}
 use Rattle.text.specs.Render.{numberText}

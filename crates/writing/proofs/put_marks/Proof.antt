@@ -2,15 +2,15 @@
 use native.Mathlib.Omega.{arith}
 use mathlib.Core.Path.{_≡_, ap, sym}
 use lib.ListN.{length, getD}
-use Rattle.printing.specs.Wrote.{farthest}
-use Rattle.printing.specs.Laws.Wrote.{wrote-none, wrote-length, wrote-then, wrote-as}
+use Rattle.writing.specs.Wrote.{farthest}
+use Rattle.writing.specs.Laws.Wrote.{wrote-none, wrote-length, wrote-then, wrote-as}
 use Prim.Native.Nat.{_≤_, _-_}
-use Rattle.printing.specs.Text.{textBelow, keptLine, keptLines}
-use Rattle.printing.specs.Wrote.{Wrote}
-use Rattle.printing.specs.Laws.Text.{text-none, text-next}
+use Rattle.writing.specs.Text.{textBelow, keptLine, keptLines}
+use Rattle.writing.specs.Wrote.{Wrote}
+use Rattle.writing.specs.Laws.Text.{text-none, text-next}
 use borrow.Author.Needs.{needs}
-use Rattle.printing.proofs.put_marks.Statement.{statement}
-use Rattle.printing.proofs.put_marks.Tie as tie
+use Rattle.writing.proofs.put_marks.Statement.{statement}
+use Rattle.writing.proofs.put_marks.Tie as tie
 
 abbrev Inv-loop : tie.InvT-loop
 Inv-loop out₀ at marks next₀ e₀ out next e =

@@ -3,15 +3,15 @@ use Prim.Native.Nat.{_≤_}
 use native.Mathlib.Omega.{arith}
 use mathlib.Core.Path.{ap}
 use lib.ListN.{length}
-use Rattle.printing.specs.Wrote.{farthest}
-use Rattle.printing.specs.Laws.Wrote.{wrote-then, wrote-as}
+use Rattle.writing.specs.Wrote.{farthest}
+use Rattle.writing.specs.Laws.Wrote.{wrote-then, wrote-as}
 use mathlib.Core.List.{_++_}
-use Rattle.printing.specs.Key.{dualKey}
-use Rattle.printing.specs.Decimal.{decimal}
-use Rattle.printing.specs.Text.{dualLine}
+use Rattle.writing.specs.Key.{dualKey}
+use Rattle.writing.specs.Decimal.{decimal}
+use Rattle.writing.specs.Text.{dualLine}
 use borrow.Author.Needs.{needs}
-use Rattle.printing.proofs.put_dual.Statement.{statement}
-use Rattle.printing.proofs.put_dual.Tie as tie
+use Rattle.writing.proofs.put_dual.Statement.{statement}
+use Rattle.writing.proofs.put_dual.Tie as tie
 
 slice-aggregate-put-bytes : tie.Need-slice-aggregate-put-bytes
 slice-aggregate-put-bytes c = search needs

@@ -2,18 +2,18 @@
 use native.Mathlib.Omega.{arith}
 use mathlib.Core.Path.{_≡_, ap, sym}
 use lib.ListN.{length}
-use Rattle.printing.specs.Wrote.{farthest}
-use Rattle.printing.specs.Laws.Wrote.{wrote-none, wrote-length, wrote-then, wrote-as}
+use Rattle.writing.specs.Wrote.{farthest}
+use Rattle.writing.specs.Laws.Wrote.{wrote-none, wrote-length, wrote-then, wrote-as}
 use Prim.Native.Nat.{_≤_, _*_, _-_}
 use Rattle.finite.specs.Below.{thoseBelow}
 use Rattle.limits.specs.Limits.{memberBytes}
 use Rattle.records.specs.Record.{memberIn}
-use Rattle.printing.specs.Text.{listed, membersOf}
-use Rattle.printing.specs.Wrote.{Wrote, isNone}
-use Rattle.printing.specs.Laws.Text.{members-none, none-none, members-next, none-next}
+use Rattle.writing.specs.Text.{listed, membersOf}
+use Rattle.writing.specs.Wrote.{Wrote, isNone}
+use Rattle.writing.specs.Laws.Text.{members-none, none-none, members-next, none-next}
 use borrow.Author.Needs.{needs}
-use Rattle.printing.proofs.put_members.Statement.{statement}
-use Rattle.printing.proofs.put_members.Tie as tie
+use Rattle.writing.proofs.put_members.Statement.{statement}
+use Rattle.writing.proofs.put_members.Tie as tie
 
 abbrev Inv-loop : tie.InvT-loop
 Inv-loop out₀ at part list₀ v₀ out list v =

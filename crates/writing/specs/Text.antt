@@ -7,7 +7,7 @@ use lib.Dec.{eqb}
 use Rattle.finite.specs.Below.{thoseBelow}
 use Rattle.limits.specs.Limits.{memberBytes, recordBytes}
 use Rattle.records.specs.Record.{valueIn, memberIn, recordAt}
-use Rattle.printing.specs.Key.{
+use Rattle.writing.specs.Key.{
   terminalsKey,
   costKey,
   boundKey,
@@ -20,7 +20,7 @@ use Rattle.printing.specs.Key.{
   comma,
   newline,
 }
-use Rattle.printing.specs.Decimal.{decimal}
+use Rattle.writing.specs.Decimal.{decimal}
 
 -- A line key=number.
 unfoldable pub lineOf : List ℕ → ℕ → List ℕ

@@ -6,8 +6,8 @@ use mathlib.Core.Bool.{Bool, true, false, cond}
 use mathlib.Core.List.{List, [], _∷_, _++_}
 use lib.ListN.{length}
 use lib.Seq.{sets}
-use Rattle.printing.specs.Key.{comma}
-use Rattle.printing.specs.Decimal.{decimal}
+use Rattle.writing.specs.Key.{comma}
+use Rattle.writing.specs.Decimal.{decimal}
 
 abbrev pub farthest : ℕ
 farthest = 2 ^ 63

@@ -6,10 +6,10 @@ use mathlib.Core.Path.{ap, sym, _∙_}
 use lib.ListN.{length, take}
 use lib.Seq.{take-suc, take-all}
 use borrow.Author.Needs.{needs}
-use Rattle.printing.specs.Wrote.{farthest, Wrote}
-use Rattle.printing.specs.Laws.Wrote.{wrote-none, wrote-length, wrote-then, wrote-as}
-use Rattle.printing.proofs.put_bytes.Statement.{statement}
-use Rattle.printing.proofs.put_bytes.Tie as tie
+use Rattle.writing.specs.Wrote.{farthest, Wrote}
+use Rattle.writing.specs.Laws.Wrote.{wrote-none, wrote-length, wrote-then, wrote-as}
+use Rattle.writing.proofs.put_bytes.Statement.{statement}
+use Rattle.writing.proofs.put_bytes.Tie as tie
 
 abbrev Inv-loop : tie.InvT-loop
 Inv-loop out₀ at bytes next₀ i₀ out next i = Wrote out₀ at (take i bytes) out next

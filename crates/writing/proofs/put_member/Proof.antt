@@ -1,13 +1,13 @@
 -- `put_member`: nothing where v is no member.
 use mathlib.Core.Path.{_≡_, sym, _∙_}
-use Rattle.printing.specs.Laws.Wrote.{wrote-none, wrote-as}
+use Rattle.writing.specs.Laws.Wrote.{wrote-none, wrote-as}
 use mathlib.Core.Bool.{true, false}
 use borrow.Author.Tests.{not-true, not-false}
 use Rattle.records.specs.Record.{memberIn}
-use Rattle.printing.specs.Laws.Text.{member-here, member-not, and-not-true, and-not-false}
+use Rattle.writing.specs.Laws.Text.{member-here, member-not, and-not-true, and-not-false}
 use borrow.Author.Needs.{needs}
-use Rattle.printing.proofs.put_member.Statement.{statement}
-use Rattle.printing.proofs.put_member.Tie as tie
+use Rattle.writing.proofs.put_member.Statement.{statement}
+use Rattle.writing.proofs.put_member.Tie as tie
 
 member-requires : tie.Need-member-requires
 member-requires c κs = search needs

@@ -3,15 +3,15 @@ use native.Mathlib.Omega.{arith}
 use mathlib.Core.Path.{ap, _∙_}
 use mathlib.Core.List.{[], _∷_, _++_}
 use lib.ListN.{length}
-use Rattle.printing.specs.Wrote.{farthest}
-use Rattle.printing.specs.Laws.Wrote.{wrote-then, wrote-as}
+use Rattle.writing.specs.Wrote.{farthest}
+use Rattle.writing.specs.Laws.Wrote.{wrote-then, wrote-as}
 use Prim.Native.Nat.{_≤_}
-use Rattle.printing.specs.Key.{comma}
-use Rattle.printing.specs.Decimal.{decimal}
-use Rattle.printing.specs.Laws.Text.{item-first, item-later}
+use Rattle.writing.specs.Key.{comma}
+use Rattle.writing.specs.Decimal.{decimal}
+use Rattle.writing.specs.Laws.Text.{item-first, item-later}
 use borrow.Author.Needs.{needs}
-use Rattle.printing.proofs.put_item.Statement.{statement}
-use Rattle.printing.proofs.put_item.Tie as tie
+use Rattle.writing.proofs.put_item.Statement.{statement}
+use Rattle.writing.proofs.put_item.Tie as tie
 
 wide-requires : tie.Need-wide-requires
 wide-requires c κs = search needs

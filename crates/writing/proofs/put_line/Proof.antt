@@ -1,13 +1,13 @@
 -- `put_line`: the key, the number and the newline.
 use native.Mathlib.Omega.{arith}
 use lib.ListN.{length}
-use Rattle.printing.specs.Wrote.{farthest}
-use Rattle.printing.specs.Laws.Wrote.{wrote-then}
+use Rattle.writing.specs.Wrote.{farthest}
+use Rattle.writing.specs.Laws.Wrote.{wrote-then}
 use Prim.Native.Nat.{_≤_}
-use Rattle.printing.specs.Text.{lineOf}
+use Rattle.writing.specs.Text.{lineOf}
 use borrow.Author.Needs.{needs}
-use Rattle.printing.proofs.put_line.Statement.{statement}
-use Rattle.printing.proofs.put_line.Tie as tie
+use Rattle.writing.proofs.put_line.Statement.{statement}
+use Rattle.writing.proofs.put_line.Tie as tie
 
 put-bytes-requires : tie.Need-put-bytes-requires
 put-bytes-requires c κs = search needs

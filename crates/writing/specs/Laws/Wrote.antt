@@ -8,7 +8,7 @@ use mathlib.Core.List.{List, [], _∷_, _++_}
 use lib.ListN.{length, set, length-append}
 use lib.Seq.{sets, length-sets, set-out}
 use Rattle.finite.specs.Laws.Below.{lt-or-ge}
-use Rattle.printing.specs.Wrote.{farthest, Wrote}
+use Rattle.writing.specs.Wrote.{farthest, Wrote}
 
 -- Stores past the end change nothing.
 pub sets-past : (vs l : List ℕ) (i : ℕ) → length l ≤ i → sets l i vs ≡ l

@@ -3,16 +3,16 @@ use Prim.Native.Nat.{_≤_, _-_, _/_}
 use native.Mathlib.Omega.{arith}
 use mathlib.Core.Path.{_≡_, ap, sym}
 use lib.ListN.{length}
-use Rattle.printing.specs.Wrote.{farthest}
-use Rattle.printing.specs.Laws.Wrote.{wrote-none, wrote-length, wrote-then, wrote-as}
+use Rattle.writing.specs.Wrote.{farthest}
+use Rattle.writing.specs.Laws.Wrote.{wrote-none, wrote-length, wrote-then, wrote-as}
 use Rattle.limits.specs.Limits.{recordBytes}
 use Rattle.records.specs.Record.{recordAt}
-use Rattle.printing.specs.Text.{textBelow, dualLine, dualLines}
-use Rattle.printing.specs.Wrote.{Wrote}
-use Rattle.printing.specs.Laws.Text.{text-none, text-next}
+use Rattle.writing.specs.Text.{textBelow, dualLine, dualLines}
+use Rattle.writing.specs.Wrote.{Wrote}
+use Rattle.writing.specs.Laws.Text.{text-none, text-next}
 use borrow.Author.Needs.{needs}
-use Rattle.printing.proofs.put_duals.Statement.{statement}
-use Rattle.printing.proofs.put_duals.Tie as tie
+use Rattle.writing.proofs.put_duals.Statement.{statement}
+use Rattle.writing.proofs.put_duals.Tie as tie
 
 abbrev Inv-loop : tie.InvT-loop
 Inv-loop out₀ at records next₀ i₀ out next i =

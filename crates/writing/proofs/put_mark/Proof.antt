@@ -1,13 +1,13 @@
 -- `put_mark`: a line at mark 2 alone.
 use native.Mathlib.Omega.{arith}
 use mathlib.Core.Path.{ap, _∙_}
-use Rattle.printing.specs.Laws.Wrote.{wrote-none, wrote-as}
-use Rattle.printing.specs.Key.{keptKey}
-use Rattle.printing.specs.Text.{lineOf}
-use Rattle.printing.specs.Laws.Text.{kept-line, kept-line-none}
+use Rattle.writing.specs.Laws.Wrote.{wrote-none, wrote-as}
+use Rattle.writing.specs.Key.{keptKey}
+use Rattle.writing.specs.Text.{lineOf}
+use Rattle.writing.specs.Laws.Text.{kept-line, kept-line-none}
 use borrow.Author.Needs.{needs}
-use Rattle.printing.proofs.put_mark.Statement.{statement}
-use Rattle.printing.proofs.put_mark.Tie as tie
+use Rattle.writing.proofs.put_mark.Statement.{statement}
+use Rattle.writing.proofs.put_mark.Tie as tie
 
 slice-aggregate-put-line : tie.Need-slice-aggregate-put-line
 slice-aggregate-put-line c = search needs

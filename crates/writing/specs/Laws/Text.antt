@@ -12,10 +12,10 @@ use lib.ListN.{length, length-append}
 use Rattle.limits.specs.Limits.{memberBytes, recordBytes}
 use Rattle.records.specs.Record.{recordOf, recordAt}
 use Rattle.records.specs.Laws.Record.{value-of-record, members-of-record, record-at-first, record-at-right}
-use Rattle.printing.specs.Key.{keptKey, dualKey, colon, comma, newline}
-use Rattle.printing.specs.Decimal.{decimal}
-use Rattle.printing.specs.Text.{lineOf, listed, membersOf, dualLine, textBelow, keptLine, dualLines}
-use Rattle.printing.specs.Wrote.{isNone, itemOf, memberText}
+use Rattle.writing.specs.Key.{keptKey, dualKey, colon, comma, newline}
+use Rattle.writing.specs.Decimal.{decimal}
+use Rattle.writing.specs.Text.{lineOf, listed, membersOf, dualLine, textBelow, keptLine, dualLines}
+use Rattle.writing.specs.Wrote.{isNone, itemOf, memberText}
 
 pub listed-snoc : (xs : List ℕ) (v : ℕ) → listed (xs ++ (v ∷ [])) ≡ listed xs ++ itemOf (isNone xs) v
 unfolding listed isNone itemOf

@@ -8,7 +8,7 @@ use mathlib.Core.Logic.{⊎-elim}
 use mathlib.Core.List.{List, [], _∷_, _++_}
 use lib.ListN.{length, getD, length-append}
 use Rattle.finite.specs.Laws.Below.{lt-or-ge}
-use Rattle.printing.specs.Decimal.{digit, digitsWithin, decimal, spelledAfter, spelled}
+use Rattle.writing.specs.Decimal.{digit, digitsWithin, decimal, spelledAfter, spelled}
 
 digits-small : (fuel x : ℕ) → x < 10 → digitsWithin fuel x ≡ digit x ∷ []
 unfolding digitsWithin

@@ -3,18 +3,18 @@ use Prim.Native.Nat.{ℕ, _<_, _≤_}
 use native.Mathlib.Omega.{arith}
 use borrow.Author.Needs.{needs}
 use lib.ListN.{length}
-use Rattle.printing.specs.Wrote.{farthest}
-use Rattle.printing.specs.Laws.Decimal.{decimal-one, decimal-next}
-use Rattle.printing.specs.Laws.Wrote.{wrote-then, wrote-as}
+use Rattle.writing.specs.Wrote.{farthest}
+use Rattle.writing.specs.Laws.Decimal.{decimal-one, decimal-next}
+use Rattle.writing.specs.Laws.Wrote.{wrote-then, wrote-as}
 use borrow.Fn.Kinds.{In}
 use borrow.Fn.PlainCycle.{Measures, is, falls, and}
-use Rattle.printing.proofs.put_number.Reads as put-number
-use Rattle.printing.proofs.put_number.Kinds as put-number-kinds
-use Rattle.printing.proofs.+put_number.Lts-put_number as put-number-lts
-use Rattle.printing.proofs.last_digit.Reads as last-digit-reads
-use Rattle.printing.proofs.put.Reads as put-reads
-use Rattle.printing.proofs.+put_number.{statement}
-use Rattle.printing.proofs.+put_number.Tie.{close}
+use Rattle.writing.proofs.put_number.Reads as put-number
+use Rattle.writing.proofs.put_number.Kinds as put-number-kinds
+use Rattle.writing.proofs.+put_number.Lts-put_number as put-number-lts
+use Rattle.writing.proofs.last_digit.Reads as last-digit-reads
+use Rattle.writing.proofs.put.Reads as put-reads
+use Rattle.writing.proofs.+put_number.{statement}
+use Rattle.writing.proofs.+put_number.Tie.{close}
 
 abbrev μ-put-number : Measures 1 put-number-kinds.ps ℕ
 μ-put-number κs a = a .1 .1 .0

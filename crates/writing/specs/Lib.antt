@@ -1,0 +1,5 @@
+pub mod Key
+pub mod Decimal
+pub mod Text
+pub mod Wrote
+pub mod Laws
