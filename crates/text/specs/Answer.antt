@@ -1,36 +1,14 @@
--- What the answers of the code say in the terms of the definitions.
+-- What the answers of the code say in the terms of the definitions: the counts, and what each buffer holds.
 use Prim.Native.Nat.{ℕ}
 use mathlib.Core.Path.{_≡_}
 use mathlib.Core.List.{List}
 use lib.Seq.{sets}
 use Rattle.limits.specs.Verdict.{Outcome, refusal, answer}
-use Rattle.text.specs.Step.{Step, found, refused}
-use Rattle.text.specs.Reading.{Edge, Counts, Body, Survey, reading, filled, firstsOf, secondsOf, weightsOf}
-use Rattle.text.specs.declared.Number.{Number}
-use Rattle.text.specs.declared.Number.the-variants.{Value, Refused}
-use Rattle.text.specs.declared.EdgeLine.{EdgeLine}
-use Rattle.text.specs.declared.EdgeLine.the-variants.{Edge as EdgeRead, Refused as EdgeRefused}
-use Rattle.text.specs.declared.Head.{Head}
-use Rattle.text.specs.declared.Head.the-variants.{Counts as CountsRead, Refused as HeadRefused}
+use Rattle.numbers.specs.Step.{Step, found, refused}
+use Rattle.lines.specs.Line.{Counts, firstsOf, secondsOf, weightsOf}
+use Rattle.text.specs.Reading.{Body, Survey, reading, filled}
 use Rattle.text.specs.declared.Reading.{Reading}
 use Rattle.text.specs.declared.Reading.the-variants.{Survey as SurveyRead, Refused as ReadingRefused}
-
-unfoldable pub numberStep : Number → Step ℕ
-numberStep (Value n next) = found n (next .at)
-numberStep (Refused number place) = refused number place
-
-unfoldable pub edgeStep : EdgeLine → Step Edge
-edgeStep (EdgeRead u v w next) = found (record { first = u; second = v; weight = w }) (next .at)
-edgeStep (EdgeRefused number place) = refused number place
-
-unfoldable pub countsStep : Head → Step Counts
-countsStep (CountsRead n m next) = found (record { vertices = n; edges = m }) (next .at)
-countsStep (HeadRefused number place) = refused number place
-
--- A refusal, whatever value was read for; a value leaves nothing that may follow it.
-unfoldable pub stopped : {A B : Type 0} → Step A → Step B
-stopped (found a next) = refused 16 next
-stopped (refused number place) = refused number place
 
 -- The answer of reading: n and m.
 unfoldable pub countsOutcome : Reading → Outcome Counts

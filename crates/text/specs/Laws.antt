@@ -1,15 +1,5 @@
-pub mod Byte
-pub mod Number
-pub mod Step
-pub mod Tests
-pub mod Lines
-pub mod Digits
+pub mod Body
 pub mod Reading
-pub mod Decimal
-pub mod Stands
-pub mod Spells
-pub mod Words
-pub mod Content
 pub mod Said
 pub mod WellFormed
 pub mod Longest

@@ -1,5 +1,3 @@
-pub mod Step
-pub mod Number
 pub mod Reading
 pub mod Render
 pub mod Answer

@@ -1,7 +1,6 @@
 -- `text::read` meets its contract, by the cases of the counts and of the lines after them.
 use borrow.Author.Needs.{needs}
-use mathlib.Core.Path.{ap, sym, _∙_}
-use Rattle.text.specs.Answer.{countsOutcome, countsStep, numberStep}
+use Rattle.text.specs.Answer.{countsOutcome}
 use Rattle.text.specs.Laws.Reading.{reads-refused, reads-stopped, reads-found}
 use Rattle.text.proofs.read.Statement.{statement}
 use Rattle.text.proofs.read.Tie as tie
@@ -25,53 +24,51 @@ enum-told : tie.Need-enum-told
 enum-told c = search needs
 
 returns : tie.Need-returns
-unfolding countsOutcome countsStep
+unfolding countsOutcome
 returns c =
-    let a = c .before .before .before .before .before .before .before .before .before .args in
-    reads-refused (a .text .now) (a .groups .now) (a .firsts .now) (a .seconds .now) (a .weights .now)
-    (sym (c .before .before .before .counts .ensures) ∙ ap countsStep (c .before .number .given .1))
+    let p = c .before .before .before in
+    let a = p .before .before .before .before .before .before .args in
+    reads-refused (a .text .now) (a .groups .now) (a .firsts .now) (a .seconds .now) (a .weights .now) (p .counts .ensures) (c .before .number .given .1)
 
 same-length : tie.Need-same-length
-same-length c = search needs
+same-length c = c .before .before .before .before .before .before .before .before .before .before .groups .given
 
 same-length-2 : tie.Need-same-length-2
-same-length-2 c = search needs
+same-length-2 c = c .before .before .before .before .before .before .before .before .firsts .given
 
 same-length-3 : tie.Need-same-length-3
-same-length-3 c = search needs
+same-length-3 c = c .before .before .before .before .before .before .seconds .given
 
 same-length-4 : tie.Need-same-length-4
-same-length-4 c = search needs
+same-length-4 c = c .before .before .before .before .weights .given
 
 returns-2 : tie.Need-returns-2
-unfolding countsOutcome countsStep numberStep
+unfolding countsOutcome
 returns-2 c =
-    let a = c .before .before .before .before .before .before .before .before .before .before .before .before .before .before .before .before .before .before .before .before .before .before .before .before .before .args in
-    reads-stopped (a .text .now) (a .groups .now) (a .firsts .now) (a .seconds .now) (a .weights .now)
-    (sym (c .before .before .before .before .before .before .before .before .before .before .before .before .before .before .before .before .before .before .before .counts .ensures) ∙ ap countsStep (c .before .before .before .before .before .before .before .before .before .before .before .before .before .before .before .before .before .vertices .given .1))
-    (c .before .before .before .before .before .before .before .before .before .before .before .read-body .ensures)
-    (ap numberStep (c .before .number2 .given .1))
+    let p = c .before .before .before .before .before .before .before .before .before .before .before in
+    let q = p .before .before .before .before .before .before .before .before in
+    let a = q .before .before .before .before .before .before .args in
+    reads-stopped (a .text .now) (a .groups .now) (a .firsts .now) (a .seconds .now) (a .weights .now) (q .counts .ensures) (p .before .before .before .before .before .before .vertices .given .1) (p .read-body .ensures) (c .before .number2 .given .1)
 
 same-length-5 : tie.Need-same-length-5
-same-length-5 c = search needs
+same-length-5 c = c .before .before .before .before .before .before .before .before .before .groups .given
 
 same-length-6 : tie.Need-same-length-6
-same-length-6 c = search needs
+same-length-6 c = c .before .before .before .before .before .before .before .firsts .given
 
 same-length-7 : tie.Need-same-length-7
-same-length-7 c = search needs
+same-length-7 c = c .before .before .before .before .before .seconds .given
 
 same-length-8 : tie.Need-same-length-8
-same-length-8 c = search needs
+same-length-8 c = c .before .before .before .weights .given
 
 returns-3 : tie.Need-returns-3
-unfolding countsOutcome countsStep numberStep
+unfolding countsOutcome
 returns-3 c =
-    let a = c .before .before .before .before .before .before .before .before .before .before .before .before .before .before .before .before .before .before .before .before .before .before .before .before .args in
-    reads-found (a .text .now) (a .groups .now) (a .firsts .now) (a .seconds .now) (a .weights .now)
-    (sym (c .before .before .before .before .before .before .before .before .before .before .before .before .before .before .before .before .before .before .counts .ensures) ∙ ap countsStep (c .before .before .before .before .before .before .before .before .before .before .before .before .before .before .before .before .vertices .given .1))
-    (c .before .before .before .before .before .before .before .before .before .before .read-body .ensures)
-    (ap numberStep (c .enum-told .given .1))
+    let p = c .before .before .before .before .before .before .before .before .before .before in
+    let q = p .before .before .before .before .before .before .before .before in
+    let a = q .before .before .before .before .before .before .args in
+    reads-found (a .text .now) (a .groups .now) (a .firsts .now) (a .seconds .now) (a .weights .now) (q .counts .ensures) (p .before .before .before .before .before .before .vertices .given .1) (p .read-body .ensures) (c .enum-told .given .1)
 
 pub read-spec : {M : Type 1} → statement M
 read-spec =

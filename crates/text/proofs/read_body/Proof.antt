@@ -1,9 +1,7 @@
 -- `text::read_body` meets its contract: the first pass stores nothing, and the second stores where the first is not refused.
 use borrow.Author.Needs.{needs}
-use mathlib.Core.Path.{_≡_, ap, sym, _∙_}
-use Rattle.text.specs.Reading.{bodyOf, firstsOf, secondsOf, weightsOf}
-use Rattle.text.specs.Answer.{numberStep}
-use Rattle.text.specs.Laws.Lines.{pass-refused, pass-found}
+use mathlib.Core.Path.{_∙_}
+use Rattle.text.specs.Laws.Body.{fills-refused, fills-found}
 use Rattle.text.proofs.read_body.Statement.{statement}
 use Rattle.text.proofs.read_body.Tie as tie
 
@@ -53,59 +51,44 @@ enum-told-2 : tie.Need-enum-told-2
 enum-told-2 c = search needs
 
 same-length : tie.Need-same-length
-same-length c = search needs
+same-length c = c .before .before .before .before .before .before .before .before .before .groups .given .1
 
 same-length-2 : tie.Need-same-length-2
-same-length-2 c = search needs
+same-length-2 c = c .before .before .before .before .before .before .before .firsts .given .1
 
 same-length-3 : tie.Need-same-length-3
-same-length-3 c = search needs
+same-length-3 c = c .before .before .before .before .before .seconds .given .1
 
 same-length-4 : tie.Need-same-length-4
-same-length-4 c = search needs
+same-length-4 c = c .before .before .before .weights .given .1
 
 returns : tie.Need-returns
-unfolding numberStep
 returns c =
-    let a = c .before .before .before .before .before .before .before .before .before .before .before .before .before .before .before .before .before .before .before .before .args in
-    let b = bodyOf (a .text .now) (a .vertices) (a .edges) (a .cursor .at) in
-    let at-end : b .end ≡ _ = sym (c .before .before .before .before .before .before .before .before .before .before .body .ensures .end) ∙ ap numberStep (c .enum-told2 .given .1) in
-    record {
-      end = c .before .before .before .before .before .before .before .before .before .before .body .ensures .end;
-      intoGroups = pass-refused (b .groups) (a .groups .now) at-end (c .before .before .before .before .before .before .before .before .before .before .body .ensures .intoGroups);
-      intoFirsts = pass-refused (firstsOf (b .edges)) (a .firsts .now) at-end (c .before .before .before .before .before .before .before .before .before .before .body .ensures .intoFirsts);
-      intoSeconds = pass-refused (secondsOf (b .edges)) (a .seconds .now) at-end (c .before .before .before .before .before .before .before .before .before .before .body .ensures .intoSeconds);
-      intoWeights = pass-refused (weightsOf (b .edges)) (a .weights .now) at-end (c .before .before .before .before .before .before .before .before .before .before .body .ensures .intoWeights);
-    }
+    let p = c .before .before .before .before .before .before .before .before .before .before in
+    let a = p .before .before .before .before .before .before .before .before .before .before .args in
+    fills-refused (a .text .now) (a .vertices) (a .edges) (a .cursor .at) (a .groups .now) (a .firsts .now) (a .seconds .now) (a .weights .now) (p .body .ensures) (c .enum-told2 .given .1)
 
 body-requires-2 : tie.Need-body-requires-2
 body-requires-2 c κs = search needs
 
 same-length-5 : tie.Need-same-length-5
-same-length-5 c = search needs
+same-length-5 c = c .before .before .before .before .before .before .before .groups2 .given ∙ c .before .before .before .before .before .before .before .before .before .before .before .before .before .before .before .before .before .before .before .before .before .before .groups .given .1
 
 same-length-6 : tie.Need-same-length-6
-same-length-6 c = search needs
+same-length-6 c = c .before .before .before .before .before .firsts2 .given ∙ c .before .before .before .before .before .before .before .before .before .before .before .before .before .before .before .before .before .before .before .before .firsts .given .1
 
 same-length-7 : tie.Need-same-length-7
-same-length-7 c = search needs
+same-length-7 c = c .before .before .before .seconds2 .given ∙ c .before .before .before .before .before .before .before .before .before .before .before .before .before .before .before .before .before .before .seconds .given .1
 
 same-length-8 : tie.Need-same-length-8
-same-length-8 c = search needs
+same-length-8 c = c .before .weights2 .given ∙ c .before .before .before .before .before .before .before .before .before .before .before .before .before .before .before .before .weights .given .1
 
 returns-2 : tie.Need-returns-2
-unfolding numberStep
 returns-2 c =
-    let a = c .before .before .before .before .before .before .before .before .before .before .before .before .before .before .before .before .before .before .before .before .before .before .before .before .before .before .before .before .before .before .before .before .before .args in
-    let b = bodyOf (a .text .now) (a .vertices) (a .edges) (a .cursor .at) in
-    let at-end : b .end ≡ _ = sym (c .before .before .before .before .before .before .before .before .before .before .before .before .before .before .before .before .before .before .before .before .before .before .before .body .ensures .end) ∙ ap numberStep (c .before .before .before .before .before .before .before .before .before .before .before .before .before .enum-told .given .1) in
-    record {
-      end = c .before .before .before .before .before .before .before .before .body2 .ensures .end;
-      intoGroups = pass-found (b .groups) (a .groups .now) at-end (c .before .before .before .before .before .before .before .before .before .before .before .before .before .before .before .before .before .before .before .before .before .before .before .body .ensures .intoGroups) (c .before .before .before .before .before .before .before .before .body2 .ensures .intoGroups);
-      intoFirsts = pass-found (firstsOf (b .edges)) (a .firsts .now) at-end (c .before .before .before .before .before .before .before .before .before .before .before .before .before .before .before .before .before .before .before .before .before .before .before .body .ensures .intoFirsts) (c .before .before .before .before .before .before .before .before .body2 .ensures .intoFirsts);
-      intoSeconds = pass-found (secondsOf (b .edges)) (a .seconds .now) at-end (c .before .before .before .before .before .before .before .before .before .before .before .before .before .before .before .before .before .before .before .before .before .before .before .body .ensures .intoSeconds) (c .before .before .before .before .before .before .before .before .body2 .ensures .intoSeconds);
-      intoWeights = pass-found (weightsOf (b .edges)) (a .weights .now) at-end (c .before .before .before .before .before .before .before .before .before .before .before .before .before .before .before .before .before .before .before .before .before .before .before .body .ensures .intoWeights) (c .before .before .before .before .before .before .before .before .body2 .ensures .intoWeights);
-    }
+    let p = c .before .before .before .before .before .before .before .before in
+    let q = p .before .before .before .before .before .before .before .before .before .before .before .before .before .before .before in
+    let a = q .before .before .before .before .before .before .before .before .before .before .args in
+    fills-found (a .text .now) (a .vertices) (a .edges) (a .cursor .at) (a .groups .now) (a .firsts .now) (a .seconds .now) (a .weights .now) (q .body .ensures) (p .before .before .before .before .before .enum-told .given .1) (p .body2 .ensures)
 
 pub read-body-spec : {M : Type 1} → statement M
 read-body-spec =

@@ -14,15 +14,17 @@ use Rattle.limits.specs.Limits.{maxVertices, maxEdges, maxDigits}
 use Rattle.limits.specs.declared.Verdict.{Verdict}
 use Rattle.limits.specs.declared.Verdict.the-variants.{Fine, Refused}
 use Rattle.writing.specs.Key.{comma, newline}
-use Rattle.text.specs.Step.{Step, found, refused, _then_, checked, linesFrom}
-use Rattle.text.specs.Number.{byteIs, fixedAt, numeralEnd, numeralAt, decimalFrom, numberAt, numberTo}
-use Rattle.text.specs.Reading.{nodesKey, linksKey, nodeKey, linkKey, Tests, testsFor, verticesTest, edgesTest, groupTest, numberLine, countLine, groupLine, groupLines, edgeLine, edgeLines, endAt, surveyOf, surveyAt, outcomeOf, reading}
-use Rattle.text.specs.Laws.Step.{then-found, then-refused, then-value}
-use Rattle.text.specs.Laws.Number.{numeral-range, numeral-width}
-use Rattle.text.specs.Laws.Tests.{vertices-passed, edges-passed}
-use Rattle.text.specs.Laws.Stands.{take-less}
-use Rattle.text.specs.Laws.Words.{byteStep, fixed-step, byte-same, numeral-same}
-use Rattle.text.specs.Laws.Content.{whole, lines-unfold}
+use Rattle.numbers.specs.Step.{Step, found, refused, _then_, checked}
+use Rattle.lines.specs.Lines.{linesFrom}
+use Rattle.numbers.specs.Number.{byteIs, fixedAt, numeralEnd, numeralAt, decimalFrom, numberAt, numberTo, numberLine}
+use Rattle.lines.specs.Line.{nodesKey, linksKey, nodeKey, linkKey, Tests, testsFor, verticesTest, edgesTest, groupTest, countLine, groupLine, groupLines, edgeLine, edgeLines}
+use Rattle.text.specs.Reading.{endAt, surveyOf, surveyAt, outcomeOf, reading}
+use Rattle.numbers.specs.Laws.Step.{then-found, then-refused, then-value}
+use Rattle.numbers.specs.Laws.Number.{numeral-range, numeral-width}
+use Rattle.lines.specs.Laws.Tests.{vertices-passed, edges-passed}
+use Rattle.numbers.specs.Laws.Stands.{take-less}
+use Rattle.numbers.specs.Laws.Words.{byteStep, fixed-step, byte-same, numeral-same}
+use Rattle.lines.specs.Laws.Content.{whole, lines-unfold}
 use Rattle.text.specs.Laws.Said.{saidAt, said-survey}
 
 -- A step looks at no more than b bytes from its offset on, ends among them, and its value satisfies P.

@@ -10,9 +10,12 @@ use Rattle.writing.specs.Key.{comma, newline}
 use Rattle.writing.specs.Decimal.{decimal}
 use Rattle.writing.specs.Text.{lineOf}
 use Rattle.writing.specs.Laws.Decimal.{length-decimal}
-use Rattle.text.specs.Reading.{nodesKey, linksKey, nodeKey, linkKey, Edge, Survey, reading}
-use Rattle.text.specs.Render.{numberText, edgeText, textOf, render}
-use Rattle.text.specs.Laws.Content.{SmallEdge, Each, none, next}
+use Rattle.lines.specs.Line.{nodesKey, linksKey, nodeKey, linkKey, Edge}
+use Rattle.text.specs.Reading.{Survey, reading}
+use Rattle.numbers.specs.Number.{numberText}
+use Rattle.lines.specs.Render.{edgeText, textOf}
+use Rattle.text.specs.Render.{render}
+use Rattle.lines.specs.Laws.Content.{SmallEdge, Each, none, next}
 use Rattle.text.specs.Laws.WellFormed.{WellFormed, Within, each-map, accepted-render}
 
 -- The longest lines: a key and a number of so many digits; an edge's.

@@ -5,12 +5,16 @@ use mathlib.Core.List.{List, [], _++_}
 use lib.ListN.{length}
 use Rattle.limits.specs.declared.Verdict.the-variants.{Refused}
 use Rattle.writing.specs.Text.{lineOf}
-use Rattle.text.specs.Step.{Step, found, refused, _then_, linesAfter}
-use Rattle.text.specs.Reading.{nodesKey, linksKey, nodeKey, Tests, countLine, countsAt, groupLine, groupLines, Edge, edgeLine, edgeLines, endAt, Counts, bodyAt, surveyOf, surveyAt}
-use Rattle.text.specs.Render.{edgeText, textOf, render}
-use Rattle.text.specs.Laws.Step.{then-then}
-use Rattle.text.specs.Laws.Spells.{Reads, Seq, Empty, reads-then, reads-as, reads-value}
-use Rattle.text.specs.Laws.Content.{Text, Small, Passes, SmallEdge, Each, Texts, whole, reads-tested, reads-edge, reads-lines, joined}
+use Rattle.numbers.specs.Step.{Step, found, refused, _then_}
+use Rattle.lines.specs.Lines.{linesAfter}
+use Rattle.lines.specs.Line.{nodesKey, linksKey, nodeKey, Tests, countLine, countsAt, groupLine, groupLines, Edge, edgeLine, edgeLines, Counts}
+use Rattle.text.specs.Reading.{endAt, bodyAt, surveyOf, surveyAt}
+use Rattle.lines.specs.Render.{edgeText, textOf}
+use Rattle.text.specs.Render.{render}
+use Rattle.numbers.specs.Laws.Step.{then-then}
+use Rattle.numbers.specs.Laws.Spells.{Reads, Seq, Empty, reads-then, reads-as, reads-value}
+use Rattle.numbers.specs.Laws.Keyed.{Text, Small, Passes, reads-tested}
+use Rattle.lines.specs.Laws.Content.{SmallEdge, Each, Texts, whole, reads-edge, reads-lines, joined}
 
 -- What a text says before its end is looked for.
 pub record Said : Type 0 where

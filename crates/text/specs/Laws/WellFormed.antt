@@ -12,15 +12,17 @@ use borrow.Author.Tests.{leb-true, leb-false}
 use Rattle.limits.specs.Limits.{maxVertices, maxEdges, groupNumbers}
 use Rattle.limits.specs.Verdict.{refusal, answer, refuseIf, _before_}
 use Rattle.limits.specs.declared.Verdict.the-variants.{Refused}
-use Rattle.text.specs.Step.{Step, found, refused, _then_}
-use Rattle.text.specs.Reading.{Tests, testsFor, verticesTest, edgesTest, groupTest, Edge, endAt, Survey, surveyOf, surveyAt, outcomeOf, reading}
+use Rattle.numbers.specs.Step.{Step, found, refused, _then_}
+use Rattle.lines.specs.Line.{Tests, testsFor, verticesTest, edgesTest, groupTest, Edge}
+use Rattle.text.specs.Reading.{endAt, Survey, surveyOf, surveyAt, outcomeOf, reading}
 use Rattle.text.specs.Render.{render}
-use Rattle.text.specs.Laws.Step.{then-found, then-value}
-use Rattle.text.specs.Laws.Tests.{vertices-fine, edges-fine, group-fine, vertices-passed, edges-passed, group-passed}
-use Rattle.text.specs.Laws.Lines.{end-here, end-later}
-use Rattle.text.specs.Laws.Stands.{stands-whole}
-use Rattle.text.specs.Laws.Spells.{Reads, Lively, read, otherwise, read-again}
-use Rattle.text.specs.Laws.Content.{Small, SmallEdge, Each, none, next}
+use Rattle.numbers.specs.Laws.Step.{then-found, then-value}
+use Rattle.lines.specs.Laws.Tests.{vertices-fine, edges-fine, group-fine, vertices-passed, edges-passed, group-passed}
+use Rattle.text.specs.Laws.Body.{end-here, end-later}
+use Rattle.numbers.specs.Laws.Stands.{stands-whole}
+use Rattle.numbers.specs.Laws.Spells.{Reads, Lively, read, otherwise, read-again}
+use Rattle.numbers.specs.Laws.Keyed.{Small}
+use Rattle.lines.specs.Laws.Content.{SmallEdge, Each, none, next}
 use Rattle.text.specs.Laws.Said.{Said, saidAt, Sparing, Accepted, Formed, reads-said, said-survey}
 
 -- A well-formed text: any counts, groups, ends and prices of at most so many digits.

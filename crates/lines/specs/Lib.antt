@@ -1,0 +1,5 @@
+pub mod Lines
+pub mod Line
+pub mod Render
+pub mod Answer
+pub mod Laws

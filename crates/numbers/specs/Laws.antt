@@ -1,0 +1,9 @@
+pub mod Byte
+pub mod Number
+pub mod Step
+pub mod Digits
+pub mod Decimal
+pub mod Stands
+pub mod Spells
+pub mod Words
+pub mod Keyed

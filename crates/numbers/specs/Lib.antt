@@ -1,0 +1,4 @@
+pub mod Step
+pub mod Number
+pub mod Answer
+pub mod Laws
