@@ -1,39 +1,18 @@
 -- What the answers of the code say in the terms of the definitions.
-use Prim.Native.Nat.{ℕ, _*_, _<_}
+use Prim.Native.Nat.{ℕ, _*_}
 use mathlib.Core.Path.{_≡_}
 use mathlib.Core.List.{List, _++_}
 use lib.ListN.{length, drop}
 use Rattle.limits.specs.Limits.{recordBytes}
 use Rattle.limits.specs.Verdict.{Outcome, refusal, answer}
-use Rattle.text.specs.Step.{Step, found, refused, _then_, checked}
-use Rattle.plantext.specs.Items.{Each, puts}
-use Rattle.plantext.specs.Plan.{Moat, putMark, putMoat, Claims, Plan, Body, memberNumbers, marksOf, moatRecords, roomTest, marksAfter, recordsAfter}
-use Rattle.certificate.specs.Check.{Checked}
-use Rattle.plantext.specs.declared.Verified.{Verified}
-use Rattle.plantext.specs.declared.Verified.the-variants.{Passed as VerifiedPassed, Refused as VerifiedRefused}
+use Rattle.numbers.specs.Step.{Step, found, refused, _then_, checked}
+use Rattle.planlines.specs.Items.{puts}
+use Rattle.planlines.specs.Lines.{putMark, putMoat}
+use Rattle.plantext.specs.Plan.{Claims, Plan, Body, marksOf, moatRecords, roomTest, marksAfter, recordsAfter}
 use Rattle.plantext.specs.declared.PlanText.{PlanText}
 use Rattle.plantext.specs.declared.PlanText.the-variants.{Plan as PlanRead, Refused as PlanRefused}
 use Rattle.plantext.specs.declared.Claims.{Claims as ClaimsLines}
 use Rattle.plantext.specs.declared.Claims.the-variants.{Found, Refused}
-
--- A step without its value.
-unfoldable pub forgotten : {A : Type 0} → Step A → Step ℕ
-forgotten (found a next) = found 0 next
-forgotten (refused number place) = refused number place
-
--- What a moat line stores: nothing where it is refused.
-unfoldable pub moatStored : Step Moat → (records : List ℕ) (i : ℕ) → List ℕ
-moatStored (found d next) records i = putMoat records i d
-moatStored (refused number place) records i = records
-
--- What a moat line answers, and what it leaves in the buffer.
-pub record MoatRead (line : Step Moat) (step : Step ℕ) (i : ℕ) (records records′ : List ℕ) : Type 0 where
-  pub end : step ≡ forgotten line
-  pub stored : records′ ≡ moatStored line records i
-
--- All are numbers of members.
-abbrev pub Members : List ℕ → Type 0
-Members vs = Each (λ v. v < memberNumbers) vs
 
 unfoldable pub claimsStep : ClaimsLines → Step Claims
 claimsStep (Found k c b r next) = found (record { terminals = k; cost = c; bound = b; rounds = r }) (next .at)
@@ -78,8 +57,3 @@ pub record Reads (o : Outcome Plan) (m : ℕ) (read : Outcome Read) (marks marks
   pub answered : read ≡ readOf o
   pub intoMarks : marks′ ≡ marksAfter o m marks
   pub intoRecords : records′ ≡ recordsAfter o records
-
--- The answer of the check: k, kept cost and bound, or the refusal.
-unfoldable pub verifiedOutcome : Verified → Outcome Checked
-verifiedOutcome (VerifiedPassed k c b) = answer (record { terminals = k; cost = c; bound = b })
-verifiedOutcome (VerifiedRefused number place) = refusal number place

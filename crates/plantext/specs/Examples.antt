@@ -8,30 +8,12 @@ use Rattle.records.specs.Record.{recordOf}
 use Rattle.writing.specs.Key.{ascii, terminalsKey, costKey, boundKey, roundsKey, keptKey, dualKey}
 use Rattle.writing.specs.Text.{planText}
 use Rattle.printing.specs.Examples.{p3-printed}
-use Rattle.text.specs.Step.{found, _then_, checked, linesAfter}
-use Rattle.text.specs.Number.{classOf, isDigit, byteIs, fixedAt, digitsEnd, numeralEnd, numeralAt, decimalFrom, numberAt, numberTo}
-use Rattle.plantext.specs.Items.{following, itemsFrom}
-use Rattle.plantext.specs.Plan.{
-  Plan,
-  valueLine,
-  claimsAt,
-  keptTest,
-  keepLine,
-  keepReader,
-  keptAt,
-  separator,
-  memberAt,
-  risen,
-  memberReader,
-  membersAt,
-  moatTest,
-  moatHead,
-  moatLine,
-  moatReader,
-  moatsAt,
-  bodyAt,
-  planAt,
-}
+use Rattle.numbers.specs.Step.{found, checked, _then_}
+use Rattle.lines.specs.Lines.{linesAfter}
+use Rattle.numbers.specs.Number.{classOf, isDigit, byteIs, fixedAt, digitsEnd, numeralEnd, numeralAt, decimalFrom, numberAt, numberTo}
+use Rattle.planlines.specs.Items.{following, itemsFrom}
+use Rattle.planlines.specs.Lines.{valueLine, keptTest, keepLine, keepReader, keptAt, separator, memberAt, risen, memberReader, membersAt, moatTest, moatHead, moatLine, moatReader, moatsAt}
+use Rattle.plantext.specs.Plan.{Plan, claimsAt, bodyAt, planAt}
 
 -- What P3's plan says.
 p3 : Plan

@@ -1,34 +1,18 @@
--- Reading a printed plan (document 01, 'Survey text and printed plan'): the counts, the kept tracks rising, the moats. A finding is 16 at the
--- first offset whose byte no well-formed plan has there; 26 where a kept track is no track or does not rise; 27 where a moat's members are no
--- members or do not rise; 28 for a moat too many. The earliest wins.
-use Prim.Native.Nat.{ℕ, zero, suc, _+_, _*_, _/_}
-use Prim.Native.Char.{code}
-use mathlib.Core.Bool.{Bool, false, not, _&&_, _||_, cond}
+-- Reading a printed plan (document 01, 'Survey text and printed plan'): the counts, the kept tracks rising, the moats. The earliest finding
+-- wins; 7, for a buffer that is short, comes after all others.
+use Prim.Native.Nat.{ℕ, zero, suc, _*_, _/_}
+use mathlib.Core.Bool.{_||_, cond}
 use mathlib.Core.List.{List, [], _∷_, _++_}
 use lib.ListN.{length, set, drop}
-use lib.Seq.{sets}
-use lib.Dec.{eqb, ltb, leb}
+use lib.Dec.{ltb}
 use Rattle.finite.specs.Below.{tabulate}
-use Rattle.limits.specs.Limits.{maxDigits, memberBytes, recordBytes, maxDuals}
-use Rattle.limits.specs.Verdict.{refuseIf, _before_, Outcome, refusal, answer, outcome}
+use Rattle.limits.specs.Limits.{recordBytes}
+use Rattle.limits.specs.Verdict.{refuseIf, Outcome, refusal, answer, outcome}
 use Rattle.limits.specs.declared.Verdict.{Verdict}
-use Rattle.records.specs.Record.{recordOf, withMemberIn}
-use Rattle.writing.specs.Key.{terminalsKey, costKey, boundKey, roundsKey, keptKey, dualKey, colon, comma, newline}
-use Rattle.text.specs.Step.{Step, found, refused, _then_, checked, Lines, linesAfter}
-use Rattle.text.specs.Number.{byteIs, fixedAt, numberAt, numberTo}
-use Rattle.plantext.specs.Items.{Reader, itemsFrom}
-
--- digits of a count of the plan, at most
-abbrev pub countDigits : ℕ
-countDigits = 10
-
--- members lie below this
-abbrev pub memberNumbers : ℕ
-memberNumbers = 8 * memberBytes
-
--- A line of a key and one number of at most limit digits.
-unfoldable pub valueLine : (key : List ℕ) (limit : ℕ) → List ℕ → (at : ℕ) → Step ℕ
-valueLine key limit t at = fixedAt key t at then λ z p. numberTo limit newline t p
+use Rattle.writing.specs.Key.{terminalsKey, costKey, boundKey, roundsKey}
+use Rattle.numbers.specs.Step.{Step, found, refused, _then_}
+use Rattle.lines.specs.Lines.{linesAfter}
+use Rattle.planlines.specs.Lines.{countDigits, valueLine, keptAt, Moat, moatsAt, isIn, moatRecord}
 
 -- The counts that a plan claims: sites, cost and bound; and its rounds, which nothing decides.
 pub record Claims : Type 0 where
@@ -44,73 +28,6 @@ claimsAt t at =
     valueLine boundKey countDigits t b then λ y d.
     valueLine roundsKey countDigits t d then λ r e.
     found (record { terminals = k; cost = c; bound = y; rounds = r }) e
-
--- 26 at keep line i, where no kept track lies below low and m is the number of tracks.
-unfoldable pub keptTest : (m low i e : ℕ) → Verdict
-keptTest m low i e = refuseIf (ltb e low || leb m e) 26 i
-
-unfoldable pub keepLine : List ℕ → (m low i at : ℕ) → Step ℕ
-keepLine t m low i at = valueLine keptKey maxDigits t at then λ e p. checked (keptTest m low i e) e p
-
--- Keep lines stand as long as a line begins like one.
-unfoldable pub keepReader : List ℕ → (m : ℕ) → Reader ℕ
-keepReader t m = record { stop = λ at. not (byteIs t at (code "k")); item = keepLine t m; after = λ low e. e + 1 }
-
-unfoldable pub keptAt : List ℕ → (m at : ℕ) → Lines ℕ
-keptAt t m at = itemsFrom (keepReader t m) (length t) 0 0 at
-
--- The comma before a member that is not the first.
-unfoldable pub separator : (i : ℕ) → List ℕ
-separator zero = []
-separator (suc i) = comma ∷ []
-
-unfoldable pub memberAt : List ℕ → (low i at : ℕ) → Step ℕ
-memberAt t low i at = fixedAt (separator i) t at then λ z p. numberAt maxDigits t p
-
--- The lowest member that may follow v, where low was the lowest that might stand here; past all members once one is none or does not rise.
-unfoldable pub risen : (low v : ℕ) → ℕ
-risen low v = cond (leb low v && ltb v memberNumbers) (v + 1) (memberNumbers + 1)
-
--- Members end where their line does.
-unfoldable pub memberReader : List ℕ → Reader ℕ
-memberReader t = record { stop = λ at. byteIs t at newline; item = memberAt t; after = risen }
-
-unfoldable pub membersAt : List ℕ → (at : ℕ) → Lines ℕ
-membersAt t at = itemsFrom (memberReader t) (length t) 0 0 at
-
--- A moat as it is printed: the amount and the members.
-pub record Moat : Type 0 where
-  pub value : ℕ
-  pub members : List ℕ
-
--- 27, then 28, at moat line i.
-unfoldable pub moatTest : (i low : ℕ) → Verdict
-moatTest i low = refuseIf (ltb memberNumbers low) 27 i before refuseIf (leb maxDuals i) 28 i
-
--- The amount, and where the members begin.
-unfoldable pub moatHead : List ℕ → (at : ℕ) → Step ℕ
-moatHead t at =
-    fixedAt dualKey t at then λ z a.
-    numberAt maxDigits t a then λ amount b.
-    fixedAt (colon ∷ []) t b then λ y c.
-    found amount c
-
--- The moat whose members stand at an offset.
-abbrev pub moatOf : List ℕ → (amount at : ℕ) → Moat
-moatOf t amount at = record { value = amount; members = membersAt t at .values }
-
-unfoldable pub moatLine : List ℕ → (i at : ℕ) → Step Moat
-moatLine t i at =
-    moatHead t at then λ amount c.
-    membersAt t c .end then λ low d.
-    checked (moatTest i low) (moatOf t amount c) (d + 1)
-
--- Moat lines stand to the end of the text; the number after them is how many there are.
-unfoldable pub moatReader : List ℕ → Reader Moat
-moatReader t = record { stop = λ at. leb (length t) at; item = λ low i at. moatLine t i at; after = λ low d. low + 1 }
-
-unfoldable pub moatsAt : List ℕ → (at : ℕ) → Lines Moat
-moatsAt t at = itemsFrom (moatReader t) (length t) 0 0 at
 
 -- What a printed plan says.
 pub record Plan : Type 0 where
@@ -138,16 +55,9 @@ planAt t m at =
 
 -- ---- marks and records
 
-unfoldable pub isIn : List ℕ → ℕ → Bool
-isIn [] v = false
-isIn (x ∷ xs) v = eqb v x || isIn xs v
-
 -- Marks of m tracks: 2 where the track is kept, otherwise 0.
 unfoldable pub marksOf : (m : ℕ) (kept : List ℕ) → List ℕ
 marksOf m kept = tabulate m (λ e. cond (isIn kept e) 2 0)
-
-unfoldable pub moatRecord : Moat → List ℕ
-moatRecord d = recordOf (d .value) (isIn (d .members))
 
 unfoldable pub moatRecords : List Moat → List ℕ
 moatRecords [] = []
@@ -174,18 +84,7 @@ unfoldable pub recordsAfter : Outcome Plan → (records : List ℕ) → List ℕ
 recordsAfter (refusal number place) records = records
 recordsAfter (answer plan) records = moatRecords (plan .moats) ++ drop (recordBytes * length (plan .moats)) records
 
--- ---- one store after another, as the reading does it
-
-abbrev pub putMark : List ℕ → ℕ → ℕ → List ℕ
-putMark marks i e = set marks e 2
-
-abbrev pub putMember : List ℕ → ℕ → ℕ → List ℕ
-putMember part i v = withMemberIn part v
-
+-- The first m marks set to 0, one after another.
 unfoldable pub cleared : (m : ℕ) → List ℕ → List ℕ
 cleared zero marks = marks
 cleared (suc m) marks = set (cleared m marks) m 0
-
--- Record i, where the buffer has room for it.
-unfoldable pub putMoat : List ℕ → ℕ → Moat → List ℕ
-putMoat records i d = cond (ltb i (length records / recordBytes)) (sets records (recordBytes * i) (moatRecord d)) records

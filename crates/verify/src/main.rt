@@ -1,6 +1,6 @@
 // Reads a survey text and the printed plan behind it on standard input, and prints what the plan is worth: `passed`, sites, cost and bound as
 // the checker finds them, or the refusal.
-use plantext::Verified;
+use verifier::Verified;
 
 fn line(key: &[u8], value: u64) {
     io::write_all(1, key);
@@ -36,6 +36,6 @@ fn main() {
     let mut text = room();
     let n = io::read_full(0, &mut text);
     if n <= text.len() {
-        show(plantext::verify(&text[0..n]));
+        show(verifier::verify(&text[0..n]));
     }
 }

@@ -22,11 +22,11 @@ use Rattle.planner.specs.Plan.{Plan, planOf, planRefusal, Counts, countsOf, cou
 use Rattle.planner.specs.Laws.Ready.{Ready, fine-ready}
 use Rattle.planner.specs.Laws.Passes.{finished-passes}
 use Rattle.planner.specs.Laws.Promise.{cut-marks, cut-records}
-use Rattle.plantext.specs.Plan.{countDigits}
-use Rattle.plantext.specs.Verify.{verifying}
-use Rattle.plantext.specs.Laws.Accuracy.{surveyIn}
-use Rattle.plantext.specs.Laws.Passes.{read-numbered, printed-passes, printed-length}
-use Rattle.plantext.specs.Laws.Length.{verified-length}
+use Rattle.planlines.specs.Lines.{countDigits}
+use Rattle.verifier.specs.Verify.{verifying}
+use Rattle.verifier.specs.Laws.Accuracy.{surveyIn}
+use Rattle.verifier.specs.Laws.Passes.{read-numbered, printed-passes, printed-length}
+use Rattle.verifier.specs.Laws.Length.{verified-length}
 
 -- bytes that the checking program reads, at most
 abbrev pub verifyRoom : ℕ

@@ -2,7 +2,7 @@
 use borrow.Author.Needs.{needs}
 use mathlib.Core.Path.{sym, _∙_}
 use Rattle.writing.specs.Key.{terminalsKey, costKey, boundKey, roundsKey}
-use Rattle.text.specs.Laws.Step.{stopped-stays, value-goes}
+use Rattle.numbers.specs.Laws.Step.{stopped-stays, value-goes}
 use Rattle.plantext.specs.Plan.{claimsAt}
 use Rattle.plantext.specs.Answer.{claimsStep}
 use Rattle.plantext.proofs.claim_lines.Statement.{statement}

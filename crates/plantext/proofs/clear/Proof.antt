@@ -5,7 +5,7 @@ use Prim.Native.Nat.{_-_, _≤_}
 use mathlib.Core.Path.{_≡_, refl, ap, _∙_}
 use lib.ListN.{length, set}
 use Rattle.plantext.specs.Plan.{cleared}
-use Rattle.plantext.specs.Laws.Puts.{cleared-length, cleared-next}
+use Rattle.plantext.specs.Laws.Fill.{cleared-length, cleared-next}
 use Rattle.plantext.proofs.clear.Statement.{statement}
 use Rattle.plantext.proofs.clear.Tie as tie
 

@@ -1,7 +1,7 @@
 -- `plantext::plan_body` meets its contract: a refused keep line stays, and the moat lines follow the keep lines.
 use borrow.Author.Needs.{needs}
 use mathlib.Core.Path.{refl, ap, sym, _∙_}
-use Rattle.text.specs.Answer.{numberStep}
+use Rattle.numbers.specs.Answer.{numberStep}
 use Rattle.plantext.specs.Laws.Reading.{stores-stopped, stores-read}
 use Rattle.plantext.proofs.plan_body.Statement.{statement}
 use Rattle.plantext.proofs.plan_body.Tie as tie

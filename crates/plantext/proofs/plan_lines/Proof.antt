@@ -1,11 +1,8 @@
 -- `plantext::plan_lines` meets its contract: the first pass stores nothing, and the second stores where nothing is refused.
 use borrow.Author.Needs.{needs}
-use mathlib.Core.Path.{ap, sym, _∙_}
-use Rattle.text.specs.Answer.{numberStep}
-use Rattle.plantext.specs.Plan.{bodyAt, putMark, putMoat}
-use Rattle.plantext.specs.Laws.Puts.{mark-length, moat-length}
-use Rattle.plantext.specs.Laws.Plan.{empty-pass}
-use Rattle.plantext.specs.Laws.Reading.{fills-stopped, fills-marks, fills-records, fills-read}
+use mathlib.Core.Path.{ap}
+use Rattle.numbers.specs.Answer.{numberStep}
+use Rattle.plantext.specs.Laws.Reading.{pass-stopped, pass-marks, pass-records, pass-read}
 use Rattle.plantext.proofs.plan_lines.Statement.{statement}
 use Rattle.plantext.proofs.plan_lines.Tie as tie
 
@@ -46,10 +43,8 @@ returns : tie.Need-returns
 unfolding numberStep
 returns c =
     let a = c .before .before .before .before .before .before .before .before .before .before .before .before .args in
-    let s = c .before .before .before .before .before .before .plan-body .ensures in
     rw (c .enum-told .given .1)
-    (fills-stopped (bodyAt (a .text .now) (a .edges) (a .cursor .at)) (a .edges) (empty-pass putMark mark-length (a .marks .now) _ (s .intoMarks)) (empty-pass putMoat moat-length (a .records .now) _ (s .intoRecords))
-    (sym (s .end) ∙ ap numberStep (c .enum-told .given .1)))
+    (pass-stopped (a .text .now) (a .edges) (a .cursor .at) (a .marks .now) (a .records .now) (c .before .before .before .before .before .before .plan-body .ensures) (ap numberStep (c .enum-told .given .1)))
 
 same-length-3 : tie.Need-same-length-3
 same-length-3 c = search needs
@@ -61,9 +56,7 @@ returns-2 : tie.Need-returns-2
 unfolding numberStep
 returns-2 c =
     let a = c .before .before .before .before .before .before .before .before .before .before .before .before .before .before .args in
-    let s = c .before .before .before .before .before .before .before .before .plan-body .ensures in
-    fills-marks (bodyAt (a .text .now) (a .edges) (a .cursor .at)) (a .edges) (empty-pass putMark mark-length (a .marks .now) _ (s .intoMarks)) (empty-pass putMoat moat-length (a .records .now) _ (s .intoRecords))
-    (sym (s .end) ∙ ap numberStep (c .before .before .found .given .1)) (c .if1 .taken)
+    pass-marks (a .text .now) (a .edges) (a .cursor .at) (a .marks .now) (a .records .now) (c .before .before .before .before .before .before .before .before .plan-body .ensures) (ap numberStep (c .before .before .found .given .1)) (c .if1 .taken)
 
 same-length-5 : tie.Need-same-length-5
 same-length-5 c = search needs
@@ -75,9 +68,7 @@ returns-3 : tie.Need-returns-3
 unfolding numberStep
 returns-3 c =
     let a = c .before .before .before .before .before .before .before .before .before .before .before .before .before .before .before .args in
-    let s = c .before .before .before .before .before .before .before .before .before .plan-body .ensures in
-    fills-records (bodyAt (a .text .now) (a .edges) (a .cursor .at)) (a .edges) (empty-pass putMark mark-length (a .marks .now) _ (s .intoMarks)) (empty-pass putMoat moat-length (a .records .now) _ (s .intoRecords))
-    (sym (s .end) ∙ ap numberStep (c .before .before .before .found .given .1)) (c .before .if1 .left) (c .if2 .taken)
+    pass-records (a .text .now) (a .edges) (a .cursor .at) (a .marks .now) (a .records .now) (c .before .before .before .before .before .before .before .before .before .plan-body .ensures) (ap numberStep (c .before .before .before .found .given .1)) (c .before .if1 .left) (c .if2 .taken)
 
 clear-requires : tie.Need-clear-requires
 clear-requires c κs = search needs
@@ -95,9 +86,7 @@ returns-4 : tie.Need-returns-4
 unfolding numberStep
 returns-4 c =
     let a = c .before .before .before .before .before .before .before .before .before .before .before .before .before .before .before .before .before .before .before .before .before .before .before .before .before .before .args in
-    let s = c .before .before .before .before .before .before .before .before .before .before .before .before .before .before .before .before .before .before .before .before .plan-body .ensures in
-    fills-read (a .text .now) (a .edges) (a .cursor .at) (empty-pass putMark mark-length (a .marks .now) _ (s .intoMarks)) (empty-pass putMoat moat-length (a .records .now) _ (s .intoRecords))
-    (sym (s .end) ∙ ap numberStep (c .before .before .before .before .before .before .before .before .before .before .before .before .before .before .found .given .1)) (c .before .before .before .before .before .before .before .before .before .before .before .before .if1 .left) (c .before .before .before .before .before .before .before .before .before .before .before .if2 .left) (c .before .before .before .before .before .before .before .before .before .clear .ensures) (c .before .before .before .before .plan-body2 .ensures)
+    pass-read (a .text .now) (a .edges) (a .cursor .at) (a .marks .now) (a .records .now) (c .before .before .before .before .before .before .before .before .before .before .before .before .before .before .before .before .before .before .before .before .plan-body .ensures) (ap numberStep (c .before .before .before .before .before .before .before .before .before .before .before .before .before .before .found .given .1)) (c .before .before .before .before .before .before .before .before .before .before .before .before .if1 .left) (c .before .before .before .before .before .before .before .before .before .before .before .if2 .left) (c .before .before .before .before .before .before .before .before .before .clear .ensures) (c .before .before .before .before .plan-body2 .ensures)
 
 pub plan-lines-spec : {M : Type 1} → statement M
 plan-lines-spec =

@@ -1,7 +1,7 @@
 -- `plantext::read_plan` meets its contract, by the cases of the counts and of the lines after them.
 use borrow.Author.Needs.{needs}
 use mathlib.Core.Path.{ap, sym, _∙_}
-use Rattle.text.specs.Answer.{numberStep}
+use Rattle.numbers.specs.Answer.{numberStep}
 use Rattle.plantext.specs.Answer.{claimsStep, planOutcome}
 use Rattle.plantext.specs.Laws.Reading.{reads-refused, reads-stopped, reads-found}
 use Rattle.plantext.proofs.read_plan.Statement.{statement}

@@ -1,7 +1,7 @@
 -- `plantext::stopped_claims` meets its contract, by the case that the step is.
 use borrow.Author.Needs.{needs}
 use mathlib.Core.Path.{sym, ap}
-use Rattle.text.specs.Answer.{numberStep, stopped}
+use Rattle.numbers.specs.Answer.{numberStep, stopped}
 use Rattle.plantext.specs.Plan.{Claims}
 use Rattle.plantext.specs.Answer.{claimsStep}
 use Rattle.plantext.proofs.stopped_claims.Statement.{statement}

@@ -13,16 +13,19 @@ use Rattle.limits.specs.Limits.{maxDigits, recordBytes, maxDuals}
 use Rattle.limits.specs.Verdict.{answer, outcome}
 use Rattle.writing.specs.Key.{keptKey, terminalsKey, costKey, boundKey, roundsKey, newline}
 use Rattle.writing.specs.Text.{lineOf, countLines}
-use Rattle.text.specs.Step.{Step, found, refused, _then_, linesAfter}
-use Rattle.text.specs.Render.{textOf}
-use Rattle.text.specs.Laws.Step.{then-value, then-refused, fixed-short}
-use Rattle.text.specs.Laws.Stands.{Stands, stands-append}
-use Rattle.text.specs.Laws.Spells.{Reads, Word, Seq, Empty, bound, reads-then, reads-as, reads-value}
-use Rattle.text.specs.Laws.Content.{Text, joined, newline-no-digit, reads-keyed}
-use Rattle.plantext.specs.Items.{Reader, Each, none, more}
-use Rattle.plantext.specs.Plan.{countDigits, valueLine, Claims, claimsAt, keepReader, keptAt, memberReader, membersAt, memberNumbers, Moat, moatLine, moatReader, moatsAt, Plan, bodyAt, planAt, withRoom, planReading}
-use Rattle.plantext.specs.Laws.Tests.{risen-next}
-use Rattle.plantext.specs.Laws.Plan.{keep-passed, risen-back, items-stop}
+use Rattle.numbers.specs.Step.{Step, found, refused, _then_}
+use Rattle.lines.specs.Lines.{linesAfter}
+use Rattle.lines.specs.Render.{textOf}
+use Rattle.numbers.specs.Laws.Step.{then-value, then-refused, fixed-short}
+use Rattle.numbers.specs.Laws.Stands.{Stands, stands-append}
+use Rattle.numbers.specs.Laws.Spells.{Reads, Word, Seq, Empty, bound, reads-then, reads-as, reads-value}
+use Rattle.numbers.specs.Laws.Keyed.{Text, newline-no-digit, reads-keyed}
+use Rattle.lines.specs.Laws.Content.{joined}
+use Rattle.planlines.specs.Items.{Reader, Each, none, more}
+use Rattle.planlines.specs.Lines.{countDigits, valueLine, keepReader, keptAt, memberReader, membersAt, memberNumbers, Moat, moatLine, moatReader, moatsAt}
+use Rattle.plantext.specs.Plan.{Claims, claimsAt, Plan, bodyAt, planAt, withRoom, planReading}
+use Rattle.planlines.specs.Laws.Tests.{risen-next}
+use Rattle.planlines.specs.Laws.Lines.{keep-passed, risen-back, items-stop}
 use Rattle.plantext.specs.Laws.Reading.{room-fine}
 use Rattle.plantext.specs.Laws.Room.{room-answer, moat-passed}
 use Rattle.plantext.specs.Laws.Back.{Standing, stop, item, Rising, ended, rising, SmallMoat, Printed, Few, Printable, moatText, claimsText, planWords, plan-back}

@@ -13,19 +13,21 @@ use Rattle.limits.specs.declared.Verdict.{Verdict}
 use Rattle.writing.specs.Key.{newline, comma, colon, dualKey, keptKey, terminalsKey, costKey, boundKey, roundsKey}
 use Rattle.writing.specs.Decimal.{decimal}
 use Rattle.writing.specs.Text.{lineOf, listed, countLines}
-use Rattle.text.specs.Step.{found, refused, _then_, checked, Lines, linesAfter}
-use Rattle.text.specs.Number.{isDigit, classOf, byteIs, fixedAt, numberAt, numberTo}
-use Rattle.text.specs.Render.{numberText, textOf}
-use Rattle.text.specs.Laws.Byte.{byte-is, byte-inside}
-use Rattle.text.specs.Laws.Step.{then-found, then-value}
-use Rattle.text.specs.Laws.Stands.{Stands, stands-append, stands-first, stands-second, stands-head}
-use Rattle.text.specs.Laws.Digits.{Digits, one}
-use Rattle.text.specs.Laws.Decimal.{decimal-numeral}
-use Rattle.text.specs.Laws.Words.{reads-fixed, reads-number}
-use Rattle.text.specs.Laws.Content.{Small, newline-no-digit, comma-no-digit}
-use Rattle.plantext.specs.Laws.Tests.{kept-fine, risen-next, moat-fine}
-use Rattle.plantext.specs.Items.{Reader, following, itemsFrom, Each, none, more}
-use Rattle.plantext.specs.Plan.{countDigits, valueLine, Claims, claimsAt, keptTest, keepLine, keepReader, separator, memberNumbers, memberAt, risen, memberReader, membersAt, Moat, moatTest, moatHead, moatOf, moatLine, moatReader, moatsAt, keptAt, bodyAt, Plan, planAt}
+use Rattle.numbers.specs.Step.{found, refused, _then_, checked}
+use Rattle.lines.specs.Lines.{Lines, linesAfter}
+use Rattle.numbers.specs.Number.{isDigit, classOf, byteIs, fixedAt, numberAt, numberTo, numberText}
+use Rattle.lines.specs.Render.{textOf}
+use Rattle.numbers.specs.Laws.Byte.{byte-is, byte-inside}
+use Rattle.numbers.specs.Laws.Step.{then-found, then-value}
+use Rattle.numbers.specs.Laws.Stands.{Stands, stands-append, stands-first, stands-second, stands-head}
+use Rattle.numbers.specs.Laws.Digits.{Digits, one}
+use Rattle.numbers.specs.Laws.Decimal.{decimal-numeral}
+use Rattle.numbers.specs.Laws.Words.{reads-fixed, reads-number}
+use Rattle.numbers.specs.Laws.Keyed.{Small, newline-no-digit, comma-no-digit}
+use Rattle.planlines.specs.Laws.Tests.{kept-fine, risen-next, moat-fine}
+use Rattle.planlines.specs.Items.{Reader, following, itemsFrom, Each, none, more}
+use Rattle.planlines.specs.Lines.{countDigits, valueLine, keptTest, keepLine, keepReader, separator, memberNumbers, memberAt, risen, memberReader, membersAt, Moat, moatTest, moatHead, moatOf, moatLine, moatReader, moatsAt, keptAt}
+use Rattle.plantext.specs.Plan.{Claims, claimsAt, bodyAt, Plan, planAt}
 
 -- A key and a number with the byte that ends it, where they stand.
 keyed-back : (key : List ℕ) (limit b : ℕ) (t : List ℕ) (at x : ℕ) → 1 ≤ limit → x < 10 ^ limit → isDigit (classOf b) ≡ false → Stands t at (key ++ numberText b x)

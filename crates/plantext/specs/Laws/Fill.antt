@@ -1,21 +1,23 @@
 -- What the stores of a whole plan leave in the lent buffers: the marks and the records that the definition draws.
 use Prim.Native.Nat.{ℕ, zero, suc, _+_, _*_, _-_, _/_, _≤_, _<_}
 use native.Mathlib.Omega.{arith}
+use native.Mathlib.Numerals.{add-one}
 use mathlib.Core.Path.{_≡_, refl, ap, sym, _∙_}
 use mathlib.Core.Bool.{Bool, true, false, _||_, cond}
 use mathlib.Core.List.{List, [], _∷_, _++_, append-assoc}
-use lib.ListN.{length, getD, set, drop, length-append, length-drop, List·getD-append}
+use lib.ListN.{length, getD, set, drop, length-set, length-append, length-drop, List·getD-append}
 use lib.Seq.{ext-getD, getD-set-same, getD-set-other, take-at, drop-append-add, drop-drop, getD-append-add, getD-drop}
 use lib.Dec.{eqb, ltb}
 use borrow.Author.Tests.{ltb-true, ltb-false, eqb-true, eqb-false, ne-eqb, lt-ltb, le-ltb}
 use Rattle.finite.specs.Below.{tabulate}
 use Rattle.finite.specs.Laws.Below.{length-tabulate, getD-tabulate}
 use Rattle.limits.specs.Limits.{recordBytes}
-use Rattle.text.specs.Step.{Step, found, refused}
-use Rattle.plantext.specs.Items.{following, itemsFrom, puts, Each, none, more}
-use Rattle.plantext.specs.Plan.{keepReader, keptAt, moatReader, moatsAt, Moat, isIn, marksOf, moatRecord, moatRecords, putMark, putMoat, cleared}
-use Rattle.plantext.specs.Laws.Puts.{puts-length, mark-length, cleared-length}
-use Rattle.plantext.specs.Laws.Plan.{keep-passed, length-moat, moat-put}
+use Rattle.numbers.specs.Step.{Step, found, refused}
+use Rattle.planlines.specs.Items.{following, itemsFrom, puts, Each, none, more}
+use Rattle.planlines.specs.Lines.{keepReader, keptAt, moatReader, moatsAt, Moat, isIn, moatRecord, putMark, putMoat}
+use Rattle.plantext.specs.Plan.{marksOf, moatRecords, cleared}
+use Rattle.planlines.specs.Laws.Puts.{puts-length, mark-length}
+use Rattle.planlines.specs.Laws.Lines.{keep-passed, length-moat, moat-put}
 
 -- ---- what the lines hold
 
@@ -53,6 +55,15 @@ unfolding moatsAt
 moats-count t at e = omega (arith, items-count t (length t) 0 0 at e)
 
 -- ---- marks
+
+pub cleared-length : (m : ℕ) (marks : List ℕ) → length (cleared m marks) ≡ length marks
+unfolding cleared
+cleared-length zero marks = refl
+cleared-length (suc m) marks = length-set (cleared m marks) m 0 ∙ cleared-length m marks
+
+pub cleared-next : (marks : List ℕ) (m : ℕ) → set (cleared m marks) m 0 ≡ cleared (m + 1) marks
+unfolding cleared
+cleared-next marks m = rw (add-one m)
 
 marks-at : (marks : List ℕ) (i : ℕ) (es : List ℕ) → Each (λ e. e < length marks) es → (e : ℕ) → getD (puts putMark marks i es) e 0 ≡ cond (isIn es e) 2 (getD marks e 0)
 unfolding puts isIn

@@ -11,14 +11,14 @@ use Rattle.limits.specs.declared.Verdict.{Verdict}
 use Rattle.limits.specs.declared.Verdict.the-variants.{Fine, Refused}
 use Rattle.writing.specs.Key.{newline, colon, keptKey, dualKey}
 use Rattle.limits.specs.Limits.{maxDigits}
-use Rattle.text.specs.Step.{Step, found, refused, checked}
-use Rattle.text.specs.Number.{byteIs, fixedAt, numeralAt, numberAt, numberTo, decimalFrom}
-use Rattle.text.specs.Laws.Byte.{byte-inside}
-use Rattle.text.specs.Laws.Number.{numeral-width}
-use Rattle.text.specs.Laws.Step.{then-value}
-use Rattle.plantext.specs.Items.{Reader, following, itemsFrom}
-use Rattle.plantext.specs.Plan.{valueLine, keepLine, keepReader, separator, memberAt, memberReader, membersAt, Moat, moatHead, moatLine, moatReader}
-use Rattle.plantext.specs.Laws.Plan.{members-end}
+use Rattle.numbers.specs.Step.{Step, found, refused, checked}
+use Rattle.numbers.specs.Number.{byteIs, fixedAt, numeralAt, numberAt, numberTo, decimalFrom}
+use Rattle.numbers.specs.Laws.Byte.{byte-inside}
+use Rattle.numbers.specs.Laws.Number.{numeral-width}
+use Rattle.numbers.specs.Laws.Step.{then-value}
+use Rattle.planlines.specs.Items.{Reader, following, itemsFrom}
+use Rattle.planlines.specs.Lines.{valueLine, keepLine, keepReader, separator, memberAt, memberReader, membersAt, Moat, moatHead, moatLine, moatReader}
+use Rattle.planlines.specs.Laws.Lines.{members-end}
 
 -- A step from one offset of a text to a later one.
 pub record Goes (t : List ℕ) (at p : ℕ) : Type 0 where

@@ -14,22 +14,21 @@ use Rattle.limits.specs.declared.Verdict.the-variants.{Fine, Refused}
 use Rattle.writing.specs.Key.{keptKey, dualKey, colon, newline}
 use Rattle.writing.specs.Decimal.{decimal}
 use Rattle.writing.specs.Text.{lineOf, listed}
-use Rattle.text.specs.Step.{Step, found, refused, _then_, checked, Lines}
-use Rattle.text.specs.Number.{isDigit, classOf, byteIs, fixedAt, numberAt, numberTo}
-use Rattle.text.specs.Reading.{numberLine}
-use Rattle.text.specs.Render.{textOf}
-use Rattle.text.specs.Laws.Byte.{byte-inside}
-use Rattle.text.specs.Laws.Decimal.{decimal-numeral}
-use Rattle.text.specs.Laws.Step.{then-found, then-refused, then-value, Stops, early, late, then-stops}
-use Rattle.text.specs.Laws.Stands.{Stands, stands-append, stands-byte, stands-same, take-less}
-use Rattle.text.specs.Laws.Spells.{Reads, Word, Extends, bound, read-again}
-use Rattle.text.specs.Laws.Words.{Numbered, absent, present, numbered, number-is, no-digit-number, numeral-same, read-same, byte-same, Fixed, reads-fixed}
-use Rattle.text.specs.Laws.Content.{Text, Small, Passes, reads-keyed, reads-tested}
-use Rattle.text.specs.Laws.Tests.{checked-fine, checked-value}
+use Rattle.numbers.specs.Step.{Step, found, refused, _then_, checked}
+use Rattle.lines.specs.Lines.{Lines}
+use Rattle.numbers.specs.Number.{isDigit, classOf, byteIs, fixedAt, numberAt, numberTo, numberLine}
+use Rattle.lines.specs.Render.{textOf}
+use Rattle.numbers.specs.Laws.Byte.{byte-inside}
+use Rattle.numbers.specs.Laws.Decimal.{decimal-numeral}
+use Rattle.numbers.specs.Laws.Step.{then-found, then-refused, then-value, Stops, early, late, then-stops, checked-fine, checked-value}
+use Rattle.numbers.specs.Laws.Stands.{Stands, stands-append, stands-byte, stands-same, take-less}
+use Rattle.numbers.specs.Laws.Spells.{Reads, Word, Extends, bound, read-again}
+use Rattle.numbers.specs.Laws.Words.{Numbered, absent, present, numbered, number-is, no-digit-number, numeral-same, read-same, byte-same, Fixed, reads-fixed}
+use Rattle.numbers.specs.Laws.Keyed.{Text, Small, Passes, reads-keyed, reads-tested}
 use Rattle.text.specs.Laws.WellFormed.{one-spares, two-spare}
-use Rattle.plantext.specs.Items.{none}
-use Rattle.plantext.specs.Plan.{valueLine, keptTest, keepLine, keepReader, separator, memberAt, memberReader, membersAt, Moat, moatTest, moatHead, moatOf, moatLine, moatReader}
-use Rattle.plantext.specs.Laws.Plan.{items-stop}
+use Rattle.planlines.specs.Items.{none}
+use Rattle.planlines.specs.Lines.{valueLine, keptTest, keepLine, keepReader, separator, memberAt, memberReader, membersAt, Moat, moatTest, moatHead, moatOf, moatLine, moatReader}
+use Rattle.planlines.specs.Laws.Lines.{items-stop}
 use Rattle.plantext.specs.Laws.Fuel.{checked-next}
 use Rattle.plantext.specs.Laws.Back.{SmallMoat, moatText, moat-some, line-some, colon-ends, memberText, later-text, listed-text}
 use Rattle.plantext.specs.Laws.Listing.{Broken, Lists, textFrom, text-stands, as-long, standing-words, standing-long, items-standing, items-broken, item-goes, broken-place, broken-extends, items-again, items-broken-again}

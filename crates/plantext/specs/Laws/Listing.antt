@@ -5,11 +5,12 @@ use mathlib.Core.Path.{_≡_, refl, ap, sym, _∙_, subst}
 use mathlib.Core.Bool.{Bool, true, false, cond}
 use mathlib.Core.List.{List, [], _∷_, _++_, append-assoc, append-nil}
 use lib.ListN.{length, take, length-append, length-take}
-use Rattle.text.specs.Step.{Step, found, refused, Lines}
-use Rattle.text.specs.Laws.Stands.{Stands, stands-none, stands-append}
-use Rattle.text.specs.Laws.Spells.{Word, Extends, bound}
-use Rattle.text.specs.Laws.Content.{Text}
-use Rattle.plantext.specs.Items.{Reader, following, itemsFrom, Each, none, more}
+use Rattle.numbers.specs.Step.{Step, found, refused}
+use Rattle.lines.specs.Lines.{Lines}
+use Rattle.numbers.specs.Laws.Stands.{Stands, stands-none, stands-append}
+use Rattle.numbers.specs.Laws.Spells.{Word, Extends, bound}
+use Rattle.numbers.specs.Laws.Keyed.{Text}
+use Rattle.planlines.specs.Items.{Reader, following, itemsFrom, Each, none, more}
 use Rattle.plantext.specs.Laws.Fuel.{Goes}
 use Rattle.plantext.specs.Laws.Back.{Standing, stop, item, items-back}
 

@@ -13,15 +13,17 @@ use Rattle.limits.specs.declared.Verdict.{Verdict}
 use Rattle.limits.specs.declared.Verdict.the-variants.{Fine, Refused}
 use Rattle.writing.specs.Key.{keptKey}
 use Rattle.writing.specs.Text.{lineOf}
-use Rattle.text.specs.Step.{Step, found, refused, _then_, checked, Lines, linesAfter}
-use Rattle.text.specs.Number.{byteIs}
-use Rattle.text.specs.Render.{textOf}
-use Rattle.text.specs.Laws.Step.{then-found, then-refused}
-use Rattle.text.specs.Laws.Stands.{Stands, stands-first, stands-second, stands-end}
-use Rattle.text.specs.Laws.Spells.{Lively, read, otherwise, bound, read-again}
-use Rattle.text.specs.Laws.Content.{Small}
-use Rattle.plantext.specs.Items.{Reader, Each, none, more}
-use Rattle.plantext.specs.Plan.{Claims, claimsAt, keptTest, keepReader, keptAt, Moat, moatTest, moatReader, moatsAt, Plan, bodyAt, planAt, withRoom, planReading}
+use Rattle.numbers.specs.Step.{Step, found, refused, _then_, checked}
+use Rattle.lines.specs.Lines.{Lines, linesAfter}
+use Rattle.numbers.specs.Number.{byteIs}
+use Rattle.lines.specs.Render.{textOf}
+use Rattle.numbers.specs.Laws.Step.{then-found, then-refused}
+use Rattle.numbers.specs.Laws.Stands.{Stands, stands-first, stands-second, stands-end}
+use Rattle.numbers.specs.Laws.Spells.{Lively, read, otherwise, bound, read-again}
+use Rattle.numbers.specs.Laws.Keyed.{Small}
+use Rattle.planlines.specs.Items.{Reader, Each, none, more}
+use Rattle.planlines.specs.Lines.{keptTest, keepReader, keptAt, Moat, moatTest, moatReader, moatsAt}
+use Rattle.plantext.specs.Plan.{Claims, claimsAt, Plan, bodyAt, planAt, withRoom, planReading}
 use Rattle.plantext.specs.Laws.Room.{room-refusal}
 use Rattle.plantext.specs.Laws.Back.{Standing, stop, item, items-back, keep-line-back, SmallMoat, moat-line-back, moatText, Few, claimsText, claims-back, claims-some, planWords, lines-long, line-some, moat-some, no-keep}
 use Rattle.plantext.specs.Laws.Listing.{Broken, here, later, items-standing, items-broken, broken-items, item-goes, standing-long, broken-place, broken-extends, items-again, items-broken-again, text-stands}

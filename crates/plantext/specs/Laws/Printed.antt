@@ -12,11 +12,12 @@ use Rattle.limits.specs.Limits.{maxDigits, recordBytes, maxEdges, maxDuals}
 use Rattle.records.specs.Record.{valueIn, memberIn, recordAt}
 use Rattle.writing.specs.Key.{keptKey}
 use Rattle.writing.specs.Text.{lineOf, membersOf, dualLine, textBelow, keptLine, keptLines, dualLines, countLines, planText}
-use Rattle.text.specs.Step.{found}
-use Rattle.text.specs.Render.{textOf}
-use Rattle.text.specs.Laws.Stands.{Stands, stands-end}
-use Rattle.plantext.specs.Items.{Each, none, more}
-use Rattle.plantext.specs.Plan.{memberNumbers, Claims, Moat, Plan, planAt}
+use Rattle.numbers.specs.Step.{found}
+use Rattle.lines.specs.Render.{textOf}
+use Rattle.numbers.specs.Laws.Stands.{Stands, stands-end}
+use Rattle.planlines.specs.Items.{Each, none, more}
+use Rattle.planlines.specs.Lines.{memberNumbers, Moat}
+use Rattle.plantext.specs.Plan.{Claims, Plan, planAt}
 use Rattle.plantext.specs.Laws.Back.{Rising, ended, rising, Printed, Few, Printable, moatText, claimsText, planWords, plan-back}
 
 -- The tracks that marks keep, rising.

@@ -9,9 +9,13 @@ use Rattle.limits.specs.Limits.{recordBytes}
 use Rattle.limits.specs.Verdict.{refuseIf, refusal, answer, outcome}
 use Rattle.limits.specs.declared.Verdict.{Verdict}
 use Rattle.limits.specs.declared.Verdict.the-variants.{Fine, Refused}
-use Rattle.text.specs.Step.{Step, found, refused, _then_, checked, linesAfter}
-use Rattle.plantext.specs.Items.{puts, Each}
-use Rattle.plantext.specs.Plan.{Claims, Plan, Body, claimsAt, keptAt, moatsAt, bodyAt, planAt, marksOf, moatRecords, putMark, putMoat, cleared, roomTest, withRoom, planReading, marksAfter, recordsAfter}
+use Rattle.numbers.specs.Step.{Step, found, refused, _then_, checked}
+use Rattle.lines.specs.Lines.{linesAfter}
+use Rattle.planlines.specs.Items.{puts, Each}
+use Rattle.planlines.specs.Lines.{keptAt, moatsAt, putMark, putMoat}
+use Rattle.planlines.specs.Laws.Puts.{mark-length, moat-length}
+use Rattle.planlines.specs.Laws.Lines.{empty-pass}
+use Rattle.plantext.specs.Plan.{Claims, Plan, Body, claimsAt, bodyAt, planAt, marksOf, moatRecords, cleared, roomTest, withRoom, planReading, marksAfter, recordsAfter}
 use Rattle.plantext.specs.Answer.{Stores, Fills, Reads, roomed, storedIf, readOf}
 use Rattle.plantext.specs.Laws.Fill.{kept-below, moats-count, marks-filled, records-filled}
 
@@ -59,7 +63,7 @@ module _ (m count marks records : ℕ) where
   room-fine h k = rw (le-ltb marks m h, le-ltb (records / recordBytes) count k)
 
 module _ (b : Body) (m : ℕ) {marks marks′ records records′ : List ℕ} (sameMarks : marks′ ≡ marks) (sameRecords : records′ ≡ records) where
-  pub fills-stopped : {n p : ℕ} → b .end ≡ refused n p → Fills b m (refused n p) marks marks′ records records′
+  fills-stopped : {n p : ℕ} → b .end ≡ refused n p → Fills b m (refused n p) marks marks′ records records′
   unfolding roomed storedIf _then_
   fills-stopped e = record { end = rw e refl; intoMarks = sameMarks; intoRecords = sameRecords }
 
@@ -67,13 +71,13 @@ module _ (b : Body) (m : ℕ) {marks marks′ records records′ : List ℕ} (sa
   unfolding roomed storedIf _then_ checked
   fills-short e f = record { end = rw (e, f) refl; intoMarks = sameMarks; intoRecords = sameRecords }
 
-  pub fills-marks : {count p : ℕ} → b .end ≡ found count p → length marks′ < m → Fills b m (refused 7 0) marks marks′ records records′
+  fills-marks : {count p : ℕ} → b .end ≡ found count p → length marks′ < m → Fills b m (refused 7 0) marks marks′ records records′
   fills-marks {count} e h = fills-short e (room-marks m count (length marks) (length records) (rw sameMarks at h))
 
-  pub fills-records : {count p : ℕ} → b .end ≡ found count p → m ≤ length marks′ → length records′ / recordBytes < count → Fills b m (refused 7 0) marks marks′ records records′
+  fills-records : {count p : ℕ} → b .end ≡ found count p → m ≤ length marks′ → length records′ / recordBytes < count → Fills b m (refused 7 0) marks marks′ records records′
   fills-records {count} e h k = fills-short e (room-records m count (length marks) (length records) (rw sameMarks at h) (rw sameRecords at k))
 
-pub fills-read : (t : List ℕ) (m at : ℕ) {marks marks′ marks″ marks‴ records records′ records″ : List ℕ} {count p : ℕ} {step : Step ℕ}
+fills-read : (t : List ℕ) (m at : ℕ) {marks marks′ marks″ marks‴ records records′ records″ : List ℕ} {count p : ℕ} {step : Step ℕ}
     → marks′ ≡ marks → records′ ≡ records → bodyAt t m at .end ≡ found count p → m ≤ length marks′ → count ≤ length records′ / recordBytes
     → marks″ ≡ cleared m marks′ → Stores (bodyAt t m at) step marks″ marks‴ records′ records″
     → Fills (bodyAt t m at) m step marks marks‴ records records″
@@ -93,6 +97,29 @@ fills-read t m at {marks} {marks′} {marks″} {marks‴} {records} {records′
       intoRecords = s .intoRecords ∙ ap (λ l. puts putMoat l 0 (bodyAt t m at .moats)) sr ∙ records-filled (bodyAt t m at .moats) [] records 0 refl few
           ∙ sym (ap (λ x. storedIf x (moatRecords (bodyAt t m at .moats) ++ drop (recordBytes * length (bodyAt t m at .moats)) records) records) q);
     }
+
+-- After a first pass into parts of no length.
+module _ (t : List ℕ) (m at : ℕ) (marks records : List ℕ) {step : Step ℕ} {newMarks newRecords : List ℕ} (s : Stores (bodyAt t m at) step [] newMarks [] newRecords) where
+  same-marks : newMarks ++ marks ≡ marks
+  same-marks = empty-pass putMark mark-length marks (bodyAt t m at .kept) (s .intoMarks)
+
+  same-records : newRecords ++ records ≡ records
+  same-records = empty-pass putMoat moat-length records (bodyAt t m at .moats) (s .intoRecords)
+
+  pub pass-stopped : {n p : ℕ} → step ≡ refused n p → Fills (bodyAt t m at) m (refused n p) marks (newMarks ++ marks) records (newRecords ++ records)
+  pass-stopped e = fills-stopped (bodyAt t m at) m same-marks same-records (sym (s .end) ∙ e)
+
+  module _ {count p : ℕ} (e : step ≡ found count p) where
+    pub pass-marks : length (newMarks ++ marks) < m → Fills (bodyAt t m at) m (refused 7 0) marks (newMarks ++ marks) records (newRecords ++ records)
+    pass-marks h = fills-marks (bodyAt t m at) m same-marks same-records (sym (s .end) ∙ e) h
+
+    pub pass-records : m ≤ length (newMarks ++ marks) → length (newRecords ++ records) / recordBytes < count → Fills (bodyAt t m at) m (refused 7 0) marks (newMarks ++ marks) records (newRecords ++ records)
+    pass-records h k = fills-records (bodyAt t m at) m same-marks same-records (sym (s .end) ∙ e) h k
+
+    pub pass-read : {again : Step ℕ} {marks″ marks‴ records″ : List ℕ} → m ≤ length (newMarks ++ marks) → count ≤ length (newRecords ++ records) / recordBytes
+        → marks″ ≡ cleared m (newMarks ++ marks) → Stores (bodyAt t m at) again marks″ marks‴ (newRecords ++ records) records″
+        → Fills (bodyAt t m at) m again marks marks‴ records records″
+    pass-read h k c r = fills-read t m at same-marks same-records (sym (s .end) ∙ e) h k c r
 
 -- ---- the whole plan
 

@@ -1,27 +1,24 @@
--- Room for every plan within the limits: the check never wants for room, and marks that are read keep the tracks that were listed.
+-- Room for every plan within the limits: reading into it never wants for room.
 use Prim.Native.Nat.{ℕ, zero, suc, _+_, _*_, _/_, _≤_, _<_}
 use native.Mathlib.Omega.{arith}
-use mathlib.Core.Path.{_≡_, refl, ap, sym, _∙_, subst}
+use mathlib.Core.Path.{_≡_, refl, ap, sym, subst}
 use mathlib.Core.Bool.{Bool, true, false, _||_, cond}
 use mathlib.Core.List.{List, []}
 use lib.ListN.{length}
-use lib.Dec.{eqb, ltb, leb}
+use lib.Dec.{ltb, leb}
 use borrow.Author.Tests.{ltb-true, ltb-false, leb-true, leb-false}
-use Rattle.finite.specs.Laws.Below.{getD-tabulate}
 use Rattle.limits.specs.Limits.{recordBytes, maxDuals, maxEdges}
 use Rattle.limits.specs.Verdict.{refuseIf, refusal, answer, outcome}
 use Rattle.limits.specs.declared.Verdict.{Verdict}
 use Rattle.limits.specs.declared.Verdict.the-variants.{Fine, Refused}
-use Rattle.text.specs.Step.{Step, found, refused, linesAfter}
+use Rattle.numbers.specs.Step.{Step, found, refused}
+use Rattle.lines.specs.Lines.{linesAfter}
 use Rattle.text.specs.Reading.{outcomeOf}
-use Rattle.text.specs.Laws.Step.{then-value}
-use Rattle.text.specs.Laws.Tests.{checked-fine}
-use Rattle.survey.specs.Survey.{Survey, edgeCount}
-use Rattle.certificate.specs.Check.{keptBy}
-use Rattle.plantext.specs.Items.{following, itemsFrom}
-use Rattle.plantext.specs.Plan.{Moat, Plan, moatHead, membersAt, moatTest, moatLine, moatReader, moatsAt, keptAt, bodyAt, claimsAt, planAt, roomTest, withRoom, marksOf, isIn}
-use Rattle.plantext.specs.Verify.{planFrom}
-use Rattle.plantext.specs.Laws.Tests.{moat-falls, moat-many}
+use Rattle.numbers.specs.Laws.Step.{then-value, checked-fine}
+use Rattle.planlines.specs.Items.{following, itemsFrom}
+use Rattle.planlines.specs.Lines.{Moat, moatHead, membersAt, moatTest, moatLine, moatReader, moatsAt, keptAt}
+use Rattle.plantext.specs.Plan.{Plan, bodyAt, claimsAt, planAt, roomTest, withRoom}
+use Rattle.planlines.specs.Laws.Tests.{moat-falls, moat-many}
 use Rattle.plantext.specs.Laws.Reading.{room-marks, room-records, room-fine}
 
 no-refusal : {n p : ℕ} {w : Verdict} → w ≡ Refused n p → w ≡ Fine → ⊥
@@ -108,20 +105,11 @@ plan-few t m at {p} {q} e =
     let same : _≡_ {A = Plan} (record { claims = one .0; kept = bodyAt t m (one .1) .kept; moats = bodyAt t m (one .1) .moats }) p = cc (two .3) in
     subst (λ (x : Plan). length (x .moats) ≤ 511) same (body-few t m (one .1))
 
--- 7 cannot come: the check answers what the text says.
-pub room-suffices : (t : List ℕ) (s : Survey) (at : ℕ) → edgeCount s ≤ maxEdges → planFrom t s at ≡ outcomeOf (planAt t (edgeCount s) at)
-unfolding planFrom withRoom outcomeOf outcome
-room-suffices t s at h = by-plan (planAt t (edgeCount s) at) refl
+-- Where there is room for every plan within the limits 7 cannot come: what is answered is what the text says.
+pub room-enough : (t : List ℕ) (m at : ℕ) → m ≤ maxEdges → withRoom (planAt t m at) m maxEdges (recordBytes * maxDuals) ≡ outcomeOf (planAt t m at)
+unfolding withRoom outcomeOf outcome
+room-enough t m at h = by-plan (planAt t m at) refl
   where
-    by-plan : (x : Step Plan) → planAt t (edgeCount s) at ≡ x → withRoom x (edgeCount s) maxEdges (recordBytes * maxDuals) ≡ outcomeOf x
-    by-plan (found p q) e = let f = plan-few t (edgeCount s) at e in rw (room-fine (edgeCount s) (length (p .moats)) maxEdges (recordBytes * maxDuals) h f) refl
+    by-plan : (x : Step Plan) → planAt t m at ≡ x → withRoom x m maxEdges (recordBytes * maxDuals) ≡ outcomeOf x
+    by-plan (found p q) e = let f = plan-few t m at e in rw (room-fine m (length (p .moats)) maxEdges (recordBytes * maxDuals) h f) refl
     by-plan (refused n q) e = refl
-
--- The marks that are drawn for listed tracks keep these tracks and no others.
-pub kept-of-marks : (m : ℕ) (kept : List ℕ) (e : ℕ) → e < m → keptBy (marksOf m kept) e ≡ isIn kept e
-unfolding keptBy marksOf
-kept-of-marks m kept e h = ap (λ (x : ℕ). eqb x 2) (getD-tabulate m (λ x. cond (isIn kept x) 2 0) e 0 h) ∙ by-in (isIn kept e)
-  where
-    by-in : (b : Bool) → eqb (cond b 2 0) 2 ≡ b
-    by-in true = refl
-    by-in false = refl

@@ -1,0 +1,4 @@
+pub mod Items
+pub mod Tests
+pub mod Puts
+pub mod Lines

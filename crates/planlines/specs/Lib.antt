@@ -1,0 +1,4 @@
+pub mod Items
+pub mod Lines
+pub mod Answer
+pub mod Laws
