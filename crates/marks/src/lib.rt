@@ -1,16 +1,17 @@
 // Marks: 0 not picked, 1 picked and dropped, 2 kept. The lengths of a plan, its marks, and what the kept edges cost.
 ghost use mathlib.Core.Path.{_≡_};
 ghost use mathlib.Core.List.{[]};
-ghost use Prim.Native.Nat.{_≤_};
-ghost use lib.ListN.{getD, length};
+ghost use Prim.Native.Nat.{min};
+ghost use lib.ListN.{getD};
 ghost use lib.Dec.{eqb, ltb};
 ghost use Rattle.finite.specs.Below.{counted};
 ghost use Rattle.limits.specs.Limits.{maxEdges};
 ghost use Rattle.limits.specs.Verdict.{refuseIf, lowestBelow};
-ghost use Rattle.steiner.specs.Problem.{cost};
-ghost use Rattle.survey.specs.Survey.{surveyFrom, problemOf};
-ghost use Rattle.certificate.specs.Check.{keptBy, shapeRefusal};
+ghost use Rattle.survey.specs.Survey.{surveyFrom};
+ghost use Rattle.certificate.specs.Check.{shapeRefusal};
+ghost use Rattle.marks.specs.Cost.{keptCost};
 use limits::MAX_DUALS;
+use limits::MAX_EDGES;
 use limits::RECORD_BYTES;
 use limits::Verdict;
 
@@ -81,14 +82,24 @@ fn kept_weight(mark: u8, weight: u32) -> u64
     }
 }
 
+// As many edges as there are, at most those of the largest survey.
+fn edges_within(m: usize) -> usize
+    ensures { λ r. ⌜ r ≡ min maxEdges m ⌝ }
+{
+    if MAX_EDGES < m {
+        return MAX_EDGES;
+    }
+    m
+}
+
 // What the kept edges cost.
 pub fn kept_cost(firsts: &[u32], weights: &[u32], marks: &[u8]) -> u64
-    requires { ⌜ length (now firsts) ≤ maxEdges ⌝ }
-    ensures { λ r. ⌜ r ≡ cost (problemOf (surveyFrom [] (now (firsts .entry)) [] (now (weights .entry)))) (keptBy (now (marks .entry))) ⌝ }
+    ensures { λ r. ⌜ r ≡ keptCost (now (firsts .entry)) (now (weights .entry)) (now (marks .entry)) ⌝ }
 {
+    let m = edges_within(firsts.len());
     let mut cost: u64 = 0;
     let mut e = 0;
-    while e < firsts.len() {
+    while e < m {
         cost += kept_weight(reads::at8(marks, e), reads::at32(weights, e));
         e += 1;
     }

@@ -1,6 +1,7 @@
 -- `finish` meets its contract: what growing, dropping and drawing leave is the plan (`finish-plan`).
 use mathlib.Core.Path.{refl}
 use Rattle.planner.specs.Laws.Code.{prunable, drawable, finish-plan}
+use Rattle.marks.specs.Cost.{kept-cost-all}
 use native.Mathlib.Omega.{arith}
 use borrow.Author.Needs.{needs}
 use Rattle.planner.proofs.finish.Statement.{statement}
@@ -28,7 +29,7 @@ terminals-requires : tie.Need-terminals-requires
 terminals-requires c κs = search needs
 
 kept-cost-requires : tie.Need-kept-cost-requires
-kept-cost-requires c κs = c .before .before .before .before .before .before .before .before .before .before .before .before .before .before .before .before .before .before .before .before .before .before .before .pre .survey .edges-few
+kept-cost-requires c κs = search needs
 
 wide-requires : tie.Need-wide-requires
 wide-requires c κs = search needs
@@ -45,7 +46,7 @@ same-length-2 c = search needs
 returns : tie.Need-returns
 returns c =
     finish-plan _ _ _ _ _ _ (c .before .before .before .before .before .before .before .before .before .before .before .before .before .before .before .before .before .before .before .before .before .before .before .before .before .before .pre) _ (c .before .before .before .before .before .before .before .before .before .before .before .before .before .before .before .before .before .before .before .grow .ensures) _ _ _ _ _ _ _ (c .before .before .before .before .before .before .before .before .before .before .before .before .before .prune .ensures) (c .before .before .before .before .before .before .before .draw .ensures .0)
-    (c .before .before .before .before .before .before .before .draw .ensures .1) (c .before .before .before .before .terminals .ensures) (c .before .before .kept-cost .ensures) (c .before .wide .ensures) (c .wide2 .ensures)
+    (c .before .before .before .before .before .before .before .draw .ensures .1) (c .before .before .before .before .terminals .ensures) (kept-cost-all _ _ _ (c .before .before .before .before .before .before .before .before .before .before .before .before .before .before .before .before .before .before .before .before .before .before .before .before .before .before .pre .survey .edges-few) (c .before .before .kept-cost .ensures)) (c .before .wide .ensures) (c .wide2 .ensures)
 
 pub finish-spec : {M : Type 1} → statement M
 finish-spec =
