@@ -1,5 +1,4 @@
 pub mod Flags
-pub mod Scan
-pub mod Blocks
 pub mod Raise
 pub mod View
+pub mod Rounds

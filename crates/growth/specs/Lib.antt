@@ -1,4 +1,3 @@
-pub mod Scan
 pub mod Tables
 pub mod View
 pub mod Laws

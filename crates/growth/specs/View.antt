@@ -1,5 +1,5 @@
 -- What the arrays of a growth hold after r steps of the definition.
-use Prim.Native.Nat.{ℕ, _*_, _<_, _≤_, _^_}
+use Prim.Native.Nat.{ℕ, _+_, _*_, _/_, _<_, _≤_, _^_}
 use mathlib.Core.Path.{_≡_}
 use mathlib.Core.List.{List}
 use lib.ListN.{length, getD}
@@ -10,7 +10,7 @@ use Rattle.steiner.specs.Problem.{Problem}
 use Rattle.steiner.specs.Growth.{Delay, never, after, Winner, nobody, edge, winner, load, stateAt}
 use Rattle.steiner.specs.Pruning.{dualBound}
 use Rattle.survey.specs.Survey.{Survey, problemOf}
-use Rattle.growth.specs.Scan.{Keyed, Floored}
+use Rattle.winner.specs.Scan.{Keyed, blockEdges, Floored}
 use Rattle.growth.specs.declared.Growth.{Growth}
 use Rattle.survey.specs.Laws.Refusal.{SurveySound}
 
@@ -42,6 +42,21 @@ pub record Growing (s : Survey) (r time : ℕ) (keys floors labels loads values 
   pub keyed : Keyed (problemOf s) (stateAt (problemOf s) r) time keys
   pub floored : Floored (length (s .firsts)) keys floors
   pub view : View (problemOf s) r labels loads values picked order
+
+-- What holds before each round.
+pub record Rounds (s : Survey) (r time : ℕ) (keys floors labels loads values picked order : List ℕ) : Type 0 where
+  pub upto : r ≤ length (s .groups)
+  pub rounds-are : stateAt (problemOf s) r .rounds ≡ r
+  pub keyed : Keyed (problemOf s) (stateAt (problemOf s) r) time keys
+  pub floored : Floored (length (s .firsts)) keys floors
+  pub view : View (problemOf s) r labels loads values picked order
+  pub keys-long : maxEdges ≡ length keys
+  pub floors-long : maxEdges / blockEdges + 1 ≡ length floors
+  pub labels-long : maxVertices ≡ length labels
+  pub loads-long : maxVertices ≡ length loads
+  pub values-long : maxDuals ≡ length values
+  pub picked-long : maxEdges ≡ length picked
+  pub order-long : maxVertices ≡ length order
 
 abbrev pub growthFrom : (rounds bound : ℕ) → (labels values picked order : List ℕ) → Growth
 growthFrom rounds bound labels values picked order =

@@ -1,6 +1,6 @@
 // How duals grow, over arrays: labels, loads, values, picked marks, and the order of the picks. Definitions in specs/.
 ghost use mathlib.Core.Path.{_≡_};
-ghost use Prim.Native.Nat.{_+_, _-_, _*_, _<_, _≤_, _^_};
+ghost use Prim.Native.Nat.{_+_, _<_, _^_};
 ghost use lib.ListN.{getD, set, length};
 ghost use lib.Dec.{eqb};
 ghost use Rattle.finite.specs.Below.{counted, sumBelow, tabulate};
@@ -8,10 +8,11 @@ ghost use Rattle.limits.specs.Verdict.{written};
 ghost use Rattle.limits.specs.Limits.{maxDuals};
 ghost use Rattle.steiner.specs.Problem.{Problem};
 ghost use Rattle.survey.specs.Refusal.{surveyRefusal};
-ghost use Rattle.steiner.specs.Growth.{active, delayOf, better, winner, stateAt};
+ghost use Rattle.steiner.specs.Growth.{active, winner, stateAt};
 ghost use Rattle.survey.specs.Survey.{surveyFrom, groupsAlone, problemOf};
-ghost use Rattle.growth.specs.Scan.{limitOf, blockEdges, blockSize, blocksOf, lowest, passOf};
-ghost use Rattle.growth.specs.Tables.{tablesFrom, delayIn, winnerIn, delayBetween, delayBy, keyBetween, keyBy, onBy, passBy, scanFrom, flagged, raisedValues, raisedLoads, Room};
+ghost use Rattle.winner.specs.Scan.{passOf};
+ghost use Rattle.winner.specs.Tables.{delayIn};
+ghost use Rattle.growth.specs.Tables.{flagged, raisedValues, raisedLoads, Room};
 ghost use Rattle.growth.specs.View.{waitOf, View, Growing, Shows, growthFrom, Small};
 ghost use Rattle.survey.specs.Laws.Refusal.{SurveySound};
 use limits::Verdict;
@@ -19,6 +20,8 @@ use reads::at64;
 use stores::put8;
 use stores::put32;
 use stores::put64;
+use winner::Delay;
+use winner::Winner;
 
 // What growing leaves: how many rounds there were, the sum of all duals, the component numbers of the vertices, the values of the component numbers, 1 for each
 // picked edge, and the edges in the order of the rounds.
@@ -29,18 +32,6 @@ pub struct Growth {
     pub values: [u64; 511],
     pub picked: [u8; 2048],
     pub order: [u32; 256],
-}
-
-// An edge's delay, if it is a candidate.
-pub enum Delay {
-    Never,
-    After(u64),
-}
-
-// The winner of a round, if there is a candidate.
-pub enum Winner {
-    Nobody,
-    Edge { e: usize, d: u64 },
 }
 
 // The component of a vertex of a split group is active.
@@ -65,281 +56,6 @@ fn active_flags(groups: &[u8], labels: &[u32]) -> [u8; 511]
         v += 1;
     }
     flags
-}
-
-// What remains of an edge between two loads.
-fn edge_slack(weight: u32, first_load: u64, second_load: u64) -> u64
-    ensures { λ r. ⌜ r ≡ 2 * weight - («first_load» + «second_load») ⌝ }
-{
-    let whole = 2 * reads::wide32(weight);
-    if whole <= first_load {
-        return 0;
-    }
-    let rest = whole - first_load;
-    if rest <= second_load {
-        return 0;
-    }
-    rest - second_load
-}
-
-// The delay by whether each end is active, and what remains.
-fn delay_of(first: u8, second: u8, slack: u64) -> Delay
-    ensures { λ r. ⌜ delayIn r ≡ delayOf (eqb first 1) (eqb second 1) slack ⌝ }
-{
-    if first == 1 {
-        if second == 1 {
-            return Delay::After(slack / 2);
-        }
-        return Delay::After(slack);
-    }
-    if second == 1 {
-        return Delay::After(slack);
-    }
-    Delay::Never
-}
-
-// The delay of an edge between two vertices.
-fn delay_between(
-    labels: &[u32],
-    loads: &[u64],
-    flags: &[u8],
-    a: usize,
-    b: usize,
-    weight: u32,
-) -> Delay
-    ensures { λ r. ⌜ delayIn r ≡ delayBetween (now (labels .entry)) (now (loads .entry)) (now (flags .entry)) a b weight ⌝ }
-{
-    let x = reads::at32(labels, a);
-    let y = reads::at32(labels, b);
-    if x == y {
-        return Delay::Never;
-    }
-    let slack = edge_slack(weight, at64(loads, a), at64(loads, b));
-    delay_of(
-        reads::at8(flags, reads::index32(x)),
-        reads::at8(flags, reads::index32(y)),
-        slack,
-    )
-}
-
-// The earlier edge keeps its place unless the later one's delay is smaller.
-fn better_of(best: Winner, e: usize, delay: Delay) -> Winner
-    ensures { λ r. ⌜ winnerIn r ≡ better (winnerIn best) e (delayIn delay) ⌝ }
-{
-    let Delay::After(d) = delay else {
-        return best;
-    };
-    let Winner::Edge { e: f, d: c } = best else {
-        return Winner::Edge { e, d };
-    };
-    if d < c {
-        return Winner::Edge { e, d };
-    }
-    Winner::Edge { e: f, d: c }
-}
-
-// The key of an edge between two vertices.
-fn key_between(labels: &[u32], loads: &[u64], time: u64, a: usize, b: usize, weight: u32) -> u64
-    requires { ⌜ time < 2 ^ 62 ⌝ }
-    ensures { λ r. ⌜ r ≡ keyBetween (now (labels .entry)) (now (loads .entry)) time a b weight ⌝ }
-{
-    let x = reads::at32(labels, a);
-    let y = reads::at32(labels, b);
-    if x == y {
-        return 18446744073709551615;
-    }
-    let left = edge_slack(weight, at64(loads, a), at64(loads, b));
-    2 * time + left
-}
-
-// Twice the time of the best so far.
-fn limit_of(time: u64, best: Winner) -> u64
-    requires { ⌜ time < 2 ^ 62 ⌝ }
-    ensures { λ r. ⌜ r ≡ limitOf time (winnerIn best) ⌝ }
-{
-    let Winner::Edge { e: _, d } = best else {
-        return 18446744073709551615;
-    };
-    if d < 4611686018427387904 {
-        return 2 * (time + d);
-    }
-    18446744073709551615
-}
-
-// Looks at edge e: the best with it, and its key noted.
-fn look(
-    firsts: &[u32],
-    seconds: &[u32],
-    weights: &[u32],
-    labels: &[u32],
-    loads: &[u64],
-    flags: &[u8],
-    time: u64,
-    keys: &mut [u64],
-    e: usize,
-    best: Winner,
-) -> Winner
-    requires { ⌜ time < 2 ^ 62 ⌝ }
-    ensures { λ r. ⌜ winnerIn r ≡ better (winnerIn best) e (delayBy (tablesFrom (now (firsts .entry)) (now (seconds .entry)) (now (weights .entry)) (now (labels .entry)) (now (loads .entry)) (now (flags .entry))) e) ⌝ }
-    ensures { λ r. ⌜ now (keys .exit) ≡ set (now (keys .entry)) e (keyBy (tablesFrom (now (firsts .entry)) (now (seconds .entry)) (now (weights .entry)) (now (labels .entry)) (now (loads .entry)) (now (flags .entry))) time e) ⌝ }
-{
-    let a = reads::index32(reads::at32(firsts, e));
-    let b = reads::index32(reads::at32(seconds, e));
-    let weight = reads::at32(weights, e);
-    put64(keys, e, key_between(labels, loads, time, a, b, weight));
-    better_of(best, e, delay_between(labels, loads, flags, a, b, weight))
-}
-
-// Looks at the edges of a block whose noted keys do not say that they come later than the best so far.
-fn scan_block(
-    firsts: &[u32],
-    seconds: &[u32],
-    weights: &[u32],
-    labels: &[u32],
-    loads: &[u64],
-    flags: &[u8],
-    time: u64,
-    keys: &mut [u64],
-    from: usize,
-    to: usize,
-    best: Winner,
-) -> Winner
-    requires { ⌜ time < 2 ^ 62 ⌝ }
-    ensures { λ r. ⌜ winnerIn r ≡ onBy (tablesFrom (now (firsts .entry)) (now (seconds .entry)) (now (weights .entry)) (now (labels .entry)) (now (loads .entry)) (now (flags .entry))) time (scanFrom (winnerIn best) (now (keys .entry))) from (to - from) .best ⌝ }
-    ensures { λ r. ⌜ now (keys .exit) ≡ onBy (tablesFrom (now (firsts .entry)) (now (seconds .entry)) (now (weights .entry)) (now (labels .entry)) (now (loads .entry)) (now (flags .entry))) time (scanFrom (winnerIn best) (now (keys .entry))) from (to - from) .keys ⌝ }
-{
-    let mut champion = best;
-    let mut limit = limit_of(time, best);
-    let mut e = from;
-    while e < to {
-        if at64(keys, e) < limit {
-            champion = look(
-                firsts,
-                seconds,
-                weights,
-                labels,
-                loads,
-                flags,
-                time,
-                keys,
-                e,
-                champion,
-            );
-            limit = limit_of(time, champion);
-        }
-        e += 1;
-    }
-    champion
-}
-
-// The lowest of some keys.
-fn lowest_key(keys: &[u64], from: usize, to: usize) -> u64
-    ensures { λ r. ⌜ r ≡ lowest (now (keys .entry)) from (to - from) ⌝ }
-{
-    let mut low = 18446744073709551615;
-    let mut e = from;
-    while e < to {
-        let key = at64(keys, e);
-        if key < low {
-            low = key;
-        }
-        e += 1;
-    }
-    low
-}
-
-// How many edges block b has.
-fn block_size(m: usize, b: usize) -> usize
-    requires { ⌜ blockEdges * b ≤ m ⌝ }
-    ensures { λ r. ⌜ r ≡ blockSize m b ⌝ }
-{
-    let left = m - 16 * b;
-    if left < 16 {
-        return left;
-    }
-    16
-}
-
-// Looks through block b, and notes its floor.
-fn pass_block(
-    firsts: &[u32],
-    seconds: &[u32],
-    weights: &[u32],
-    labels: &[u32],
-    loads: &[u64],
-    flags: &[u8],
-    time: u64,
-    keys: &mut [u64],
-    floors: &mut [u64],
-    b: usize,
-    best: Winner,
-) -> Winner
-    requires { ⌜ time < 2 ^ 62 ⌝ }
-    requires { ⌜ blockEdges * b ≤ length (now firsts) ⌝ }
-    ensures { λ r. ⌜ winnerIn r ≡ onBy (tablesFrom (now (firsts .entry)) (now (seconds .entry)) (now (weights .entry)) (now (labels .entry)) (now (loads .entry)) (now (flags .entry))) time (scanFrom (winnerIn best) (now (keys .entry))) (blockEdges * b) (blockSize (length (now (firsts .entry))) b) .best ⌝ }
-    ensures { λ r. ⌜ now (keys .exit) ≡ onBy (tablesFrom (now (firsts .entry)) (now (seconds .entry)) (now (weights .entry)) (now (labels .entry)) (now (loads .entry)) (now (flags .entry))) time (scanFrom (winnerIn best) (now (keys .entry))) (blockEdges * b) (blockSize (length (now (firsts .entry))) b) .keys ⌝ }
-    ensures { λ r. ⌜ now (floors .exit) ≡ set (now (floors .entry)) b (lowest (now (keys .exit)) (blockEdges * b) (blockSize (length (now (firsts .entry))) b)) ⌝ }
-{
-    let from = 16 * b;
-    let to = from + block_size(firsts.len(), b);
-    let champion = scan_block(
-        firsts,
-        seconds,
-        weights,
-        labels,
-        loads,
-        flags,
-        time,
-        keys,
-        from,
-        to,
-        best,
-    );
-    put64(floors, b, lowest_key(keys, from, to));
-    champion
-}
-
-// The smallest delay, and among equals the lowest edge. Blocks whose floors say that all their edges come later are passed over.
-fn find_winner(
-    firsts: &[u32],
-    seconds: &[u32],
-    weights: &[u32],
-    labels: &[u32],
-    loads: &[u64],
-    flags: &[u8],
-    time: u64,
-    keys: &mut [u64],
-    floors: &mut [u64],
-) -> Winner
-    requires { ⌜ time < 2 ^ 62 ⌝ }
-    ensures { λ r. ⌜ winnerIn r ≡ passBy (tablesFrom (now (firsts .entry)) (now (seconds .entry)) (now (weights .entry)) (now (labels .entry)) (now (loads .entry)) (now (flags .entry))) time (now (keys .entry)) (now (floors .entry)) (blocksOf (length (now (firsts .entry)))) .scanned .best ⌝ }
-    ensures { λ r. ⌜ now (keys .exit) ≡ passBy (tablesFrom (now (firsts .entry)) (now (seconds .entry)) (now (weights .entry)) (now (labels .entry)) (now (loads .entry)) (now (flags .entry))) time (now (keys .entry)) (now (floors .entry)) (blocksOf (length (now (firsts .entry)))) .scanned .keys ⌝ }
-    ensures { λ r. ⌜ now (floors .exit) ≡ passBy (tablesFrom (now (firsts .entry)) (now (seconds .entry)) (now (weights .entry)) (now (labels .entry)) (now (loads .entry)) (now (flags .entry))) time (now (keys .entry)) (now (floors .entry)) (blocksOf (length (now (firsts .entry)))) .floors ⌝ }
-{
-    let mut best = Winner::Nobody;
-    let mut limit = 18446744073709551615;
-    let blocks = firsts.len() / 16 + 1;
-    let mut b = 0;
-    while b < blocks {
-        if at64(floors, b) < limit {
-            best = pass_block(
-                firsts,
-                seconds,
-                weights,
-                labels,
-                loads,
-                flags,
-                time,
-                keys,
-                floors,
-                b,
-                best,
-            );
-            limit = limit_of(time, best);
-        }
-        b += 1;
-    }
-    best
 }
 
 // A value raised by d where its flag is set.
@@ -413,7 +129,7 @@ fn round(
     ensures { λ x. ⌜ now (floors .exit) ≡ passOf (problemOf (surveyFrom (now (groups .entry)) (now (firsts .entry)) (now (seconds .entry)) (now (weights .entry)))) (stateAt (problemOf (surveyFrom (now (groups .entry)) (now (firsts .entry)) (now (seconds .entry)) (now (weights .entry)))) r) time (now (keys .entry)) (now (floors .entry)) .floors ⌝ }
 {
     let flags = active_flags(groups, labels);
-    let found = find_winner(
+    let found = winner::find_winner(
         firsts,
         seconds,
         weights,

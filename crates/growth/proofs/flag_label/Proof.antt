@@ -1,4 +1,6 @@
 -- `flag_label` meets its contract: a branch on the summary.
+use mathlib.Core.Path.{ap, _∙_}
+use lib.ListN.{set}
 use borrow.Author.Tests.{eq-eqb, ne-eqb}
 use Rattle.growth.specs.Tables.{flagged}
 use borrow.Author.Needs.{needs}
@@ -16,7 +18,8 @@ same-length c = search needs
 
 returns : tie.Need-returns
 unfolding flagged
-returns c = rw (eq-eqb (c .before .before .before .before .before .before .before .args .summary) 1 (c .before .before .before .before .before .if1 .taken)) cc
+returns c =
+    rw (eq-eqb (c .before .before .before .before .before .before .before .args .summary) 1 (c .before .before .before .before .before .if1 .taken)) (c .before .before .put8 .ensures ∙ ap (λ i. set (c .before .before .before .before .before .before .before .args .flags .now) i 1) (c .before .before .before .index32 .ensures))
 
 returns-2 : tie.Need-returns-2
 unfolding flagged

@@ -5,9 +5,9 @@ use lib.ListN.{length, getD}
 use lib.Dec.{eqb}
 use Rattle.finite.specs.Below.{counted}
 use Rattle.stores.specs.Store.{remade}
-use Rattle.stores.specs.Laws.Store.{length-remade, remade-more, remade-end}
+use Rattle.stores.specs.Laws.Store.{length-remade, remade-end}
 use Rattle.growth.specs.Tables.{raisedLoads}
-use Rattle.growth.specs.Laws.Raise.{room-ahead}
+use Rattle.growth.specs.Laws.Raise.{room-ahead, load-raised}
 use native.Mathlib.Omega.{arith}
 use borrow.Author.Needs.{needs}
 use Rattle.growth.proofs.raise_loads.Statement.{statement}
@@ -49,7 +49,7 @@ loop-less c = omega arith
 
 loop-again : tie.Need-loop-again Inv-loop μ-loop
 loop-again c =
-    (omega arith, c .before .before .put64 .ensures ∙ remade-more (λ k x. x + counted (eqb (getD (c .before .before .before .before .before .before .before .before .before .before .before .before .before .before .before .args .flags .now) (getD (c .before .before .before .before .before .before .before .before .before .before .before .before .before .before .before .args .labels .now) k 0) 0) 1) (c .before .before .before .before .before .before .before .before .before .before .before .before .before .before .before .args .d)) _ _ _ _ (c .before .before .before .before .before .before .before .before .before .before .before .loop .inv .1) (c .before .before .before .before .raised .ensures ∙ cc))
+    (omega arith, load-raised (c .before .before .before .before .before .before .before .before .before .before .before .before .before .before .before .args .flags .now) _ _ (c .before .before .before .before .before .before .before .before .before .before .before .before .before .before .before .args .loads .now) _ (c .before .before .before .before .before .at64 .ensures) (c .before .before .before .before .raised .ensures) (c .before .before .put64 .ensures) (c .before .before .before .before .before .before .before .before .before .before .before .before .before .before .before .args .labels .now) (c .before .before .before .before .before .before .before .before .before .before .before .loop .inv .1) (c .before .before .before .before .before .before .before .before .before .at32 .ensures) (c .before .before .before .before .before .before .before .before .index32 .ensures) (c .before .before .before .before .before .before .before .at8 .ensures))
 
 same-length : tie.Need-same-length Inv-loop μ-loop
 same-length c = ap length (c .before .loop .inv .1) ∙ length-remade _ _ _

@@ -30,10 +30,11 @@ use Rattle.components.specs.Labels.{relabelled}
 use Rattle.survey.specs.Laws.Refusal.{SurveySound, survey-sound}
 use Rattle.stores.specs.Laws.Store.{tabulate-cong, set-table, remade-table, remade-part}
 use Rattle.components.specs.Laws.Labels.{relabelled-table}
-use Rattle.growth.specs.Scan.{key, Scan, scanOf, Keyed, timeAfter, blocksOf, passOf, Floored}
-use Rattle.growth.specs.Tables.{tablesFrom, delayBetween, delayBy, keyBetween, keyBy, passBy, raisedValues, raisedLoads, Room}
-use Rattle.growth.specs.Laws.Scan.{scan-wins, keyed-next}
-use Rattle.growth.specs.Laws.Blocks.{passes-scan, passes-cong}
+use Rattle.winner.specs.Scan.{key, cappedTime, Scan, scanOf, Keyed, timeAfter, blocksOf, passOf, Floored}
+use Rattle.winner.specs.Tables.{tablesFrom, delayBetween, delayBy, keyBetween, keyBy, passBy}
+use Rattle.growth.specs.Tables.{raisedValues, raisedLoads, Room}
+use Rattle.winner.specs.Laws.Scan.{capped-is, scan-wins, keyed-next}
+use Rattle.winner.specs.Laws.Blocks.{passes-scan, passes-cong}
 use Rattle.growth.specs.View.{edgeOf, waitOf, turn, View, Growing, Small, growthFrom, Shows}
 
 -- A flag of 1 stands for the test.
@@ -111,6 +112,9 @@ module _ (s : Survey) (r : ℕ) {time : ℕ} {keys floors labels loads values pi
       let few = h .sound .few in
       omega arith
 
+  in-time : time < 2 ^ 62
+  in-time = let q = rounds-few in let t = h .keyed .early in omega arith
+
   -- The blocks of the round scan all its edges.
   passed : (passOf (problemOf s) (stateAt (problemOf s) r) time keys floors .scanned ≡ scanOf (problemOf s) (stateAt (problemOf s) r) time keys)
       × Floored (length (s .firsts)) (passOf (problemOf s) (stateAt (problemOf s) r) time keys floors .scanned .keys) (passOf (problemOf s) (stateAt (problemOf s) r) time keys floors .floors)
@@ -170,13 +174,14 @@ module _ (s : Survey) (r : ℕ) {time : ℕ} {keys floors labels loads values pi
         )
 
     -- The passes over the tables are those of the definition.
-    pub pass-is : passBy (tablesFrom (s .firsts) (s .seconds) (s .weights) labels loads flags) time keys floors (blocksOf (length (s .firsts)))
+    pub pass-is : passBy (tablesFrom (s .firsts) (s .seconds) (s .weights) labels loads flags) (cappedTime time) keys floors (blocksOf (length (s .firsts)))
         ≡ passOf (problemOf s) (stateAt (problemOf s) r) time keys floors
     unfolding passBy passOf problemOf edgeCount
-    pass-is = passes-cong _ _ _ _ time (length (s .firsts)) delay-at key-at keys floors (blocksOf (length (s .firsts)))
+    pass-is =
+        rw (capped-is time in-time) (passes-cong _ _ _ _ time (length (s .firsts)) delay-at key-at keys floors (blocksOf (length (s .firsts))))
 
     -- Their winner is the round's.
-    pub winner-is : passBy (tablesFrom (s .firsts) (s .seconds) (s .weights) labels loads flags) time keys floors (blocksOf (length (s .firsts))) .scanned .best
+    pub winner-is : passBy (tablesFrom (s .firsts) (s .seconds) (s .weights) labels loads flags) (cappedTime time) keys floors (blocksOf (length (s .firsts))) .scanned .best
         ≡ winner (problemOf s) (stateAt (problemOf s) r)
     winner-is = ap (λ x. x .scanned .best) pass-is ∙ ap (λ x. x .best) (passed .0) ∙ scan-is .0
 

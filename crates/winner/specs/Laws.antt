@@ -1,0 +1,4 @@
+pub mod Scan
+pub mod Blocks
+pub mod Tables
+pub mod Loops
