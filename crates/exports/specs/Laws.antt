@@ -1,6 +1,6 @@
 -- The answer's number and counts, by the case that the code took.
 use Prim.Native.Nat.{ℕ, _+_, _*_, _%_}
-use mathlib.Core.Path.{_≡_, refl, ap, sym, _∙_}
+use mathlib.Core.Path.{_≡_, ap, sym, _∙_}
 use mathlib.Core.List.{List}
 use lib.ListN.{set}
 use Rattle.limits.specs.Verdict.{Outcome}

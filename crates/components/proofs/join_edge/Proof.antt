@@ -1,5 +1,4 @@
 -- `join_edge` meets its contract: a branch on whether the edge is in the set.
-use mathlib.Core.Path.{_∙_}
 use Rattle.components.specs.Labels.{chosen}
 use borrow.Author.Needs.{needs}
 use Rattle.components.proofs.join_edge.Statement.{statement}

@@ -3,7 +3,7 @@ use Prim.Native.Nat.{_*_, _≤_, _-_}
 use native.Mathlib.Omega.{arith}
 use mathlib.Core.Path.{ap, ap₂, _≡_, refl, sym, _∙_}
 use lib.Dec.{eqb}
-use lib.ListN.{length, getD, length-take}
+use lib.ListN.{getD, length-take}
 use borrow.Author.Needs.{needs}
 use Rattle.finite.specs.Laws.Below.{counted-le, sum-limit}
 use Rattle.finite.specs.Below.{counted, sumBelow}

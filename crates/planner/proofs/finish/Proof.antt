@@ -2,7 +2,6 @@
 use mathlib.Core.Path.{refl}
 use Rattle.planner.specs.Laws.Code.{prunable, drawable, finish-plan}
 use Rattle.marks.specs.Cost.{kept-cost-all}
-use native.Mathlib.Omega.{arith}
 use borrow.Author.Needs.{needs}
 use Rattle.planner.proofs.finish.Statement.{statement}
 use Rattle.planner.proofs.finish.Tie as tie

@@ -3,7 +3,6 @@ use mathlib.Core.Path.{sym, _∙_}
 use Rattle.survey.specs.Survey.{edgeCount, vertexCount}
 use Rattle.survey.specs.Laws.Refusal.{fine-survey}
 use Rattle.planner.specs.Laws.Ready.{survey-stops, room-stops, groups-decide}
-use native.Mathlib.Omega.{arith}
 use borrow.Author.Needs.{needs}
 use Rattle.planner.proofs.plan_refusal.Statement.{statement}
 use Rattle.planner.proofs.plan_refusal.Tie as tie

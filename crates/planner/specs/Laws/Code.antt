@@ -1,21 +1,21 @@
 -- From what growing, dropping and drawing leave to the plan: picked marks become the plan's marks, and the trace's duals are the plan's duals.
 use Prim.Native.Nat.{ℕ, _+_, _*_, _-_, _≤_, _<_}
 use mathlib.Core.Path.{_≡_, refl, ap, sym, _∙_, subst, fun-ext}
-use mathlib.Core.Logic.{_⊎_, inl, inr, ⊎-elim}
+use mathlib.Core.Logic.{_⊎_, ⊎-elim}
 use mathlib.Core.Bool.{Bool, true, false, not}
 use mathlib.Core.List.{List, [], _++_}
 use native.Mathlib.Omega.{arith}
-use lib.ListN.{length, getD, take, drop, length-append, length-drop, List·getD-append, List·getD-eq-default}
+use lib.ListN.{length, getD, drop, length-append, length-drop, List·getD-append, List·getD-eq-default}
 use lib.Seq.{ext-getD, getD-append-add, getD-drop}
 use lib.Dec.{eqb, ltb}
 use borrow.Author.Tests.{lt-ltb}
 use Rattle.finite.specs.Below.{counted, tabulate}
-use Rattle.finite.specs.Laws.Test.{either, not-true-false}
-use Rattle.finite.specs.Laws.Below.{sum-cong, length-tabulate, getD-tabulate, lt-or-ge, counted-true, counted-false}
+use Rattle.finite.specs.Laws.Test.{not-true-false}
+use Rattle.finite.specs.Laws.Below.{sum-cong, length-tabulate, getD-tabulate, lt-or-ge, counted-true}
 use Rattle.limits.specs.Limits.{maxVertices, maxEdges, recordBytes, dualsOf}
 use Rattle.limits.specs.Verdict.{answer, written}
 use Rattle.graph.specs.Laws.Forest.{Forest}
-use Rattle.steiner.specs.Problem.{Problem, Sound, Joins, joined, allUsable, terminal, terminals, cost}
+use Rattle.steiner.specs.Problem.{Problem, Sound, Joins, joined, terminal, terminals, cost}
 use Rattle.steiner.specs.Growth.{edge, winner, stateAt, grown}
 use Rattle.steiner.specs.Laws.Joined.{Bounded}
 use Rattle.steiner.specs.Laws.Finish.{picked-joins}

@@ -6,13 +6,13 @@ use mathlib.Core.Bool.{Bool, false, _||_}
 use mathlib.Core.List.{List, _++_}
 use mathlib.Core.List.{append-nil}
 use lib.ListN.{length, take, drop, set, length-append, length-drop, take-append-drop, drop-of-length-le}
-use lib.Seq.{length-take-le, take-all, take-nil, sets-eq, length-sets, take-at, drop-at, take-set-le, drop-set-add, take-append-le, drop-append-le, drop-append-add}
+use lib.Seq.{take-all, take-nil, sets-eq, take-at, drop-at, take-set-le, drop-set-add, drop-append-add}
 use lib.Dec.{eqb}
 use Rattle.finite.specs.Below.{thoseBelow}
 use Rattle.limits.specs.Limits.{valueBytes, memberBytes, recordBytes}
 use Rattle.records.specs.Bits.{Bytes, bytesOf, memberAt, lowBytes, numberOf}
 use Rattle.records.specs.Record.{recordOf, valueIn, memberIn, recordAt, overwritten, withMemberIn, startedAs}
-use Rattle.records.specs.Laws.Bits.{length-bytes, bytes-bytes, member-of-bytes, member-past, bytes-add, those-cong}
+use Rattle.records.specs.Laws.Bits.{length-bytes, bytes-bytes, member-of-bytes, bytes-add, those-cong}
 use Rattle.records.specs.Laws.Amount.{length-low, low-bytes, bytes-append, number-of-low, number-part-lt, bytes-part, low-append, bytes-of-none}
 
 pub length-record : (value : ℕ) (S : ℕ → Bool) → length (recordOf value S) ≡ recordBytes

@@ -6,8 +6,8 @@ use mathlib.Core.Path.{_≡_, refl, ap, sym, _∙_}
 use mathlib.Core.Logic.{_⊎_, inl, inr, ⊎-elim}
 use mathlib.Core.Bool.{Bool, true, false, cond}
 use mathlib.Core.List.{List}
-use lib.ListN.{length, getD}
-use Rattle.finite.specs.Below.{counted, countBelow, tabulate}
+use lib.ListN.{length}
+use Rattle.finite.specs.Below.{countBelow, tabulate}
 use Rattle.finite.specs.Laws.Below.{counted-true, counted-false, length-tabulate}
 use Rattle.finite.specs.Laws.Test.{either}
 use Rattle.graph.specs.Component.{components}
@@ -15,7 +15,7 @@ use Rattle.stores.specs.Laws.Store.{length-remade}
 use Rattle.components.specs.Labels.{relabelled, endsJoined}
 use Rattle.components.specs.Laws.Labels.{components-none, components-more}
 use Rattle.sides.specs.Word.{ownWord, turnedAll, edgeTaken, sideWords}
-use Rattle.sides.specs.Taken.{Taken, taken, takenBelow, EdgeStep}
+use Rattle.sides.specs.Taken.{taken, takenBelow, EdgeStep}
 use Rattle.sides.specs.Laws.Word.{words-none, words-more}
 
 -- An edge of the set.

@@ -283,9 +283,6 @@ module _ (n : ℕ) (a b : ℕ → ℕ) (F : ℕ → Bool) (base : ℕ) where
           long
           (λ w c. rw (label-at w c, word-at w c) (sym (words-taken e t w))))
 
-  pub words-end : (N m e : ℕ) → e ≤ m → m ≤ e → tabulate N (sideWords n a b F base e) ≡ tabulate N (sideWords n a b F base m)
-  words-end N m e h k = let q : e ≡ m = omega arith in rw q
-
 -- ---- what calls leave
 
 pub count-none : (F : ℕ → Bool) → 0 ≡ countBelow 0 F
