@@ -11,17 +11,17 @@ ghost use Rattle.survey.specs.Refusal.{surveyRefusal};
 ghost use Rattle.steiner.specs.Growth.{active, winner, stateAt};
 ghost use Rattle.survey.specs.Survey.{surveyFrom, groupsAlone, problemOf};
 ghost use Rattle.winner.specs.Scan.{passOf};
-ghost use Rattle.winner.specs.Tables.{delayIn};
+ghost use Rattle.delays.specs.Between.{delayIn};
 ghost use Rattle.growth.specs.Tables.{flagged, raisedValues, raisedLoads, Room};
 ghost use Rattle.growth.specs.View.{waitOf, View, Growing, Shows, growthFrom, Small};
 ghost use Rattle.survey.specs.Laws.Refusal.{SurveySound};
+use delays::Delay;
+use delays::Winner;
 use limits::Verdict;
 use reads::at64;
 use stores::put8;
 use stores::put32;
 use stores::put64;
-use winner::Delay;
-use winner::Winner;
 
 // What growing leaves: how many rounds there were, the sum of all duals, the component numbers of the vertices, the values of the component numbers, 1 for each
 // picked edge, and the edges in the order of the rounds.

@@ -4,21 +4,9 @@ use mathlib.Core.Bool.{cond}
 use mathlib.Core.List.{List}
 use lib.ListN.{getD, length}
 use lib.Dec.{eqb}
-use Rattle.steiner.specs.Growth.{Delay, never, after, delayOf, Winner, nobody, edge}
+use Rattle.steiner.specs.Growth.{Delay, Winner}
+use Rattle.delays.specs.Between.{delayBetween}
 use Rattle.winner.specs.Scan.{noKey, Scan, scanOn, Pass, passes}
-use Rattle.winner.specs.declared.Delay.{Delay as CodeDelay}
-use Rattle.winner.specs.declared.Delay.the-variants.{Never, After}
-use Rattle.winner.specs.declared.Winner.{Winner as CodeWinner}
-use Rattle.winner.specs.declared.Winner.the-variants.{Nobody, Edge}
-
--- The definition's delay and winner that the code's answers are.
-unfoldable pub delayIn : CodeDelay → Delay
-delayIn Never = never
-delayIn (After d) = after d
-
-unfoldable pub winnerIn : CodeWinner → Winner
-winnerIn Nobody = nobody
-winnerIn (Edge e d) = edge e d
 
 pub record Tables : Type 0 where
   pub firsts : List ℕ
@@ -33,13 +21,6 @@ pub record Tables : Type 0 where
 abbrev pub tablesFrom : (firsts seconds weights labels loads flags : List ℕ) → Tables
 tablesFrom firsts seconds weights labels loads flags =
     record { firsts = firsts; seconds = seconds; weights = weights; labels = labels; loads = loads; flags = flags }
-
--- An edge of weight w between vertices a and b.
-unfoldable pub delayBetween : (labels loads flags : List ℕ) → (a b w : ℕ) → Delay
-delayBetween labels loads flags a b w =
-    let x = getD labels a 0 in
-    let y = getD labels b 0 in
-    cond (eqb x y) never (delayOf (eqb (getD flags x 0) 1) (eqb (getD flags y 0) 1) (2 * w - (getD loads a 0 + getD loads b 0)))
 
 unfoldable pub delayBy : Tables → ℕ → Delay
 delayBy t e = delayBetween (t .labels) (t .loads) (t .flags) (getD (t .firsts) e 0) (getD (t .seconds) e 0) (getD (t .weights) e 0)

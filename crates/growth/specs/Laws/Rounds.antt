@@ -14,13 +14,14 @@ use Rattle.components.specs.Labels.{relabelled}
 use Rattle.survey.specs.Laws.Refusal.{SurveySound}
 use Rattle.stores.specs.Laws.Store.{remade-table, replicate-table}
 use Rattle.winner.specs.Scan.{cappedTime, Keyed, timeAfter, blockEdges, blocksOf, passOf, Floored}
-use Rattle.winner.specs.Tables.{delayIn, winnerIn, tablesFrom, passBy}
+use Rattle.delays.specs.Between.{delayIn, winnerIn}
+use Rattle.winner.specs.Tables.{tablesFrom, passBy}
 use Rattle.winner.specs.Laws.Scan.{keyed-start, floored-start}
 use Rattle.winner.specs.Laws.Blocks.{length-passes}
-use Rattle.winner.specs.declared.Delay.{Delay}
-use Rattle.winner.specs.declared.Delay.the-variants.{Never, After}
-use Rattle.winner.specs.declared.Winner.{Winner}
-use Rattle.winner.specs.declared.Winner.the-variants.{Nobody, Edge}
+use Rattle.delays.specs.declared.Delay.{Delay}
+use Rattle.delays.specs.declared.Delay.the-variants.{Never, After}
+use Rattle.delays.specs.declared.Winner.{Winner}
+use Rattle.delays.specs.declared.Winner.the-variants.{Nobody, Edge}
 use Rattle.growth.specs.declared.Growth.{Growth}
 use Rattle.growth.specs.Tables.{raisedValues, raisedLoads, Room}
 use Rattle.growth.specs.View.{waitOf, View, Growing, Rounds, growthFrom, Small, Shows}

@@ -31,7 +31,8 @@ use Rattle.survey.specs.Laws.Refusal.{SurveySound, survey-sound}
 use Rattle.stores.specs.Laws.Store.{tabulate-cong, set-table, remade-table, remade-part}
 use Rattle.components.specs.Laws.Labels.{relabelled-table}
 use Rattle.winner.specs.Scan.{key, cappedTime, Scan, scanOf, Keyed, timeAfter, blocksOf, passOf, Floored}
-use Rattle.winner.specs.Tables.{tablesFrom, delayBetween, delayBy, keyBetween, keyBy, passBy}
+use Rattle.winner.specs.Tables.{tablesFrom, delayBy, keyBetween, keyBy, passBy}
+use Rattle.delays.specs.Between.{delayBetween}
 use Rattle.growth.specs.Tables.{raisedValues, raisedLoads, Room}
 use Rattle.winner.specs.Laws.Scan.{capped-is, scan-wins, keyed-next}
 use Rattle.winner.specs.Laws.Blocks.{passes-scan, passes-cong}

@@ -3,7 +3,8 @@ use Prim.Native.Nat.{_-_}
 use mathlib.Core.Path.{ap, _∙_}
 use mathlib.Core.Logic.{⊎-elim}
 use Rattle.winner.specs.Scan.{blocksOf}
-use Rattle.winner.specs.Tables.{tablesFrom, winnerIn}
+use Rattle.winner.specs.Tables.{tablesFrom}
+use Rattle.delays.specs.Between.{winnerIn}
 use Rattle.winner.specs.Laws.Scan.{capped-small}
 use Rattle.winner.specs.Laws.Loops.{Passing, passing-start, block-starts, passing-look, passing-over, passing-keys, passing-floors, passing-end}
 use borrow.Author.Needs.{needs}

@@ -1,7 +1,7 @@
 -- `limit_of` meets its contract: each return by the variants and the test that led there.
 use borrow.Author.Tests.{lt-ltb, le-ltb}
 use Rattle.winner.specs.Scan.{limitOf}
-use Rattle.winner.specs.Tables.{winnerIn}
+use Rattle.delays.specs.Between.{winnerIn}
 use borrow.Author.Needs.{needs}
 use Rattle.winner.proofs.limit_of.Statement.{statement}
 use Rattle.winner.proofs.limit_of.Tie as tie

@@ -2,7 +2,8 @@
 use Prim.Native.Nat.{_-_}
 use mathlib.Core.Path.{ap, _∙_}
 use mathlib.Core.Logic.{⊎-elim}
-use Rattle.winner.specs.Tables.{tablesFrom, winnerIn}
+use Rattle.winner.specs.Tables.{tablesFrom}
+use Rattle.delays.specs.Between.{winnerIn}
 use Rattle.winner.specs.Laws.Loops.{Scanning, scanning-start, scanning-look, scanning-pass, scanning-long, scanning-end}
 use borrow.Author.Needs.{needs}
 use native.Mathlib.Omega.{arith}

@@ -1,9 +1,9 @@
 -- `delay_of` meets its contract: each return by the tests that led there.
 use borrow.Author.Tests.{eq-eqb, ne-eqb}
 use Rattle.steiner.specs.Growth.{delayOf}
-use Rattle.winner.specs.Tables.{delayIn}
-use Rattle.winner.proofs.delay_of.Statement.{statement}
-use Rattle.winner.proofs.delay_of.Tie as tie
+use Rattle.delays.specs.Between.{delayIn}
+use Rattle.delays.proofs.delay_of.Statement.{statement}
+use Rattle.delays.proofs.delay_of.Tie as tie
 
 returns : tie.Need-returns
 unfolding delayOf delayIn

@@ -1,9 +1,9 @@
 -- `delay_between` meets its contract: the labels decide, and then the loads.
-use Rattle.winner.specs.Tables.{delayIn}
-use Rattle.winner.specs.Laws.Tables.{delay-inside, delay-apart}
+use Rattle.delays.specs.Between.{delayIn}
+use Rattle.delays.specs.Laws.Between.{delay-inside, delay-apart}
 use borrow.Author.Needs.{needs}
-use Rattle.winner.proofs.delay_between.Statement.{statement}
-use Rattle.winner.proofs.delay_between.Tie as tie
+use Rattle.delays.proofs.delay_between.Statement.{statement}
+use Rattle.delays.proofs.delay_between.Tie as tie
 
 at32-requires : tie.Need-at32-requires
 at32-requires c κs = search needs

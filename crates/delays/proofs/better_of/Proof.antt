@@ -1,10 +1,10 @@
 -- `better_of` meets its contract: each return by the variants and the test that led there.
 use borrow.Author.Tests.{lt-ltb, le-ltb}
 use Rattle.steiner.specs.Growth.{better}
-use Rattle.winner.specs.Tables.{delayIn, winnerIn}
+use Rattle.delays.specs.Between.{delayIn, winnerIn}
 use borrow.Author.Needs.{needs}
-use Rattle.winner.proofs.better_of.Statement.{statement}
-use Rattle.winner.proofs.better_of.Tie as tie
+use Rattle.delays.proofs.better_of.Statement.{statement}
+use Rattle.delays.proofs.better_of.Tie as tie
 
 enum-known-delay : tie.Need-enum-known-delay
 enum-known-delay c = search needs
