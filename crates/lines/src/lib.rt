@@ -253,18 +253,14 @@ fn store8(buffer: &mut [u8], at: usize, value: u64)
     requires { ⌜ value < 256 ⌝ }
     ensures { λ r. ⌜ now (buffer .exit) ≡ set (now (buffer .entry)) at value ⌝ }
 {
-    if at < buffer.len() {
-        buffer[at] = value as u8;
-    }
+    stores::put8(buffer, at, value as u8);
 }
 
 fn store32(buffer: &mut [u32], at: usize, value: u64)
     requires { ⌜ value < 4294967296 ⌝ }
     ensures { λ r. ⌜ now (buffer .exit) ≡ set (now (buffer .entry)) at value ⌝ }
 {
-    if at < buffer.len() {
-        buffer[at] = value as u32;
-    }
+    stores::put32(buffer, at, value as u32);
 }
 
 // So many lines `node=g`; the groups up to the first refusal go into the buffer, as far as it reaches.
