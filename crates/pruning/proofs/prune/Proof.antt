@@ -1,3 +1,4 @@
+-- `prune` meets its contract: after each batch the marks are those of the batches below base.
 use Rattle.pruning.specs.Laws.Judge.{marksBelow, length-dropped, length-below, below-start, below-more, below-end}
 use Rattle.pruning.specs.Prunable.{unweighted}
 use Rattle.sides.specs.Word.{pickedIn}

@@ -1,3 +1,4 @@
+-- `at32` meets its contract: past the end, `getD` gives its default.
 use mathlib.Core.Path.{sym}
 use lib.ListN.{List·getD-eq-default}
 use borrow.Author.Needs.{needs}

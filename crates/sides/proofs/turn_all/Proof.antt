@@ -1,3 +1,4 @@
+-- `turn_all` meets its contract: it stores at rising places.
 use Rattle.sides.specs.Word.{turned, turnedAll}
 use Rattle.stores.specs.Laws.Store.{length-remade, remade-more, remade-end}
 use Rattle.stores.specs.Store.{remade}

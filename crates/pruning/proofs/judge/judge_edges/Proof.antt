@@ -1,3 +1,4 @@
+-- `judge_edges` meets its contract: after e edges their marks are judged, and the index is that of the next picked one.
 use Rattle.pruning.specs.Laws.Judge.{marks-more}
 use Rattle.sides.specs.Laws.Word.{count-none, next-index}
 use Rattle.pruning.specs.Judge.{judged, raised}

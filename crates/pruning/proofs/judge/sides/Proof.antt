@@ -1,3 +1,4 @@
+-- `sides` meets its contract: after v turns the first v labels are the sides of their vertices.
 use Rattle.pruning.specs.Judge.{sideIn}
 use Rattle.stores.specs.Store.{remade}
 use Rattle.stores.specs.Laws.Store.{remade-more, remade-end, remade-table}
