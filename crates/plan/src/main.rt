@@ -1,7 +1,7 @@
 // Reads a survey text on standard input and prints its plan, or the two lines of a refusal. A thin shell: reading, planning and printing are the libraries'.
-use planner::Planned;
-use printing::Printed;
-use text::Reading;
+use format_print::Printed;
+use format_survey::Reading;
+use plan_core::Planned;
 
 // Writes the first bytes of a buffer, as many as were printed.
 fn write(out: &[u8], answer: Printed) {
@@ -14,7 +14,7 @@ fn write(out: &[u8], answer: Printed) {
 
 fn refuse(number: u64, place: usize) {
     let mut out = [0u8; 56];
-    let answer = printing::print_refusal(number, place, &mut out);
+    let answer = format_print::print_refusal(number, place, &mut out);
     write(&out, answer);
 }
 
@@ -40,7 +40,7 @@ fn show(
         return;
     }
     let mut out = [0u8; 500928];
-    let answer = printing::print_plan(
+    let answer = format_print::print_plan(
         terminals,
         cost,
         bound,
@@ -56,7 +56,7 @@ fn show(
 fn plan(groups: &[u8], firsts: &[u32], seconds: &[u32], weights: &[u32]) {
     let mut marks = [0u8; 2048];
     let mut records = [0u8; 20440];
-    let answer = planner::plan(groups, firsts, seconds, weights, &mut marks, &mut records);
+    let answer = plan_core::plan(groups, firsts, seconds, weights, &mut marks, &mut records);
     match answer {
         Planned::Refused { number, place } => refuse(number, place),
         Planned::Finished {
@@ -101,7 +101,7 @@ fn respond(input: &[u8]) {
     let mut firsts = [0u32; 2048];
     let mut seconds = [0u32; 2048];
     let mut weights = [0u32; 2048];
-    let answer = text::read(input, &mut groups, &mut firsts, &mut seconds, &mut weights);
+    let answer = format_survey::read(input, &mut groups, &mut firsts, &mut seconds, &mut weights);
     match answer {
         Reading::Refused { number, place } => refuse(number, place),
         Reading::Survey { vertices, edges } => plan_first(

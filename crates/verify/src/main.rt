@@ -1,6 +1,6 @@
 // Reads a survey text and the printed plan behind it on standard input, and prints what the plan is worth: `passed`, sites, cost and bound as
 // the checker finds them, or the refusal.
-use verifier::Verified;
+use check_text::Verified;
 
 fn line(key: &[u8], value: u64) {
     io::write_all(1, key);
@@ -22,7 +22,7 @@ fn show(found: Verified) {
         }
         Verified::Refused { number, place } => {
             line(b"refused=", number);
-            line(b"place=", reads::wide(place));
+            line(b"place=", base_buffer::wide(place));
         }
     }
 }
@@ -36,6 +36,6 @@ fn main() {
     let mut text = room();
     let n = io::read_full(0, &mut text);
     if n <= text.len() {
-        show(verifier::verify(&text[0..n]));
+        show(check_text::verify(&text[0..n]));
     }
 }

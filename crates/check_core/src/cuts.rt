@@ -1,0 +1,74 @@
+// The cuts that duals are: whether each has members of some group on both sides.
+ghost use Rattle.base_buffer.specs.Lent.{old};
+ghost use mathlib.Core.Path.{_≡_};
+ghost use mathlib.Core.Bool.{not};
+ghost use Prim.Native.Nat.{_≤_, _/_};
+ghost use lib.ListN.{length};
+ghost use Rattle.base_finite.specs.Below.{counted, tabulate};
+ghost use Rattle.base_limits.specs.Limits.{maxVertices, recordBytes};
+ghost use Rattle.base_limits.specs.Verdict.{refuseIf, lowestBelow};
+ghost use Rattle.format_record.specs.Record.{memberIn};
+ghost use Rattle.theory_steiner.specs.Problem.{separates};
+ghost use Rattle.survey_core.specs.Survey.{groupsAlone, problemOf};
+ghost use Rattle.check_rule.specs.Check.{dualAt};
+use base_limits::MAX_VERTICES;
+use base_limits::RECORD_BYTES;
+use base_limits::Verdict;
+
+// 1 for a member, else 0.
+fn side(part: &[u8], v: usize) -> u32
+    ensures { λ r. ⌜ r ≡ counted (memberIn (old part) v) 1 ⌝ }
+{
+    if format_record::member(part, v) {
+        return 1;
+    }
+    0
+}
+
+// The sides of a cut as labels.
+fn sides(part: &[u8]) -> [u32; 256]
+    ensures { λ r. ⌜ r ≡ tabulate maxVertices (λ v. counted (memberIn (old part) v) 1) ⌝ }
+{
+    let mut labels = [0u32; 256];
+    let mut v = 0;
+    while v < MAX_VERTICES {
+        labels[v] = side(part, v);
+        v += 1;
+    }
+    labels
+}
+
+// 12: a cut with no group's members on both sides.
+fn cut_refusal(groups: &[u8], part: &[u8], i: usize) -> Verdict
+    requires { ⌜ length (now groups) ≤ maxVertices ⌝ }
+    ensures { λ r. ⌜ r ≡ refuseIf (not (separates (problemOf (groupsAlone (old groups))) (memberIn (old part)))) 12 i ⌝ }
+{
+    let labels = sides(part);
+    let split = survey_groups::split_refusal(groups, &labels, 12);
+    match split {
+        Verdict::Fine => Verdict::Refused {
+            number: 12,
+            place: i,
+        },
+        Verdict::Refused {
+            number: _,
+            place: _,
+        } => Verdict::Fine,
+    }
+}
+
+// The lowest record that 12 refuses.
+pub fn cuts_refusal(groups: &[u8], records: &[u8]) -> Verdict
+    requires { ⌜ length (now groups) ≤ maxVertices ⌝ }
+    ensures { λ r. ⌜ r ≡ lowestBelow (length (old records) / recordBytes) (λ i. refuseIf (not (separates (problemOf (groupsAlone (old groups))) (dualAt (old records) i .holds))) 12 i) ⌝ }
+{
+    let mut i = 0;
+    while i < records.len() / RECORD_BYTES {
+        let found = cut_refusal(groups, format_record::record(records, i), i);
+        if let Verdict::Refused { number, place } = found {
+            return Verdict::Refused { number, place };
+        }
+        i += 1;
+    }
+    Verdict::Fine
+}

@@ -1,0 +1,137 @@
+// The checker of plans: any marks and any moat records against a survey. Definitions in specs/.
+ghost use Rattle.base_buffer.specs.Lent.{old};
+ghost use mathlib.Core.Path.{_≡_};
+ghost use mathlib.Core.List.{[]};
+ghost use Prim.Native.Nat.{_≤_, _/_};
+ghost use lib.ListN.{length};
+ghost use Rattle.base_limits.specs.Limits.{maxVertices, maxDuals, recordBytes};
+ghost use Rattle.base_limits.specs.Verdict.{outcome, answer};
+ghost use Rattle.survey_core.specs.Survey.{surveyFrom, lentSurvey};
+ghost use Rattle.survey_core.specs.Accuracy.{Accurate};
+ghost use Rattle.check_rule.specs.Laws.Meaning.{Passing};
+ghost use Rattle.check_rule.specs.Check.{Checked, ruleRefusal, checkedOf, checking};
+ghost use Rattle.check_core.specs.Stage.{inputRefusal, dualsRefusal, allButRule, PlanFits, outcomeOf};
+use base_limits::Verdict;
+use survey_components::Chosen;
+
+mod cuts;
+mod duals;
+mod rule;
+
+// k, kept cost and bound of a plan that passes; or a refusal's number and place.
+pub enum Checking {
+    Passed {
+        terminals: u64,
+        cost: u64,
+        bound: u64,
+    },
+    Refused {
+        number: u64,
+        place: usize,
+    },
+}
+
+// 1 to 6, then 9 and 10.
+fn input_refusal(
+    groups: &[u8],
+    firsts: &[u32],
+    seconds: &[u32],
+    weights: &[u32],
+    marks: &[u8],
+    records: &[u8],
+) -> Verdict
+    ensures { λ r. ⌜ r ≡ inputRefusal (lentSurvey groups firsts seconds weights) (old marks) (old records) ⌝ }
+{
+    let unsound = survey_core::survey_refusal(groups, firsts, seconds, weights);
+    if let Verdict::Refused { number, place } = unsound {
+        return Verdict::Refused { number, place };
+    }
+    let unshaped = check_marks::shape_refusal(firsts, marks, records);
+    if let Verdict::Refused { number, place } = unshaped {
+        return Verdict::Refused { number, place };
+    }
+    check_marks::marks_refusal(firsts.len(), marks)
+}
+
+// 11, 12 and 13.
+fn duals_refusal(
+    groups: &[u8],
+    firsts: &[u32],
+    seconds: &[u32],
+    weights: &[u32],
+    records: &[u8],
+) -> Verdict
+    requires { ⌜ (length (now groups) ≤ maxVertices) × (length (now records) / recordBytes ≤ maxDuals) ⌝ }
+    ensures { λ r. ⌜ r ≡ dualsRefusal (lentSurvey groups firsts seconds weights) (old records) ⌝ }
+{
+    let unfit = duals::values_refusal(groups, records);
+    if let Verdict::Refused { number, place } = unfit {
+        return Verdict::Refused { number, place };
+    }
+    let whole = cuts::cuts_refusal(groups, records);
+    if let Verdict::Refused { number, place } = whole {
+        return Verdict::Refused { number, place };
+    }
+    duals::felts_refusal(firsts, seconds, weights, records)
+}
+
+// All refusals but 15.
+fn all_but_rule(
+    groups: &[u8],
+    firsts: &[u32],
+    seconds: &[u32],
+    weights: &[u32],
+    marks: &[u8],
+    records: &[u8],
+) -> Verdict
+    ensures { λ r. ⌜ r ≡ allButRule (lentSurvey groups firsts seconds weights) (old marks) (old records) ⌝ }
+{
+    let unfit = input_refusal(groups, firsts, seconds, weights, marks, records);
+    if let Verdict::Refused { number, place } = unfit {
+        return Verdict::Refused { number, place };
+    }
+    let unsound = duals_refusal(groups, firsts, seconds, weights, records);
+    if let Verdict::Refused { number, place } = unsound {
+        return Verdict::Refused { number, place };
+    }
+    survey_components::group_refusal(groups, firsts, seconds, weights, Chosen::Kept, marks, 14)
+}
+
+// The counts, if the accuracy rule's premise holds of them; else 15.
+fn judge(groups: &[u8], firsts: &[u32], weights: &[u32], marks: &[u8], records: &[u8]) -> Checking
+    requires { ⌜ PlanFits (now groups) (now firsts) (now weights) (now marks) (now records) ⌝ }
+    ensures { λ r. ⌜ outcomeOf r ≡ outcome (ruleRefusal (checkedOf (surveyFrom (old groups) (old firsts) [] (old weights)) (old marks) (old records))) (checkedOf (surveyFrom (old groups) (old firsts) [] (old weights)) (old marks) (old records)) ⌝ }
+{
+    let terminals = survey_groups::terminals(groups);
+    let cost = check_marks::kept_cost(firsts, weights, marks);
+    let bound = duals::bound(records);
+    let found = rule::rule_refusal(terminals, cost, bound);
+    match found {
+        Verdict::Fine => Checking::Passed {
+            terminals,
+            cost,
+            bound,
+        },
+        Verdict::Refused { number, place } => Checking::Refused { number, place },
+    }
+}
+
+// Checks a plan: marks and moat records against a survey. It passes exactly if none of 1 to 6 and 9 to 15 applies, and whatever passes is within the accuracy rule.
+pub fn check(
+    groups: &[u8],
+    firsts: &[u32],
+    seconds: &[u32],
+    weights: &[u32],
+    marks: &[u8],
+    records: &[u8],
+) -> Checking
+    ensures { λ r. ⌜ outcomeOf r ≡ checking (lentSurvey groups firsts seconds weights) (old marks) (old records) ⌝ }
+    ensures passed { λ r. ⌜ (((c : Checked) → outcomeOf r ≡ answer c → Passing (lentSurvey groups firsts seconds weights) (old marks) (old records)) × (Passing (lentSurvey groups firsts seconds weights) (old marks) (old records) → outcomeOf r ≡ answer (checkedOf (lentSurvey groups firsts seconds weights) (old marks) (old records)))) ⌝ }
+    ensures accurate { λ r. ⌜ ((c : Checked) → outcomeOf r ≡ answer c → Accurate (lentSurvey groups firsts seconds weights) (c .terminals) (c .cost)) ⌝ }
+{
+    let found = all_but_rule(groups, firsts, seconds, weights, marks, records);
+    if let Verdict::Refused { number, place } = found {
+        return Checking::Refused { number, place };
+    }
+    judge(groups, firsts, weights, marks, records)
+}

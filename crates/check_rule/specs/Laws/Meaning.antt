@@ -1,0 +1,206 @@
+-- What passing the checker means, refusal by refusal, in terms of the survey: sound (1 to 6), marks and records of the right shape (9), marks up to 2 (10), duals
+-- with values in range and members that are vertices (11), each with a group's members on both sides (12), no track's moats over twice its price (13),
+-- every group joined by paths of kept tracks (14), and the rule (15).
+use Prim.Native.Nat.{ℕ, _*_, _-_, _/_, _%_, _≤_, _<_}
+use mathlib.Core.Path.{_≡_, sym, _∙_, subst}
+use mathlib.Core.Logic.{⊎-elim, _↔_}
+use mathlib.Core.Bool.{true, false, _&&_, _||_, not}
+use mathlib.Core.List.{List}
+use native.Mathlib.Omega.{arith}
+use native.Mathlib.Nat.{not-le-of-lt}
+use lib.ListN.{length, getD, List·getD-eq-default}
+use lib.Dec.{eqb, ltb, leb}
+use borrow.Author.Tests.{eqb-true, eqb-false, eq-eqb, ne-eqb, ltb-false, le-ltb, leb-true, leb-false, not-true, not-false}
+use Rattle.base_finite.specs.Below.{anyBelow}
+use Rattle.base_finite.specs.Laws.Test.{and-left, and-right, or-false-left, or-false-right, not-true-false, true-not-false, and-false-cases}
+use Rattle.base_finite.specs.Laws.Below.{any-none, any-elim, Found, lt-or-ge}
+use Rattle.base_limits.specs.Limits.{maxValue, memberBytes, recordBytes, maxDuals}
+use Rattle.base_limits.specs.declared.Verdict.the-variants.{Fine}
+use Rattle.base_limits.specs.Laws.Verdict.{before-fine, fine-left, fine-right, refuse-false, fine-refuse, lowest-none, none-lowest}
+use Rattle.theory_steiner.specs.Problem.{Joins, separates, terminals, cost}
+use Rattle.theory_steiner.specs.Dual.{Dual, total, felt}
+use Rattle.theory_steiner.specs.Laws.Joined.{Bounded}
+use Rattle.survey_core.specs.Survey.{Survey, vertexCount, edgeCount, problemOf}
+use Rattle.survey_core.specs.Laws.Refusal.{SurveySound, survey-fine, fine-survey}
+use Rattle.survey_core.specs.Laws.Group.{Numbered, group-fine, joins-fine}
+use Rattle.check_rule.specs.Check.{
+  Checked,
+  dualAt,
+  dualsIn,
+  keptBy,
+  shapeRefusal,
+  dualRefusal,
+  ruleRefusal,
+  checkedOf,
+  checkRefusal,
+}
+
+-- 11 of one dual: a value from 1 to the limit, and members that are vertices.
+pub record DualSound (s : Survey) (d : Dual) : Type 0 where
+  pub positive : 0 < d .value
+  pub small : d .value ≤ maxValue
+  pub vertices-only : (v : ℕ) → v < 8 * memberBytes → d .holds v ≡ true → v < vertexCount s
+
+-- All that passing says.
+pub record Passing (s : Survey) (marks records : List ℕ) : Type 0 where
+  pub survey : SurveySound s
+  pub marks-long : length marks ≡ edgeCount s
+  pub records-whole : length records % recordBytes ≡ 0
+  pub records-few : length records / recordBytes ≤ maxDuals
+  pub marks-known : (e : ℕ) → e < edgeCount s → getD marks e 0 ≤ 2
+  pub duals-sound : (i : ℕ) → i < length records / recordBytes → DualSound s (dualAt records i)
+  pub duals-separate : (i : ℕ) → i < length records / recordBytes → separates (problemOf s) (dualAt records i .holds) ≡ true
+  pub not-overtight : (e : ℕ) → e < edgeCount s → felt (problemOf s) (dualsIn records) e ≤ 2 * problemOf s .weight e
+  pub kept-joins : Joins (problemOf s) (keptBy marks)
+  pub none-free : terminals (problemOf s) ≡ 0 → cost (problemOf s) (keptBy marks) ≡ 0
+  pub rule : terminals (problemOf s) * cost (problemOf s) (keptBy marks) ≤ (terminals (problemOf s) - 1) * total (dualsIn records)
+
+-- ---- each refusal
+
+module _ (s : Survey) (marks records : List ℕ) where
+  shape-fine : shapeRefusal s marks records ≡ Fine →
+      (length marks ≡ edgeCount s) × (length records % recordBytes ≡ 0) × (length records / recordBytes ≤ maxDuals)
+  unfolding shapeRefusal
+  shape-fine h =
+      let a = eqb (length marks) (edgeCount s) in
+      let b = eqb (length records % recordBytes) 0 in
+      let c = ltb maxDuals (length records / recordBytes) in
+      let k : (not a || not b || c) ≡ false = fine-refuse (not a || not b || c) 9 0 h in
+      let l : (not a || not b) ≡ false = or-false-left (not a || not b) c k in (
+        eqb-true (length marks) (edgeCount s) (not-false a (or-false-left (not a) (not b) l)),
+        eqb-true (length records % recordBytes) 0 (not-false b (or-false-right (not a) (not b) l)),
+        ltb-false maxDuals (length records / recordBytes) (or-false-right (not a || not b) c k),
+      )
+
+  fine-shape : length marks ≡ edgeCount s → length records % recordBytes ≡ 0 → length records / recordBytes ≤ maxDuals → shapeRefusal s marks records ≡ Fine
+  unfolding shapeRefusal
+  fine-shape x y z =
+      refuse-false
+      (rw (eq-eqb (length marks) (edgeCount s) x, eq-eqb (length records % recordBytes) 0 y, le-ltb maxDuals (length records / recordBytes) z)) 9 0
+
+dual-fine : (s : Survey) (d : Dual) (i : ℕ) → dualRefusal s d i ≡ Fine → DualSound s d
+unfolding dualRefusal
+dual-fine s d i h =
+    let a = eqb (d .value) 0 in
+    let b = ltb maxValue (d .value) in
+    let c = anyBelow (8 * memberBytes) (λ v. leb (vertexCount s) v && d .holds v) in
+    let k : (a || b || c) ≡ false = fine-refuse (a || b || c) 11 i h in
+    let l : (a || b) ≡ false = or-false-left (a || b) c k in
+    let none = any-none (8 * memberBytes) (λ v. leb (vertexCount s) v && d .holds v) (or-false-right (a || b) c k) in
+    record {
+      positive = let z : d .value ≡ 0 → ⊥ = eqb-false (d .value) 0 (or-false-left a b l) in omega arith;
+      small = ltb-false maxValue (d .value) (or-false-right a b l);
+      vertices-only = λ v bv m.
+          ⊎-elim
+          (λ out. leb-false (vertexCount s) v out)
+          (λ not-in. true-not-false (d .holds v) m not-in)
+          (and-false-cases (leb (vertexCount s) v) (d .holds v) (none v bv));
+    }
+
+fine-dual : (s : Survey) (d : Dual) (i : ℕ) → DualSound s d → dualRefusal s d i ≡ Fine
+unfolding dualRefusal
+fine-dual s d i h =
+    refuse-false
+    (rw
+    (ne-eqb (d .value) 0 (λ e. let p : 0 < d .value = h .positive in omega arith), le-ltb maxValue (d .value) (h .small), none-out)) 11 i
+  where
+    none-out : anyBelow (8 * memberBytes) (λ v. leb (vertexCount s) v && d .holds v) ≡ false
+    none-out =
+        not-true-false (anyBelow (8 * memberBytes) (λ v. leb (vertexCount s) v && d .holds v))
+        (λ a.
+        let f : Found (8 * memberBytes) (λ v. leb (vertexCount s) v && d .holds v) = any-elim (8 * memberBytes) _ a in
+        not-le-of-lt (h .vertices-only (f .at) (f .below) (and-right (leb (vertexCount s) (f .at)) (d .holds (f .at)) (f .passes)))
+        (leb-true (vertexCount s) (f .at) (and-left (leb (vertexCount s) (f .at)) (d .holds (f .at)) (f .passes))))
+
+rule-fine : (c : Checked) → ruleRefusal c ≡ Fine → (c .terminals ≡ 0 → c .cost ≡ 0) × (c .terminals * c .cost ≤ (c .terminals - 1) * c .bound)
+unfolding ruleRefusal
+rule-fine c h =
+    let a = eqb (c .terminals) 0 in
+    let b = eqb (c .cost) 0 in
+    let x = ltb ((c .terminals - 1) * c .bound) (c .terminals * c .cost) in
+    let k : (a && not b || x) ≡ false = fine-refuse (a && not b || x) 15 0 h in (
+      λ none.
+          ⊎-elim
+          (λ f. true-not-false a (eq-eqb (c .terminals) 0 none) f)
+          (λ f. eqb-true (c .cost) 0 (not-false b f))
+          (and-false-cases a (not b) (or-false-left (a && not b) x k)),
+      ltb-false ((c .terminals - 1) * c .bound) (c .terminals * c .cost) (or-false-right (a && not b) x k),
+    )
+
+fine-rule : (c : Checked) → (c .terminals ≡ 0 → c .cost ≡ 0) → c .terminals * c .cost ≤ (c .terminals - 1) * c .bound → ruleRefusal c ≡ Fine
+unfolding ruleRefusal
+fine-rule c none rule =
+    refuse-false (rw (free, le-ltb ((c .terminals - 1) * c .bound) (c .terminals * c .cost) rule)) 15 0
+  where
+    free : (eqb (c .terminals) 0 && not (eqb (c .cost) 0)) ≡ false
+    free =
+        not-true-false (eqb (c .terminals) 0 && not (eqb (c .cost) 0))
+        (λ k.
+        eqb-false (c .cost) 0 (not-true (eqb (c .cost) 0) (and-right (eqb (c .terminals) 0) (not (eqb (c .cost) 0)) k))
+        (none (eqb-true (c .terminals) 0 (and-left (eqb (c .terminals) 0) (not (eqb (c .cost) 0)) k))))
+
+-- Marks that are m long mark no number past the tracks.
+pub kept-bounded : (s : Survey) (marks : List ℕ) → length marks ≡ edgeCount s → Bounded (problemOf s) (keptBy marks)
+unfolding problemOf keptBy
+kept-bounded s marks long e k =
+    ⊎-elim
+    (λ l. l)
+    (λ g.
+    absurd
+    (let z : getD marks e 0 ≡ 0 = List·getD-eq-default marks 0 (subst (λ x. x ≤ e) (sym long) g) in
+    let t : getD marks e 0 ≡ 2 = eqb-true (getD marks e 0) 2 k in
+    omega arith))
+    (lt-or-ge e (edgeCount s))
+
+-- ---- all of them
+
+module _ (s : Survey) (numbered : Numbered s) (marks records : List ℕ) where
+  -- Passed means all that.
+  pub check-passing : checkRefusal s marks records ≡ Fine → Passing s marks records
+  unfolding checkRefusal checkedOf
+  check-passing h =
+      let h9 = fine-right _ _ h in
+      let h10 = fine-right _ _ h9 in
+      let h11 = fine-right _ _ h10 in
+      let h12 = fine-right _ _ h11 in
+      let h13 = fine-right _ _ h12 in
+      let h14 = fine-right _ _ h13 in
+      let h15 = fine-right _ _ h14 in
+      let shape = shape-fine s marks records (fine-left _ _ h9) in
+      let rule = rule-fine _ h15 in
+      record {
+        survey = fine-survey s (fine-left _ _ h);
+        marks-long = shape .0;
+        records-whole = shape .1;
+        records-few = shape .2;
+        marks-known = λ e b. ltb-false 2 (getD marks e 0) (fine-refuse (ltb 2 (getD marks e 0)) 10 e (none-lowest (edgeCount s) _ (fine-left _ _ h10) e b));
+        duals-sound = λ i b. dual-fine s (dualAt records i) i (none-lowest (length records / recordBytes) _ (fine-left _ _ h11) i b);
+        duals-separate = λ i b.
+            not-false (separates (problemOf s) (dualAt records i .holds))
+            (fine-refuse (not (separates (problemOf s) (dualAt records i .holds))) 12 i (none-lowest (length records / recordBytes) _ (fine-left _ _ h12) i b));
+        not-overtight = λ e b.
+            ltb-false (2 * problemOf s .weight e) (felt (problemOf s) (dualsIn records) e)
+            (fine-refuse (ltb (2 * problemOf s .weight e) (felt (problemOf s) (dualsIn records) e)) 13 e (none-lowest (edgeCount s) _ (fine-left _ _ h13) e b));
+        kept-joins = group-fine s 14 (keptBy marks) (kept-bounded s marks (shape .0)) numbered (fine-left _ _ h14);
+        none-free = rule .0;
+        rule = rule .1;
+      }
+
+  -- And all that passes.
+  pub passing-check : Passing s marks records → checkRefusal s marks records ≡ Fine
+  unfolding checkRefusal checkedOf
+  passing-check h =
+      before-fine (survey-fine s (h .survey)) _
+      ∙ before-fine (fine-shape s marks records (h .marks-long) (h .records-whole) (h .records-few)) _
+      ∙ before-fine (lowest-none (edgeCount s) _ (λ e b. refuse-false (le-ltb 2 (getD marks e 0) (h .marks-known e b)) 10 e)) _
+      ∙ before-fine (lowest-none (length records / recordBytes) _ (λ i b. fine-dual s (dualAt records i) i (h .duals-sound i b))) _
+      ∙ before-fine (lowest-none (length records / recordBytes) _ (λ i b. refuse-false (rw (h .duals-separate i b)) 12 i)) _
+      ∙ before-fine
+      (lowest-none (edgeCount s) _
+      (λ e b. refuse-false (le-ltb (2 * problemOf s .weight e) (felt (problemOf s) (dualsIn records) e) (h .not-overtight e b)) 13 e)) _
+      ∙ before-fine (joins-fine s 14 (keptBy marks) (kept-bounded s marks (h .marks-long)) (h .kept-joins)) _
+      ∙ fine-rule _ (h .none-free) (h .rule)
+
+  -- Passed exactly if none of 1 to 6 and 9 to 15 applies, each in its own terms.
+  pub passes-iff : (checkRefusal s marks records ≡ Fine) ↔ Passing s marks records
+  passes-iff = (check-passing, passing-check)

@@ -1,0 +1,60 @@
+-- `check_text::judge` meets its contract: the checker's refusals first, then each claim.
+use borrow.Author.Needs.{needs}
+use mathlib.Core.Path.{ap, sym, _∙_}
+use Rattle.check_core.specs.Stage.{outcomeOf}
+use Rattle.check_text.specs.Answer.{verifiedOutcome}
+use Rattle.check_text.specs.Laws.Verify.{judged-refused, claim-terminals, claim-cost, claim-bound, claim-fine}
+use Rattle.check_text.proofs.judge.Statement.{statement}
+use Rattle.check_text.proofs.judge.Tie as tie
+
+check-requires : tie.Need-check-requires
+check-requires c κs = search needs
+
+enum-known-number : tie.Need-enum-known-number
+enum-known-number c = search needs
+
+enum-known-k : tie.Need-enum-known-k
+enum-known-k c = search needs
+
+returns : tie.Need-returns
+unfolding verifiedOutcome outcomeOf
+returns c =
+    let a = c .before .before .before .before .before .before .before .before .before .before .before .args in
+    sym (claim-terminals (a .terminals) (a .cost) (a .bound) (sym (c .before .before .before .before .check .ensures .0) ∙ ap outcomeOf (c .before .before .k .given .1)) (c .if1 .taken))
+
+returns-2 : tie.Need-returns-2
+unfolding verifiedOutcome outcomeOf
+returns-2 c =
+    let a = c .before .before .before .before .before .before .before .before .before .before .before .before .args in
+    sym (claim-cost (a .terminals) (a .cost) (a .bound) (sym (c .before .before .before .before .before .check .ensures .0) ∙ ap outcomeOf (c .before .before .before .k .given .1)) (c .before .if1 .left) (c .if2 .taken))
+
+returns-3 : tie.Need-returns-3
+unfolding verifiedOutcome outcomeOf
+returns-3 c =
+    let a = c .before .before .before .before .before .before .before .before .before .before .before .before .before .args in
+    sym (claim-bound (a .terminals) (a .cost) (a .bound) (sym (c .before .before .before .before .before .before .check .ensures .0) ∙ ap outcomeOf (c .before .before .before .before .k .given .1)) (c .before .before .if1 .left) (c .before .if2 .left) (c .if3 .taken))
+
+returns-4 : tie.Need-returns-4
+unfolding verifiedOutcome outcomeOf
+returns-4 c =
+    let a = c .before .before .before .before .before .before .before .before .before .before .args in
+    sym (judged-refused (a .terminals) (a .cost) (a .bound) (sym (c .before .before .before .check .ensures .0) ∙ ap outcomeOf (c .before .number .given .1)))
+
+returns-5 : tie.Need-returns-5
+unfolding verifiedOutcome outcomeOf
+returns-5 c =
+    let a = c .before .before .before .before .before .before .before .before .before .before .before .before .before .args in
+    sym (claim-fine (a .terminals) (a .cost) (a .bound) (sym (c .before .before .before .before .before .before .check .ensures .0) ∙ ap outcomeOf (c .before .before .before .before .k .given .1)) (c .before .before .if1 .left) (c .before .if2 .left) (c .if3 .left))
+
+pub judge-spec : {M : Type 1} → statement M
+judge-spec =
+    tie.close
+    (tie.spec
+    check-requires
+    enum-known-number
+    enum-known-k
+    returns
+    returns-2
+    returns-3
+    returns-4
+    returns-5)

@@ -1,0 +1,10 @@
+-- What the answer of the check says in the terms of the definitions.
+use Rattle.base_limits.specs.Verdict.{Outcome, refusal, answer}
+use Rattle.check_rule.specs.Check.{Checked}
+use Rattle.check_text.specs.declared.Verified.{Verified}
+use Rattle.check_text.specs.declared.Verified.the-variants.{Passed, Refused}
+
+-- The answer of the check: k, kept cost and bound, or the refusal.
+unfoldable pub verifiedOutcome : Verified → Outcome Checked
+verifiedOutcome (Passed k c b) = answer (record { terminals = k; cost = c; bound = b })
+verifiedOutcome (Refused number place) = refusal number place

@@ -1,0 +1,122 @@
+-- Whatever passes obeys the accuracy rule, for the survey that the text begins with and the k and the cost reported.
+use Prim.Native.Nat.{ℕ, zero, suc, _+_, _<_}
+use native.Mathlib.Omega.{arith}
+use mathlib.Core.Path.{_≡_, refl, subst}
+use mathlib.Core.Bool.{Bool, true, false, not}
+use mathlib.Core.List.{List}
+use lib.ListN.{getD}
+use lib.Dec.{eqb}
+use borrow.Author.Tests.{eqb-true}
+use Rattle.base_limits.specs.Limits.{maxVertices, maxEdges, groupNumbers}
+use Rattle.base_limits.specs.Verdict.{refuseIf, _before_, Outcome, refusal, answer, outcome}
+use Rattle.base_limits.specs.declared.Verdict.{Verdict}
+use Rattle.base_limits.specs.declared.Verdict.the-variants.{Fine, Refused}
+use Rattle.format_number.specs.Step.{Step, found, refused}
+use Rattle.format_survey_lines.specs.Lines.{more, linesFrom}
+use Rattle.format_survey_lines.specs.Line.{testsFor, groupTest, groupLine, groupLines, countsAt}
+use Rattle.format_survey.specs.Reading.{surveyOf, Survey as SurveyText}
+use Rattle.format_number.specs.Laws.Step.{then-value}
+use Rattle.format_survey_lines.specs.Laws.Tests.{group-below}
+use Rattle.survey_core.specs.Survey.{Survey, surveyFrom, edgeCount}
+use Rattle.survey_core.specs.Accuracy.{Accurate}
+use Rattle.survey_core.specs.Laws.Group.{Numbered}
+use Rattle.check_rule.specs.Check.{Checked, checking}
+use Rattle.check_rule.specs.Laws.Accuracy.{checking-accurate}
+use Rattle.format_plan.specs.Plan.{Claims, Plan, marksOf, moatRecords}
+use Rattle.check_text.specs.Verify.{linesAt, surveyAt, prefixAt, claimTest, judged, planVerified, planFrom, verifiedFrom, verifying}
+
+-- The survey that a text says.
+abbrev pub surveyIn : SurveyText → Survey
+surveyIn s = surveyFrom (s .groups) (s .firsts) (s .seconds) (s .weights)
+
+groups-below : (t : List ℕ) (count i at v : ℕ) → getD (linesFrom (groupLine groupTest t) count i at .values) v 0 < groupNumbers
+unfolding linesFrom more
+groups-below t zero i at v = omega arith
+groups-below t (suc count) i at v = by-line (groupLine groupTest t i at) v refl (λ next w. groups-below t count (i + 1) next w)
+  where
+    by-line : (s : Step ℕ) (v : ℕ) → groupLine groupTest t i at ≡ s → ((next w : ℕ) → getD (linesFrom (groupLine groupTest t) count (i + 1) next .values) w 0 < groupNumbers)
+        → getD (more s (λ next. linesFrom (groupLine groupTest t) count (i + 1) next) .values) v 0 < groupNumbers
+    by-line (found g next) zero e ih = group-below t i at e
+    by-line (found g next) (suc v) e ih = ih next v
+    by-line (refused n p) v e ih = omega arith
+
+-- Groups that are read are group numbers.
+pub prefix-numbered : (a b c d : ℕ) (t : List ℕ) {s : SurveyText} {at : ℕ} → prefixAt (testsFor a b c d) t ≡ found s at → Numbered (surveyIn s)
+unfolding prefixAt surveyAt linesAt surveyOf groupLines
+prefix-numbered a b c d t {s} {at} e =
+    let one = then-value (countsAt (testsFor a b c d) t) _ e in
+    let two = then-value (linesAt t (one .0 .vertices) (one .0 .edges) (one .1) .end) _ (one .3) in
+    let body = linesAt t (one .0 .vertices) (one .0 .edges) (one .1) in
+    let same : surveyOf (one .0) (body .groups) (body .edges) ≡ s = cc (two .3) in
+    subst (λ x. Numbered (surveyIn x)) same (λ v. groups-below t (one .0 .vertices) 0 (one .1) v)
+
+judged-answer : (o : Outcome Checked) (k c b : ℕ) {x : Checked} → judged o k c b ≡ answer x → o ≡ answer x
+unfolding judged outcome
+judged-answer (refusal n p) k c b e = let z : _≡_ {A = ℕ} 0 1 = cc in absurd (omega arith)
+judged-answer (answer y) k c b {x} e = by-test (claimTest y k c b) e
+  where
+    by-test : (v : Verdict) → outcome v y ≡ answer x → answer y ≡ answer x
+    by-test Fine e = e
+    by-test (Refused n p) e = let z : _≡_ {A = ℕ} 0 1 = cc in absurd (omega arith)
+
+-- Counts that are what the checker found.
+pub record Claimed (x : Claims) (c : Checked) : Type 0 where
+  pub terminals : c .terminals ≡ x .terminals
+  pub cost : c .cost ≡ x .cost
+  pub bound : c .bound ≡ x .bound
+
+judged-claims : (o : Outcome Checked) (x : Claims) {c : Checked} → judged o (x .terminals) (x .cost) (x .bound) ≡ answer c → Claimed x c
+unfolding judged claimTest refuseIf _before_ outcome
+judged-claims (refusal n p) x e = let z : _≡_ {A = ℕ} 0 1 = cc in absurd (omega arith)
+judged-claims (answer y) x {c} e = by-tests (eqb (y .terminals) (x .terminals)) (eqb (y .cost) (x .cost)) (eqb (y .bound) (x .bound)) refl refl refl e
+  where
+    by-tests : (k d b : Bool) → eqb (y .terminals) (x .terminals) ≡ k → eqb (y .cost) (x .cost) ≡ d → eqb (y .bound) (x .bound) ≡ b
+        → outcome (refuseIf (not k) 25 0 before refuseIf (not d) 25 1 before refuseIf (not b) 25 2) y ≡ answer c → Claimed x c
+    by-tests true true true k d b e =
+        let same : y ≡ c = cc in
+        subst (Claimed x) same (record { terminals = eqb-true _ _ k; cost = eqb-true _ _ d; bound = eqb-true _ _ b })
+    by-tests true true false k d b e = let z : _≡_ {A = ℕ} 0 1 = cc in absurd (omega arith)
+    by-tests true false b′ k d b e = let z : _≡_ {A = ℕ} 0 1 = cc in absurd (omega arith)
+    by-tests false d′ b′ k d b e = let z : _≡_ {A = ℕ} 0 1 = cc in absurd (omega arith)
+
+-- What passes, part by part: the survey, the plan behind it, that the checker passes both with what is reported, and that the plan claims no other counts.
+pub record Parts (t : List ℕ) (c : Checked) : Type 0 where
+  pub survey : SurveyText
+  pub next : ℕ
+  pub plan : Plan
+  pub read : prefixAt (testsFor maxVertices maxEdges maxEdges maxEdges) t ≡ found survey next
+  pub behind : planFrom t (surveyIn survey) next ≡ answer plan
+  pub passes : checking (surveyIn survey) (marksOf (edgeCount (surveyIn survey)) (plan .kept)) (moatRecords (plan .moats)) ≡ answer c
+  pub claims : Claimed (plan .claims) c
+
+-- Nothing else passes.
+pub verified-parts : (t : List ℕ) (c : Checked) → verifying t ≡ answer c → Parts t c
+unfolding verifying verifiedFrom planVerified
+verified-parts t c e = by-survey (prefixAt (testsFor maxVertices maxEdges maxEdges maxEdges) t) refl e
+  where
+    by-plan : (s : SurveyText) (at : ℕ) (o : Outcome Plan) → prefixAt (testsFor maxVertices maxEdges maxEdges maxEdges) t ≡ found s at → planFrom t (surveyIn s) at ≡ o
+        → planVerified (surveyIn s) o ≡ answer c → Parts t c
+    by-plan s at (refusal n p) q b e = let z : _≡_ {A = ℕ} 0 1 = cc in absurd (omega arith)
+    by-plan s at (answer p) q b e = record { survey = s; next = at; plan = p; read = q; behind = b; passes = judged-answer _ _ _ _ e; claims = judged-claims _ (p .claims) e }
+
+    by-survey : (x : Step SurveyText) → prefixAt (testsFor maxVertices maxEdges maxEdges maxEdges) t ≡ x → verifiedFrom t x ≡ answer c → Parts t c
+    by-survey (found s at) q e = by-plan s at (planFrom t (surveyIn s) at) q refl e
+    by-survey (refused n p) q e = let z : _≡_ {A = ℕ} 0 1 = cc in absurd (omega arith)
+
+-- What passes: the text begins with a survey, of which the k and the cost that are reported obey the accuracy rule.
+pub record Worth (t : List ℕ) (c : Checked) : Type 0 where
+  pub survey : SurveyText
+  pub next : ℕ
+  pub read : prefixAt (testsFor maxVertices maxEdges maxEdges maxEdges) t ≡ found survey next
+  pub accurate : Accurate (surveyIn survey) (c .terminals) (c .cost)
+
+pub verified-accurate : (t : List ℕ) (c : Checked) → verifying t ≡ answer c → Worth t c
+verified-accurate t c e =
+    let v = verified-parts t c e in
+    let s = surveyIn (v .survey) in
+    record {
+      survey = v .survey;
+      next = v .next;
+      read = v .read;
+      accurate = checking-accurate s (prefix-numbered maxVertices maxEdges maxEdges maxEdges t (v .read)) (marksOf (edgeCount s) (v .plan .kept)) (moatRecords (v .plan .moats)) c (v .passes);
+    }

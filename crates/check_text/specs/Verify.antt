@@ -1,0 +1,63 @@
+-- Checking a survey text that a printed plan follows: the survey is read, then the plan, then the checker looks at both, and at last the
+-- counts that the plan claims are held against what the checker finds.
+use Prim.Native.Nat.{ℕ, _*_}
+use mathlib.Core.Bool.{not}
+use mathlib.Core.List.{List}
+use lib.Dec.{eqb}
+use Rattle.base_limits.specs.Limits.{maxVertices, maxEdges, recordBytes, maxDuals}
+use Rattle.base_limits.specs.Verdict.{refuseIf, _before_, Outcome, refusal, answer, outcome}
+use Rattle.base_limits.specs.declared.Verdict.{Verdict}
+use Rattle.format_number.specs.Step.{Step, found, refused, _then_}
+use Rattle.format_survey_lines.specs.Lines.{linesAfter}
+use Rattle.format_survey.specs.Reading.{Body, surveyOf, Survey as SurveyText}
+use Rattle.format_survey_lines.specs.Line.{Counts, Tests, testsFor, groupTest, groupLines, edgeLines, countsAt}
+use Rattle.survey_core.specs.Survey.{Survey, surveyFrom, edgeCount}
+use Rattle.check_rule.specs.Check.{Checked, checking}
+use Rattle.format_plan.specs.Plan.{Plan, planAt, withRoom, marksOf, moatRecords}
+
+-- The lines of a survey after its counts, behind which more may follow.
+unfoldable pub linesAt : List ℕ → (vertices edges at : ℕ) → Body
+linesAt t vertices edges at =
+    let gs = groupLines groupTest t vertices at in
+    let es = linesAfter (gs .end) (edgeLines t edges) in
+    record { groups = gs .values; edges = es .values; end = es .end }
+
+-- The survey of these counts, and the offset behind its lines.
+unfoldable pub surveyAt : List ℕ → Counts → (at : ℕ) → Step SurveyText
+surveyAt t counts at =
+    let body = linesAt t (counts .vertices) (counts .edges) at in
+    body .end then λ z q. found (surveyOf counts (body .groups) (body .edges)) q
+
+-- A survey at the start of a text, and the offset behind it.
+unfoldable pub prefixAt : Tests → List ℕ → Step SurveyText
+prefixAt tests t = countsAt tests t then surveyAt t
+
+-- 25: a count that is not what the checker finds; 0 for sites, 1 for cost, 2 for bound.
+unfoldable pub claimTest : Checked → (terminals cost bound : ℕ) → Verdict
+claimTest c terminals cost bound =
+    refuseIf (not (eqb (c .terminals) terminals)) 25 0
+    before refuseIf (not (eqb (c .cost) cost)) 25 1
+    before refuseIf (not (eqb (c .bound) bound)) 25 2
+
+unfoldable pub judged : Outcome Checked → (terminals cost bound : ℕ) → Outcome Checked
+judged (refusal number place) terminals cost bound = refusal number place
+judged (answer c) terminals cost bound = outcome (claimTest c terminals cost bound) c
+
+-- The plan that was read, against its survey.
+unfoldable pub planVerified : Survey → Outcome Plan → Outcome Checked
+planVerified s (refusal number place) = refusal number place
+planVerified s (answer p) =
+    judged (checking s (marksOf (edgeCount s) (p .kept)) (moatRecords (p .moats))) (p .claims .terminals) (p .claims .cost) (p .claims .bound)
+
+-- The plan from an offset on, with room for every plan within the limits.
+unfoldable pub planFrom : List ℕ → Survey → (at : ℕ) → Outcome Plan
+planFrom t s at = withRoom (planAt t (edgeCount s) at) (edgeCount s) maxEdges (recordBytes * maxDuals)
+
+unfoldable pub verifiedFrom : List ℕ → Step SurveyText → Outcome Checked
+verifiedFrom t (refused number place) = refusal number place
+verifiedFrom t (found s at) =
+    let v = surveyFrom (s .groups) (s .firsts) (s .seconds) (s .weights) in
+    planVerified v (planFrom t v at)
+
+unfoldable pub verifying : List ℕ → Outcome Checked
+verifying t = verifiedFrom t (prefixAt (testsFor maxVertices maxEdges maxEdges maxEdges) t)

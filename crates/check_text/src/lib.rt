@@ -1,0 +1,191 @@
+// Checks a survey text with a printed plan behind it: the survey is read, then the plan, then the checker looks at both, and at last the
+// claimed counts are held against what it finds. Definitions in specs/.
+ghost use Rattle.base_buffer.specs.Lent.{old, new};
+ghost use mathlib.Core.Path.{_≡_};
+ghost use Prim.Native.Nat.{_≤_};
+ghost use lib.ListN.{length};
+ghost use Rattle.base_limits.specs.Limits.{maxVertices, maxEdges};
+ghost use Rattle.format_number.specs.Answer.{numberStep};
+ghost use Rattle.format_survey.specs.Answer.{Stores};
+ghost use Rattle.survey_core.specs.Survey.{lentSurvey};
+ghost use Rattle.check_rule.specs.Check.{checking};
+ghost use Rattle.check_text.specs.Verify.{linesAt, surveyAt, judged, planVerified, planFrom, verifiedFrom, verifying};
+ghost use Rattle.check_text.specs.Answer.{verifiedOutcome};
+use base_limits::MAX_EDGES;
+use base_limits::MAX_VERTICES;
+use base_limits::RECORD_BYTES;
+use check_core::Checking;
+use format_number::Cursor;
+use format_number::Number;
+use format_plan::PlanText;
+use format_survey_lines::Head;
+
+// k, kept cost and bound as the checker finds them; or a refusal's number and place.
+pub enum Verified {
+    Passed {
+        terminals: u64,
+        cost: u64,
+        bound: u64,
+    },
+    Refused {
+        number: u64,
+        place: usize,
+    },
+}
+
+// Marks and records against a survey, then the counts that are claimed for them.
+fn judge(
+    groups: &[u8],
+    firsts: &[u32],
+    seconds: &[u32],
+    weights: &[u32],
+    marks: &[u8],
+    records: &[u8],
+    terminals: u64,
+    cost: u64,
+    bound: u64,
+) -> Verified
+    ensures { λ r. ⌜ verifiedOutcome r ≡ judged (checking (lentSurvey groups firsts seconds weights) (old marks) (old records)) terminals cost bound ⌝ }
+{
+    match check_core::check(groups, firsts, seconds, weights, marks, records) {
+        Checking::Refused { number, place } => Verified::Refused { number, place },
+        Checking::Passed {
+            terminals: k,
+            cost: c,
+            bound: b,
+        } => {
+            if k != terminals {
+                return Verified::Refused {
+                    number: 25,
+                    place: 0,
+                };
+            }
+            if c != cost {
+                return Verified::Refused {
+                    number: 25,
+                    place: 1,
+                };
+            }
+            if b != bound {
+                return Verified::Refused {
+                    number: 25,
+                    place: 2,
+                };
+            }
+            Verified::Passed {
+                terminals: k,
+                cost: c,
+                bound: b,
+            }
+        }
+    }
+}
+
+// The printed plan from an offset on, against a survey.
+fn verify_plan(
+    text: &[u8],
+    at: usize,
+    groups: &[u8],
+    firsts: &[u32],
+    seconds: &[u32],
+    weights: &[u32],
+) -> Verified
+    requires { ⌜ length (now firsts) ≤ maxEdges ⌝ }
+    ensures { λ r. ⌜ verifiedOutcome r ≡ planVerified (lentSurvey groups firsts seconds weights) (planFrom (old text) (lentSurvey groups firsts seconds weights) at) ⌝ }
+{
+    let mut marks = [0u8; 2048];
+    let mut records = [0u8; 20440];
+    let edges = firsts.len();
+    match format_plan::read_plan(text, at, edges, &mut marks, &mut records) {
+        PlanText::Refused { number, place } => Verified::Refused { number, place },
+        PlanText::Plan {
+            terminals,
+            cost,
+            bound,
+            rounds: _,
+            moats,
+        } => {
+            let size = RECORD_BYTES * moats;
+            judge(
+                groups,
+                firsts,
+                seconds,
+                weights,
+                &marks[0..edges],
+                &records[0..size],
+                terminals,
+                cost,
+                bound,
+            )
+        }
+    }
+}
+
+// The lines of a survey after its counts; the values up to the first refusal go into the buffers, as far as these reach.
+fn survey_lines(
+    text: &[u8],
+    cursor: Cursor,
+    vertices: usize,
+    edges: usize,
+    groups: &mut [u8],
+    firsts: &mut [u32],
+    seconds: &mut [u32],
+    weights: &mut [u32],
+) -> Number
+    ensures { λ r. ⌜ Stores (linesAt (old text) vertices edges (cursor .at)) (numberStep r) (old groups) (new groups) (old firsts) (new firsts) (old seconds) (new seconds) (old weights) (new weights) ⌝ }
+{
+    let heads = format_survey_lines::group_lines(text, cursor, vertices, groups);
+    let Number::Value { value: _, next } = heads else {
+        return heads;
+    };
+    format_survey_lines::edge_lines(text, next, edges, firsts, seconds, weights)
+}
+
+// The lines of a survey after its counts, and the printed plan behind them.
+fn verify_lines(text: &[u8], cursor: Cursor, vertices: usize, edges: usize) -> Verified
+    requires { ⌜ (vertices ≤ maxVertices) × (edges ≤ maxEdges) ⌝ }
+    ensures { λ r. ⌜ verifiedOutcome r ≡ verifiedFrom (old text) (surveyAt (old text) (record { vertices = vertices; edges = edges }) (cursor .at)) ⌝ }
+{
+    let mut groups = [0u8; 256];
+    let mut firsts = [0u32; 2048];
+    let mut seconds = [0u32; 2048];
+    let mut weights = [0u32; 2048];
+    let step = survey_lines(
+        text,
+        cursor,
+        vertices,
+        edges,
+        &mut groups,
+        &mut firsts,
+        &mut seconds,
+        &mut weights,
+    );
+    match step {
+        Number::Refused { number, place } => Verified::Refused { number, place },
+        Number::Value { value: _, next } => {
+            let at = next.at;
+            verify_plan(
+                text,
+                at,
+                &groups[0..vertices],
+                &firsts[0..edges],
+                &seconds[0..edges],
+                &weights[0..edges],
+            )
+        }
+    }
+}
+
+// Checks a survey text with a printed plan behind it.
+pub fn verify(text: &[u8]) -> Verified
+    ensures { λ r. ⌜ verifiedOutcome r ≡ verifying (old text) ⌝ }
+{
+    match format_survey_lines::counts(text, MAX_VERTICES, MAX_EDGES, MAX_EDGES, MAX_EDGES) {
+        Head::Refused { number, place } => Verified::Refused { number, place },
+        Head::Counts {
+            vertices,
+            edges,
+            next,
+        } => verify_lines(text, next, vertices, edges),
+    }
+}

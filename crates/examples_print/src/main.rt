@@ -1,0 +1,80 @@
+// Prints document 01's plan of P3 from marks and records written by hand, moat lines, and what is refused.
+use format_print::Printed;
+
+fn write(out: &[u8], n: usize) {
+    if n <= out.len() {
+        io::write_all(1, &out[0..n]);
+    }
+}
+
+// Writes what was printed, or the two lines of the refusal.
+fn show(out: &[u8], answer: Printed) {
+    match answer {
+        Printed::Length(n) => write(out, n),
+        Printed::Refused { number, place } => {
+            let mut text = [0u8; 56];
+            if let Printed::Length(n) = format_print::print_refusal(number, place, &mut text) {
+                write(&text, n);
+            }
+        }
+    }
+}
+
+// P3: two marks, and three records of 40 bytes: the amount's lowest byte and the first member byte of each.
+fn plan() {
+    let marks = [2u8, 2u8];
+    let mut duals = [0u8; 120];
+    duals[0] = 6;
+    duals[8] = 1;
+    duals[40] = 7;
+    duals[48] = 4;
+    duals[80] = 1;
+    duals[88] = 3;
+    let mut out = [0u8; 1024];
+    let answer = format_print::print_plan(2, 7, 14, 2, &marks, &duals, &mut out);
+    show(&out, answer);
+}
+
+// The largest amount, and no member.
+fn empty() {
+    let mut part = [0u8; 40];
+    format_record::start_record(&mut part, 18446744073709551615);
+    let mut out = [0u8; 1024];
+    let answer = format_print::print_dual(&part, &mut out);
+    show(&out, answer);
+}
+
+// A line of 14 bytes into as many.
+fn exact() {
+    let mut part = [0u8; 40];
+    format_record::start_record(&mut part, 10);
+    format_record::add_member(&mut part, 255);
+    format_record::add_member(&mut part, 9);
+    let mut out = [0u8; 14];
+    let answer = format_print::print_dual(&part, &mut out);
+    show(&out, answer);
+}
+
+// The shortest line, `moat=0:`, into a byte less.
+fn short() {
+    let part = [0u8; 40];
+    let mut out = [0u8; 7];
+    let answer = format_print::print_dual(&part, &mut out);
+    show(&out, answer);
+}
+
+// A record that lacks a byte.
+fn cut() {
+    let part = [0u8; 39];
+    let mut out = [0u8; 1024];
+    let answer = format_print::print_dual(&part, &mut out);
+    show(&out, answer);
+}
+
+fn main() {
+    plan();
+    empty();
+    exact();
+    short();
+    cut();
+}

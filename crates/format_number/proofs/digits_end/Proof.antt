@@ -1,0 +1,88 @@
+-- `format_number::digits_end` meets its contract: what is left of the digits ends where all of them end.
+use native.Mathlib.Omega.{arith}
+use borrow.Author.Needs.{needs}
+use Prim.Native.Nat.{ℕ, _≤_, _-_}
+use native.Mathlib.Nat.{sub-zero}
+use mathlib.Core.Path.{_≡_, _∙_, sym, ap}
+use lib.ListN.{getD}
+use Rattle.format_number.specs.Number.{digitsEnd, classOf}
+use Rattle.format_number.specs.Laws.Byte.{digit-inside}
+use Rattle.format_number.specs.Laws.Number.{digits-more, digits-stop, digits-end-zero}
+use Rattle.format_number.proofs.Tags.{no-digit}
+use Rattle.format_number.proofs.digits_end.Statement.{statement}
+use Rattle.format_number.proofs.digits_end.Tie as tie
+
+abbrev Inv-loop : tie.InvT-loop
+Inv-loop text at limit end₀ taken₀ end taken = (taken ≤ limit) × (digitsEnd (limit - taken) text end ≡ digitsEnd limit text at)
+
+abbrev μ-loop : tie.MeasureT-loop
+μ-loop text at limit end₀ taken₀ end taken = limit - taken
+
+loop-holds : tie.Need-loop-holds Inv-loop μ-loop
+loop-holds c = (search needs, ap (λ (k : ℕ). digitsEnd k (c .before .args .text .now) (c .before .args .at)) (sub-zero _))
+
+at8-requires : tie.Need-at8-requires Inv-loop μ-loop
+at8-requires c κs = search needs
+
+class-of-requires : tie.Need-class-of-requires Inv-loop μ-loop
+class-of-requires c κs = search needs
+
+enum-told : tie.Need-enum-told Inv-loop μ-loop
+enum-told c = search needs
+
+returns : tie.Need-returns Inv-loop μ-loop
+returns c =
+    let at-turn = c .before .before .before .before in
+    let t = at-turn .before .before .args .text .now in
+    let e = at-turn .loop .end in
+    let k : classOf (getD t e 0) ≡ c .before .class-of .result = sym (c .before .class-of .ensures ∙ ap classOf (c .before .before .at8 .ensures)) in
+    sym (digits-stop t (at-turn .before .before .args .limit) (at-turn .loop .taken) e (rw k (no-digit (c .before .class-of .result) (c .match .keys2))))
+    ∙ at-turn .loop .inv .1
+
+add-end : tie.Need-add-end Inv-loop μ-loop
+add-end c =
+    let t = c .before .before .before .before .before .before .before .args .text .now in
+    omega (
+      arith,
+      digit-inside t (c .before .before .before .before .before .loop .end)
+          (ap classOf (sym (c .before .before .before .at8 .ensures)) ∙ sym (c .before .before .class-of .ensures) ∙ c .enum-told .given .1),
+    )
+
+add-taken : tie.Need-add-taken Inv-loop μ-loop
+add-taken c = search needs
+
+loop-less : tie.Need-loop-less Inv-loop μ-loop
+loop-less c = search needs
+
+loop-again : tie.Need-loop-again Inv-loop μ-loop
+loop-again c =
+    let at-turn = c .before .before .before .before .before in
+    let t = at-turn .before .before .args .text .now in (
+      search needs,
+      sym (digits-more t (at-turn .before .before .args .limit) (at-turn .loop .taken) (at-turn .loop .end) (search needs)
+          (ap classOf (sym (c .before .before .before .at8 .ensures)) ∙ sym (c .before .before .class-of .ensures) ∙ c .enum-told .given .1))
+          ∙ at-turn .loop .inv .1,
+    )
+
+returns-2 : tie.Need-returns-2 Inv-loop μ-loop
+returns-2 c =
+    let t = c .before .before .before .args .text .now in
+    let k : c .before .before .before .args .limit - c .before .loop .taken ≡ 0 = omega arith in
+    digits-end-zero t (c .before .loop .end) k ∙ c .before .loop .inv .1
+
+pub digits-end-spec : {M : Type 1} → statement M
+digits-end-spec =
+    tie.close
+    (tie.spec
+    Inv-loop
+    μ-loop
+    loop-holds
+    at8-requires
+    class-of-requires
+    enum-told
+    returns
+    add-end
+    add-taken
+    loop-less
+    loop-again
+    returns-2)

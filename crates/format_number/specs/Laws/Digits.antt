@@ -1,0 +1,94 @@
+-- A number's digits are digits, and so it is below the power of ten of its digit limit.
+use Prim.Native.Nat.{ℕ, zero, suc, _+_, _*_, _-_, _^_, _≤_, _<_}
+use native.Mathlib.Omega.{arith}
+use native.Mathlib.Numerals.{add-one}
+use native.Mathlib.Nat.{pow-suc, pow-le-pow-right, mul-le-mul-right}
+use mathlib.Core.Path.{_≡_, refl, subst}
+use mathlib.Core.Bool.{Bool, true, false, cond}
+use mathlib.Core.List.{List, [], _∷_}
+use lib.ListN.{length, getD, take, drop}
+use lib.Seq.{drop-cons}
+use lib.Dec.{eqb}
+use borrow.Author.Tests.{eqb-true}
+use Rattle.format_number.specs.Step.{found, refused, _then_}
+use Rattle.format_number.specs.Number.{classOf, isDigit, digitsEnd, numeralEnd, numeralAt, decimalFrom, numberAt, numberTo, fixedAt}
+use Rattle.format_number.specs.Laws.Byte.{class-facts, digit-inside, read-inside}
+use Rattle.format_number.specs.Laws.Number.{digits-range, numeral-width}
+use Rattle.format_number.specs.Laws.Step.{then-value}
+use Rattle.format_number.specs.declared.Class.{Class}
+use Rattle.format_number.specs.declared.Class.the-variants.{Digit, LineEnd, Comma, Other}
+
+pub data Digits : List ℕ → Type 0 where
+  none : Digits []
+  one : {d : ℕ} {ds : List ℕ} → 48 ≤ d → d ≤ 57 → Digits ds → Digits (d ∷ ds)
+
+-- The bytes of t from offset at up to end.
+unfoldable pub between : List ℕ → (at end : ℕ) → List ℕ
+between t at end = take (end - at) (drop at t)
+
+pub between-none : (t : List ℕ) (at : ℕ) → between t at at ≡ []
+unfolding between
+between-none t at = let z : at - at ≡ 0 = omega arith in rw z
+
+pub between-more : (t : List ℕ) (at end : ℕ) → at < length t → at < end → between t at end ≡ getD t at 0 ∷ between t (at + 1) end
+unfolding between
+between-more t at end h k = let z : end - at ≡ suc (end - (at + 1)) = omega arith in rw (z, drop-cons t at 0 h, add-one)
+
+pub run-digits : (t : List ℕ) (limit at : ℕ) → Digits (between t at (digitsEnd limit t at))
+unfolding digitsEnd isDigit
+run-digits t zero at = rw (between-none t at) none
+run-digits t (suc limit) at = by-class (classOf (getD t at 0)) refl (run-digits t limit (at + 1))
+  where
+    by-class : (k : Class) → classOf (getD t at 0) ≡ k → Digits (between t (at + 1) (digitsEnd limit t (at + 1))) → Digits (between t at (cond (isDigit k) (digitsEnd limit t (at + 1)) at))
+    by-class Digit e r =
+        let f = class-facts (getD t at 0) .digit e in
+        let h = digit-inside t at e in
+        let from = digits-range t limit (at + 1) .from in
+        let m : at < digitsEnd limit t (at + 1) = omega arith in
+        rw (between-more t at (digitsEnd limit t (at + 1)) h m) (one (f .0) (f .1) r)
+    by-class LineEnd e r = rw (between-none t at) none
+    by-class Comma e r = rw (between-none t at) none
+    by-class Other e r = rw (between-none t at) none
+
+pub numeral-digits : (t : List ℕ) (limit at : ℕ) → Digits (numeralAt limit t at)
+unfolding numeralAt numeralEnd between
+numeral-digits t limit at = by-zero (eqb (getD t at 0) 48) refl
+  where
+    by-zero : (z : Bool) → eqb (getD t at 0) 48 ≡ z → Digits (between t at (cond z (at + 1) (digitsEnd limit t at)))
+    by-zero true e =
+        let b : getD t at 0 ≡ 48 = eqb-true (getD t at 0) 48 e in
+        let h : at < length t = read-inside t at (omega arith) in
+        let m : at < at + 1 = omega arith in
+        rw (between-more t at (at + 1) h m, between-none t (at + 1)) (one {d = getD t at 0} (omega arith) (omega arith) none)
+    by-zero false e = run-digits t limit at
+
+pub decimal-below : (n : ℕ) {ds : List ℕ} → Digits ds → decimalFrom n ds < (n + 1) * 10 ^ length ds
+unfolding decimalFrom
+decimal-below n none = omega arith
+decimal-below n (one {d = d} {ds = ds} low high r) =
+    let m : ℕ = n * 10 + (d - 48) in
+    let ih : decimalFrom m ds < (m + 1) * 10 ^ length ds = decimal-below m r in
+    let k : m + 1 ≤ (n + 1) * 10 = omega arith in
+    let p : (m + 1) * 10 ^ length ds ≤ (n + 1) * 10 * 10 ^ length ds = mul-le-mul-right (10 ^ length ds) k in
+    rw (pow-suc) (omega arith)
+
+pub number-below : (t : List ℕ) (limit at v next : ℕ) → 1 ≤ limit → numberAt limit t at ≡ found v next → v < 10 ^ limit
+unfolding numberAt
+number-below t limit at v next h e = by-width (eqb (length (numeralAt limit t at)) 0) e
+  where
+    by-width : (z : Bool) → cond z (refused 16 at) (found (decimalFrom 0 (numeralAt limit t at)) (at + length (numeralAt limit t at))) ≡ found v next → v < 10 ^ limit
+    by-width true q = let z : _≡_ {A = ℕ} 0 1 = cc in absurd (omega arith)
+    by-width false q =
+        let b = decimal-below 0 (numeral-digits t limit at) in
+        let w = numeral-width t limit at .most in
+        let p : 10 ^ length (numeralAt limit t at) ≤ 10 ^ limit = pow-le-pow-right {n = 10} (omega arith) {i = length (numeralAt limit t at)} {j = limit} (omega arith) in
+        let s : decimalFrom 0 (numeralAt limit t at) ≡ v = cc in
+        omega arith
+
+pub number-to-below : (t : List ℕ) (limit stop at v next : ℕ) → 1 ≤ limit → numberTo limit stop t at ≡ found v next → v < 10 ^ limit
+unfolding numberTo
+number-to-below t limit stop at v next h e =
+    let f = then-value (numberAt limit t at) (λ n p. fixedAt (stop ∷ []) t p then λ z q. found n q) e in
+    let g = then-value (fixedAt (stop ∷ []) t (f .1)) (λ z q. found (f .0) q) (f .3) in
+    let w : f .0 ≡ v = cc (g .3) in
+    subst (λ (x : ℕ). x < 10 ^ limit) w (number-below t limit at (f .0) (f .1) h (f .2))

@@ -1,0 +1,107 @@
+-- Laws of the digits of a number: where they end, and how large the number is.
+use Prim.Native.Nat.{ℕ, zero, suc, _+_, _*_, _-_, _^_, max, _≤_, _<_}
+use native.Mathlib.Omega.{arith}
+use mathlib.Core.Path.{_≡_, refl, ap, _∙_}
+use mathlib.Core.Bool.{Bool, true, false, cond}
+use mathlib.Core.List.{List, []}
+use lib.ListN.{length, getD, take, drop, drop-of-length-le, length-take, length-drop}
+use lib.Dec.{eqb, leb}
+use lib.Seq.{take-nil, drop-cons}
+use native.Mathlib.Nat.{le-of-lt, pow-le-pow-right, pow-suc}
+use native.Mathlib.Numerals.{add-one}
+use borrow.Author.Tests.{eqb-true, leb-true, leb-false}
+use Rattle.format_number.specs.Number.{classOf, isDigit, digitsEnd, numeralEnd, numeralAt, decimalFrom}
+use Rattle.format_number.specs.Laws.Byte.{digit-inside, read-inside}
+use Rattle.format_number.specs.declared.Class.{Class}
+use Rattle.format_number.specs.declared.Class.the-variants.{Digit, LineEnd, Comma, Other}
+
+pub one-less : {i n : ℕ} → i < n → n - i ≡ suc (n - (i + 1))
+one-less h = omega arith
+
+-- One turn of a loop over the digits.
+pub digits-more : (t : List ℕ) (limit i at : ℕ) → i < limit → classOf (getD t at 0) ≡ Digit → digitsEnd (limit - i) t at ≡ digitsEnd (limit - (i + 1)) t (at + 1)
+unfolding digitsEnd isDigit
+digits-more t limit i at h e = rw (one-less h, e)
+
+pub digits-none : (t : List ℕ) (k at : ℕ) → isDigit (classOf (getD t at 0)) ≡ false → digitsEnd k t at ≡ at
+unfolding digitsEnd isDigit
+digits-none t zero at e = refl
+digits-none t (suc k) at e = rw e
+
+pub digits-stop : (t : List ℕ) (limit i at : ℕ) → isDigit (classOf (getD t at 0)) ≡ false → digitsEnd (limit - i) t at ≡ at
+digits-stop t limit i at e = digits-none t (limit - i) at e
+
+pub digits-end-zero : {k : ℕ} (t : List ℕ) (at : ℕ) → k ≡ 0 → at ≡ digitsEnd k t at
+unfolding digitsEnd isDigit
+digits-end-zero t at e = rw e
+
+-- Where digits can end.
+pub record Range (t : List ℕ) (limit at end : ℕ) : Type 0 where
+  pub from : at ≤ end
+  pub most : end ≤ at + limit
+  pub inside : at ≤ length t → end ≤ length t
+
+pub digits-range : (t : List ℕ) (limit at : ℕ) → Range t limit at (digitsEnd limit t at)
+unfolding digitsEnd isDigit
+digits-range t zero at = record { from = omega arith; most = omega arith; inside = λ h. h }
+digits-range t (suc limit) at = by-class (classOf (getD t at 0)) refl (digits-range t limit (at + 1))
+  where
+    stay : Range t (suc limit) at at
+    stay = record { from = omega arith; most = omega arith; inside = λ h. h }
+
+    by-class : (k : Class) → classOf (getD t at 0) ≡ k → Range t limit (at + 1) (digitsEnd limit t (at + 1)) → Range t (suc limit) at (cond (isDigit k) (digitsEnd limit t (at + 1)) at)
+    by-class Digit e r =
+        let h = digit-inside t at e in
+        let p = r .from in
+        let q = r .most in
+        record { from = omega arith; most = omega arith; inside = λ _. r .inside (omega arith) }
+    by-class LineEnd e r = stay
+    by-class Comma e r = stay
+    by-class Other e r = stay
+
+pub numeral-range : (t : List ℕ) (limit at : ℕ) → Range t (max 1 limit) at (numeralEnd limit t at)
+unfolding numeralEnd
+numeral-range t limit at = by-zero (eqb (getD t at 0) 48) refl
+  where
+    by-zero : (z : Bool) → eqb (getD t at 0) 48 ≡ z → Range t (max 1 limit) at (cond z (at + 1) (digitsEnd limit t at))
+    by-zero true e =
+        let b : getD t at 0 ≡ 48 = eqb-true (getD t at 0) 48 e in
+        let i : at < length t = read-inside t at (omega arith) in
+        record { from = omega arith; most = omega arith; inside = λ _. omega arith }
+    by-zero false e =
+        let r = digits-range t limit at in
+        let f = r .from in
+        let m = r .most in
+        record { from = f; most = omega arith; inside = r .inside }
+
+pub numeral-past : (t : List ℕ) (limit at : ℕ) → length t < numeralEnd limit t at → numeralAt limit t at ≡ []
+unfolding numeralAt
+numeral-past t limit at h = by-start (leb at (length t)) refl
+  where
+    by-start : (b : Bool) → leb at (length t) ≡ b → take (numeralEnd limit t at - at) (drop at t) ≡ []
+    by-start true e = let i = numeral-range t limit at .inside (leb-true at (length t) e) in absurd (omega arith)
+    by-start false e =
+        ap (take (numeralEnd limit t at - at)) (drop-of-length-le t (le-of-lt (leb-false at (length t) e))) ∙ take-nil (numeralEnd limit t at - at)
+
+-- What n digits can come to, whatever the bytes are.
+pub value-step : (n d i : ℕ) → n + 23 ≤ 23 * 10 ^ i → d < 256 → n * 10 + (d - 48) + 23 ≤ 23 * 10 ^ (i + 1)
+value-step n d i h k = rw (add-one, pow-suc) (omega arith)
+
+pub value-fits : (n i : ℕ) → n + 23 ≤ 23 * 10 ^ i → i < 10 → n ≤ 23000000000
+value-fits n i h k = let p : 10 ^ i ≤ 10 ^ 9 = pow-le-pow-right {n = 10} (omega arith) {i = i} {j = 9} (omega arith) in omega arith
+
+pub decimal-more : (n i : ℕ) (s : List ℕ) → i < length s → decimalFrom n (drop i s) ≡ decimalFrom (n * 10 + (getD s i 0 - 48)) (drop (i + 1) s)
+unfolding decimalFrom
+decimal-more n i s h = rw (add-one, drop-cons s i 0 h)
+
+pub record Width (t : List ℕ) (limit at width : ℕ) : Type 0 where
+  pub most : width ≤ max 1 limit
+  pub inside : 0 < width → at + width ≤ length t
+
+pub numeral-width : (t : List ℕ) (limit at : ℕ) → Width t limit at (length (numeralAt limit t at))
+unfolding numeralAt
+numeral-width t limit at =
+    let r = numeral-range t limit at .most in
+    let e = length-take (numeralEnd limit t at - at) (drop at t) in
+    let d = length-drop at t in
+    record { most = omega arith; inside = λ h. omega arith }

@@ -1,0 +1,19 @@
+-- What reading at an offset of a text finds: a value with the next offset, or a refusal. 'The earliest finding wins' (document 01,
+-- 'Survey text and printed plan'): a step after a refusal is not taken.
+use Prim.Native.Nat.{ℕ}
+use Rattle.base_limits.specs.declared.Verdict.{Verdict}
+use Rattle.base_limits.specs.declared.Verdict.the-variants.{Fine, Refused}
+
+infixr 20 _then_
+pub data Step (A : Type 0) : Type 0 where
+  found : (value : A) (next : ℕ) → Step A
+  refused : (number place : ℕ) → Step A
+
+unfoldable pub _then_ : {A B : Type 0} → Step A → (A → ℕ → Step B) → Step B
+_then_ (found a next) k = k a next
+_then_ (refused number place) k = refused number place
+
+-- A value that a test has passed on, or the test's refusal.
+unfoldable pub checked : {A : Type 0} → Verdict → A → (next : ℕ) → Step A
+checked Fine a next = found a next
+checked (Refused number place) a next = refused number place

@@ -1,0 +1,203 @@
+// Reads the bytes and numbers of a text: fixed bytes, a number with the byte that ends it, a line of a key and a number. Each step
+// answers a value with the next cursor, or a refusal.
+ghost use Rattle.base_buffer.specs.Lent.{old};
+ghost use mathlib.Core.Path.{_≡_};
+ghost use Prim.Native.Nat.{_-_, _≤_, min};
+ghost use lib.ListN.{length};
+ghost use Rattle.format_number.specs.Number.{classOf, digitsEnd, numeralEnd, numeralAt, decimalFrom, numberAt, byteIs, stopOf, fixedAt, numberTo, numberLine};
+ghost use Rattle.format_number.specs.Answer.{numberStep};
+use base_buffer::at8;
+use base_limits::MAX_DIGITS;
+
+pub struct Cursor {
+    pub at: usize,
+}
+
+// The classes of bytes that tell the parts of a line apart.
+pub enum Class {
+    Digit,
+    LineEnd,
+    Comma,
+    Other,
+}
+
+// A number with the next cursor; 0 where what was read has no value.
+pub enum Number {
+    Value { value: u64, next: Cursor },
+    Refused { number: u64, place: usize },
+}
+
+fn class_of(b: u8) -> Class
+    ensures { λ r. ⌜ r ≡ classOf b ⌝ }
+{
+    match b {
+        48..=57 => Class::Digit,
+        10 => Class::LineEnd,
+        44 => Class::Comma,
+        _ => Class::Other,
+    }
+}
+
+// Where the digits from at on end, of which at most limit are taken.
+fn digits_end(text: &[u8], at: usize, limit: usize) -> usize
+    ensures { λ r. ⌜ r ≡ digitsEnd limit (old text) at ⌝ }
+{
+    let mut end = at;
+    let mut taken = 0;
+    while taken < limit {
+        let kind = class_of(at8(text, end));
+        let Class::Digit = kind else {
+            return end;
+        };
+        end += 1;
+        taken += 1;
+    }
+    end
+}
+
+// The same for a number, where after a leading 0 comes no digit.
+fn numeral_end(text: &[u8], at: usize, limit: usize) -> usize
+    ensures { λ r. ⌜ r ≡ numeralEnd limit (old text) at ⌝ }
+{
+    if at8(text, at) == 48 {
+        return at + 1;
+    }
+    digits_end(text, at, limit)
+}
+
+// The digits of the number at an offset, as a part of the text.
+fn digits(text: &[u8], at: usize, limit: usize) -> &[u8]
+    ensures { λ r. ⌜ now r ≡ numeralAt limit (old text) at ⌝ }
+{
+    let end = numeral_end(text, at, limit);
+    if text.len() < end {
+        return &text[0..0];
+    }
+    &text[at..end]
+}
+
+fn digit(b: u8) -> u64
+    ensures { λ r. ⌜ r ≡ b - 48 ⌝ }
+{
+    let wide = b as u64;
+    if wide < 48 {
+        return 0;
+    }
+    wide - 48
+}
+
+// The number that decimal digits write.
+fn value(digits: &[u8]) -> u64
+    requires { ⌜ length (now digits) ≤ 10 ⌝ }
+    ensures { λ r. ⌜ r ≡ decimalFrom 0 (old digits) ⌝ }
+{
+    let mut n: u64 = 0;
+    let mut i = 0;
+    while i < digits.len() {
+        n = n * 10 + digit(digits[i]);
+        i += 1;
+    }
+    n
+}
+
+// A digit limit, which is at most 10, so that a number fits.
+fn capped(limit: usize) -> usize
+    ensures { λ r. ⌜ r ≡ min limit 10 ⌝ }
+{
+    if limit < 10 {
+        return limit;
+    }
+    10
+}
+
+// The number of at most limit digits at the cursor.
+pub fn number_at(text: &[u8], cursor: Cursor, limit: usize) -> Number
+    ensures { λ r. ⌜ numberStep r ≡ numberAt (min limit 10) (old text) (cursor .at) ⌝ }
+{
+    let at = cursor.at;
+    let part = digits(text, at, capped(limit));
+    let width = part.len();
+    if width == 0 {
+        return Number::Refused {
+            number: 16,
+            place: at,
+        };
+    }
+    Number::Value {
+        value: value(part),
+        next: Cursor { at: at + width },
+    }
+}
+
+// The number at an offset has ended there, with a comma where one is wanted and otherwise with byte 10.
+fn ends(text: &[u8], at: usize, comma: bool) -> bool
+    ensures { λ r. ⌜ r ≡ byteIs (old text) at (stopOf comma) ⌝ }
+{
+    let kind = class_of(at8(text, at));
+    match kind {
+        Class::Digit => false,
+        Class::LineEnd => !comma,
+        Class::Comma => comma,
+        Class::Other => false,
+    }
+}
+
+// A number, and the byte that ends it.
+pub fn number_to(text: &[u8], cursor: Cursor, limit: usize, comma: bool) -> Number
+    ensures { λ r. ⌜ numberStep r ≡ numberTo (min limit 10) (stopOf comma) (old text) (cursor .at) ⌝ }
+{
+    let step = number_at(text, cursor, limit);
+    let Number::Value { value, next } = step else {
+        return step;
+    };
+    let end = next.at;
+    if ends(text, end, comma) {
+        return Number::Value {
+            value,
+            next: Cursor { at: end + 1 },
+        };
+    }
+    Number::Refused {
+        number: 16,
+        place: end,
+    }
+}
+
+// Fixed bytes.
+pub fn fixed(text: &[u8], cursor: Cursor, bytes: &[u8]) -> Number
+    ensures { λ r. ⌜ numberStep r ≡ fixedAt (old bytes) (old text) (cursor .at) ⌝ }
+{
+    let mut at = cursor.at;
+    let mut i = 0;
+    while i < bytes.len() {
+        if text.len() <= at {
+            return Number::Refused {
+                number: 16,
+                place: at,
+            };
+        }
+        if text[at] != bytes[i] {
+            return Number::Refused {
+                number: 16,
+                place: at,
+            };
+        }
+        at += 1;
+        i += 1;
+    }
+    Number::Value {
+        value: 0,
+        next: Cursor { at },
+    }
+}
+
+// A line of a key and one number.
+pub fn number_line(text: &[u8], cursor: Cursor, key: &[u8]) -> Number
+    ensures { λ r. ⌜ numberStep r ≡ numberLine (old key) (old text) (cursor .at) ⌝ }
+{
+    let step = fixed(text, cursor, key);
+    let Number::Value { value: _, next } = step else {
+        return step;
+    };
+    number_to(text, next, MAX_DIGITS, false)
+}

@@ -1,0 +1,56 @@
+-- `format_plan::plan_body` meets its contract: a refused keep line stays, and the moat lines follow the keep lines.
+use borrow.Author.Needs.{needs}
+use mathlib.Core.Path.{refl, ap, sym, _∙_}
+use Rattle.format_number.specs.Answer.{numberStep}
+use Rattle.format_plan.specs.Laws.Reading.{stores-stopped, stores-read}
+use Rattle.format_plan.proofs.plan_body.Statement.{statement}
+use Rattle.format_plan.proofs.plan_body.Tie as tie
+
+keep-lines-requires : tie.Need-keep-lines-requires
+keep-lines-requires c κs = search needs
+
+enum-known-kept : tie.Need-enum-known-kept
+enum-known-kept c = search needs
+
+enum-told : tie.Need-enum-told
+enum-told c = search needs
+
+same-length : tie.Need-same-length
+same-length c = search needs
+
+returns : tie.Need-returns
+unfolding numberStep
+returns c =
+    let a = c .before .before .before .before .before .before .before .before .before .args in
+    rw (c .enum-told .given .1)
+    (stores-stopped (a .text .now) (a .edges) (a .cursor .at) (sym (c .before .before .before .before .keep-lines .ensures .end) ∙ ap numberStep (c .enum-told .given .1)) (c .before .before .before .before .keep-lines .ensures .stored) refl)
+
+moat-lines-requires : tie.Need-moat-lines-requires
+moat-lines-requires c κs = search needs
+
+same-length-2 : tie.Need-same-length-2
+same-length-2 c = search needs
+
+same-length-3 : tie.Need-same-length-3
+same-length-3 c = search needs
+
+returns-2 : tie.Need-returns-2
+unfolding numberStep
+returns-2 c =
+    let a = c .before .before .before .before .before .before .before .before .before .before .before .before .before .before .args in
+    stores-read (a .text .now) (a .edges) (a .cursor .at) (sym (c .before .before .before .before .before .before .before .before .before .keep-lines .ensures .end) ∙ ap numberStep (c .before .before .before .before .before .kept .given .1)) (c .before .before .before .before .before .before .before .before .before .keep-lines .ensures .stored)
+    (c .before .before .moat-lines .ensures .end) (c .before .before .moat-lines .ensures .stored)
+
+pub plan-body-spec : {M : Type 1} → statement M
+plan-body-spec =
+    tie.close
+    (tie.spec
+    keep-lines-requires
+    enum-known-kept
+    enum-told
+    same-length
+    returns
+    moat-lines-requires
+    same-length-2
+    same-length-3
+    returns-2)

@@ -1,0 +1,44 @@
+-- The printed plan of document 01's P3, read back by computation.
+use mathlib.Core.Path.{_≡_, refl, ap, _∙_}
+use mathlib.Core.Bool.{_||_}
+use mathlib.Core.List.{[], _∷_, _++_}
+use lib.Dec.{eqb}
+use Rattle.base_limits.specs.Verdict.{refuseIf, _before_}
+use Rattle.format_record.specs.Record.{recordOf}
+use Rattle.format_write.specs.Key.{ascii, terminalsKey, costKey, boundKey, roundsKey, keptKey, dualKey}
+use Rattle.format_write.specs.Text.{planText}
+use Rattle.format_print.specs.Examples.{p3-printed}
+use Rattle.format_number.specs.Step.{found, checked, _then_}
+use Rattle.format_survey_lines.specs.Lines.{linesAfter}
+use Rattle.format_number.specs.Number.{classOf, isDigit, byteIs, fixedAt, digitsEnd, numeralEnd, numeralAt, decimalFrom, numberAt, numberTo}
+use Rattle.format_plan_lines.specs.Items.{following, itemsFrom}
+use Rattle.format_plan_lines.specs.Lines.{valueLine, keptTest, keepLine, keepReader, keptAt, separator, memberAt, risen, memberReader, membersAt, moatTest, moatHead, moatLine, moatReader, moatsAt}
+use Rattle.format_plan.specs.Plan.{Plan, claimsAt, bodyAt, planAt}
+
+-- What P3's plan says.
+p3 : Plan
+p3 =
+    record {
+      claims = record { terminals = 2; cost = 7; bound = 14; rounds = 2 };
+      kept = 0 ∷ 1 ∷ [];
+      moats = record { value = 6; members = 0 ∷ [] } ∷ record { value = 7; members = 2 ∷ [] } ∷ record { value = 1; members = 0 ∷ 1 ∷ [] } ∷ [];
+    }
+
+p3-said : planAt (ascii "sites=2\ncost=7\nbound=14\nrounds=2\nkeep=0\nkeep=1\nmoat=6:0\nmoat=7:2\nmoat=1:0,1\n") 2 0 ≡ found p3 76
+unfolding refuseIf _before_ terminalsKey costKey boundKey roundsKey keptKey dualKey _then_ checked linesAfter classOf isDigit byteIs fixedAt digitsEnd
+    numeralEnd numeralAt decimalFrom numberAt numberTo following itemsFrom valueLine claimsAt keptTest keepLine keepReader keptAt separator memberAt risen
+    memberReader membersAt moatTest moatHead moatLine moatReader moatsAt bodyAt planAt p3
+p3-said = refl
+
+pub p3-read-back : planAt
+    (planText 2 7 14 2 (2 ∷ 2 ∷ []) (recordOf 6 (λ v. eqb v 0) ++ recordOf 7 (λ v. eqb v 2) ++ recordOf 1 (λ v. eqb v 0 || eqb v 1)))
+    2
+    0 ≡ found
+    (record {
+      claims = record { terminals = 2; cost = 7; bound = 14; rounds = 2 };
+      kept = 0 ∷ 1 ∷ [];
+      moats = record { value = 6; members = 0 ∷ [] } ∷ record { value = 7; members = 2 ∷ [] } ∷ record { value = 1; members = 0 ∷ 1 ∷ [] } ∷ [];
+    })
+    76
+unfolding p3
+p3-read-back = ap (λ t. planAt t 2 0) p3-printed ∙ p3-said

@@ -1,0 +1,410 @@
+-- Printed lines that stand in a text are read back: a number's line, the counts, and the kept tracks.
+use Prim.Native.Nat.{ℕ, zero, suc, _+_, _^_, _≤_, _<_}
+use Prim.Native.Char.{code}
+use native.Mathlib.Omega.{arith}
+use native.Mathlib.Numerals.{add-one}
+use mathlib.Core.Path.{_≡_, refl, ap, sym, _∙_, subst}
+use mathlib.Core.Bool.{Bool, true, false, not, cond}
+use mathlib.Core.List.{List, [], _∷_, _++_, append-assoc, append-nil}
+use lib.ListN.{length, getD, length-append}
+use borrow.Author.Tests.{lt-leb, le-leb}
+use Rattle.base_limits.specs.Limits.{maxDigits, maxDuals}
+use Rattle.base_limits.specs.declared.Verdict.{Verdict}
+use Rattle.format_write.specs.Key.{newline, comma, colon, dualKey, keptKey, terminalsKey, costKey, boundKey, roundsKey}
+use Rattle.format_write.specs.Decimal.{decimal}
+use Rattle.format_write.specs.Text.{lineOf, listed, countLines}
+use Rattle.format_number.specs.Step.{found, refused, _then_, checked}
+use Rattle.format_survey_lines.specs.Lines.{Lines, linesAfter}
+use Rattle.format_number.specs.Number.{isDigit, classOf, byteIs, fixedAt, numberAt, numberTo, numberText}
+use Rattle.format_survey_lines.specs.Render.{textOf}
+use Rattle.format_number.specs.Laws.Byte.{byte-is, byte-inside}
+use Rattle.format_number.specs.Laws.Step.{then-found, then-value}
+use Rattle.format_number.specs.Laws.Stands.{Stands, stands-append, stands-first, stands-second, stands-head}
+use Rattle.format_number.specs.Laws.Digits.{Digits, one}
+use Rattle.format_number.specs.Laws.Decimal.{decimal-numeral}
+use Rattle.format_number.specs.Laws.Words.{reads-fixed, reads-number}
+use Rattle.format_number.specs.Laws.Keyed.{Small, newline-no-digit, comma-no-digit}
+use Rattle.format_plan_lines.specs.Laws.Tests.{kept-fine, risen-next, moat-fine}
+use Rattle.format_plan_lines.specs.Items.{Reader, following, itemsFrom, Each, none, more}
+use Rattle.format_plan_lines.specs.Lines.{countDigits, valueLine, keptTest, keepLine, keepReader, separator, memberNumbers, memberAt, risen, memberReader, membersAt, Moat, moatTest, moatHead, moatOf, moatLine, moatReader, moatsAt, keptAt}
+use Rattle.format_plan.specs.Plan.{Claims, claimsAt, bodyAt, Plan, planAt}
+
+-- A key and a number with the byte that ends it, where they stand.
+keyed-back : (key : List ℕ) (limit b : ℕ) (t : List ℕ) (at x : ℕ) → 1 ≤ limit → x < 10 ^ limit → isDigit (classOf b) ≡ false → Stands t at (key ++ numberText b x)
+    → (fixedAt key t at then λ z p. numberTo limit b t p) ≡ found x (at + length (key ++ numberText b x))
+keyed-back key limit b t at x pos h d s =
+    let f = reads-fixed key .complete t at 0 key (record { value = refl; word = refl }) (stands-first key (numberText b x) s) in
+    let n = reads-number limit b pos d .complete t (at + length key) x (numberText b x) (record { below = h; word = refl }) (stands-second key (numberText b x) s) in
+    let l = length-append key (numberText b x) in
+    let q : at + length key + length (numberText b x) ≡ at + length (key ++ numberText b x) = omega arith in
+    then-found (λ z p. numberTo limit b t p) f ∙ n ∙ ap (λ (r : ℕ). found x r) q
+
+-- A line of a key and a number, where it stands.
+pub value-back : (key : List ℕ) (limit : ℕ) (t : List ℕ) (at x : ℕ) → 1 ≤ limit → x < 10 ^ limit → Stands t at (lineOf key x)
+    → valueLine key limit t at ≡ found x (at + length (lineOf key x))
+unfolding valueLine lineOf numberText
+value-back key limit t at x pos h s =
+    let e : key ++ decimal x ++ (newline ∷ []) ≡ key ++ numberText newline x = append-assoc key (decimal x) (newline ∷ []) in
+    keyed-back key limit newline t at x pos h newline-no-digit (subst (Stands t at) e s) ∙ ap (λ (w : List ℕ). found x (at + length w)) (sym e)
+
+-- Items that stand one after another from an offset on, and what follows them.
+pub data Standing {A : Type 0} (r : Reader A) : (low i at : ℕ) → List A → (last end : ℕ) → Type 0 where
+  stop : {low i at : ℕ} → r .stop at ≡ true → Standing r low i at [] low at
+  item : {low i at next last end : ℕ} {a : A} {l : List A} → r .stop at ≡ false → r .item low i at ≡ found a next
+      → Standing r (r .after low a) (i + 1) next l last end → Standing r low i at (a ∷ l) last end
+
+pub items-back : {A : Type 0} (r : Reader A) (fuel : ℕ) {low i at last end : ℕ} {l : List A} → length l < fuel → Standing r low i at l last end
+    → itemsFrom r fuel low i at ≡ record { values = l; end = found last end }
+unfolding itemsFrom following
+items-back r zero h s = absurd (omega arith)
+items-back r (suc fuel) h (stop e) = rw e
+items-back {A} r (suc fuel) {low} {i} {at} {last} {end} h (item {next = next} {a = a} {l = l} e f s) =
+    let k = items-back r fuel (omega arith) s in
+    rw (e, f, k)
+
+-- Tracks below m that rise, the first not below low.
+pub data Rising (m : ℕ) : (low : ℕ) → List ℕ → Type 0 where
+  ended : {low : ℕ} → Rising m low []
+  rising : {low e : ℕ} {es : List ℕ} → low ≤ e → e < m → Rising m (e + 1) es → Rising m low (e ∷ es)
+
+-- A keep line where it stands: a line begins there, and only the test of its track is left.
+pub keep-line-back : (t : List ℕ) (m low i at e : ℕ) → Small e → Stands t at (lineOf keptKey e)
+    → (keepReader t m .stop at ≡ false) × (keepLine t m low i at ≡ checked (keptTest m low i e) e (at + length (lineOf keptKey e)))
+unfolding keepReader keepLine lineOf keptKey
+keep-line-back t m low i at e h s =
+    let f = s .fits in
+    let here : byteIs t at (code "k") ≡ true = byte-is t at (code "k") (omega arith) (stands-head s) in
+    (ap not here, then-found (λ x p. checked (keptTest m low i x) x p) (value-back keptKey maxDigits t at e (omega arith) h s))
+
+-- Keep lines, where the byte behind them begins none.
+pub keep-back : (t : List ℕ) (m : ℕ) → m ≤ 10 ^ maxDigits → {low : ℕ} {ks : List ℕ} → Rising m low ks → (i at end : ℕ) → Stands t at (textOf (lineOf keptKey) ks)
+    → end ≡ at + length (textOf (lineOf keptKey) ks) → byteIs t end (code "k") ≡ false → (last : ℕ) × Standing (keepReader t m) low i at ks last end
+unfolding keepReader textOf checked
+keep-back t m few {low} ended i at end s q e =
+    let same : end ≡ at = omega arith in
+    (low, subst (λ (z : ℕ). Standing (keepReader t m) low i at [] low z) (sym same) (stop (ap not (subst (λ (z : ℕ). byteIs t z (code "k") ≡ false) same e))))
+keep-back t m few {low} (rising {e = e} {es = es} h k r) i at end s q f =
+    let line = lineOf keptKey e in
+    let a : Stands t at line = stands-first line (textOf (lineOf keptKey) es) s in
+    let b : Stands t (at + length line) (textOf (lineOf keptKey) es) = stands-second line (textOf (lineOf keptKey) es) s in
+    let w = keep-line-back t m low i at e (omega arith) a in
+    let l = length-append line (textOf (lineOf keptKey) es) in
+    let rest = keep-back t m few r (i + 1) (at + length line) end b (omega arith) f in
+    (rest .0, item (w .0) (w .1 ∙ ap (λ (x : Verdict). checked x e (at + length line)) (kept-fine m low i e h k)) (rest .1))
+
+fixed-one : (b : ℕ) (t : List ℕ) (p : ℕ) {z q : ℕ} → fixedAt (b ∷ []) t p ≡ found z q → q ≡ p + 1
+unfolding fixedAt
+fixed-one b t p {z} {q} e = by-byte (byteIs t p b) e
+  where
+    by-byte : (x : Bool) → cond x (found 0 (p + 1)) (refused 16 p) ≡ found z q → q ≡ p + 1
+    by-byte true e = cc
+    by-byte false e = let w : _≡_ {A = ℕ} 0 1 = cc in absurd (omega arith)
+
+-- A number, where a byte that is no digit stands behind it.
+pub number-back : (limit b : ℕ) (t : List ℕ) (at x : ℕ) → 1 ≤ limit → x < 10 ^ limit → isDigit (classOf b) ≡ false → Stands t at (numberText b x)
+    → numberAt limit t at ≡ found x (at + length (decimal x))
+unfolding numberTo numberText
+number-back limit b t at x pos h d s =
+    let n = reads-number limit b pos d .complete t at x (numberText b x) (record { below = h; word = refl }) s in
+    let f = then-value (numberAt limit t at) _ n in
+    let g = then-value (fixedAt (b ∷ []) t (f .1)) (λ z q. found (f .0) q) (f .3) in
+    let q = fixed-one b t (f .1) (g .2) in
+    let l = length-append (decimal x) (b ∷ []) in
+    let same : f .0 ≡ x = cc (g .3) in
+    let ends : g .1 ≡ at + length (numberText b x) = cc (g .3) in
+    let p : f .1 ≡ at + length (decimal x) = omega arith in
+    f .2 ∙ ap (λ (y : ℕ). found y (f .1)) same ∙ ap (λ (y : ℕ). found x y) p
+
+-- Members behind the first, each after a comma.
+unfoldable pub followers : List ℕ → List ℕ
+followers [] = []
+followers (v ∷ vs) = (comma ∷ []) ++ decimal v ++ followers vs
+
+-- Members of which the first is member i of its moat.
+unfoldable pub memberText : (i : ℕ) → List ℕ → List ℕ
+memberText i [] = []
+memberText i (v ∷ vs) = separator i ++ decimal v ++ followers vs
+
+pub later-text : (i : ℕ) (vs : List ℕ) → memberText (i + 1) vs ≡ followers vs
+unfolding memberText followers separator
+later-text i [] = refl
+later-text i (v ∷ vs) = rw (add-one i)
+
+pub listed-text : (vs : List ℕ) → listed vs ≡ memberText 0 vs
+unfolding listed memberText separator followers
+listed-text [] = refl
+listed-text (v ∷ []) = sym (append-nil (decimal v))
+listed-text (v ∷ w ∷ vs) =
+    ap (λ (x : List ℕ). decimal v ++ (comma ∷ []) ++ x) (listed-text (w ∷ vs))
+    ∙ append-assoc (decimal v) (comma ∷ []) (decimal w ++ followers vs)
+
+-- A byte that is no digit ends a member.
+byte-after : (vs : List ℕ) → (b : ℕ) × (w : List ℕ) × (followers vs ++ (newline ∷ []) ≡ b ∷ w) × (isDigit (classOf b) ≡ false)
+unfolding followers
+byte-after [] = (newline, [], refl, newline-no-digit)
+byte-after (v ∷ vs) = (comma, decimal v ++ followers vs ++ (newline ∷ []), refl, comma-no-digit)
+
+followers-long : (vs : List ℕ) → length vs ≤ length (followers vs)
+unfolding followers
+followers-long [] = omega arith
+followers-long (v ∷ vs) =
+    let a = length-append ((comma ∷ []) ++ decimal v) (followers vs) in
+    let b = length-append (comma ∷ []) (decimal v) in
+    let l = followers-long vs in
+    omega arith
+
+members-long : (i : ℕ) (vs : List ℕ) → length vs ≤ length (memberText i vs)
+unfolding memberText
+members-long i [] = omega arith
+members-long i (v ∷ vs) =
+    let s = decimal-numeral v .some in
+    let a = length-append (separator i ++ decimal v) (followers vs) in
+    let b = length-append (separator i) (decimal v) in
+    let l = followers-long vs in
+    omega arith
+
+other-byte : (t : List ℕ) (at b c : ℕ) → getD t at 0 ≡ b → (b ≡ c → ⊥) → byteIs t at c ≡ false
+other-byte t at b c e h = by-test (byteIs t at c) refl
+  where
+    by-test : (x : Bool) → byteIs t at c ≡ x → byteIs t at c ≡ false
+    by-test true q = absurd (h (sym e ∙ byte-inside t at c q .1))
+    by-test false q = q
+
+-- No line ends where a member begins.
+no-end : (i : ℕ) (t : List ℕ) (at v : ℕ) → Stands t at (separator i ++ decimal v) → byteIs t at newline ≡ false
+unfolding separator
+no-end zero t at v s = by-digits (decimal v) s (decimal-numeral v .digits) (decimal-numeral v .some)
+  where
+    by-digits : (w : List ℕ) → Stands t at w → Digits w → 0 < length w → byteIs t at newline ≡ false
+    by-digits [] s r h = absurd (omega arith)
+    by-digits (d ∷ ds) s (one lo hi r) h = other-byte t at d newline (stands-head s) (λ q. omega arith)
+no-end (suc i) t at v s = other-byte t at comma newline (stands-head s) (λ q. omega arith)
+
+-- Members, where their line ends behind them.
+pub members-back : (t : List ℕ) {vs : List ℕ} → Each Small vs → (low i at end : ℕ) → Stands t at (memberText i vs ++ (newline ∷ []))
+    → end ≡ at + length (memberText i vs) → (last : ℕ) × Standing (memberReader t) low i at vs last end
+unfolding memberReader memberAt memberText numberText
+members-back t none low i at end s q =
+    let same : at ≡ end = omega arith in
+    let f = s .fits in
+    (low, subst (λ (z : ℕ). Standing (memberReader t) low i at [] low z) same (stop (byte-is t at newline (omega arith) (stands-head s))))
+members-back t (more {a = v} {l = vs} h r) low i at end s q =
+    let R = followers vs ++ (newline ∷ []) in
+    let p = at + length (separator i) in
+    let e : separator i ++ decimal v ++ followers vs ++ (newline ∷ []) ≡ separator i ++ decimal v ++ R = append-assoc (separator i ++ decimal v) (followers vs) (newline ∷ []) in
+    let s′ : Stands t at (separator i ++ decimal v ++ R) = subst (Stands t at) e s in
+    let a : Stands t at (separator i ++ decimal v) = stands-first (separator i ++ decimal v) R s′ in
+    let rest : Stands t (at + length (separator i ++ decimal v)) R = stands-second (separator i ++ decimal v) R s′ in
+    let z : Stands t at (separator i) = stands-first (separator i) (decimal v) a in
+    let y : Stands t p (decimal v) = stands-second (separator i) (decimal v) a in
+    let l = length-append (separator i) (decimal v) in
+    let n = byte-after vs in
+    let l₁ : at + length (separator i ++ decimal v) ≡ p + length (decimal v) = omega arith in
+    let rest′ : Stands t (p + length (decimal v)) (n .0 ∷ n .1) = subst (λ (x : ℕ). Stands t x (n .0 ∷ n .1)) l₁ (subst (Stands t (at + length (separator i ++ decimal v))) (n .2) rest) in
+    let y′ : Stands t p (numberText (n .0) v) = stands-append (decimal v) (n .0 ∷ []) y (stands-first (n .0 ∷ []) (n .1) rest′) in
+    let x = number-back maxDigits (n .0) t p v (omega arith) h (n .3) y′ in
+    let f = reads-fixed (separator i) .complete t at 0 (separator i) (record { value = refl; word = refl }) z in
+    let w = length-append (separator i ++ decimal v) (followers vs) in
+    let m = later-text i vs in
+    let lm : length (memberText (i + 1) vs) ≡ length (followers vs) = ap length m in
+    let text : Stands t (p + length (decimal v)) (memberText (i + 1) vs ++ (newline ∷ [])) =
+    subst (λ (g : List ℕ). Stands t (p + length (decimal v)) (g ++ (newline ∷ []))) (sym m) (subst (λ (g : ℕ). Stands t g R) l₁ rest) in
+    let tail = members-back t r (risen low v) (i + 1) (p + length (decimal v)) end text (omega arith) in
+    (tail .0, item (no-end i t at v a) (then-found (λ z q. numberAt maxDigits t q) f ∙ x) (tail .1))
+
+rising-small : {low : ℕ} {vs : List ℕ} → Rising memberNumbers low vs → Each Small vs
+rising-small ended = none
+rising-small (rising {e = v} {es = vs} h k r) = more {a = v} {l = vs} (omega arith) (rising-small r)
+
+-- Members that rise leave no more than the number of members.
+rising-last : (t : List ℕ) {low i at last end : ℕ} {vs : List ℕ} → low ≤ memberNumbers → Rising memberNumbers low vs → Standing (memberReader t) low i at vs last end → last ≤ memberNumbers
+unfolding memberReader
+rising-last t few ended (stop e) = few
+rising-last t {low} {i} {at} {last} {end} few (rising {e = v} {es = vs} h k r) (item {next = next} e f s) =
+    rising-last t (omega arith) r (subst (λ (g : ℕ). Standing (memberReader t) g (i + 1) next vs last end) (risen-next low v h k) s)
+
+-- A moat line as it is printed.
+unfoldable pub moatText : Moat → List ℕ
+moatText d = dualKey ++ decimal (d .value) ++ (colon ∷ []) ++ listed (d .members) ++ (newline ∷ [])
+
+pub colon-ends : isDigit (classOf colon) ≡ false
+unfolding isDigit classOf
+colon-ends = refl
+
+head-back : (t : List ℕ) (at x : ℕ) → x < 10 ^ maxDigits → Stands t at (dualKey ++ decimal x ++ (colon ∷ [])) → moatHead t at ≡ found x (at + length (dualKey ++ decimal x ++ (colon ∷ [])))
+unfolding moatHead numberTo numberText
+head-back t at x h s =
+    let e : dualKey ++ decimal x ++ (colon ∷ []) ≡ dualKey ++ numberText colon x = append-assoc dualKey (decimal x) (colon ∷ []) in
+    keyed-back dualKey maxDigits colon t at x (omega arith) h colon-ends (subst (Stands t at) e s) ∙ ap (λ (w : List ℕ). found x (at + length w)) (sym e)
+
+-- A moat whose numbers fit its line.
+pub record SmallMoat (d : Moat) : Type 0 where
+  pub value : Small (d .value)
+  pub members : Each Small (d .members)
+
+-- A moat line where it stands: its members are read, and only the test of what they leave is left.
+pub record MoatStands (t : List ℕ) (i at : ℕ) (d : Moat) : Type 0 where
+  pub from : ℕ
+  pub last : ℕ
+  pub end : ℕ
+  pub members : Standing (memberReader t) 0 0 from (d .members) last end
+  pub line : moatLine t i at ≡ checked (moatTest i last) d (at + length (moatText d))
+
+pub moat-line-back : (t : List ℕ) (i at : ℕ) (d : Moat) → SmallMoat d → Stands t at (moatText d) → MoatStands t i at d
+unfolding moatText moatLine membersAt _then_
+moat-line-back t i at d p s =
+    let H = dualKey ++ decimal (d .value) ++ (colon ∷ []) in
+    let M = memberText 0 (d .members) in
+    let x = listed-text (d .members) in
+    let e : H ++ listed (d .members) ++ (newline ∷ []) ≡ H ++ (M ++ (newline ∷ [])) = ap (λ (w : List ℕ). H ++ w ++ (newline ∷ [])) x ∙ append-assoc H M (newline ∷ []) in
+    let s′ : Stands t at (H ++ (M ++ (newline ∷ []))) = subst (Stands t at) e s in
+    let a = stands-first H (M ++ (newline ∷ [])) s′ in
+    let b = stands-second H (M ++ (newline ∷ [])) s′ in
+    let c = at + length H in
+    let ms = members-back t (p .members) 0 0 c (c + length M) b refl in
+    let f = b .fits in
+    let l = members-long 0 (d .members) in
+    let n = length-append M (newline ∷ []) in
+    let o = length-append H (M ++ (newline ∷ [])) in
+    let u : length (H ++ listed (d .members) ++ (newline ∷ [])) ≡ length (H ++ (M ++ (newline ∷ []))) = ap length e in
+    let g = items-back (memberReader t) (length t) (omega arith) (ms .1) in
+    let q : c + length M + 1 ≡ at + length (H ++ listed (d .members) ++ (newline ∷ [])) = omega arith in
+    record {
+      from = c;
+      last = ms .0;
+      end = c + length M;
+      members = ms .1;
+      line =
+          then-found (λ amount k. membersAt t k .end then λ low y. checked (moatTest i low) (moatOf t amount k) (y + 1)) (head-back t at (d .value) (p .value) a)
+          ∙ ap (λ (L : Lines ℕ). L .end then λ low y. checked (moatTest i low) (record { value = d .value; members = L .values }) (y + 1)) g
+          ∙ ap (λ (k : ℕ). checked (moatTest i (ms .0)) d k) q;
+    }
+
+-- A moat that fits its line.
+pub record Printed (d : Moat) : Type 0 where
+  pub small : d .value < 10 ^ maxDigits
+  pub rises : Rising memberNumbers 0 (d .members)
+
+pub moat-back : (t : List ℕ) (i at : ℕ) (d : Moat) → Printed d → i < maxDuals → Stands t at (moatText d) → moatLine t i at ≡ found d (at + length (moatText d))
+unfolding checked
+moat-back t i at d p few s =
+    let m = moat-line-back t i at d (record { value = p .small; members = rising-small (p .rises) }) s in
+    m .line ∙ ap (λ (v : Verdict). checked v d (at + length (moatText d))) (moat-fine i (m .last) (rising-last t (omega arith) (p .rises) (m .members)) few)
+
+-- Every line has a byte, so that there are no more lines than bytes.
+pub lines-long : {A : Type 0} (f : A → List ℕ) → ((a : A) → 0 < length (f a)) → (l : List A) → length l ≤ length (textOf f l)
+unfolding textOf
+lines-long f h [] = omega arith
+lines-long f h (a ∷ l) =
+    let k = h a in
+    let n = length-append (f a) (textOf f l) in
+    let r = lines-long f h l in
+    omega arith
+
+pub line-some : (key : List ℕ) (x : ℕ) → 0 < length (lineOf key x)
+unfolding lineOf
+line-some key x = let n = length-append (key ++ decimal x) (newline ∷ []) in omega arith
+
+pub moat-some : (d : Moat) → 0 < length (moatText d)
+unfolding moatText
+moat-some d = let n = length-append (dualKey ++ decimal (d .value) ++ (colon ∷ []) ++ listed (d .members)) (newline ∷ []) in omega arith
+
+-- Moat lines that stand to the end of the text.
+pub moats-back : (t : List ℕ) {ds : List Moat} → Each Printed ds → (low i at : ℕ) → i + length ds ≤ maxDuals → Stands t at (textOf moatText ds) → at + length (textOf moatText ds) ≡ length t
+    → (last : ℕ) × Standing (moatReader t) low i at ds last (length t)
+unfolding moatReader textOf
+moats-back t none low i at few s q =
+    let same : at ≡ length t = omega arith in
+    (low, subst (λ (z : ℕ). Standing (moatReader t) low i at [] low z) same (stop (le-leb (length t) at (omega arith))))
+moats-back t (more {a = d} {l = ds} p r) low i at few s q =
+    let a = stands-first (moatText d) (textOf moatText ds) s in
+    let b = stands-second (moatText d) (textOf moatText ds) s in
+    let n = length-append (moatText d) (textOf moatText ds) in
+    let k = moat-some d in
+    let rest = moats-back t r (low + 1) (i + 1) (at + length (moatText d)) (omega arith) b (omega arith) in
+    (rest .0, item (lt-leb (length t) at (omega arith)) (moat-back t i at d p (omega arith) a) (rest .1))
+
+-- Counts that fit their lines.
+pub record Few (c : Claims) : Type 0 where
+  pub terminals : c .terminals < 10 ^ countDigits
+  pub cost : c .cost < 10 ^ countDigits
+  pub bound : c .bound < 10 ^ countDigits
+  pub rounds : c .rounds < 10 ^ countDigits
+
+unfoldable pub claimsText : Claims → List ℕ
+claimsText c = countLines (c .terminals) (c .cost) (c .bound) (c .rounds)
+
+pub claims-back : (t : List ℕ) (at : ℕ) (c : Claims) → Few c → Stands t at (claimsText c) → claimsAt t at ≡ found c (at + length (claimsText c))
+unfolding claimsAt claimsText countLines _then_
+claims-back t at c few s =
+    let K = lineOf terminalsKey (c .terminals) in
+    let C = lineOf costKey (c .cost) in
+    let B = lineOf boundKey (c .bound) in
+    let R = lineOf roundsKey (c .rounds) in
+    let s₃ = stands-first (K ++ C ++ B) R s in
+    let s₂ = stands-first (K ++ C) B s₃ in
+    let l₁ = length-append K C in
+    let l₂ = length-append (K ++ C) B in
+    let l₃ = length-append (K ++ C ++ B) R in
+    let e₂ : at + length (K ++ C) ≡ at + length K + length C = omega arith in
+    let e₃ : at + length (K ++ C ++ B) ≡ at + length K + length C + length B = omega arith in
+    let e₄ : at + length K + length C + length B + length R ≡ at + length (K ++ C ++ B ++ R) = omega arith in
+    let k = value-back terminalsKey countDigits t at (c .terminals) (omega arith) (few .terminals) (stands-first K C s₂) in
+    let x = value-back costKey countDigits t (at + length K) (c .cost) (omega arith) (few .cost) (stands-second K C s₂) in
+    let y = value-back boundKey countDigits t (at + length K + length C) (c .bound) (omega arith) (few .bound) (subst (λ (z : ℕ). Stands t z B) e₂ (stands-second (K ++ C) B s₃)) in
+    let r = value-back roundsKey countDigits t (at + length K + length C + length B) (c .rounds) (omega arith) (few .rounds) (subst (λ (z : ℕ). Stands t z R) e₃ (stands-second (K ++ C ++ B) R s)) in
+    rw (k, x, y, r) (ap (λ (z : ℕ). found c z) e₄)
+
+-- A plan as it is printed, and what makes it fit: counts of ten digits, tracks that rise below m, moats that rise and are few.
+unfoldable pub planWords : Plan → List ℕ
+planWords p = claimsText (p .claims) ++ textOf (lineOf keptKey) (p .kept) ++ textOf moatText (p .moats)
+
+pub record Printable (m : ℕ) (p : Plan) : Type 0 where
+  pub few : Few (p .claims)
+  pub kept : Rising m 0 (p .kept)
+  pub moats : Each Printed (p .moats)
+  pub count : length (p .moats) ≤ maxDuals
+
+-- No keep line begins where the moats do.
+pub no-keep : (t : List ℕ) (ds : List Moat) (at : ℕ) → Stands t at (textOf moatText ds) → at + length (textOf moatText ds) ≡ length t → byteIs t at (code "k") ≡ false
+unfolding textOf moatText dualKey
+no-keep t [] at s q = by-test (byteIs t at (code "k")) refl
+  where
+    by-test : (x : Bool) → byteIs t at (code "k") ≡ x → byteIs t at (code "k") ≡ false
+    by-test true e = let i = byte-inside t at (code "k") e .0 in absurd (omega arith)
+    by-test false e = e
+no-keep t (d ∷ ds) at s q = other-byte t at (code "m") (code "k") (stands-head (stands-first (moatText d) (textOf moatText ds) s)) (λ e. omega arith)
+
+pub claims-some : (c : Claims) → 0 < length (claimsText c)
+unfolding claimsText countLines
+claims-some c =
+    let n = length-append (lineOf terminalsKey (c .terminals) ++ lineOf costKey (c .cost) ++ lineOf boundKey (c .bound)) (lineOf roundsKey (c .rounds)) in
+    let r = line-some roundsKey (c .rounds) in
+    omega arith
+
+-- A printed plan that stands at the end of a text is read back.
+pub plan-back : (t : List ℕ) (m at : ℕ) (p : Plan) → m ≤ 10 ^ maxDigits → Printable m p → Stands t at (planWords p) → at + length (planWords p) ≡ length t → planAt t m at ≡ found p (length t)
+unfolding planAt bodyAt planWords keptAt moatsAt _then_ linesAfter
+plan-back t m at p few w s q =
+    let C = claimsText (p .claims) in
+    let K = textOf (lineOf keptKey) (p .kept) in
+    let D = textOf moatText (p .moats) in
+    let a = stands-first (C ++ K) D s in
+    let l₁ = length-append C K in
+    let l₂ = length-append (C ++ K) D in
+    let x = at + length C in
+    let y = at + length (C ++ K) in
+    let f = s .fits in
+    let d = stands-second (C ++ K) D s in
+    let c = claims-back t at (p .claims) (w .few) (stands-first C K a) in
+    let ks = keep-back t m few (w .kept) 0 x y (stands-second C K a) (omega arith) (no-keep t (p .moats) y d (omega arith)) in
+    let few-moats = w .count in
+    let ds = moats-back t (w .moats) 0 0 y (omega arith) d (omega arith) in
+    let n₁ = lines-long (lineOf keptKey) (line-some keptKey) (p .kept) in
+    let n₂ = lines-long moatText moat-some (p .moats) in
+    let n₃ = claims-some (p .claims) in
+    let g = items-back (keepReader t m) (length t) (omega arith) (ks .1) in
+    let h = items-back (moatReader t) (length t) (omega arith) (ds .1) in
+    then-found _ c
+    ∙ ap (λ (k : Lines ℕ). let l = linesAfter (k .end) (moatsAt t) in l .end then λ count z. found (record { claims = p .claims; kept = k .values; moats = l .values }) z) g
+    ∙ ap (λ (l : Lines Moat). l .end then λ count z. found (record { claims = p .claims; kept = p .kept; moats = l .values }) z) h

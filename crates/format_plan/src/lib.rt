@@ -1,0 +1,194 @@
+// Reads a printed plan behind a survey text: the counts, the kept tracks, the moats. Definitions in specs/. Each step answers a value with
+// the next cursor, or a refusal.
+ghost use Rattle.base_buffer.specs.Lent.{old, new};
+ghost use mathlib.Core.Path.{_≡_};
+ghost use Rattle.format_number.specs.Answer.{numberStep, stopped};
+ghost use Rattle.format_plan.specs.Plan.{bodyAt, claimsAt, cleared, planReading};
+ghost use Rattle.format_plan.specs.Answer.{Stores, Fills, Reads, claimsStep, planOutcome};
+use base_limits::RECORD_BYTES;
+use format_number::Cursor;
+use format_number::Number;
+
+// Digits of a count of the plan, at most.
+const COUNT_DIGITS: usize = 10;
+
+// The counts that a plan claims, with the next cursor.
+pub enum Claims {
+    Found {
+        terminals: u64,
+        cost: u64,
+        bound: u64,
+        rounds: u64,
+        next: Cursor,
+    },
+    Refused {
+        number: u64,
+        place: usize,
+    },
+}
+
+// A refused step, as the answer of the lines of counts.
+fn stopped_claims(step: Number) -> Claims
+    ensures { λ r. ⌜ claimsStep r ≡ stopped (numberStep step) ⌝ }
+{
+    match step {
+        Number::Refused { number, place } => Claims::Refused { number, place },
+        Number::Value { value: _, next } => {
+            let place = next.at;
+            Claims::Refused { number: 16, place }
+        }
+    }
+}
+
+// The four lines of counts.
+fn claim_lines(text: &[u8], cursor: Cursor) -> Claims
+    ensures { λ r. ⌜ claimsStep r ≡ claimsAt (old text) (cursor .at) ⌝ }
+{
+    let one = format_plan_lines::value_line(text, cursor, b"sites=", COUNT_DIGITS);
+    let Number::Value {
+        value: terminals,
+        next: a,
+    } = one
+    else {
+        return stopped_claims(one);
+    };
+    let two = format_plan_lines::value_line(text, a, b"cost=", COUNT_DIGITS);
+    let Number::Value {
+        value: cost,
+        next: b,
+    } = two
+    else {
+        return stopped_claims(two);
+    };
+    let three = format_plan_lines::value_line(text, b, b"bound=", COUNT_DIGITS);
+    let Number::Value {
+        value: bound,
+        next: c,
+    } = three
+    else {
+        return stopped_claims(three);
+    };
+    let four = format_plan_lines::value_line(text, c, b"rounds=", COUNT_DIGITS);
+    let Number::Value {
+        value: rounds,
+        next,
+    } = four
+    else {
+        return stopped_claims(four);
+    };
+    Claims::Found {
+        terminals,
+        cost,
+        bound,
+        rounds,
+        next,
+    }
+}
+
+// Sets the first marks to 0.
+fn clear(marks: &mut [u8], count: usize)
+    ensures { λ _. ⌜ new marks ≡ cleared count (old marks) ⌝ }
+{
+    let mut e = 0;
+    while e < count {
+        base_buffer::put8(marks, e, 0);
+        e += 1;
+    }
+}
+
+// The lines after the counts; marks and records are stored up to the first refusal, as far as the buffers reach.
+fn plan_body(
+    text: &[u8],
+    cursor: Cursor,
+    edges: usize,
+    marks: &mut [u8],
+    records: &mut [u8],
+) -> Number
+    ensures { λ r. ⌜ Stores (bodyAt (old text) edges (cursor .at)) (numberStep r) (old marks) (new marks) (old records) (new records) ⌝ }
+{
+    let kept = format_plan_lines::keep_lines(text, cursor, edges, marks);
+    let Number::Value { value: _, next } = kept else {
+        return kept;
+    };
+    format_plan_lines::moat_lines(text, next, records)
+}
+
+// The two passes over the lines after the counts: the first decides, into buffers of no length, and the second stores.
+fn plan_lines(
+    text: &[u8],
+    cursor: Cursor,
+    edges: usize,
+    marks: &mut [u8],
+    records: &mut [u8],
+) -> Number
+    ensures { λ r. ⌜ Fills (bodyAt (old text) edges (cursor .at)) edges (numberStep r) (old marks) (new marks) (old records) (new records) ⌝ }
+{
+    let found = plan_body(text, cursor, edges, &mut marks[0..0], &mut records[0..0]);
+    let Number::Value {
+        value: count,
+        next: _,
+    } = found
+    else {
+        return found;
+    };
+    if marks.len() < edges {
+        return Number::Refused {
+            number: 7,
+            place: 0,
+        };
+    }
+    if records.len() / RECORD_BYTES < count as usize {
+        return Number::Refused {
+            number: 7,
+            place: 0,
+        };
+    }
+    clear(marks, edges);
+    plan_body(text, cursor, edges, marks, records)
+}
+
+// What a printed plan says of its counts, and the number of its moats; or a refusal.
+pub enum PlanText {
+    Plan {
+        terminals: u64,
+        cost: u64,
+        bound: u64,
+        rounds: u64,
+        moats: usize,
+    },
+    Refused {
+        number: u64,
+        place: usize,
+    },
+}
+
+// Reads a printed plan for so many tracks, from an offset of the text on, into the lent buffers; a refusal writes nothing.
+pub fn read_plan(
+    text: &[u8],
+    from: usize,
+    edges: usize,
+    marks: &mut [u8],
+    records: &mut [u8],
+) -> PlanText
+    ensures { λ r. ⌜ Reads (planReading (old text) from edges (old marks) (old records)) edges (planOutcome r) (old marks) (new marks) (old records) (new records) ⌝ }
+{
+    match claim_lines(text, Cursor { at: from }) {
+        Claims::Refused { number, place } => PlanText::Refused { number, place },
+        Claims::Found {
+            terminals,
+            cost,
+            bound,
+            rounds,
+            next,
+        } => match plan_lines(text, next, edges, marks, records) {
+            Number::Refused { number, place } => PlanText::Refused { number, place },
+            Number::Value { value, next: _ } => PlanText::Plan {
+                terminals,
+                cost,
+                bound,
+                rounds,
+                moats: value as usize,
+            },
+        },
+    }
+}

@@ -1,0 +1,107 @@
+-- `format_plan_lines::keep_lines` meets its contract: what is left to read and to store is what the whole reads and stores.
+use native.Mathlib.Omega.{arith}
+use borrow.Author.Needs.{needs}
+use Prim.Native.Nat.{_-_}
+use mathlib.Core.Path.{ap, sym, _∙_}
+use mathlib.Core.Bool.{not}
+use lib.ListN.{length}
+use Rattle.format_number.specs.Answer.{numberStep}
+use Rattle.format_plan_lines.specs.Lines.{keepReader, keptAt, putMark}
+use Rattle.format_plan_lines.specs.Laws.Items.{Left, left-start, left-more, left-stop, left-refused, left-out}
+use Rattle.format_plan_lines.specs.Laws.Puts.{left-length, mark-length}
+use Rattle.format_plan_lines.specs.Laws.Lines.{keep-passed}
+use Rattle.format_plan_lines.proofs.keep_lines.Statement.{statement}
+use Rattle.format_plan_lines.proofs.keep_lines.Tie as tie
+
+abbrev Inv-loop : tie.InvT-loop
+Inv-loop text edges marks₀ next₀ low₀ i₀ marks next low i = Left (keepReader text edges) putMark (keptAt text edges (next₀ .at)) marks₀ (length text) low i (next .at) marks
+
+abbrev μ-loop : tie.MeasureT-loop
+μ-loop text edges marks₀ next₀ low₀ i₀ marks next low i = length text - i
+
+loop-holds : tie.Need-loop-holds Inv-loop μ-loop
+unfolding keptAt
+loop-holds c =
+    let a = c .before .before .args in
+    left-start (keepReader (a .text .now) (a .edges)) putMark (length (a .text .now)) 0 (a .cursor .at) (a .marks .now)
+
+byte-is-requires : tie.Need-byte-is-requires Inv-loop μ-loop
+byte-is-requires c κs = search needs
+
+same-length : tie.Need-same-length Inv-loop μ-loop
+same-length c = left-length putMark mark-length (c .before .before .before .loop .inv)
+
+returns : tie.Need-returns Inv-loop μ-loop
+unfolding numberStep keepReader
+returns c = left-stop _ _ _ _ _ _ _ _ _ (c .before .before .loop-test .taken) (ap not (sym (c .before .byte-is .ensures)) ∙ c .if1 .taken) (c .before .before .before .loop .inv)
+
+keep-line-requires : tie.Need-keep-line-requires Inv-loop μ-loop
+keep-line-requires c κs = search needs
+
+enum-known-step : tie.Need-enum-known-step Inv-loop μ-loop
+enum-known-step c = search needs
+
+enum-told : tie.Need-enum-told Inv-loop μ-loop
+enum-told c = search needs
+
+same-length-2 : tie.Need-same-length-2 Inv-loop μ-loop
+same-length-2 c = left-length putMark mark-length (c .before .before .before .before .before .before .loop .inv)
+
+returns-2 : tie.Need-returns-2 Inv-loop μ-loop
+unfolding numberStep keepReader
+returns-2 c =
+    rw (c .enum-told .given .1)
+    (left-refused _ _ _ _ _ _ _ _ _ (c .before .before .before .before .before .loop-test .taken) (ap not (sym (c .before .before .before .before .byte-is .ensures)) ∙ c .before .before .before .if1 .left) (sym (c .before .before .keep-line .ensures) ∙ ap numberStep (c .enum-told .given .1)) (c .before .before .before .before .before .before .loop .inv))
+
+put8-requires : tie.Need-put8-requires Inv-loop μ-loop
+put8-requires c κs = search needs
+
+add-low : tie.Need-add-low Inv-loop μ-loop
+unfolding numberStep
+add-low c =
+    let a = c .before .before .before .before .before .before .before .before .before .before .before .before .before .before .args in
+    let l = c .before .before .before .before .before .before .before .before .before .before .before .loop in
+    let k = keep-passed (a .text .now) (a .edges) (l .low) (l .i) (l .next .at) (sym (c .before .before .before .before .before .before .before .keep-line .ensures) ∙ ap numberStep (c .before .before .before .before .before .step .given .1)) in
+    omega (arith, k .below)
+
+add-i : tie.Need-add-i Inv-loop μ-loop
+add-i c = search needs
+
+loop-less : tie.Need-loop-less Inv-loop μ-loop
+loop-less c = search needs
+
+loop-again : tie.Need-loop-again Inv-loop μ-loop
+unfolding numberStep keepReader
+loop-again c =
+    rw (c .before .before .put8 .ensures)
+    (left-more _ putMark _ _ _ _ _ _ _ (c .before .before .before .before .before .before .before .before .before .before .loop-test .taken) (ap not (sym (c .before .before .before .before .before .before .before .before .before .byte-is .ensures)) ∙ c .before .before .before .before .before .before .before .before .if1 .left) (sym (c .before .before .before .before .before .before .before .keep-line .ensures) ∙ ap numberStep (c .before .before .before .before .before .step .given .1)) (c .before .before .before .before .before .before .before .before .before .before .before .loop .inv))
+
+same-length-3 : tie.Need-same-length-3 Inv-loop μ-loop
+same-length-3 c = left-length putMark mark-length (c .before .loop .inv)
+
+returns-3 : tie.Need-returns-3 Inv-loop μ-loop
+unfolding numberStep keepReader
+returns-3 c = left-out _ _ _ _ _ _ _ _ _ (c .loop-test .left) (c .before .loop .inv)
+
+pub keep-lines-spec : {M : Type 1} → statement M
+keep-lines-spec =
+    tie.close
+    (tie.spec
+    Inv-loop
+    μ-loop
+    loop-holds
+    byte-is-requires
+    same-length
+    returns
+    keep-line-requires
+    enum-known-step
+    enum-told
+    same-length-2
+    returns-2
+    put8-requires
+    add-low
+    add-i
+    loop-less
+    loop-again
+    same-length-3
+    returns-3)

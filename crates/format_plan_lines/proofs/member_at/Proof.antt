@@ -1,0 +1,54 @@
+-- `format_plan_lines::member_at` meets its contract: the first member follows at once, a later one behind a comma.
+use borrow.Author.Needs.{needs}
+use mathlib.Core.Path.{sym, _∙_}
+use Rattle.format_number.specs.Step.{_then_}
+use Rattle.format_number.specs.Number.{fixedAt}
+use Rattle.format_number.specs.Laws.Step.{refusal-stays, value-goes}
+use Rattle.format_plan_lines.specs.Lines.{memberAt}
+use Rattle.format_plan_lines.specs.Laws.Tests.{separator-first, separator-later}
+use Rattle.format_plan_lines.proofs.member_at.Statement.{statement}
+use Rattle.format_plan_lines.proofs.member_at.Tie as tie
+
+number-at-requires : tie.Need-number-at-requires
+number-at-requires c κs = search needs
+
+returns : tie.Need-returns
+unfolding memberAt fixedAt _then_
+returns c = rw (separator-first (c .before .if1 .taken)) (c .number-at .ensures)
+
+slice-aggregate-fixed : tie.Need-slice-aggregate-fixed
+slice-aggregate-fixed c = search needs
+
+fixed-requires : tie.Need-fixed-requires
+fixed-requires c κs = search needs
+
+enum-known-step : tie.Need-enum-known-step
+enum-known-step c = search needs
+
+enum-told : tie.Need-enum-told
+enum-told c = search needs
+
+returns-2 : tie.Need-returns-2
+unfolding memberAt
+returns-2 c = rw (separator-later _ (c .before .before .before .before .if1 .left)) (refusal-stays _ (c .before .before .fixed .ensures) (c .enum-told .given .1))
+
+number-at-requires-2 : tie.Need-number-at-requires-2
+number-at-requires-2 c κs = search needs
+
+returns-3 : tie.Need-returns-3
+unfolding memberAt
+returns-3 c = rw (separator-later _ (c .before .before .before .before .before .before .if1 .left)) (c .number-at2 .ensures ∙ sym (value-goes _ (c .before .before .before .before .fixed .ensures) (c .before .before .step .given .1)))
+
+pub member-at-spec : {M : Type 1} → statement M
+member-at-spec =
+    tie.close
+    (tie.spec
+    number-at-requires
+    returns
+    slice-aggregate-fixed
+    fixed-requires
+    enum-known-step
+    enum-told
+    returns-2
+    number-at-requires-2
+    returns-3)

@@ -1,0 +1,99 @@
+-- `format_plan_lines::members` meets its contract: what is left to read and to store is what the whole reads and stores.
+use borrow.Author.Needs.{needs}
+use Prim.Native.Nat.{_-_}
+use mathlib.Core.Path.{ap, sym, _∙_}
+use lib.ListN.{length}
+use Rattle.format_number.specs.Answer.{numberStep}
+use Rattle.format_plan_lines.specs.Lines.{memberReader, membersAt, putMember}
+use Rattle.format_plan_lines.specs.Laws.Items.{Left, left-start, left-more, left-stop, left-refused, left-out}
+use Rattle.format_plan_lines.specs.Laws.Puts.{left-length, member-length}
+use Rattle.format_plan_lines.proofs.members.Statement.{statement}
+use Rattle.format_plan_lines.proofs.members.Tie as tie
+
+abbrev Inv-loop : tie.InvT-loop
+Inv-loop text part₀ next₀ low₀ i₀ part next low i = Left (memberReader text) putMember (membersAt text (next₀ .at)) part₀ (length text) low i (next .at) part
+
+abbrev μ-loop : tie.MeasureT-loop
+μ-loop text part₀ next₀ low₀ i₀ part next low i = length text - i
+
+loop-holds : tie.Need-loop-holds Inv-loop μ-loop
+unfolding membersAt
+loop-holds c =
+    let a = c .before .before .args in
+    left-start (memberReader (a .text .now)) putMember (length (a .text .now)) 0 (a .cursor .at) (a .part .now)
+
+byte-is-requires : tie.Need-byte-is-requires Inv-loop μ-loop
+byte-is-requires c κs = search needs
+
+same-length : tie.Need-same-length Inv-loop μ-loop
+same-length c = left-length putMember member-length (c .before .before .before .loop .inv)
+
+returns : tie.Need-returns Inv-loop μ-loop
+unfolding numberStep memberReader
+returns c = left-stop _ _ _ _ _ _ _ _ _ (c .before .before .loop-test .taken) (sym (c .before .byte-is .ensures) ∙ c .if1 .taken) (c .before .before .before .loop .inv)
+
+member-at-requires : tie.Need-member-at-requires Inv-loop μ-loop
+member-at-requires c κs = search needs
+
+enum-known-step : tie.Need-enum-known-step Inv-loop μ-loop
+enum-known-step c = search needs
+
+enum-told : tie.Need-enum-told Inv-loop μ-loop
+enum-told c = search needs
+
+same-length-2 : tie.Need-same-length-2 Inv-loop μ-loop
+same-length-2 c = left-length putMember member-length (c .before .before .before .before .before .before .loop .inv)
+
+returns-2 : tie.Need-returns-2 Inv-loop μ-loop
+unfolding numberStep memberReader
+returns-2 c =
+    rw (c .enum-told .given .1)
+    (left-refused _ _ _ _ _ _ _ _ _ (c .before .before .before .before .before .loop-test .taken) (sym (c .before .before .before .before .byte-is .ensures) ∙ c .before .before .before .if1 .left) (sym (c .before .before .member-at .ensures) ∙ ap numberStep (c .enum-told .given .1)) (c .before .before .before .before .before .before .loop .inv))
+
+add-member-requires : tie.Need-add-member-requires Inv-loop μ-loop
+add-member-requires c κs = search needs
+
+risen-after-requires : tie.Need-risen-after-requires Inv-loop μ-loop
+risen-after-requires c κs = search needs
+
+add-i : tie.Need-add-i Inv-loop μ-loop
+add-i c = search needs
+
+loop-less : tie.Need-loop-less Inv-loop μ-loop
+loop-less c = search needs
+
+loop-again : tie.Need-loop-again Inv-loop μ-loop
+unfolding numberStep memberReader
+loop-again c =
+    rw (c .before .before .before .add-member .ensures, c .risen-after .ensures)
+    (left-more _ putMember _ _ _ _ _ _ _ (c .before .before .before .before .before .before .before .before .before .before .before .loop-test .taken) (sym (c .before .before .before .before .before .before .before .before .before .before .byte-is .ensures) ∙ c .before .before .before .before .before .before .before .before .before .if1 .left) (sym (c .before .before .before .before .before .before .before .before .member-at .ensures) ∙ ap numberStep (c .before .before .before .before .before .before .step .given .1)) (c .before .before .before .before .before .before .before .before .before .before .before .before .loop .inv))
+
+same-length-3 : tie.Need-same-length-3 Inv-loop μ-loop
+same-length-3 c = left-length putMember member-length (c .before .loop .inv)
+
+returns-3 : tie.Need-returns-3 Inv-loop μ-loop
+unfolding numberStep memberReader
+returns-3 c = left-out _ _ _ _ _ _ _ _ _ (c .loop-test .left) (c .before .loop .inv)
+
+pub members-spec : {M : Type 1} → statement M
+members-spec =
+    tie.close
+    (tie.spec
+    Inv-loop
+    μ-loop
+    loop-holds
+    byte-is-requires
+    same-length
+    returns
+    member-at-requires
+    enum-known-step
+    enum-told
+    same-length-2
+    returns-2
+    add-member-requires
+    risen-after-requires
+    add-i
+    loop-less
+    loop-again
+    same-length-3
+    returns-3)

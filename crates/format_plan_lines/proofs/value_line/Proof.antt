@@ -1,0 +1,33 @@
+-- `format_plan_lines::value_line` meets its contract: a refusal stays, and after the key comes the number.
+use borrow.Author.Needs.{needs}
+use mathlib.Core.Path.{sym, _∙_}
+use Rattle.format_number.specs.Number.{stopOf}
+use Rattle.format_number.specs.Laws.Step.{refusal-stays, value-goes}
+use Rattle.format_plan_lines.specs.Lines.{valueLine}
+use Rattle.format_plan_lines.proofs.value_line.Statement.{statement}
+use Rattle.format_plan_lines.proofs.value_line.Tie as tie
+
+fixed-requires : tie.Need-fixed-requires
+fixed-requires c κs = search needs
+
+enum-known-step : tie.Need-enum-known-step
+enum-known-step c = search needs
+
+enum-told : tie.Need-enum-told
+enum-told c = search needs
+
+returns : tie.Need-returns
+unfolding valueLine
+returns c = refusal-stays _ (c .before .before .fixed .ensures) (c .enum-told .given .1)
+
+number-to-requires : tie.Need-number-to-requires
+number-to-requires c κs = search needs
+
+returns-2 : tie.Need-returns-2
+unfolding valueLine stopOf
+returns-2 c = c .number-to .ensures ∙ sym (value-goes _ (c .before .before .before .before .fixed .ensures) (c .before .before .step .given .1))
+
+pub value-line-spec : {M : Type 1} → statement M
+value-line-spec =
+    tie.close
+    (tie.spec fixed-requires enum-known-step enum-told returns number-to-requires returns-2)

@@ -1,0 +1,210 @@
+-- Laws of the lines of a plan: what their numbers are, and what they store.
+use Prim.Native.Nat.{ℕ, zero, suc, _+_, _*_, _-_, _/_, _≤_, _<_}
+use native.Mathlib.Omega.{arith}
+use mathlib.Core.Path.{_≡_, refl, ap, sym, _∙_, subst}
+use mathlib.Core.Bool.{Bool, true, false, _||_, cond}
+use mathlib.Core.List.{List, [], _∷_, _++_, append-assoc}
+use lib.ListN.{length, take, drop}
+use lib.Seq.{sets, sets-eq, drop-drop}
+use lib.Dec.{eqb, ltb, leb}
+use borrow.Author.Tests.{lt-leb, ltb-true, ltb-false, leb-true, leb-false, lt-ltb, le-ltb}
+use Rattle.base_limits.specs.Limits.{valueBytes, memberBytes, recordBytes}
+use Rattle.base_limits.specs.declared.Verdict.{Verdict}
+use Rattle.base_limits.specs.declared.Verdict.the-variants.{Fine, Refused}
+use Rattle.format_record.specs.Bits.{lowBytes}
+use Rattle.format_record.specs.Laws.Bits.{bytes-cong}
+use Rattle.format_record.specs.Record.{recordOf, startedAs}
+use Rattle.format_record.specs.Laws.Record.{started-whole, member-added-record, length-record}
+use Rattle.format_number.specs.Step.{Step, found, refused, checked, _then_}
+use Rattle.format_survey_lines.specs.Lines.{Lines}
+use Rattle.format_write.specs.Key.{newline}
+use Rattle.format_number.specs.Laws.Byte.{byte-inside}
+use Rattle.format_number.specs.Laws.Step.{then-value, checked-fine, checked-value}
+use Rattle.format_plan_lines.specs.Items.{Reader, following, itemsFrom, puts, none, more}
+use Rattle.format_plan_lines.specs.Lines.{keptTest, keepLine, risen, memberReader, membersAt, moatTest, moatLine, moatHead, moatOf, Moat, moatRecord, moatReader, putMember, putMoat, isIn}
+use Rattle.format_plan_lines.specs.Answer.{Members, forgotten, moatStored, MoatRead}
+use Rattle.format_plan_lines.specs.Laws.Tests.{kept-low, kept-high, risen-low, risen-high}
+use Rattle.format_plan_lines.specs.Laws.Puts.{puts-length, left-length, moat-length}
+use Rattle.format_plan_lines.specs.Laws.Items.{Left, Ends, left-more, left-refused}
+
+no-refusal : {n p : ℕ} {w : Verdict} → w ≡ Refused n p → w ≡ Fine → ⊥
+no-refusal e f = let z : _≡_ {A = ℕ} 0 1 = cc in omega arith
+
+-- A kept track that passes its test.
+pub record Kept (m low e : ℕ) : Type 0 where
+  pub rises : low ≤ e
+  pub below : e < m
+
+pub kept-passed : (m low i e : ℕ) → keptTest m low i e ≡ Fine → Kept m low e
+kept-passed m low i e f = by-tests (ltb e low) (leb m e) refl refl
+  where
+    by-tests : (a b : Bool) → ltb e low ≡ a → leb m e ≡ b → Kept m low e
+    by-tests true b p q = absurd (no-refusal (kept-low m low i e (ltb-true e low p)) f)
+    by-tests false true p q = absurd (no-refusal (kept-high m low i e (ltb-false e low p) (leb-true m e q)) f)
+    by-tests false false p q = record { rises = ltb-false e low p; below = leb-false m e q }
+
+pub keep-passed : (t : List ℕ) (m low i at : ℕ) {e next : ℕ} → keepLine t m low i at ≡ found e next → Kept m low e
+unfolding keepLine
+keep-passed t m low i at {e} {next} q =
+    let f = then-value _ (λ x p. checked (keptTest m low i x) x p) q in
+    subst (λ x. Kept m low x) (checked-value _ _ _ (f .3)) (kept-passed m low i (f .0) (checked-fine _ _ _ (f .3)))
+
+-- Items end where they stop.
+pub items-stop : {A : Type 0} (r : Reader A) (fuel low i at : ℕ) {n p : ℕ} → itemsFrom r fuel low i at .end ≡ found n p → r .stop p ≡ true
+unfolding itemsFrom following
+items-stop r zero low i at e = let z : _≡_ {A = ℕ} 0 1 = cc in absurd (omega arith)
+items-stop {A} r (suc fuel) low i at {n} {p} e = by-stop (r .stop at) (r .item low i at) refl (λ l k q. items-stop r fuel l (i + 1) k) e
+  where
+    by-stop : (b : Bool) (s : Step A) → r .stop at ≡ b → ((l k : ℕ) → A → itemsFrom r fuel l (i + 1) k .end ≡ found n p → r .stop p ≡ true)
+        → cond b (record { values = []; end = found low at }) (following s (λ a next. itemsFrom r fuel (r .after low a) (i + 1) next)) .end ≡ found n p → r .stop p ≡ true
+    by-stop true s h ih e = let same : at ≡ p = cc in subst (λ x. r .stop x ≡ true) same h
+    by-stop false (found a next) h ih e = ih (r .after low a) next a e
+    by-stop false (refused x y) h ih e = let z : _≡_ {A = ℕ} 0 1 = cc in absurd (omega arith)
+
+-- Members that rise to their end are all members.
+record Risen (low : ℕ) (vs : List ℕ) : Type 0 where
+  start : low ≤ 256
+  all : Members vs
+
+pub risen-back : (low v : ℕ) → risen low v ≤ 256 → (low ≤ v) × (v < 256)
+risen-back low v h = by-tests (ltb v low) (leb 256 v) refl refl
+  where
+    by-tests : (a b : Bool) → ltb v low ≡ a → leb 256 v ≡ b → (low ≤ v) × (v < 256)
+    by-tests true b p q = let z = risen-low low v (ltb-true v low p) in absurd (omega arith)
+    by-tests false true p q = let z = risen-high low v (ltb-false v low p) (leb-true 256 v q) in absurd (omega arith)
+    by-tests false false p q = (ltb-false v low p, leb-false 256 v q)
+
+items-risen : (t : List ℕ) (fuel low i at : ℕ) {n p : ℕ} → itemsFrom (memberReader t) fuel low i at .end ≡ found n p → n ≤ 256 → Risen low (itemsFrom (memberReader t) fuel low i at .values)
+unfolding itemsFrom following memberReader
+items-risen t zero low i at e h = let z : _≡_ {A = ℕ} 0 1 = cc in absurd (omega arith)
+items-risen t (suc fuel) low i at {n} {p} e h = by-stop (memberReader t .stop at) (memberReader t .item low i at) (λ l k e. items-risen t fuel l (i + 1) k e h) e
+  where
+    by-stop : (b : Bool) (s : Step ℕ) → ((l k : ℕ) → itemsFrom (memberReader t) fuel l (i + 1) k .end ≡ found n p → Risen l (itemsFrom (memberReader t) fuel l (i + 1) k .values))
+        → cond b (record { values = []; end = found low at }) (following s (λ a next. itemsFrom (memberReader t) fuel (risen low a) (i + 1) next)) .end ≡ found n p
+        → Risen low (cond b (record { values = []; end = found low at }) (following s (λ a next. itemsFrom (memberReader t) fuel (risen low a) (i + 1) next)) .values)
+    by-stop true s ih e = let same : low ≡ n = cc in record { start = omega arith; all = none }
+    by-stop false (found a next) ih e =
+        let r = ih (risen low a) next e in
+        let k = risen-back low a (r .start) in
+        let k0 = k .0 in
+        let k1 = k .1 in
+        record { start = omega arith; all = more k1 (r .all) }
+    by-stop false (refused x y) ih e = let z : _≡_ {A = ℕ} 0 1 = cc in absurd (omega arith)
+
+pub members-below : (t : List ℕ) (at : ℕ) {low p : ℕ} → membersAt t at .end ≡ found low p → low ≤ 256 → Members (membersAt t at .values)
+unfolding membersAt
+members-below t at e h = items-risen t (length t) 0 0 at e h .all
+
+-- ---- records
+
+or-assoc : (a b c : Bool) → ((a || b) || c) ≡ (a || (b || c))
+or-assoc true b c = refl
+or-assoc false b c = refl
+
+record-cong : (a : ℕ) (S T : ℕ → Bool) → ((v : ℕ) → S v ≡ T v) → recordOf a S ≡ recordOf a T
+unfolding recordOf
+record-cong a S T h = ap (λ l. lowBytes valueBytes a ++ l) (bytes-cong memberBytes S T (λ v b. h v))
+
+or-false : (b : Bool) → (b || false) ≡ b
+or-false true = refl
+or-false false = refl
+
+members-added : (a : ℕ) (S : ℕ → Bool) (i : ℕ) (vs : List ℕ) → Members vs → puts putMember (recordOf a S) i vs ≡ recordOf a (λ w. S w || isIn vs w)
+unfolding puts isIn
+members-added a S i [] none = record-cong a S (λ w. S w || false) (λ v. sym (or-false (S v)))
+members-added a S i (v ∷ vs) (more h hs) =
+    ap (λ l. puts putMember l (i + 1) vs) (member-added-record a S v h)
+    ∙ members-added a (λ w. S w || eqb w v) (i + 1) vs hs
+    ∙ record-cong a _ _ (λ w. or-assoc (S w) (eqb w v) (isIn vs w))
+
+-- A record that is started, and to which members are added, is that of the moat.
+pub record-filled : (part : List ℕ) (a : ℕ) (vs : List ℕ) → length part ≡ recordBytes → Members vs → puts putMember (startedAs part a) 0 vs ≡ moatRecord (record { value = a; members = vs })
+unfolding moatRecord
+record-filled part a vs h each =
+    ap (λ l. puts putMember l 0 vs) (started-whole part a h)
+    ∙ members-added a (λ v. false) 0 vs each
+
+pub length-moat : (d : Moat) → length (moatRecord d) ≡ recordBytes
+unfolding moatRecord
+length-moat d = length-record (d .value) (isIn (d .members))
+
+pub moat-put : (records : List ℕ) (i : ℕ) (d : Moat) → i < length records / recordBytes → putMoat records i d ≡ take (recordBytes * i) records ++ (moatRecord d ++ drop (recordBytes * i + recordBytes) records)
+unfolding putMoat
+moat-put records i d h =
+    let n = length-moat d in
+    let at : sets records (recordBytes * i) (moatRecord d) ≡ take (recordBytes * i) records ++ (moatRecord d ++ drop (recordBytes * i + length (moatRecord d)) records) = sets-eq (moatRecord d) records (recordBytes * i) (omega arith) ∙ append-assoc (take (recordBytes * i) records) (moatRecord d) _ in
+    let all : take (recordBytes * i) records ++ (moatRecord d ++ drop (recordBytes * i + length (moatRecord d)) records) ≡ take (recordBytes * i) records ++ (moatRecord d ++ drop (recordBytes * i + recordBytes) records) = ap (λ (k : ℕ). take (recordBytes * i) records ++ (moatRecord d ++ drop (recordBytes * i + k) records)) n in
+    rw (lt-ltb i (length records / recordBytes) h) (at ∙ all)
+
+pub moat-left : (records : List ℕ) (i : ℕ) (d : Moat) → length records / recordBytes ≤ i → putMoat records i d ≡ records
+unfolding putMoat
+moat-left records i d h = rw (le-ltb i (length records / recordBytes) h)
+
+-- ---- moat lines
+
+-- A buffer of no length stays one.
+pub none-stays : {A : Type 0} (put : List ℕ → ℕ → A → List ℕ) → ((l : List ℕ) (i : ℕ) (a : A) → length (put l i a) ≡ length l) → (new : List ℕ) (vs : List A) → new ≡ puts put [] 0 vs → new ≡ []
+none-stays put same new vs e = by-length new (ap length e ∙ puts-length put same [] 0 vs)
+  where
+    by-length : (l : List ℕ) → length l ≡ 0 → l ≡ []
+    by-length [] h = refl
+    by-length (x ∷ l) h = absurd (omega arith)
+
+module _ (t : List ℕ) (i at : ℕ) {records records′ : List ℕ} where
+  pub moat-stops : {n p : ℕ} → moatHead t at ≡ refused n p → records′ ≡ records → MoatRead (moatLine t i at) (refused n p) i records records′
+  unfolding moatLine _then_ forgotten moatStored
+  moat-stops e r = rw e record { end = refl; stored = r }
+
+  module _ {amount c : ℕ} (head : moatHead t at ≡ found amount c) where
+    pub moat-unlisted : {n p : ℕ} → membersAt t c .end ≡ refused n p → records′ ≡ records → MoatRead (moatLine t i at) (refused n p) i records records′
+    unfolding moatLine _then_ forgotten moatStored
+    moat-unlisted e r = rw (head, e) record { end = refl; stored = r }
+
+    pub moat-refused : {low d n p : ℕ} → membersAt t c .end ≡ found low d → moatTest i low ≡ Refused n p → records′ ≡ records → MoatRead (moatLine t i at) (refused n p) i records records′
+    unfolding moatLine _then_ checked forgotten moatStored
+    moat-refused e f r = rw (head, e, f) record { end = refl; stored = r }
+
+    pub moat-read : {low d : ℕ} → membersAt t c .end ≡ found low d → moatTest i low ≡ Fine → records′ ≡ putMoat records i (moatOf t amount c) → MoatRead (moatLine t i at) (found 0 (d + 1)) i records records′
+    unfolding moatLine _then_ checked forgotten moatStored
+    moat-read e f r = rw (head, e, f) record { end = refl; stored = r }
+
+-- One turn of the loop over the moat lines.
+module _ (t : List ℕ) (whole : Lines Moat) (old : List ℕ) (i at : ℕ) (buffer buffer′ : List ℕ) where
+  pub moats-more : {z next : ℕ} → i < length t → at < length t → found z next ≡ forgotten (moatLine t i at) → buffer′ ≡ moatStored (moatLine t i at) buffer i
+      → Left (moatReader t) putMoat whole old (length t) i i at buffer → Left (moatReader t) putMoat whole old (length t) (i + 1) (i + 1) next buffer′
+  unfolding forgotten moatStored moatReader
+  moats-more {z} {next} h k e s l = by-line (moatLine t i at) refl e s
+    where
+      by-line : (x : Step Moat) → moatLine t i at ≡ x → found z next ≡ forgotten x → buffer′ ≡ moatStored x buffer i → Left (moatReader t) putMoat whole old (length t) (i + 1) (i + 1) next buffer′
+      by-line (found d p) q e s =
+          let same : p ≡ next = cc in
+          rw s (subst (λ (x : ℕ). Left (moatReader t) putMoat whole old (length t) (i + 1) (i + 1) x (putMoat buffer i d)) same (left-more (moatReader t) putMoat whole old (length t) i i at buffer h (lt-leb (length t) at k) q l))
+      by-line (refused n p) q e s = let w : _≡_ {A = ℕ} 0 1 = cc in absurd (omega arith)
+
+  pub moats-refused : {n p : ℕ} → i < length t → at < length t → refused n p ≡ forgotten (moatLine t i at) → buffer′ ≡ moatStored (moatLine t i at) buffer i
+      → Left (moatReader t) putMoat whole old (length t) i i at buffer → Ends putMoat whole old (refused n p) buffer′ × (length buffer′ ≡ length old)
+  unfolding forgotten moatStored moatReader
+  moats-refused {n} {p} h k e s l = by-line (moatLine t i at) refl e s
+    where
+      by-line : (x : Step Moat) → moatLine t i at ≡ x → refused n p ≡ forgotten x → buffer′ ≡ moatStored x buffer i → Ends putMoat whole old (refused n p) buffer′ × (length buffer′ ≡ length old)
+      by-line (found d y) q e s = let w : _≡_ {A = ℕ} 0 1 = cc in absurd (omega arith)
+      by-line (refused x y) q e s =
+          let r : moatLine t i at ≡ refused n p = cc in
+          rw s (left-refused (moatReader t) putMoat whole old (length t) i i at buffer h (lt-leb (length t) at k) r l, left-length putMoat moat-length l)
+
+-- A pass over a part of no length leaves the buffer as it was.
+pub empty-pass : {A : Type 0} (put : List ℕ → ℕ → A → List ℕ) → ((l : List ℕ) (i : ℕ) (a : A) → length (put l i a) ≡ length l) → (old : List ℕ) {new : List ℕ} (vs : List A) → new ≡ puts put [] 0 vs → new ++ old ≡ old
+empty-pass put same old {new} vs e = ap (λ (l : List ℕ). l ++ old) (none-stays put same new vs e)
+
+pub members-end : (t : List ℕ) (at : ℕ) {low p : ℕ} → membersAt t at .end ≡ found low p → p < length t
+unfolding membersAt memberReader
+members-end t at {low} {p} e = byte-inside t p newline (items-stop (memberReader t) (length t) 0 0 at e) .0
+
+-- The record in the part of the buffer that is lent for it.
+pub moat-put-part : (records : List ℕ) (i : ℕ) (d : Moat) → i < length records / recordBytes
+    → take (recordBytes * i) records ++ (moatRecord d ++ drop (recordBytes * i + recordBytes - recordBytes * i) (drop (recordBytes * i) records)) ≡ putMoat records i d
+moat-put-part records i d h =
+    let n : recordBytes * i + recordBytes - recordBytes * i ≡ recordBytes = omega arith in
+    ap (λ (k : ℕ). take (recordBytes * i) records ++ (moatRecord d ++ drop k (drop (recordBytes * i) records))) n
+    ∙ ap (λ (l : List ℕ). take (recordBytes * i) records ++ (moatRecord d ++ l)) (drop-drop recordBytes (recordBytes * i) records)
+    ∙ sym (moat-put records i d h)

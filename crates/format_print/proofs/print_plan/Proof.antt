@@ -1,0 +1,61 @@
+-- `print_plan`: refused by the measured text, or printed.
+use Prim.Native.Nat.{_<_}
+use native.Mathlib.Omega.{arith}
+use lib.ListN.{length}
+use Rattle.format_write.specs.Wrote.{farthest}
+use Rattle.format_write.specs.Text.{planText}
+use Rattle.format_print.specs.Laws.Print.{short-prints, fit-prints}
+use borrow.Author.Needs.{needs}
+use Rattle.format_print.proofs.print_plan.Statement.{statement}
+use Rattle.format_print.proofs.print_plan.Tie as tie
+
+sub-put-plan : tie.Need-sub-put-plan
+sub-put-plan c = search needs
+
+part-put-plan-start : tie.Need-part-put-plan-start
+part-put-plan-start c = search needs
+
+part-put-plan-end : tie.Need-part-put-plan-end
+part-put-plan-end c = search needs
+
+put-plan-requires : tie.Need-put-plan-requires
+put-plan-requires c κs = search needs
+
+same-length : tie.Need-same-length
+same-length c = search needs
+
+returns : tie.Need-returns
+returns c =
+    let a = c .before .before .before .before .before .before .before .before .args in
+    let text = planText (a .terminals) (a .cost) (a .bound) (a .rounds) (a .marks .now) (a .records .now) in
+    let small : length (a .out .now) < farthest = omega arith in
+    let p = short-prints text (a .out .now) small (c .before .before .before .put-plan .ensures) (c .if1 .taken) in
+    (p .answers, p .leaves)
+
+put-plan-requires-2 : tie.Need-put-plan-requires-2
+put-plan-requires-2 c κs = search needs
+
+same-length-2 : tie.Need-same-length-2
+same-length-2 c = search needs
+
+returns-2 : tie.Need-returns-2
+returns-2 c =
+    let a = c .before .before .before .before .before .before .before .before .before .before .before .before .args in
+    let text = planText (a .terminals) (a .cost) (a .bound) (a .rounds) (a .marks .now) (a .records .now) in
+    let small : length (a .out .now) < farthest = omega arith in
+    let p = fit-prints text (a .out .now) small (c .before .before .before .before .before .before .before .put-plan .ensures) (c .before .before .before .before .if1 .left) (c .before .before .put-plan2 .ensures) in
+    (p .answers, p .leaves)
+
+pub print-plan-spec : {M : Type 1} → statement M
+print-plan-spec =
+    tie.close
+    (tie.spec
+    sub-put-plan
+    part-put-plan-start
+    part-put-plan-end
+    put-plan-requires
+    same-length
+    returns
+    put-plan-requires-2
+    same-length-2
+    returns-2)

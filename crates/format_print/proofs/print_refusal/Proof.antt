@@ -1,0 +1,60 @@
+-- `print_refusal`: refused by the measured text, or printed.
+use Prim.Native.Nat.{_<_}
+use native.Mathlib.Omega.{arith}
+use lib.ListN.{length}
+use Rattle.format_write.specs.Wrote.{farthest}
+use Rattle.format_write.specs.Text.{refusalText}
+use Rattle.format_print.specs.Laws.Print.{short-prints, fit-prints}
+use borrow.Author.Needs.{needs}
+use Rattle.format_print.proofs.print_refusal.Statement.{statement}
+use Rattle.format_print.proofs.print_refusal.Tie as tie
+
+sub-put-refusal : tie.Need-sub-put-refusal
+sub-put-refusal c = search needs
+
+part-put-refusal-start : tie.Need-part-put-refusal-start
+part-put-refusal-start c = search needs
+
+part-put-refusal-end : tie.Need-part-put-refusal-end
+part-put-refusal-end c = search needs
+
+put-refusal-requires : tie.Need-put-refusal-requires
+put-refusal-requires c κs = search needs
+
+same-length : tie.Need-same-length
+same-length c = search needs
+
+returns : tie.Need-returns
+returns c =
+    let a = c .before .before .before .before .before .before .args in
+    let small : length (a .out .now) < farthest = omega arith in
+    let p = short-prints (refusalText (a .number) (a .place)) (a .out .now) small (c .before .before .before .put-refusal .ensures) (c .if1 .taken) in
+    (p .answers, p .leaves)
+
+put-refusal-requires-2 : tie.Need-put-refusal-requires-2
+put-refusal-requires-2 c κs = search needs
+
+same-length-2 : tie.Need-same-length-2
+same-length-2 c = search needs
+
+returns-2 : tie.Need-returns-2
+returns-2 c =
+    let a = c .before .before .before .before .before .before .before .before .before .before .args in
+    let small : length (a .out .now) < farthest = omega arith in
+    let p =
+    fit-prints (refusalText (a .number) (a .place)) (a .out .now) small (c .before .before .before .before .before .before .before .put-refusal .ensures) (c .before .before .before .before .if1 .left) (c .before .before .put-refusal2 .ensures) in
+    (p .answers, p .leaves)
+
+pub print-refusal-spec : {M : Type 1} → statement M
+print-refusal-spec =
+    tie.close
+    (tie.spec
+    sub-put-refusal
+    part-put-refusal-start
+    part-put-refusal-end
+    put-refusal-requires
+    same-length
+    returns
+    put-refusal-requires-2
+    same-length-2
+    returns-2)

@@ -1,0 +1,33 @@
+-- `put_plan`: the counts, the kept tracks and the moats.
+use Prim.Native.Nat.{_≤_}
+use native.Mathlib.Omega.{arith}
+use lib.ListN.{length}
+use Rattle.format_write.specs.Wrote.{farthest}
+use Rattle.format_write.specs.Laws.Wrote.{wrote-then}
+use Rattle.format_write.specs.Text.{planText}
+use borrow.Author.Needs.{needs}
+use Rattle.format_print.proofs.put_plan.Statement.{statement}
+use Rattle.format_print.proofs.put_plan.Tie as tie
+
+put-counts-requires : tie.Need-put-counts-requires
+put-counts-requires c κs = search needs
+
+put-marks-requires : tie.Need-put-marks-requires
+put-marks-requires c κs = search needs
+
+put-duals-requires : tie.Need-put-duals-requires
+put-duals-requires c κs = search needs
+
+same-length : tie.Need-same-length
+same-length c = search needs
+
+returns : tie.Need-returns
+unfolding planText
+returns c =
+    let small : length (c .before .before .before .before .before .before .before .before .before .before .before .before .before .before .before .args .out .now) ≤ farthest = omega arith in
+    wrote-then small (wrote-then small (c .before .before .before .before .before .before .before .before .before .before .put-counts .ensures) (c .before .before .before .before .before .before .put-marks .ensures)) (c .before .before .put-duals .ensures)
+
+pub put-plan-spec : {M : Type 1} → statement M
+put-plan-spec =
+    tie.close
+    (tie.spec put-counts-requires put-marks-requires put-duals-requires same-length returns)

@@ -1,0 +1,134 @@
+// Printing of moat lines, plans and refusals. Definitions in specs/.
+ghost use Rattle.base_buffer.specs.Lent.{old, new};
+ghost use mathlib.Core.Path.{_≡_};
+ghost use Rattle.format_write.specs.Text.{countLines, planText, refusalText};
+ghost use Rattle.format_print.specs.Print.{printed, printedOut, dualPrinted, dualPrintedOut};
+ghost use Rattle.format_write.specs.Wrote.{Wrote};
+use format_write::put_dual;
+use format_write::put_duals;
+use format_write::put_line;
+use format_write::put_marks;
+
+// The text's length, or a refusal's number and place.
+pub enum Printed {
+    Length(usize),
+    Refused { number: u64, place: usize },
+}
+
+// Bytes that hold every moat line, every plan within the limits, and every refusal (specs/Room.antt, with laws).
+pub const DUAL_ROOM: usize = 1024;
+
+pub const PLAN_ROOM: usize = 500928;
+
+pub const REFUSAL_ROOM: usize = 56;
+
+// Writes the four lines of counts.
+fn put_counts(
+    out: &mut [u8],
+    at: usize,
+    terminals: u64,
+    cost: u64,
+    bound: u64,
+    rounds: u64,
+) -> usize
+    ensures { λ r. ⌜ Wrote (old out) at (countLines terminals cost bound rounds) (new out) r ⌝ }
+{
+    let next = put_line(out, at, b"sites=", terminals);
+    let next = put_line(out, next, b"cost=", cost);
+    let next = put_line(out, next, b"bound=", bound);
+    put_line(out, next, b"rounds=", rounds)
+}
+
+// Writes a whole plan.
+fn put_plan(
+    out: &mut [u8],
+    at: usize,
+    terminals: u64,
+    cost: u64,
+    bound: u64,
+    rounds: u64,
+    marks: &[u8],
+    records: &[u8],
+) -> usize
+    ensures { λ r. ⌜ Wrote (old out) at (planText terminals cost bound rounds (old marks) (old records)) (new out) r ⌝ }
+{
+    let next = put_counts(out, at, terminals, cost, bound, rounds);
+    let next = put_marks(out, next, marks);
+    put_duals(out, next, records)
+}
+
+// Writes the two lines of a refusal.
+fn put_refusal(out: &mut [u8], at: usize, number: u64, place: usize) -> usize
+    ensures { λ r. ⌜ Wrote (old out) at (refusalText number place) (new out) r ⌝ }
+{
+    let next = put_line(out, at, b"refused=", number);
+    put_line(out, next, b"place=", base_buffer::wide(place))
+}
+
+// Prints the moat line of a record. Each print measures its text on an empty part of the buffer before it writes.
+pub fn print_dual(part: &[u8], out: &mut [u8]) -> Printed
+    ensures { λ r. ⌜ r ≡ dualPrinted (old part) (old out) ⌝ }
+    ensures { λ _. ⌜ new out ≡ dualPrintedOut (old part) (old out) ⌝ }
+{
+    if part.len() != base_limits::RECORD_BYTES {
+        return Printed::Refused {
+            number: 9,
+            place: 0,
+        };
+    }
+    let need = put_dual(&mut out[0..0], 0, part);
+    if out.len() < need {
+        return Printed::Refused {
+            number: 7,
+            place: 0,
+        };
+    }
+    Printed::Length(put_dual(out, 0, part))
+}
+
+// Prints a plan: its counts, the kept tracks, the moats.
+pub fn print_plan(
+    terminals: u64,
+    cost: u64,
+    bound: u64,
+    rounds: u64,
+    marks: &[u8],
+    records: &[u8],
+    out: &mut [u8],
+) -> Printed
+    ensures { λ r. ⌜ r ≡ printed (planText terminals cost bound rounds (old marks) (old records)) (old out) ⌝ }
+    ensures { λ _. ⌜ new out ≡ printedOut (planText terminals cost bound rounds (old marks) (old records)) (old out) ⌝ }
+{
+    let need = put_plan(
+        &mut out[0..0],
+        0,
+        terminals,
+        cost,
+        bound,
+        rounds,
+        marks,
+        records,
+    );
+    if out.len() < need {
+        return Printed::Refused {
+            number: 7,
+            place: 0,
+        };
+    }
+    Printed::Length(put_plan(out, 0, terminals, cost, bound, rounds, marks, records))
+}
+
+// Prints a refusal's two lines.
+pub fn print_refusal(number: u64, place: usize, out: &mut [u8]) -> Printed
+    ensures { λ r. ⌜ r ≡ printed (refusalText number place) (old out) ⌝ }
+    ensures { λ _. ⌜ new out ≡ printedOut (refusalText number place) (old out) ⌝ }
+{
+    let need = put_refusal(&mut out[0..0], 0, number, place);
+    if out.len() < need {
+        return Printed::Refused {
+            number: 7,
+            place: 0,
+        };
+    }
+    Printed::Length(put_refusal(out, 0, number, place))
+}

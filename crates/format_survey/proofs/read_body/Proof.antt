@@ -1,0 +1,122 @@
+-- `format_survey::read_body` meets its contract: the first pass stores nothing, and the second stores where the first is not refused.
+use borrow.Author.Needs.{needs}
+use mathlib.Core.Path.{_∙_}
+use Rattle.format_survey.specs.Laws.Body.{fills-refused, fills-found}
+use Rattle.format_survey.proofs.read_body.Statement.{statement}
+use Rattle.format_survey.proofs.read_body.Tie as tie
+
+sub-body : tie.Need-sub-body
+sub-body c = search needs
+
+part-body-start : tie.Need-part-body-start
+part-body-start c = search needs
+
+part-body-end : tie.Need-part-body-end
+part-body-end c = search needs
+
+sub-body-2 : tie.Need-sub-body-2
+sub-body-2 c = search needs
+
+part-body-start-2 : tie.Need-part-body-start-2
+part-body-start-2 c = search needs
+
+part-body-end-2 : tie.Need-part-body-end-2
+part-body-end-2 c = search needs
+
+sub-body-3 : tie.Need-sub-body-3
+sub-body-3 c = search needs
+
+part-body-start-3 : tie.Need-part-body-start-3
+part-body-start-3 c = search needs
+
+part-body-end-3 : tie.Need-part-body-end-3
+part-body-end-3 c = search needs
+
+sub-body-4 : tie.Need-sub-body-4
+sub-body-4 c = search needs
+
+part-body-start-4 : tie.Need-part-body-start-4
+part-body-start-4 c = search needs
+
+part-body-end-4 : tie.Need-part-body-end-4
+part-body-end-4 c = search needs
+
+body-requires : tie.Need-body-requires
+body-requires c κs = search needs
+
+enum-told : tie.Need-enum-told
+enum-told c = search needs
+
+enum-told-2 : tie.Need-enum-told-2
+enum-told-2 c = search needs
+
+same-length : tie.Need-same-length
+same-length c = c .before .before .before .before .before .before .before .before .before .groups .given .1
+
+same-length-2 : tie.Need-same-length-2
+same-length-2 c = c .before .before .before .before .before .before .before .firsts .given .1
+
+same-length-3 : tie.Need-same-length-3
+same-length-3 c = c .before .before .before .before .before .seconds .given .1
+
+same-length-4 : tie.Need-same-length-4
+same-length-4 c = c .before .before .before .weights .given .1
+
+returns : tie.Need-returns
+returns c =
+    let p = c .before .before .before .before .before .before .before .before .before .before in
+    let a = p .before .before .before .before .before .before .before .before .before .before .args in
+    fills-refused (a .text .now) (a .vertices) (a .edges) (a .cursor .at) (a .groups .now) (a .firsts .now) (a .seconds .now) (a .weights .now) (p .body .ensures) (c .enum-told2 .given .1)
+
+body-requires-2 : tie.Need-body-requires-2
+body-requires-2 c κs = search needs
+
+same-length-5 : tie.Need-same-length-5
+same-length-5 c = c .before .before .before .before .before .before .before .groups2 .given ∙ c .before .before .before .before .before .before .before .before .before .before .before .before .before .before .before .before .before .before .before .before .before .before .groups .given .1
+
+same-length-6 : tie.Need-same-length-6
+same-length-6 c = c .before .before .before .before .before .firsts2 .given ∙ c .before .before .before .before .before .before .before .before .before .before .before .before .before .before .before .before .before .before .before .before .firsts .given .1
+
+same-length-7 : tie.Need-same-length-7
+same-length-7 c = c .before .before .before .seconds2 .given ∙ c .before .before .before .before .before .before .before .before .before .before .before .before .before .before .before .before .before .before .seconds .given .1
+
+same-length-8 : tie.Need-same-length-8
+same-length-8 c = c .before .weights2 .given ∙ c .before .before .before .before .before .before .before .before .before .before .before .before .before .before .before .before .weights .given .1
+
+returns-2 : tie.Need-returns-2
+returns-2 c =
+    let p = c .before .before .before .before .before .before .before .before in
+    let q = p .before .before .before .before .before .before .before .before .before .before .before .before .before .before .before in
+    let a = q .before .before .before .before .before .before .before .before .before .before .args in
+    fills-found (a .text .now) (a .vertices) (a .edges) (a .cursor .at) (a .groups .now) (a .firsts .now) (a .seconds .now) (a .weights .now) (q .body .ensures) (p .before .before .before .before .before .enum-told .given .1) (p .body2 .ensures)
+
+pub read-body-spec : {M : Type 1} → statement M
+read-body-spec =
+    tie.close
+    (tie.spec
+    sub-body
+    part-body-start
+    part-body-end
+    sub-body-2
+    part-body-start-2
+    part-body-end-2
+    sub-body-3
+    part-body-start-3
+    part-body-end-3
+    sub-body-4
+    part-body-start-4
+    part-body-end-4
+    body-requires
+    enum-told
+    enum-told-2
+    same-length
+    same-length-2
+    same-length-3
+    same-length-4
+    returns
+    body-requires-2
+    same-length-5
+    same-length-6
+    same-length-7
+    same-length-8
+    returns-2)

@@ -1,0 +1,70 @@
+-- Reading a whole survey text (document 01, 'Survey text and printed plan'): the counts, the lines after them, and the end.
+use Prim.Native.Nat.{ℕ}
+use mathlib.Core.Bool.{cond}
+use mathlib.Core.List.{List, _++_}
+use lib.ListN.{length, drop}
+use lib.Dec.{leb}
+use Rattle.base_limits.specs.Verdict.{Outcome, refusal, answer}
+use Rattle.base_limits.specs.declared.Verdict.{Verdict}
+use Rattle.format_number.specs.Step.{Step, found, refused, _then_}
+use Rattle.format_survey_lines.specs.Lines.{linesAfter}
+use Rattle.format_survey_lines.specs.Line.{Tests, groupTest, testsFor, Edge, firstsOf, secondsOf, weightsOf, Counts, countsAt, groupLines, edgeLines}
+
+-- The text ends here.
+unfoldable pub endAt : List ℕ → (at : ℕ) → Step ℕ
+endAt t at = cond (leb (length t) at) (found 0 at) (refused 16 at)
+
+-- The lines after the counts: what they say up to the first refusal, and where they end.
+pub record Body : Type 0 where
+  pub groups : List ℕ
+  pub edges : List Edge
+  pub end : Step ℕ
+
+unfoldable pub bodyAt : (ℕ → ℕ → Verdict) → List ℕ → Counts → (at : ℕ) → Body
+bodyAt test t counts at =
+    let gs = groupLines test t (counts .vertices) at in
+    let es = linesAfter (gs .end) (edgeLines t (counts .edges)) in
+    record { groups = gs .values; edges = es .values; end = es .end then λ z p. endAt t p }
+
+unfoldable pub bodyOf : List ℕ → (vertices edges at : ℕ) → Body
+bodyOf t vertices edges at = bodyAt groupTest t (record { vertices = vertices; edges = edges }) at
+
+-- What a text says: n and m, and the first n groups and m ends and prices.
+pub record Survey : Type 0 where
+  pub vertices : ℕ
+  pub edges : ℕ
+  pub groups : List ℕ
+  pub firsts : List ℕ
+  pub seconds : List ℕ
+  pub weights : List ℕ
+
+unfoldable pub surveyOf : Counts → (groups : List ℕ) → (edges : List Edge) → Survey
+surveyOf counts groups edges =
+    record {
+      vertices = counts .vertices;
+      edges = counts .edges;
+      groups = groups;
+      firsts = firstsOf edges;
+      seconds = secondsOf edges;
+      weights = weightsOf edges;
+    }
+
+unfoldable pub surveyAt : Tests → List ℕ → Step Survey
+surveyAt tests t =
+    countsAt tests t then λ counts p.
+    let body = bodyAt (tests .group) t counts p in
+    body .end then λ z q. found (surveyOf counts (body .groups) (body .edges)) q
+
+unfoldable pub outcomeOf : {A : Type 0} → Step A → Outcome A
+outcomeOf (found a next) = answer a
+outcomeOf (refused number place) = refusal number place
+
+-- The four lists are what the lent buffers hold; only their lengths matter.
+unfoldable pub reading : (t groups firsts seconds weights : List ℕ) → Outcome Survey
+reading t groups firsts seconds weights =
+    outcomeOf (surveyAt (testsFor (length groups) (length firsts) (length seconds) (length weights)) t)
+
+-- What a lent buffer holds at the end: the values read and, behind them, what it held; a refusal writes nothing.
+unfoldable pub filled : Outcome Survey → (Survey → List ℕ) → (old : List ℕ) → List ℕ
+filled (refusal number place) values old = old
+filled (answer survey) values old = values survey ++ drop (length (values survey)) old

@@ -1,0 +1,65 @@
+-- `format_survey_lines::counts` meets its contract: a refusal of either line stays, and a value goes on.
+use borrow.Author.Needs.{needs}
+use mathlib.Core.Path.{sym, _∙_}
+use Rattle.format_survey_lines.specs.Line.{countsAt, testsFor}
+use Rattle.format_survey_lines.specs.Answer.{countsStep}
+use Rattle.format_number.specs.Laws.Step.{stopped-stays, value-goes}
+use Rattle.format_survey_lines.proofs.counts.Statement.{statement}
+use Rattle.format_survey_lines.proofs.counts.Tie as tie
+
+vertices-line-requires : tie.Need-vertices-line-requires
+vertices-line-requires c κs = search needs
+
+enum-known-one : tie.Need-enum-known-one
+enum-known-one c = search needs
+
+enum-told : tie.Need-enum-told
+enum-told c = search needs
+
+stopped-head-requires : tie.Need-stopped-head-requires
+stopped-head-requires c κs = search needs
+
+returns : tie.Need-returns
+unfolding countsAt testsFor
+returns c = c .stopped-head .ensures ∙ stopped-stays _ (c .before .before .before .vertices-line .ensures) (c .before .enum-told .given .1)
+
+edges-line-requires : tie.Need-edges-line-requires
+edges-line-requires c κs = search needs
+
+enum-known-two : tie.Need-enum-known-two
+enum-known-two c = search needs
+
+enum-told-2 : tie.Need-enum-told-2
+enum-told-2 c = search needs
+
+stopped-head-requires-2 : tie.Need-stopped-head-requires-2
+stopped-head-requires-2 c κs = search needs
+
+returns-2 : tie.Need-returns-2
+unfolding countsAt testsFor
+returns-2 c =
+    c .stopped-head2 .ensures
+    ∙ stopped-stays _ (c .before .before .before .edges-line .ensures) (c .before .enum-told2 .given .1)
+    ∙ sym (value-goes _ (c .before .before .before .before .before .before .before .vertices-line .ensures) (c .before .before .before .before .before .one .given .1))
+
+returns-3 : tie.Need-returns-3
+unfolding countsAt testsFor countsStep
+returns-3 c =
+    sym (value-goes _ (c .before .before .before .edges-line .ensures) (c .before .two .given .1))
+    ∙ sym (value-goes _ (c .before .before .before .before .before .before .before .vertices-line .ensures) (c .before .before .before .before .before .one .given .1))
+
+pub counts-spec : {M : Type 1} → statement M
+counts-spec =
+    tie.close
+    (tie.spec
+    vertices-line-requires
+    enum-known-one
+    enum-told
+    stopped-head-requires
+    returns
+    edges-line-requires
+    enum-known-two
+    enum-told-2
+    stopped-head-requires-2
+    returns-2
+    returns-3)

@@ -1,0 +1,316 @@
+// Reads the lines of a survey text, each key=value, from the first towards the last. Each step answers a value with the next cursor, or
+// a refusal.
+ghost use Rattle.base_buffer.specs.Lent.{old, new};
+ghost use mathlib.Core.Path.{_≡_};
+ghost use Prim.Native.Nat.{_<_};
+ghost use lib.ListN.{set};
+ghost use lib.Seq.{sets};
+ghost use Rattle.format_number.specs.Number.{numberLine};
+ghost use Rattle.format_number.specs.Answer.{numberStep, stopped};
+ghost use Rattle.format_survey_lines.specs.Line.{nodesKey, linksKey, edgeLines, firstsOf, secondsOf, weightsOf, testsFor, countsAt, groupLines, verticesTest, edgesTest, groupTest, countLine, groupLine, edgeLine};
+ghost use Rattle.format_survey_lines.specs.Answer.{edgeStep, countsStep};
+use base_limits::GROUP_NUMBERS;
+use base_limits::MAX_DIGITS;
+use base_limits::MAX_EDGES;
+use base_limits::MAX_VERTICES;
+use format_number::Cursor;
+use format_number::Number;
+use format_number::fixed;
+use format_number::number_line;
+use format_number::number_to;
+
+// The text and how far it has been read. Each function over it takes it apart, for a function on the slice and the offset.
+pub struct Reader<'a> {
+    pub text: &'a [u8],
+    pub at: usize,
+}
+
+pub enum EdgeLine {
+    Edge {
+        first: u64,
+        second: u64,
+        weight: u64,
+        next: Cursor,
+    },
+    Refused {
+        number: u64,
+        place: usize,
+    },
+}
+
+pub enum Head {
+    Counts {
+        vertices: usize,
+        edges: usize,
+        next: Cursor,
+    },
+    Refused {
+        number: u64,
+        place: usize,
+    },
+}
+
+fn opened<'a>(text: &'a [u8]) -> Reader<'a>
+    ensures { λ r. ⌜ (r .text ≡ text .entry) × (r .at ≡ 0) ⌝ }
+{
+    Reader { text, at: 0 }
+}
+
+// `nodes=n` at an offset.
+fn nodes_at(text: &[u8], at: usize) -> Number
+    ensures { λ r. ⌜ numberStep r ≡ numberLine nodesKey (old text) at ⌝ }
+{
+    number_line(text, Cursor { at }, b"nodes=")
+}
+
+fn nodes_line<'a>(r: Reader<'a>) -> Number
+    ensures { λ s. ⌜ numberStep s ≡ numberLine nodesKey (now (r .entry .text)) (r .entry .at) ⌝ }
+{
+    nodes_at(r.text, r.at)
+}
+
+// The line with which a text begins.
+fn first_line(text: &[u8]) -> Number
+    ensures { λ r. ⌜ numberStep r ≡ numberLine nodesKey (old text) 0 ⌝ }
+{
+    nodes_line(opened(text))
+}
+
+// `nodes=n`: 1, then 7 where the group buffer, of length lent, is short.
+fn vertices_line(text: &[u8], lent: usize) -> Number
+    ensures { λ r. ⌜ numberStep r ≡ countLine nodesKey (verticesTest lent) (old text) 0 ⌝ }
+{
+    let step = first_line(text);
+    let Number::Value { value, next: _ } = step else {
+        return step;
+    };
+    let count = value as usize;
+    if count == 0 {
+        return Number::Refused {
+            number: 1,
+            place: 0,
+        };
+    }
+    if MAX_VERTICES < count {
+        return Number::Refused {
+            number: 1,
+            place: 0,
+        };
+    }
+    if lent < count {
+        return Number::Refused {
+            number: 7,
+            place: 0,
+        };
+    }
+    step
+}
+
+// `links=m`: 3, then 7 where one of the other three buffers is short.
+fn edges_line(text: &[u8], cursor: Cursor, firsts: usize, seconds: usize, weights: usize) -> Number
+    ensures { λ r. ⌜ numberStep r ≡ countLine linksKey (edgesTest firsts seconds weights) (old text) (cursor .at) ⌝ }
+{
+    let step = number_line(text, cursor, b"links=");
+    let Number::Value { value, next: _ } = step else {
+        return step;
+    };
+    let count = value as usize;
+    if MAX_EDGES < count {
+        return Number::Refused {
+            number: 3,
+            place: 0,
+        };
+    }
+    if firsts < count {
+        return Number::Refused {
+            number: 7,
+            place: 0,
+        };
+    }
+    if seconds < count {
+        return Number::Refused {
+            number: 7,
+            place: 0,
+        };
+    }
+    if weights < count {
+        return Number::Refused {
+            number: 7,
+            place: 0,
+        };
+    }
+    step
+}
+
+// `node=g` of a vertex: 17 where the group is over 255.
+fn group_line(text: &[u8], cursor: Cursor, vertex: usize) -> Number
+    ensures { λ r. ⌜ numberStep r ≡ groupLine groupTest (old text) vertex (cursor .at) ⌝ }
+{
+    let step = number_line(text, cursor, b"node=");
+    let Number::Value { value, next: _ } = step else {
+        return step;
+    };
+    let group = value as usize;
+    if GROUP_NUMBERS <= group {
+        return Number::Refused {
+            number: 17,
+            place: vertex,
+        };
+    }
+    step
+}
+
+// A refused step, as the answer of an edge's line.
+fn stopped_edge(step: Number) -> EdgeLine
+    ensures { λ r. ⌜ edgeStep r ≡ stopped (numberStep step) ⌝ }
+{
+    match step {
+        Number::Refused { number, place } => EdgeLine::Refused { number, place },
+        Number::Value { value: _, next } => {
+            let place = next.at;
+            EdgeLine::Refused { number: 16, place }
+        }
+    }
+}
+
+// `link=u,v,price`.
+fn edge_line(text: &[u8], cursor: Cursor, edge: usize) -> EdgeLine
+    ensures { λ r. ⌜ edgeStep r ≡ edgeLine (old text) edge (cursor .at) ⌝ }
+{
+    let key = fixed(text, cursor, b"link=");
+    let Number::Value { value: _, next: a } = key else {
+        return stopped_edge(key);
+    };
+    let one = number_to(text, a, MAX_DIGITS, true);
+    let Number::Value {
+        value: first,
+        next: b,
+    } = one
+    else {
+        return stopped_edge(one);
+    };
+    let two = number_to(text, b, MAX_DIGITS, true);
+    let Number::Value {
+        value: second,
+        next: c,
+    } = two
+    else {
+        return stopped_edge(two);
+    };
+    let three = number_to(text, c, MAX_DIGITS, false);
+    let Number::Value {
+        value: weight,
+        next,
+    } = three
+    else {
+        return stopped_edge(three);
+    };
+    EdgeLine::Edge {
+        first,
+        second,
+        weight,
+        next,
+    }
+}
+
+// A refused step, as the answer of the two count lines.
+fn stopped_head(step: Number) -> Head
+    ensures { λ r. ⌜ countsStep r ≡ stopped (numberStep step) ⌝ }
+{
+    match step {
+        Number::Refused { number, place } => Head::Refused { number, place },
+        Number::Value { value: _, next } => {
+            let place = next.at;
+            Head::Refused { number: 16, place }
+        }
+    }
+}
+
+// The two count lines, with which a text begins; the lengths are those of the lent buffers.
+pub fn counts(text: &[u8], groups: usize, firsts: usize, seconds: usize, weights: usize) -> Head
+    ensures { λ r. ⌜ countsStep r ≡ countsAt (testsFor groups firsts seconds weights) (old text) ⌝ }
+{
+    let one = vertices_line(text, groups);
+    let Number::Value {
+        value: vertices,
+        next: after,
+    } = one
+    else {
+        return stopped_head(one);
+    };
+    let two = edges_line(text, after, firsts, seconds, weights);
+    let Number::Value { value: edges, next } = two else {
+        return stopped_head(two);
+    };
+    Head::Counts {
+        vertices: vertices as usize,
+        edges: edges as usize,
+        next,
+    }
+}
+
+// Stores where the buffer reaches.
+fn store8(buffer: &mut [u8], at: usize, value: u64)
+    requires { ⌜ value < 256 ⌝ }
+    ensures { λ r. ⌜ new buffer ≡ set (old buffer) at value ⌝ }
+{
+    base_buffer::put8(buffer, at, value as u8);
+}
+
+fn store32(buffer: &mut [u32], at: usize, value: u64)
+    requires { ⌜ value < 4294967296 ⌝ }
+    ensures { λ r. ⌜ new buffer ≡ set (old buffer) at value ⌝ }
+{
+    base_buffer::put32(buffer, at, value as u32);
+}
+
+// So many lines `node=g`; the groups up to the first refusal go into the buffer, as far as it reaches.
+pub fn group_lines(text: &[u8], cursor: Cursor, count: usize, groups: &mut [u8]) -> Number
+    ensures { λ r. ⌜ (numberStep r ≡ groupLines groupTest (old text) count (cursor .at) .end) × (new groups ≡ sets (old groups) 0 (groupLines groupTest (old text) count (cursor .at) .values)) ⌝ }
+{
+    let mut next = cursor;
+    let mut vertex = 0;
+    while vertex < count {
+        let step = group_line(text, next, vertex);
+        let Number::Value { value, next: after } = step else {
+            return step;
+        };
+        store8(groups, vertex, value);
+        next = after;
+        vertex += 1;
+    }
+    Number::Value { value: 0, next }
+}
+
+// So many lines `link=u,v,price`, in the same way.
+pub fn edge_lines(
+    text: &[u8],
+    cursor: Cursor,
+    count: usize,
+    firsts: &mut [u32],
+    seconds: &mut [u32],
+    weights: &mut [u32],
+) -> Number
+    ensures { λ r. ⌜ (numberStep r ≡ edgeLines (old text) count (cursor .at) .end) × (new firsts ≡ sets (old firsts) 0 (firstsOf (edgeLines (old text) count (cursor .at) .values))) × (new seconds ≡ sets (old seconds) 0 (secondsOf (edgeLines (old text) count (cursor .at) .values))) × (new weights ≡ sets (old weights) 0 (weightsOf (edgeLines (old text) count (cursor .at) .values))) ⌝ }
+{
+    let mut next = cursor;
+    let mut edge = 0;
+    while edge < count {
+        match edge_line(text, next, edge) {
+            EdgeLine::Refused { number, place } => return Number::Refused { number, place },
+            EdgeLine::Edge {
+                first,
+                second,
+                weight,
+                next: after,
+            } => {
+                store32(firsts, edge, first);
+                store32(seconds, edge, second);
+                store32(weights, edge, weight);
+                next = after;
+                edge += 1;
+            }
+        }
+    }
+    Number::Value { value: 0, next }
+}

@@ -1,0 +1,32 @@
+-- `put_line`: the key, the number and the newline.
+use native.Mathlib.Omega.{arith}
+use lib.ListN.{length}
+use Rattle.format_write.specs.Wrote.{farthest}
+use Rattle.format_write.specs.Laws.Wrote.{wrote-then}
+use Prim.Native.Nat.{_≤_}
+use Rattle.format_write.specs.Text.{lineOf}
+use borrow.Author.Needs.{needs}
+use Rattle.format_write.proofs.put_line.Statement.{statement}
+use Rattle.format_write.proofs.put_line.Tie as tie
+
+put-bytes-requires : tie.Need-put-bytes-requires
+put-bytes-requires c κs = search needs
+
+put-number-requires : tie.Need-put-number-requires
+put-number-requires c κs = search needs
+
+put-requires : tie.Need-put-requires
+put-requires c κs = search needs
+
+same-length : tie.Need-same-length
+same-length c = search needs
+
+returns : tie.Need-returns
+unfolding lineOf
+returns c =
+    let small : length (c .before .before .before .before .before .before .before .before .before .before .before .before .before .before .args .out .now) ≤ farthest = omega arith in
+    (wrote-then small (wrote-then small (c .before .before .before .before .before .before .before .before .before .before .put-bytes .ensures) (c .before .before .before .before .before .before .put-number .ensures)) (c .before .before .put .ensures))
+
+pub put-line-spec : {M : Type 1} → statement M
+put-line-spec =
+    tie.close (tie.spec put-bytes-requires put-number-requires put-requires same-length returns)

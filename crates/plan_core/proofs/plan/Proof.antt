@@ -1,0 +1,53 @@
+-- `plan` meets its contract: a refusal stops it with nothing written (`refused-call`), and otherwise it is finished (`finished-call`).
+use mathlib.Core.Path.{sym, _∙_}
+use Rattle.survey_core.specs.Survey.{edgeCount}
+use Rattle.plan_core.specs.Answer.{outcomeOf}
+use Rattle.plan_core.specs.Laws.Ready.{fine-ready}
+use Rattle.plan_core.specs.Laws.Promise.{refused-call, finished-call}
+use native.Mathlib.Omega.{arith}
+use borrow.Author.Needs.{needs}
+use Rattle.plan_core.proofs.plan.Statement.{statement}
+use Rattle.plan_core.proofs.plan.Tie as tie
+
+plan-refusal-requires : tie.Need-plan-refusal-requires
+plan-refusal-requires c κs = search needs
+
+enum-known-found : tie.Need-enum-known-found
+enum-known-found c = search needs
+
+returns : tie.Need-returns
+unfolding outcomeOf
+returns c =
+    refused-call _ (λ v. omega (arith, c .before .before .before .before .before .before .before .before .before .shared-slice-known .given v)) _ _ _ _ (sym (c .before .before .before .plan-refusal .ensures) ∙ c .before .found .given .1)
+
+enum-told : tie.Need-enum-told
+enum-told c = search needs
+
+finish-requires : tie.Need-finish-requires
+finish-requires c κs =
+    fine-ready _ (λ v. omega (arith, c .before .before .before .before .before .before .before .before .before .before .shared-slice-known .given v)) _ _ (sym (c .before .before .before .before .plan-refusal .ensures) ∙ c .before .before .enum-told .given .1)
+
+same-length : tie.Need-same-length
+same-length c = search needs
+
+same-length-2 : tie.Need-same-length-2
+same-length-2 c = search needs
+
+returns-2 : tie.Need-returns-2
+unfolding edgeCount
+returns-2 c =
+    finished-call _ (λ v. omega (arith, c .before .before .before .before .before .before .before .before .before .before .before .before .before .before .before .shared-slice-known .given v)) _ _ _ _ _ (sym (c .before .before .before .before .before .before .before .before .before .plan-refusal .ensures) ∙ c .before .before .before .before .before .before .before .enum-told .given .1)
+    (c .before .before .before .before .finish .ensures .0) (c .before .before .before .before .finish .ensures .1 .0) (c .before .before .before .before .finish .ensures .1 .1)
+
+pub plan-spec : {M : Type 1} → statement M
+plan-spec =
+    tie.close
+    (tie.spec
+    plan-refusal-requires
+    enum-known-found
+    returns
+    enum-told
+    finish-requires
+    same-length
+    same-length-2
+    returns-2)

@@ -1,0 +1,271 @@
+-- What an answer of planning promises besides its equation with the definition: finished exactly if none of 1 to 8 applies; 8 exactly if the survey is sound, the buffers
+-- are long enough and some group cannot be joined by any set of tracks, and then the lowest; rounds are picked tracks; the plan passes the checker and is accurate.
+use Prim.Native.Nat.{ℕ, _*_, _≤_, _<_}
+use mathlib.Core.Path.{_≡_, refl, ap, sym, _∙_, subst}
+use mathlib.Core.Logic.{_⊎_, inl, inr, ⊎-elim}
+use mathlib.Core.Bool.{Bool, false, _||_}
+use mathlib.Core.List.{List, _++_}
+use native.Mathlib.Omega.{arith}
+use lib.ListN.{length, take, drop}
+use lib.Seq.{take-at}
+use lib.Dec.{ltb, lit≤}
+use borrow.Author.Tests.{ltb-false}
+use Rattle.base_finite.specs.Laws.Test.{or-false-left, or-false-right, not-of-false, not-true-false}
+use Rattle.base_finite.specs.Below.{countBelow}
+use Rattle.base_finite.specs.Laws.Below.{length-tabulate, lt-or-ge}
+use Rattle.base_limits.specs.Limits.{recordBytes, dualsOf, groupNumbers}
+use Rattle.base_limits.specs.Verdict.{Outcome, refusal, refuseIf, _before_, lowestBelow, answer, outcome, written}
+use Rattle.base_limits.specs.declared.Verdict.{Verdict}
+use Rattle.base_limits.specs.declared.Verdict.the-variants.{Fine, Refused}
+use Rattle.base_limits.specs.Laws.Verdict.{before-fine, refuse-true, refuse-false, lowest-none, lowest-found, lowest-elim, Lowest, refused-refuse, fine-refuse}
+use Rattle.theory_steiner.specs.Problem.{Sound, EdgeSet, allUsable}
+use Rattle.theory_steiner.specs.Pruning.{picked}
+use Rattle.theory_steiner.specs.Laws.Rounds.{grown-reached, picked-count}
+use Rattle.survey_core.specs.Survey.{Survey, vertexCount, edgeCount, problemOf, groupJoined, componentsOf}
+use Rattle.survey_core.specs.Refusal.{edgeRefusal, surveyRefusal, groupRefusal}
+use Rattle.survey_core.specs.Accuracy.{Accurate}
+use Rattle.survey_core.specs.Laws.Refusal.{SurveySound, survey-fine, fine-survey, survey-sound}
+use Rattle.survey_core.specs.Laws.Group.{Numbered, JoinsGroup, LowestUnjoined, group-joined-elim, group-joined-intro, group-refused, unjoinable-iff}
+use Rattle.survey_core.specs.Laws.Member.{member-elim}
+use Rattle.theory_steiner.specs.Laws.Finish.{allUsable-edges}
+use Rattle.check_rule.specs.Check.{checking}
+use Rattle.check_rule.specs.Laws.Accuracy.{answered}
+use Rattle.plan_duals.specs.Drawing.{recordsOf, recordsOver}
+use Rattle.plan_duals.specs.Laws.Drawing.{length-records}
+use Rattle.plan_core.specs.Plan.{planOf, planRefusal, Counts, countsOf, counting, marksAfter, recordsAfter}
+use Rattle.plan_core.specs.Laws.Ready.{Ready, fine-ready, ready-fine, all-bounded, room-enough}
+use Rattle.plan_core.specs.Laws.Passes.{finished-passes, finished-accurate}
+
+-- ---- which test a number comes from
+
+before-cases : (v w : Verdict) {number place : ℕ} → (v before w) ≡ Refused number place → (v ≡ Refused number place) ⊎ ((v ≡ Fine) × (w ≡ Refused number place))
+unfolding _before_
+before-cases Fine w h = inr (refl, h)
+before-cases (Refused a b) w h = inl h
+
+-- No refusal above k comes of it.
+record AtMost (k : ℕ) (v : Verdict) : Type 0 where
+  bounded : (number place : ℕ) → v ≡ Refused number place → number ≤ k
+
+refuse-at-most : (t : Bool) (k a b : ℕ) → a ≤ k → AtMost k (refuseIf t a b)
+refuse-at-most t k a b le = record { bounded = λ number place h. let e = refused-refuse t a b number place h .1 .0 in omega arith }
+
+before-at-most : (k : ℕ) (v w : Verdict) → AtMost k v → AtMost k w → AtMost k (v before w)
+before-at-most k v w x y =
+    record { bounded = λ number place h. ⊎-elim (x .bounded number place) (λ p. y .bounded number place (p .1)) (before-cases v w h) }
+
+lowest-at-most : (k n : ℕ) (f : ℕ → Verdict) → ((i : ℕ) → AtMost k (f i)) → AtMost k (lowestBelow n f)
+lowest-at-most k n f x =
+    record { bounded = λ number place h. let l : Lowest n f number place = lowest-elim n f number place h in x (l .at) .bounded number place (l .found) }
+
+survey-at-most : (s : Survey) → AtMost 6 (surveyRefusal s)
+unfolding surveyRefusal edgeRefusal
+survey-at-most s =
+    before-at-most 6 _ _ (refuse-at-most _ 6 1 0 (lit≤ tt))
+    (before-at-most 6 _ _ (refuse-at-most _ 6 2 0 (lit≤ tt))
+    (before-at-most 6 _ _ (refuse-at-most _ 6 3 0 (lit≤ tt))
+    (lowest-at-most 6 (edgeCount s) (edgeRefusal s)
+    (λ e.
+    before-at-most 6 _ _ (refuse-at-most _ 6 4 e (lit≤ tt))
+    (before-at-most 6 _ _ (refuse-at-most _ 6 5 e (lit≤ tt)) (refuse-at-most _ 6 6 e (lit≤ tt)))))))
+
+-- ---- 8
+
+-- The survey is sound and the buffers long enough, and g is the lowest group that no set of tracks joins.
+pub record Unjoinable (s : Survey) (marksLength recordsLength g : ℕ) : Type 0 where
+  pub survey : SurveySound s
+  pub marks-fit : edgeCount s ≤ marksLength
+  pub records-fit : recordBytes * dualsOf (vertexCount s) ≤ recordsLength
+  pub none-joins : (F : ℕ → Bool) → EdgeSet (problemOf s) F → JoinsGroup s F g → ⊥
+  pub lower-joined : (i : ℕ) → i < g → JoinsGroup s (allUsable (problemOf s)) i
+
+module _ (s : Survey) (marksLength recordsLength : ℕ) where
+  short : Bool
+  short = ltb marksLength (edgeCount s) || ltb recordsLength (recordBytes * dualsOf (vertexCount s))
+
+  -- 8 comes of the groups alone, after 1 to 7.
+  eight-stage : (g : ℕ) → planRefusal s marksLength recordsLength ≡ Refused 8 g →
+      (surveyRefusal s ≡ Fine) × (refuseIf short 7 0 ≡ Fine) × (groupRefusal s 8 (allUsable (problemOf s)) ≡ Refused 8 g)
+  unfolding planRefusal short
+  eight-stage g h = first-stage (before-cases _ _ h)
+    where
+      Rest : Verdict
+      Rest = refuseIf short 7 0 before groupRefusal s 8 (allUsable (problemOf s))
+
+      first-stage : (surveyRefusal s ≡ Refused 8 g) ⊎ ((surveyRefusal s ≡ Fine) × (Rest ≡ Refused 8 g)) →
+          (surveyRefusal s ≡ Fine) × (refuseIf short 7 0 ≡ Fine) × (groupRefusal s 8 (allUsable (problemOf s)) ≡ Refused 8 g)
+      first-stage (inl k) = absurd (let b = survey-at-most s .bounded 8 g k in omega arith)
+      first-stage (inr k) = second-stage (before-cases _ _ (k .1))
+        where
+          second-stage : (refuseIf short 7 0 ≡ Refused 8 g) ⊎ ((refuseIf short 7 0 ≡ Fine) × (groupRefusal s 8 (allUsable (problemOf s)) ≡ Refused 8 g)) →
+              (surveyRefusal s ≡ Fine) × (refuseIf short 7 0 ≡ Fine) × (groupRefusal s 8 (allUsable (problemOf s)) ≡ Refused 8 g)
+          second-stage (inl l) = absurd (let e = refused-refuse short 7 0 8 g l .1 .0 in omega arith)
+          second-stage (inr l) = (k .0, l .0, l .1)
+
+  pub eight-unjoinable : (g : ℕ) → planRefusal s marksLength recordsLength ≡ Refused 8 g → Unjoinable s marksLength recordsLength g
+  unfolding short
+  eight-unjoinable g h =
+      let e = eight-stage g h in
+      let no-short = fine-refuse short 7 0 (e .1) in
+      let l : LowestUnjoined s (allUsable (problemOf s)) g = group-refused s 8 (allUsable (problemOf s)) (all-bounded s) 8 g (e .2) .1 in
+      record {
+        survey = fine-survey s (e .0);
+        marks-fit = ltb-false marksLength (edgeCount s) (or-false-left (ltb marksLength (edgeCount s)) _ no-short);
+        records-fit = ltb-false recordsLength (recordBytes * dualsOf (vertexCount s)) (or-false-right (ltb marksLength (edgeCount s)) _ no-short);
+        none-joins = unjoinable-iff s g .0 (l .unjoined);
+        lower-joined = l .lower;
+      }
+
+  -- And whenever it is so, 8 is what comes.
+  pub unjoinable-eight : Numbered s → (g : ℕ) → Unjoinable s marksLength recordsLength g → planRefusal s marksLength recordsLength ≡ Refused 8 g
+  unfolding planRefusal groupRefusal
+  unjoinable-eight numbered g u =
+      before-fine (survey-fine s (u .survey)) _
+      ∙ before-fine (room-enough (vertexCount s) (edgeCount s) marksLength recordsLength (u .marks-fit) (u .records-fit)) _
+      ∙ lowest-found groupNumbers g _ below
+      (lowest-none g _ (λ i b. refuse-false (rw (group-joined-intro s (allUsable (problemOf s)) (all-bounded s) i (u .lower-joined i b))) 8 i))
+      (refuse-true (not-of-false (groupJoined s (componentsOf s (allUsable (problemOf s))) g) apart) 8 g)
+    where
+      apart : groupJoined s (componentsOf s (allUsable (problemOf s))) g ≡ false
+      apart =
+          not-true-false (groupJoined s (componentsOf s (allUsable (problemOf s))) g)
+          (λ k. u .none-joins (allUsable (problemOf s)) (allUsable-edges (problemOf s)) (group-joined-elim s (allUsable (problemOf s)) g k))
+
+      -- a number that is no byte has no members
+      below : g < groupNumbers
+      below =
+          ⊎-elim
+          (λ l. l)
+          (λ out.
+          absurd
+          (u .none-joins (allUsable (problemOf s)) (allUsable-edges (problemOf s))
+          (λ a b ba bb ma mb. absurd (let n = numbered a in let e = member-elim s g a ma .same in omega arith))))
+          (lt-or-ge g groupNumbers)
+
+-- ---- rounds, checker and accuracy
+
+-- Rounds are picked tracks.
+rounds-of : (s : Survey) → Sound (problemOf s) → planOf (problemOf s) .rounds ≡ countBelow (edgeCount s) (picked (problemOf s))
+unfolding planOf picked problemOf
+rounds-of s ok = sym (picked-count (problemOf s) ok (grown-reached (problemOf s)))
+
+-- What the counts of a finished plan say, and what the two buffers then hold.
+pub record FinishedPlan (s : Survey) (marks records : List ℕ) (c : Counts) : Type 0 where
+  pub ready : Ready s (length marks) (length records)
+  pub rounds-picked : c .rounds ≡ countBelow (edgeCount s) (picked (problemOf s))
+  pub passes :
+      checking s (take (edgeCount s) (marksAfter s marks records)) (take (recordBytes * c .duals) (recordsAfter s marks records))
+      ≡ answer (record { terminals = c .terminals; cost = c .cost; bound = c .bound })
+  pub accurate : Accurate s (c .terminals) (c .cost)
+
+module _ (s : Survey) (numbered : Numbered s) (marks records : List ℕ) (fine : planRefusal s (length marks) (length records) ≡ Fine) where
+  -- The marks and the records of a finished plan, cut from the buffers.
+  pub cut-marks : take (edgeCount s) (marksAfter s marks records) ≡ planOf (problemOf s) .marks
+  unfolding marksAfter written planOf problemOf
+  cut-marks =
+      ap (λ v. take (edgeCount s) (written v (planOf (problemOf s) .marks ++ drop (edgeCount s) marks) marks)) fine
+      ∙ take-at (planOf (problemOf s) .marks) (drop (edgeCount s) marks) (edgeCount s) (length-tabulate (edgeCount s) _)
+
+  pub cut-records : take (recordBytes * length (planOf (problemOf s) .duals)) (recordsAfter s marks records) ≡ recordsOf (planOf (problemOf s) .duals)
+  unfolding recordsAfter written recordsOver
+  cut-records =
+      let new = recordsOf (planOf (problemOf s) .duals) in
+      let count = recordBytes * length (planOf (problemOf s) .duals) in
+      ap (λ v. take count (written v (new ++ drop count records) records)) fine
+      ∙ take-at new (drop count records) count (length-records (planOf (problemOf s) .duals))
+
+  finished-counts : FinishedPlan s marks records (countsOf (planOf (problemOf s)))
+  unfolding countsOf
+  finished-counts =
+      let r : Ready s (length marks) (length records) = fine-ready s numbered (length marks) (length records) fine in
+      record {
+        ready = r;
+        rounds-picked = rounds-are r;
+        passes = rw (cut-marks, cut-records) (finished-passes s (r .survey) (r .joinable) numbered);
+        accurate = finished-accurate s (r .survey) (r .joinable);
+      }
+    where
+      rounds-are : Ready s (length marks) (length records) → planOf (problemOf s) .rounds ≡ countBelow (edgeCount s) (picked (problemOf s))
+      rounds-are r = rounds-of s (survey-sound s (r .survey))
+
+-- An answer with counts is a finished plan, and none of 1 to 8 applied.
+pub counting-finished : (s : Survey) → Numbered s → (marks records : List ℕ) (c : Counts) → counting s (length marks) (length records) ≡ answer c →
+    FinishedPlan s marks records c
+unfolding counting
+counting-finished s numbered marks records c h =
+    let a = answered (planRefusal s (length marks) (length records)) (countsOf (planOf (problemOf s))) c h in
+    subst (FinishedPlan s marks records) (a .1) (finished-counts s numbered marks records (a .0))
+
+-- Where none applies, there is an answer with counts.
+pub ready-counting : (s : Survey) → Numbered s → (marksLength recordsLength : ℕ) → Ready s marksLength recordsLength →
+    counting s marksLength recordsLength ≡ answer (countsOf (planOf (problemOf s)))
+unfolding counting outcome
+ready-counting s numbered marksLength recordsLength r =
+    ap (λ v. outcome v (countsOf (planOf (problemOf s)))) (ready-fine s numbered marksLength recordsLength r)
+
+-- ---- the call
+
+-- A refusal comes of the verdict.
+refusal-verdict : {A : Type 0} (v : Verdict) (a : A) (number place : ℕ) → outcome v a ≡ refusal number place → v ≡ Refused number place
+unfolding outcome
+refusal-verdict Fine a number place h = absurd (let z : _≡_ {A = ℕ} 0 1 = cc in omega arith)
+refusal-verdict (Refused x y) a number place h = cc
+
+-- What the call promises beside its answer and its buffers.
+pub record Promises (s : Survey) (marks records : List ℕ) (o : Outcome Counts) : Type 0 where
+  -- finished exactly if none of 1 to 8 applies
+  pub finished : (c : Counts) → o ≡ answer c → FinishedPlan s marks records c
+  pub finishes : Ready s (length marks) (length records) → o ≡ answer (countsOf (planOf (problemOf s)))
+  -- 8 exactly if some group cannot be joined by any set of tracks, and then the lowest
+  pub unjoinable : (g : ℕ) → o ≡ refusal 8 g → Unjoinable s (length marks) (length records) g
+  pub unjoined : (g : ℕ) → Unjoinable s (length marks) (length records) g → o ≡ refusal 8 g
+
+pub planning-promises : (s : Survey) → Numbered s → (marks records : List ℕ) (o : Outcome Counts) → o ≡ counting s (length marks) (length records) →
+    Promises s marks records o
+unfolding counting outcome
+planning-promises s numbered marks records o h =
+    record {
+      finished = λ c k. counting-finished s numbered marks records c (sym h ∙ k);
+      finishes = λ r. h ∙ ready-counting s numbered (length marks) (length records) r;
+      unjoinable = λ g k.
+          eight-unjoinable s (length marks) (length records) g
+          (refusal-verdict (planRefusal s (length marks) (length records)) (countsOf (planOf (problemOf s))) 8 g (sym h ∙ k));
+      unjoined = λ g u.
+          h ∙ ap (λ v. outcome v (countsOf (planOf (problemOf s)))) (unjoinable-eight s (length marks) (length records) numbered g u);
+    }
+
+-- A refused call.
+pub refused-call : (s : Survey) → Numbered s → (marks records : List ℕ) (number place : ℕ) → planRefusal s (length marks) (length records) ≡ Refused number place →
+    (refusal number place ≡ counting s (length marks) (length records))
+    × ((marks ≡ marksAfter s marks records) × ((records ≡ recordsAfter s marks records) × Promises s marks records (refusal number place)))
+unfolding counting outcome marksAfter recordsAfter written
+refused-call s numbered marks records number place h =
+    let e : refusal number place ≡ counting s (length marks) (length records) = sym (ap (λ v. outcome v (countsOf (planOf (problemOf s)))) h) in (
+      e,
+      (
+        sym (ap (λ v. written v (planOf (problemOf s) .marks ++ drop (edgeCount s) marks) marks) h),
+        (
+          sym (ap (λ v. written v (recordsOver (planOf (problemOf s) .duals) records) records) h),
+          planning-promises s numbered marks records (refusal number place) e,
+        ),
+      ),
+    )
+
+-- A finished one.
+pub finished-call : (s : Survey) → Numbered s → (marks records marked drawn : List ℕ) (o : Outcome Counts) → planRefusal s (length marks) (length records) ≡ Fine →
+    o ≡ answer (countsOf (planOf (problemOf s))) → marked ≡ planOf (problemOf s) .marks ++ drop (edgeCount s) marks →
+    drawn ≡ recordsOver (planOf (problemOf s) .duals) records →
+    (o ≡ counting s (length marks) (length records))
+    × ((marked ≡ marksAfter s marks records) × ((drawn ≡ recordsAfter s marks records) × Promises s marks records o))
+unfolding counting outcome marksAfter recordsAfter written
+finished-call s numbered marks records marked drawn o h answered-by marks-are drawn-are =
+    let e : o ≡ counting s (length marks) (length records) = answered-by ∙ sym (ap (λ v. outcome v (countsOf (planOf (problemOf s)))) h) in (
+      e,
+      (
+        marks-are ∙ sym (ap (λ v. written v (planOf (problemOf s) .marks ++ drop (edgeCount s) marks) marks) h),
+        (
+          drawn-are ∙ sym (ap (λ v. written v (recordsOver (planOf (problemOf s) .duals) records) records) h),
+          planning-promises s numbered marks records o e,
+        ),
+      ),
+    )

@@ -1,0 +1,142 @@
+// Planning: the refusals 1 to 8, then growing, dropping and drawing. Definitions in specs/.
+ghost use Rattle.base_buffer.specs.Lent.{old, new};
+ghost use mathlib.Core.Path.{_≡_};
+ghost use mathlib.Core.Bool.{_||_};
+ghost use Prim.Native.Nat.{_≤_, _*_};
+ghost use mathlib.Core.List.{_++_};
+ghost use lib.ListN.{length, drop};
+ghost use lib.Dec.{ltb};
+ghost use Rattle.base_limits.specs.Limits.{maxVertices, recordBytes, dualsOf};
+ghost use Rattle.base_limits.specs.Verdict.{refuseIf, answer};
+ghost use Rattle.survey_core.specs.Survey.{surveyFrom, lentSurvey, problemOf};
+ghost use Rattle.plan_duals.specs.Drawing.{recordsOver};
+ghost use Rattle.plan_core.specs.Plan.{planRefusal, planOf, countsOf, counting, marksAfter, recordsAfter};
+ghost use Rattle.plan_core.specs.Answer.{outcomeOf};
+ghost use Rattle.plan_core.specs.Laws.Ready.{Ready};
+ghost use Rattle.plan_core.specs.Laws.Promise.{Promises};
+use base_limits::RECORD_BYTES;
+use base_limits::Verdict;
+use survey_components::Chosen;
+
+// What planning answers: k, cost, bound, rounds and the number of moats; or a refusal's number and place.
+pub enum Planned {
+    Finished {
+        terminals: u64,
+        cost: u64,
+        bound: u64,
+        rounds: u64,
+        duals: u64,
+    },
+    Refused {
+        number: u64,
+        place: usize,
+    },
+}
+
+// 7: a lent buffer is too short for m marks, or for the records of n junctions.
+fn room_refusal(n: usize, m: usize, marks: usize, records: usize) -> Verdict
+    requires { ⌜ n ≤ maxVertices ⌝ }
+    ensures { λ r. ⌜ r ≡ refuseIf (ltb marks m || ltb records (recordBytes * dualsOf n)) 7 0 ⌝ }
+{
+    if marks < m {
+        return Verdict::Refused {
+            number: 7,
+            place: 0,
+        };
+    }
+    if n == 0 {
+        return Verdict::Fine;
+    }
+    if records < RECORD_BYTES * (2 * n - 1) {
+        return Verdict::Refused {
+            number: 7,
+            place: 0,
+        };
+    }
+    Verdict::Fine
+}
+
+// 1, 2, 3, then 4, 5, 6 by track, then 7, then 8.
+fn plan_refusal(
+    groups: &[u8],
+    firsts: &[u32],
+    seconds: &[u32],
+    weights: &[u32],
+    marks: usize,
+    records: usize,
+) -> Verdict
+    ensures { λ r. ⌜ r ≡ planRefusal (lentSurvey groups firsts seconds weights) marks records ⌝ }
+{
+    let unsound = survey_core::survey_refusal(groups, firsts, seconds, weights);
+    if let Verdict::Refused { number, place } = unsound {
+        return Verdict::Refused { number, place };
+    }
+    let short = room_refusal(groups.len(), firsts.len(), marks, records);
+    if let Verdict::Refused { number, place } = short {
+        return Verdict::Refused { number, place };
+    }
+    survey_components::group_refusal(groups, firsts, seconds, weights, Chosen::All, &[], 8)
+}
+
+// The plan of a survey that no refusal stops: growing, dropping, drawing, and the counts.
+fn finish(
+    groups: &[u8],
+    firsts: &[u32],
+    seconds: &[u32],
+    weights: &[u32],
+    marks: &mut [u8],
+    records: &mut [u8],
+) -> Planned
+    requires { ⌜ Ready (surveyFrom (now groups) (now firsts) (now seconds) (now weights)) (length (now marks)) (length (now records)) ⌝ }
+    ensures { λ r. ⌜ outcomeOf r ≡ answer (countsOf (planOf (problemOf (lentSurvey groups firsts seconds weights)))) ⌝ }
+    ensures { λ _. ⌜ new marks ≡ planOf (problemOf (lentSurvey groups firsts seconds weights)) .marks ++ drop (length (old firsts)) (old marks) ⌝ }
+    ensures { λ _. ⌜ new records ≡ recordsOver (planOf (problemOf (lentSurvey groups firsts seconds weights)) .duals) (old records) ⌝ }
+{
+    let grown = plan_growth::grow(groups, firsts, seconds, weights);
+    let picked = grown.picked;
+    let values = grown.values;
+    let order = grown.order;
+    let rounds = grown.rounds;
+    let bound = grown.bound;
+    plan_drop::prune(groups, firsts, seconds, &picked, marks);
+    let duals = plan_duals::draw(
+        groups.len(),
+        firsts,
+        seconds,
+        &values,
+        &order,
+        rounds,
+        records,
+    );
+    let terminals = survey_groups::terminals(groups);
+    let cost = check_marks::kept_cost(firsts, weights, marks);
+    Planned::Finished {
+        terminals,
+        cost,
+        bound,
+        rounds: base_buffer::wide(rounds),
+        duals: base_buffer::wide(duals),
+    }
+}
+
+// Plans a survey into lent buffers for marks and moat records. Finished exactly if none of 1 to 8 applies; 8 exactly if some group cannot be joined by any set of tracks,
+// and then the lowest; a finished plan passes the checker and is within the accuracy rule.
+pub fn plan(
+    groups: &[u8],
+    firsts: &[u32],
+    seconds: &[u32],
+    weights: &[u32],
+    marks: &mut [u8],
+    records: &mut [u8],
+) -> Planned
+    ensures { λ r. ⌜ outcomeOf r ≡ counting (lentSurvey groups firsts seconds weights) (length (old marks)) (length (old records)) ⌝ }
+    ensures { λ _. ⌜ new marks ≡ marksAfter (lentSurvey groups firsts seconds weights) (old marks) (old records) ⌝ }
+    ensures { λ _. ⌜ new records ≡ recordsAfter (lentSurvey groups firsts seconds weights) (old marks) (old records) ⌝ }
+    ensures promises { λ r. ⌜ Promises (lentSurvey groups firsts seconds weights) (old marks) (old records) (outcomeOf r) ⌝ }
+{
+    let found = plan_refusal(groups, firsts, seconds, weights, marks.len(), records.len());
+    if let Verdict::Refused { number, place } = found {
+        return Planned::Refused { number, place };
+    }
+    finish(groups, firsts, seconds, weights, marks, records)
+}

@@ -1,0 +1,56 @@
+-- `take_edge` meets its contract: a branch on whether the edge is picked.
+use Rattle.plan_cuts.specs.Laws.Taken.{step-taken, step-passed}
+use mathlib.Core.Path.{sym, _∙_}
+use borrow.Author.Needs.{needs}
+use Rattle.plan_cuts.proofs.take_edge.Statement.{statement}
+use Rattle.plan_cuts.proofs.take_edge.Tie as tie
+
+is-picked-requires : tie.Need-is-picked-requires
+is-picked-requires c κs = search needs
+
+at32-requires : tie.Need-at32-requires
+at32-requires c κs = search needs
+
+at32-requires-2 : tie.Need-at32-requires-2
+at32-requires-2 c κs = search needs
+
+own-word-requires : tie.Need-own-word-requires
+own-word-requires c κs = search needs
+
+take-ends-requires : tie.Need-take-ends-requires
+take-ends-requires c κs = search needs
+
+add-result : tie.Need-add-result
+add-result c = search needs
+
+same-length : tie.Need-same-length
+same-length c = search needs
+
+same-length-2 : tie.Need-same-length-2
+same-length-2 c = search needs
+
+returns : tie.Need-returns
+returns c =
+    let args = c .before .before .before .before .before .before .before .before .before .before .before .before .before .before .before .before .before .args in
+    step-taken _ _ _ _ (sym (c .before .before .before .before .before .before .before .before .before .before .before .is-picked .ensures) ∙ c .before .before .before .before .before .before .before .before .before .before .if1 .taken)
+    (c .before .before .before .before .take-ends .ensures .0 ∙ rw (c .before .before .before .before .before .before .before .before .before .at32 .ensures, c .before .before .before .before .before .before .before .before .at322 .ensures))
+    (c .before .before .before .before .take-ends .ensures .1 ∙ rw (c .before .before .before .before .before .before .before .before .before .at32 .ensures, c .before .before .before .before .before .before .before .before .at322 .ensures, c .before .before .before .before .before .before .before .own-word .ensures))
+
+returns-2 : tie.Need-returns-2
+returns-2 c =
+    step-passed _ _ _ _ _ _ (sym (c .before .is-picked .ensures) ∙ c .if1 .left)
+
+pub take-edge-spec : {M : Type 1} → statement M
+take-edge-spec =
+    tie.close
+    (tie.spec
+    is-picked-requires
+    at32-requires
+    at32-requires-2
+    own-word-requires
+    take-ends-requires
+    add-result
+    same-length
+    same-length-2
+    returns
+    returns-2)

@@ -1,0 +1,65 @@
+-- `take_ends` meets its contract: what it reads is what the definitions read.
+use Rattle.plan_cuts.specs.Laws.Word.{edge-taken-by, ends-joined-by}
+use lib.ListN.{getD}
+use mathlib.Core.Path.{ap, _∙_}
+use borrow.Author.Needs.{needs}
+use Rattle.plan_cuts.proofs.take_ends.Statement.{statement}
+use Rattle.plan_cuts.proofs.take_ends.Tie as tie
+
+index32-requires : tie.Need-index32-requires
+index32-requires c κs = search needs
+
+index32-requires-2 : tie.Need-index32-requires-2
+index32-requires-2 c κs = search needs
+
+at32-requires : tie.Need-at32-requires
+at32-requires c κs = search needs
+
+at32-requires-2 : tie.Need-at32-requires-2
+at32-requires-2 c κs = search needs
+
+at64-requires : tie.Need-at64-requires
+at64-requires c κs = search needs
+
+at64-requires-2 : tie.Need-at64-requires-2
+at64-requires-2 c κs = search needs
+
+turn-all-requires : tie.Need-turn-all-requires
+turn-all-requires c κs = search needs
+
+relabel-requires : tie.Need-relabel-requires
+relabel-requires c κs = search needs
+
+same-length : tie.Need-same-length
+same-length c = search needs
+
+same-length-2 : tie.Need-same-length-2
+same-length-2 c = search needs
+
+returns : tie.Need-returns
+returns c =
+    let args = c .before .before .before .before .before .before .before .before .before .before .before .before .before .before .before .before .before .before .before .before .before .args in
+    let x = c .before .before .before .before .before .before .before .before .before .before .before .before .before .before .before .at32 .ensures ∙ ap (λ i. getD (args .labels .now) i 0) (c .before .before .before .before .before .before .before .before .before .before .before .before .before .before .before .before .before .before .index32 .ensures) in
+    let y = c .before .before .before .before .before .before .before .before .before .before .before .before .before .at322 .ensures ∙ ap (λ i. getD (args .labels .now) i 0) (c .before .before .before .before .before .before .before .before .before .before .before .before .before .before .before .before .before .index322 .ensures) in (
+      ends-joined-by (args .a) (args .b) (args .labels .now) x y (c .before .before .relabel .ensures),
+      edge-taken-by (args .a) (args .b) (args .own) (args .labels .now) (args .words .now) x y
+          (c .before .before .before .before .before .before .before .before .before .before .before .at64 .ensures ∙ ap (λ i. getD (args .words .now) i 0) (c .before .before .before .before .before .before .before .before .before .before .before .before .before .before .before .before .before .before .index32 .ensures))
+          (c .before .before .before .before .before .before .before .before .before .at642 .ensures ∙ ap (λ i. getD (args .words .now) i 0) (c .before .before .before .before .before .before .before .before .before .before .before .before .before .before .before .before .before .index322 .ensures))
+          (c .before .before .before .before .before .before .turn-all .ensures),
+    )
+
+pub take-ends-spec : {M : Type 1} → statement M
+take-ends-spec =
+    tie.close
+    (tie.spec
+    index32-requires
+    index32-requires-2
+    at32-requires
+    at32-requires-2
+    at64-requires
+    at64-requires-2
+    turn-all-requires
+    relabel-requires
+    same-length
+    same-length-2
+    returns)

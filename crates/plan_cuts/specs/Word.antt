@@ -1,0 +1,47 @@
+-- The sides of up to 64 edges in one pass: every vertex has a word, and bit k of it says on which side of the edge with index base + k the vertex
+-- lies. The index of an edge is how many edges of F have lower numbers.
+use Prim.Native.Nat.{ℕ, zero, suc, _-_, _^_}
+use mathlib.Core.Bool.{Bool, _&&_, not, cond}
+use mathlib.Core.List.{List}
+use lib.ListN.{length, getD}
+use lib.Dec.{eqb, ltb, leb}
+use lib.Bits.{bitXor}
+use Rattle.base_finite.specs.Below.{counted, countBelow}
+use Rattle.theory_graph.specs.Component.{components}
+use Rattle.base_buffer.specs.Store.{remade}
+
+abbrev pub wordBits : ℕ
+wordBits = 64
+
+-- The edges that a buffer of picks holds: those with anything but 0.
+unfoldable pub pickedIn : List ℕ → ℕ → Bool
+pickedIn picked e = not (eqb (getD picked e 0) 0)
+
+-- Index i is one of the 64 from base on.
+unfoldable pub inBatch : (base i : ℕ) → Bool
+inBatch base i = leb base i && ltb (i - base) wordBits
+
+-- The bit of the edge with index i; none where the index is of another batch.
+unfoldable pub ownWord : (base i : ℕ) → ℕ
+ownWord base i = counted (inBatch base i) (2 ^ (i - base))
+
+-- What a new edge between the components x and y makes of a vertex's word: y's vertices turn where the ends lie on different sides, and x's
+-- vertices are the new edge's side.
+unfoldable pub turned : (x y delta own : ℕ) → (label word : ℕ) → ℕ
+turned x y delta own label word = bitXor (bitXor word (counted (eqb label y) delta)) (counted (eqb label x) own)
+
+-- The words after the edges of F below m.
+unfoldable pub sideWords : (n : ℕ) (a b : ℕ → ℕ) → (ℕ → Bool) → (base m : ℕ) → ℕ → ℕ
+sideWords n a b F base zero = λ w. 0
+sideWords n a b F base (suc e) =
+    let word = sideWords n a b F base e in
+    let label = components n a b F e in
+    cond (F e) (λ w. turned (label (a e)) (label (b e)) (bitXor (word (a e)) (word (b e))) (ownWord base (countBelow e F)) (label w) (word w)) word
+
+-- The same of words and labels in buffers, for an edge with the ends a and b.
+unfoldable pub turnedAll : (x y delta own : ℕ) → (labels words : List ℕ) → List ℕ
+turnedAll x y delta own labels words = remade (λ w. turned x y delta own (getD labels w 0)) (length words) words
+
+unfoldable pub edgeTaken : (a b own : ℕ) → (labels words : List ℕ) → List ℕ
+edgeTaken a b own labels words =
+    turnedAll (getD labels a 0) (getD labels b 0) (bitXor (getD words a 0) (getD words b 0)) own labels words

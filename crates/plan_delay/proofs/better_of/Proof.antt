@@ -1,0 +1,48 @@
+-- `better_of` meets its contract: each return by the variants and the test that led there.
+use borrow.Author.Tests.{lt-ltb, le-ltb}
+use Rattle.theory_steiner.specs.Growth.{better}
+use Rattle.plan_delay.specs.Between.{delayIn, winnerIn}
+use borrow.Author.Needs.{needs}
+use Rattle.plan_delay.proofs.better_of.Statement.{statement}
+use Rattle.plan_delay.proofs.better_of.Tie as tie
+
+enum-known-delay : tie.Need-enum-known-delay
+enum-known-delay c = search needs
+
+enum-told : tie.Need-enum-told
+enum-told c = search needs
+
+returns : tie.Need-returns
+unfolding better delayIn winnerIn
+returns c = rw (c .enum-told .given .1)
+
+enum-known-best : tie.Need-enum-known-best
+enum-known-best c = search needs
+
+enum-told-2 : tie.Need-enum-told-2
+enum-told-2 c = search needs
+
+returns-2 : tie.Need-returns-2
+unfolding better delayIn winnerIn
+returns-2 c = rw (c .before .before .before .delay .given .1, c .enum-told2 .given .1)
+
+returns-3 : tie.Need-returns-3
+unfolding better delayIn winnerIn
+returns-3 c = rw (c .before .before .before .before .before .delay .given .1, c .before .before .best .given .1, lt-ltb _ _ (c .if1 .taken))
+
+returns-4 : tie.Need-returns-4
+unfolding better delayIn winnerIn
+returns-4 c = rw (c .before .before .before .before .before .delay .given .1, c .before .before .best .given .1, le-ltb _ _ (c .if1 .left))
+
+pub better-of-spec : {M : Type 1} → statement M
+better-of-spec =
+    tie.close
+    (tie.spec
+    enum-known-delay
+    enum-told
+    returns
+    enum-known-best
+    enum-told-2
+    returns-2
+    returns-3
+    returns-4)

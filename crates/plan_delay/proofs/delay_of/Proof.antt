@@ -1,0 +1,25 @@
+-- `delay_of` meets its contract: each return by the tests that led there.
+use borrow.Author.Tests.{eq-eqb, ne-eqb}
+use Rattle.theory_steiner.specs.Growth.{delayOf}
+use Rattle.plan_delay.specs.Between.{delayIn}
+use Rattle.plan_delay.proofs.delay_of.Statement.{statement}
+use Rattle.plan_delay.proofs.delay_of.Tie as tie
+
+returns : tie.Need-returns
+unfolding delayOf delayIn
+returns c = rw (eq-eqb (c .before .before .args .first) 1 (c .before .if1 .taken), eq-eqb (c .before .before .args .second) 1 (c .if2 .taken))
+
+returns-2 : tie.Need-returns-2
+unfolding delayOf delayIn
+returns-2 c = rw (eq-eqb (c .before .before .args .first) 1 (c .before .if1 .taken), ne-eqb (c .before .before .args .second) 1 (c .if2 .left))
+
+returns-3 : tie.Need-returns-3
+unfolding delayOf delayIn
+returns-3 c = rw (ne-eqb (c .before .before .args .first) 1 (c .before .if1 .left), eq-eqb (c .before .before .args .second) 1 (c .if3 .taken))
+
+returns-4 : tie.Need-returns-4
+unfolding delayOf delayIn
+returns-4 c = rw (ne-eqb (c .before .before .args .first) 1 (c .before .if1 .left), ne-eqb (c .before .before .args .second) 1 (c .if3 .left))
+
+pub delay-of-spec : {M : Type 1} → statement M
+delay-of-spec = tie.close (tie.spec returns returns-2 returns-3 returns-4)

@@ -1,0 +1,64 @@
+-- `count_picked` meets its contract: it counts upwards.
+use Rattle.plan_drop.specs.Laws.Judge.{dropped-counts}
+use Rattle.plan_cuts.specs.Laws.Word.{count-none}
+use Rattle.plan_cuts.specs.Word.{pickedIn}
+use Rattle.base_finite.specs.Laws.Count.{count-more, count-end, count-bound}
+use Rattle.base_finite.specs.Below.{countBelow}
+use mathlib.Core.Path.{_≡_, _∙_}
+use Prim.Native.Nat.{_≤_, _-_}
+use borrow.Author.Needs.{needs}
+use native.Mathlib.Omega.{arith}
+use Rattle.plan_drop.proofs.count_picked.Statement.{statement}
+use Rattle.plan_drop.proofs.count_picked.Tie as tie
+
+abbrev Inv-loop : tie.InvT-loop
+Inv-loop picked m count₀ e₀ count e =
+    (e ≤ m) × (count ≡ countBelow e (pickedIn picked))
+
+abbrev μ-loop : tie.MeasureT-loop
+μ-loop picked m count₀ e₀ count e =
+    m - e
+
+loop-holds : tie.Need-loop-holds Inv-loop μ-loop
+loop-holds c =
+    (omega arith, count-none _)
+
+dropped-mark-requires : tie.Need-dropped-mark-requires Inv-loop μ-loop
+dropped-mark-requires c κs = search needs
+
+index8-requires : tie.Need-index8-requires Inv-loop μ-loop
+index8-requires c κs = search needs
+
+add-count : tie.Need-add-count Inv-loop μ-loop
+add-count c =
+    let few = c .before .before .before .before .before .pre in
+    let b = count-bound _ _ (c .before .before .before .loop .inv .1) (c .index8 .ensures ∙ c .before .dropped-mark .ensures ∙ dropped-counts _) in omega arith
+
+add-e : tie.Need-add-e Inv-loop μ-loop
+add-e c = search needs
+
+loop-less : tie.Need-loop-less Inv-loop μ-loop
+loop-less c = search needs
+
+loop-again : tie.Need-loop-again Inv-loop μ-loop
+loop-again c =
+    (omega arith, count-more _ _ (c .before .before .before .loop .inv .1) (c .index8 .ensures ∙ c .before .dropped-mark .ensures ∙ dropped-counts _))
+
+returns : tie.Need-returns Inv-loop μ-loop
+returns c =
+    count-end _ _ _ (omega arith) (omega arith) (c .before .loop .inv .1)
+
+pub count-picked-spec : {M : Type 1} → statement M
+count-picked-spec =
+    tie.close
+    (tie.spec
+    Inv-loop
+    μ-loop
+    loop-holds
+    dropped-mark-requires
+    index8-requires
+    add-count
+    add-e
+    loop-less
+    loop-again
+    returns)

@@ -1,0 +1,25 @@
+-- `is_needed` meets its contract: each return by the law of its case.
+use Rattle.plan_drop.specs.Laws.Judge.{judged-before, judged-after, judged-in}
+use mathlib.Core.Path.{sym, _∙_}
+use native.Mathlib.Omega.{arith}
+use borrow.Author.Needs.{needs}
+use Rattle.plan_drop.proofs.judge.is_needed.Statement.{statement}
+use Rattle.plan_drop.proofs.judge.is_needed.Tie as tie
+
+returns : tie.Need-returns
+returns c =
+    sym (judged-before _ _ _ _ (c .if1 .taken))
+
+returns-2 : tie.Need-returns-2
+returns-2 c =
+    sym (judged-after _ _ _ _ (omega arith) (omega arith))
+
+parts-group-requires : tie.Need-parts-group-requires
+parts-group-requires c κs = search needs
+
+returns-3 : tie.Need-returns-3
+returns-3 c =
+    c .parts-group .ensures ∙ sym (judged-in _ _ _ _ (omega arith) (omega arith))
+
+pub is-needed-spec : {M : Type 1} → statement M
+is-needed-spec = tie.close (tie.spec returns returns-2 parts-group-requires returns-3)

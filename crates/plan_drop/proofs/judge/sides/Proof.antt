@@ -1,0 +1,73 @@
+-- `sides` meets its contract: after v turns the first v labels are the sides of their vertices.
+use Rattle.plan_drop.specs.Judge.{sideIn}
+use Rattle.base_buffer.specs.Store.{remade}
+use Rattle.base_buffer.specs.Laws.Store.{remade-more, remade-end, remade-table}
+use Rattle.format_record.specs.Bits.{bitAt}
+use Rattle.base_limits.specs.Limits.{maxVertices}
+use Rattle.base_finite.specs.Below.{counted}
+use lib.ListN.{length-replicate}
+use mathlib.Core.Path.{_≡_, refl, ap, _∙_}
+use Prim.Native.Nat.{ℕ, _≤_, _-_}
+use borrow.Author.Needs.{needs}
+use native.Mathlib.Omega.{arith}
+use Rattle.plan_drop.proofs.judge.sides.Statement.{statement}
+use Rattle.plan_drop.proofs.judge.sides.Tie as tie
+
+abbrev Inv-loop : tie.InvT-loop
+Inv-loop words k labels₀ v₀ labels v =
+    (v ≤ maxVertices) × (labels ≡ remade (λ v x. counted (sideIn words k v) 1) v labels₀)
+
+abbrev μ-loop : tie.MeasureT-loop
+μ-loop words k labels₀ v₀ labels v =
+    maxVertices - v
+
+loop-holds : tie.Need-loop-holds Inv-loop μ-loop
+unfolding remade
+loop-holds c =
+    (omega arith, refl)
+
+at64-requires : tie.Need-at64-requires Inv-loop μ-loop
+at64-requires c κs = search needs
+
+side-requires : tie.Need-side-requires Inv-loop μ-loop
+side-requires c κs = search needs
+
+mul-labels : tie.Need-mul-labels Inv-loop μ-loop
+mul-labels c = search needs
+
+array-write-labels : tie.Need-array-write-labels Inv-loop μ-loop
+array-write-labels c = search needs
+
+add-v : tie.Need-add-v Inv-loop μ-loop
+add-v c = search needs
+
+loop-less : tie.Need-loop-less Inv-loop μ-loop
+loop-less c = search needs
+
+loop-again : tie.Need-loop-again Inv-loop μ-loop
+unfolding sideIn
+loop-again c = (
+  omega arith,
+  remade-more (λ v x. counted (sideIn (c .before .before .before .before .before .args .words .now) (c .before .before .before .before .before .args .k) v) 1) _ _ _ _ (c .before .before .before .loop .inv .1)
+      (c .side .ensures ∙ ap (λ x. counted (bitAt x (c .before .before .before .before .before .args .k)) 1) (c .before .at64 .ensures)),
+)
+
+returns : tie.Need-returns Inv-loop μ-loop
+returns c =
+    c .before .loop .inv .1 ∙ remade-end _ maxVertices _ _ (omega arith) (omega arith) ∙ remade-table _ maxVertices _ _ (length-replicate {A = ℕ} maxVertices 0) (λ v b. refl)
+
+pub sides-spec : {M : Type 1} → statement M
+sides-spec =
+    tie.close
+    (tie.spec
+    Inv-loop
+    μ-loop
+    loop-holds
+    at64-requires
+    side-requires
+    mul-labels
+    array-write-labels
+    add-v
+    loop-less
+    loop-again
+    returns)

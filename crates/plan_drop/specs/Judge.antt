@@ -1,0 +1,48 @@
+-- Marks: 0 not picked, 1 picked and dropped, 2 kept (document 01, 'What a plan holds'); and what judging a batch of 64 edges makes of them.
+use Prim.Native.Nat.{ℕ, _+_, _-_, _<_, _≤_}
+use mathlib.Core.Path.{_≡_}
+use mathlib.Core.Bool.{Bool, false, _&&_, cond}
+use mathlib.Core.List.{List}
+use lib.ListN.{length, getD, set}
+use Rattle.base_finite.specs.Below.{counted, countBelow}
+use Rattle.base_limits.specs.Limits.{maxVertices}
+use Rattle.format_record.specs.Bits.{bitAt}
+use Rattle.theory_steiner.specs.Problem.{Problem, separates}
+use Rattle.theory_steiner.specs.Pruning.{needed, markOf}
+use Rattle.survey_core.specs.Survey.{groupsAlone, problemOf}
+use Rattle.base_buffer.specs.Store.{remade}
+use Rattle.plan_cuts.specs.Word.{wordBits, inBatch}
+
+-- A set of vertices: those whose word has bit k.
+unfoldable pub sideIn : (words : List ℕ) → (k v : ℕ) → Bool
+sideIn words k v = bitAt (getD words v 0) k
+
+-- The edge with index i is of this batch, and its sides hold members of one group each.
+unfoldable pub judged : (groups words : List ℕ) → (base i : ℕ) → Bool
+judged groups words base i = inBatch base i && separates (problemOf (groupsAlone groups)) (sideIn words (i - base))
+
+-- A picked edge that is judged needed gets 2; other marks stay.
+unfoldable pub raised : (ℕ → Bool) → (ℕ → Bool) → (e mark : ℕ) → ℕ
+raised F judgement e mark = cond (F e && judgement (countBelow e F)) 2 mark
+
+-- The marks of the edges of F below m with 2 for the needed ones; what lies past them stays.
+unfoldable pub prunedMarks : Problem → (ℕ → Bool) → (m : ℕ) → List ℕ → List ℕ
+prunedMarks p F m marks = remade (λ e mark. markOf (F e) (needed p F e)) m marks
+
+-- The first marks: every edge of F is dropped.
+unfoldable pub droppedMarks : (ℕ → Bool) → (m : ℕ) → List ℕ → List ℕ
+droppedMarks F m marks = remade (λ e mark. markOf (F e) false) m marks
+
+-- A batch's marks, where the edges' needs are known.
+unfoldable pub batchMarks : Problem → (ℕ → Bool) → (base m : ℕ) → List ℕ → List ℕ
+batchMarks p F base m marks = remade (λ e mark. cond (F e && (inBatch base (countBelow e F) && needed p F e)) 2 mark) m marks
+
+-- The marks and the next index after an edge that has the index i.
+pub record MarkStep (in-set good : Bool) (e i : ℕ) (marks : List ℕ) (next : ℕ) (after : List ℕ) : Type 0 where
+  pub index : next ≡ i + counted in-set 1
+  pub marks-are : after ≡ set marks e (cond (in-set && good) 2 (getD marks e 0))
+
+-- What judging asks: few vertices, and a bit of a word.
+pub record Judging (groups : List ℕ) (k : ℕ) : Type 0 where
+  pub few : length groups ≤ maxVertices
+  pub bit : k < wordBits

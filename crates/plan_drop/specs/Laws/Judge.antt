@@ -1,0 +1,274 @@
+-- Judging batch after batch by the words marks exactly the needed edges of a forest.
+use Prim.Native.Nat.{ℕ, zero, suc, _+_, _-_, _<_, _≤_}
+use native.Mathlib.Omega.{arith}
+use mathlib.Core.Path.{_≡_, refl, ap, sym, _∙_}
+use mathlib.Core.Logic.{_⊎_, inl, inr, ⊎-elim}
+use mathlib.Core.Bool.{Bool, true, false, _&&_, not, cond}
+use mathlib.Core.List.{List, [], _∷_}
+use lib.ListN.{length, getD, set}
+use lib.Dec.{ltb, leb}
+use borrow.Author.Tests.{lt-ltb, ltb-true, leb-true, le-leb, lt-leb, le-ltb}
+use Rattle.base_finite.specs.Below.{counted, countBelow, tabulate}
+use Rattle.base_finite.specs.Laws.Below.{any-cong, lt-or-ge, getD-tabulate, counted-true, counted-false}
+use Rattle.base_finite.specs.Laws.Test.{either, and-left, and-right, and-both}
+use Rattle.base_limits.specs.Limits.{maxVertices}
+use Rattle.format_record.specs.Bits.{bitAt}
+use Rattle.theory_steiner.specs.Problem.{Problem, separates}
+use Rattle.theory_steiner.specs.Pruning.{needed, markOf}
+use Rattle.survey_core.specs.Survey.{groupsAlone, problemOf, vertexCount, edgeCount, sameGroup, member}
+use Rattle.base_buffer.specs.Store.{remade}
+use Rattle.base_buffer.specs.Laws.Store.{length-remade, remade-more}
+use Rattle.plan_cuts.specs.Side.{sides}
+use Rattle.plan_cuts.specs.Word.{wordBits, pickedIn, inBatch, sideWords}
+use Rattle.plan_cuts.specs.Taken.{takenBelow}
+use Rattle.plan_drop.specs.Prunable.{Prunable, unweighted}
+use Rattle.plan_drop.specs.Judge.{sideIn, judged, raised, prunedMarks, droppedMarks, batchMarks, MarkStep}
+use Rattle.plan_cuts.specs.Laws.Side.{needed-by-side}
+use Rattle.plan_cuts.specs.Laws.Word.{word-side, count-lt}
+use Rattle.plan_cuts.specs.Laws.Taken.{taken-words}
+
+-- ---- stores at rising places
+
+remade-cong : (f g : ℕ → ℕ → ℕ) (n : ℕ) (l : List ℕ) → ((k x : ℕ) → k < n → f k x ≡ g k x) → remade f n l ≡ remade g n l
+unfolding remade
+remade-cong f g zero l h = refl
+remade-cong f g (suc n) [] h = refl
+remade-cong f g (suc n) (x ∷ l) h = rw (h 0 x (omega arith), remade-cong (λ k. f (suc k)) (λ k. g (suc k)) n l (λ k y b. h (suc k) y (omega arith)))
+
+-- One pass after another.
+remade-twice : (f g : ℕ → ℕ → ℕ) (n : ℕ) (l : List ℕ) → remade g n (remade f n l) ≡ remade (λ k x. g k (f k x)) n l
+unfolding remade
+remade-twice f g zero l = refl
+remade-twice f g (suc n) [] = refl
+remade-twice f g (suc n) (x ∷ l) = ap (λ t. g 0 (f 0 x) ∷ t) (remade-twice (λ k. f (suc k)) (λ k. g (suc k)) n l)
+
+set-same : (l : List ℕ) (i : ℕ) → set l i (getD l i 0) ≡ l
+set-same [] zero = refl
+set-same [] (suc i) = refl
+set-same (x ∷ l) zero = refl
+set-same (x ∷ l) (suc i) = ap (λ t. x ∷ t) (set-same l i)
+
+-- ---- one edge
+
+pub dropped-picked : {in-set : Bool} → in-set ≡ true → markOf in-set false ≡ 1
+unfolding markOf
+dropped-picked t = rw t
+
+pub dropped-other : {in-set : Bool} → in-set ≡ false → markOf in-set false ≡ 0
+unfolding markOf
+dropped-other t = rw t
+
+pub dropped-counts : (in-set : Bool) → markOf in-set false ≡ counted in-set 1
+unfolding markOf counted
+dropped-counts true = refl
+dropped-counts false = refl
+
+pub mark-passed : {in-set good : Bool} (e i : ℕ) (marks : List ℕ) → in-set ≡ false → MarkStep in-set good e i marks i marks
+mark-passed e i marks t = record { index = omega (arith, counted-false t 1); marks-are = rw t (sym (set-same marks e)) }
+
+pub mark-kept : {in-set good : Bool} (e i : ℕ) (marks : List ℕ) → in-set ≡ true → good ≡ true → MarkStep in-set good e i marks (i + 1) (set marks e 2)
+mark-kept e i marks t g = record { index = omega (arith, counted-true t 1); marks-are = rw (t, g) }
+
+pub mark-dropped : {in-set good : Bool} (e i : ℕ) (marks : List ℕ) → in-set ≡ true → good ≡ false → MarkStep in-set good e i marks (i + 1) marks
+mark-dropped e i marks t g = record { index = omega (arith, counted-true t 1); marks-are = rw (t, g) (sym (set-same marks e)) }
+
+-- One more edge, as a call leaves the marks.
+pub marks-more : (F J : ℕ → Bool) (e : ℕ) (l marks : List ℕ) {after : List ℕ} {i : ℕ} → marks ≡ remade (raised F J) e l → i ≡ countBelow e F
+    → after ≡ set marks e (cond (F e && J i) 2 (getD marks e 0))
+    → after ≡ remade (raised F J) (e + 1) l
+unfolding raised
+marks-more F J e l marks h k r =
+    r ∙ remade-more (λ e mark. cond (F e && J (countBelow e F)) 2 mark) e l marks _ h (ap (λ j. cond (F e && J j) 2 (getD marks e 0)) k)
+
+-- ---- a batch
+
+batch-before : (base i : ℕ) → i < base → inBatch base i ≡ false
+unfolding inBatch
+batch-before base i h = ap (λ t. t && ltb (i - base) wordBits) (lt-leb base i h)
+
+batch-after : (base i : ℕ) → base ≤ i → wordBits ≤ i - base → inBatch base i ≡ false
+unfolding inBatch
+batch-after base i l h = ap (λ t. t && ltb (i - base) wordBits) (le-leb base i l) ∙ le-ltb (i - base) wordBits h
+
+batch-in : (base i : ℕ) → base ≤ i → i - base < wordBits → inBatch base i ≡ true
+unfolding inBatch
+batch-in base i l h = and-both (leb base i) (ltb (i - base) wordBits) (le-leb base i l) (lt-ltb (i - base) wordBits h)
+
+record InBatch (base i : ℕ) : Type 0 where
+  from : base ≤ i
+  below : i - base < wordBits
+
+in-batch : (base i : ℕ) → inBatch base i ≡ true → InBatch base i
+unfolding inBatch
+in-batch base i h =
+    record {
+      from = leb-true base i (and-left (leb base i) (ltb (i - base) wordBits) h);
+      below = ltb-true (i - base) wordBits (and-right (leb base i) (ltb (i - base) wordBits) h);
+    }
+
+pub judged-before : (groups words : List ℕ) (base i : ℕ) → i < base → judged groups words base i ≡ false
+unfolding judged
+judged-before groups words base i h = rw (batch-before base i h)
+
+pub judged-after : (groups words : List ℕ) (base i : ℕ) → base ≤ i → wordBits ≤ i - base → judged groups words base i ≡ false
+unfolding judged
+judged-after groups words base i l h = rw (batch-after base i l h)
+
+pub judged-in : (groups words : List ℕ) (base i : ℕ) → base ≤ i → i - base < wordBits
+    → judged groups words base i ≡ separates (problemOf (groupsAlone groups)) (sideIn words (i - base))
+unfolding judged
+judged-in groups words base i l h = rw (batch-in base i l h)
+
+separates-cong : (p : Problem) (S T : ℕ → Bool) → ((v : ℕ) → v < p .vertices → S v ≡ T v) → separates p S ≡ separates p T
+unfolding separates
+separates-cong p S T h =
+    any-cong (p .vertices) _ _
+    (λ u bu.
+    rw (h u bu)
+    (ap (λ x. T u && x) (any-cong (p .vertices) _ _ (λ v bv. ap (λ x. not x && p .required u v) (h v bv)))))
+
+-- Only the groups say what a cut separates.
+separates-groups : (groups firsts seconds : List ℕ) (S : ℕ → Bool) → separates (problemOf (groupsAlone groups)) S ≡ separates (unweighted groups firsts seconds) S
+unfolding separates problemOf vertexCount sameGroup member
+separates-groups groups firsts seconds S = refl
+
+module _ (groups firsts seconds picked : List ℕ) (ok : Prunable groups firsts seconds picked) where
+  abbrev p : Problem
+  p = unweighted groups firsts seconds
+
+  abbrev F : ℕ → Bool
+  F = pickedIn picked
+
+  abbrev words : ℕ → List ℕ
+  words base = tabulate maxVertices (sideWords maxVertices (λ e. getD firsts e 0) (λ e. getD seconds e 0) F base (length firsts))
+
+  -- The buffer that holds them: the ends are vertices.
+  words-held : (base : ℕ) {held : List ℕ} → held ≡ takenBelow maxVertices (λ e. getD firsts e 0) (λ e. getD seconds e 0) F base (length firsts) .words → held ≡ words base
+  unfolding problemOf edgeCount vertexCount
+  words-held base h =
+      let few = ok .few in
+      h
+      ∙ taken-words maxVertices (λ e. getD firsts e 0) (λ e. getD seconds e 0) F base (length firsts)
+      (λ e b. let l : getD firsts e 0 < length groups = ok .sound .first-below e b in omega arith)
+      (λ e b. let l : getD seconds e 0 < length groups = ok .sound .second-below e b in omega arith)
+      .1
+
+  -- Judging a picked edge by its bit is finding whether it is needed.
+  bit-needed : (base e : ℕ) → e < length firsts → F e ≡ true → InBatch base (countBelow e F)
+      → separates (problemOf (groupsAlone groups)) (sideIn (words base) (countBelow e F - base)) ≡ needed p F e
+  unfolding problemOf edgeCount vertexCount sideIn
+  bit-needed base e b t i =
+      let few = ok .few in
+      let below = i .below in
+      let from = i .from in
+      separates-groups groups firsts seconds (sideIn (words base) (countBelow e F - base))
+      ∙ separates-cong p (sideIn (words base) (countBelow e F - base)) (sides maxVertices (p .first) (p .second) F (p .edges) e)
+      (λ v c.
+      let w : v < maxVertices = omega arith in
+      ap (λ x. bitAt x (countBelow e F - base)) (getD-tabulate maxVertices (sideWords maxVertices (λ e. getD firsts e 0) (λ e. getD seconds e 0) F base (length firsts)) v 0 w)
+      ∙ word-side maxVertices (λ e. getD firsts e 0) (λ e. getD seconds e 0) F base (length firsts) e (countBelow e F - base) b t (omega arith) below v)
+      ∙ sym (needed-by-side p (ok .sound) F (ok .bounded) (ok .joins) (ok .forest) maxVertices e t)
+
+  -- A batch by the words is the batch of the definition.
+  pub batch-is : (base : ℕ) (marks : List ℕ) {after held : List ℕ}
+      → held ≡ takenBelow maxVertices (λ e. getD firsts e 0) (λ e. getD seconds e 0) F base (length firsts) .words
+      → after ≡ remade (raised F (judged groups held base)) (length firsts) marks
+      → after ≡ batchMarks p F base (length firsts) marks
+  unfolding batchMarks raised judged
+  batch-is base marks {after} {held} h r =
+      r ∙ rw (words-held base h)
+      (remade-cong _ _ (length firsts) marks (λ e x b. ap (λ t. cond t 2 x) (by e b (either (F e)) (either (inBatch base (countBelow e F))))))
+    where
+      by : (e : ℕ) → e < length firsts → (F e ≡ true) ⊎ (F e ≡ false) → (inBatch base (countBelow e F) ≡ true) ⊎ (inBatch base (countBelow e F) ≡ false)
+          → (F e && (inBatch base (countBelow e F) && separates (problemOf (groupsAlone groups)) (sideIn (words base) (countBelow e F - base))))
+          ≡ (F e && (inBatch base (countBelow e F) && needed p F e))
+      by e b (inr t) i = rw t
+      by e b (inl t) (inr i) = rw (t, i)
+      by e b (inl t) (inl i) = rw (t, i) (bit-needed base e b t (in-batch base (countBelow e F) i))
+
+-- ---- batch after batch
+
+-- The marks after the batches below base.
+unfoldable pub marksBelow : Problem → (ℕ → Bool) → (base m : ℕ) → List ℕ → List ℕ
+marksBelow p F base m marks = remade (λ e mark. markOf (F e) (ltb (countBelow e F) base && needed p F e)) m marks
+
+pub length-dropped : (F : ℕ → Bool) (m : ℕ) (marks : List ℕ) → length (droppedMarks F m marks) ≡ length marks
+unfolding droppedMarks
+length-dropped F m marks = length-remade _ m marks
+
+unraised : (f k n : Bool) → cond (f && (false && n)) 2 (markOf f k) ≡ markOf f k
+unraised true k n = refl
+unraised false k n = refl
+
+unmarked : (f k n : Bool) → f ≡ false → markOf f k ≡ markOf f n
+unfolding markOf
+unmarked f k n h = rw h
+
+newly-raised : (f n : Bool) → cond (f && (true && n)) 2 (markOf f (false && n)) ≡ markOf f (true && n)
+unfolding markOf
+newly-raised true true = refl
+newly-raised true false = refl
+newly-raised false n = refl
+
+module _ (p : Problem) (F : ℕ → Bool) (m : ℕ) where
+  pub length-below : (base : ℕ) (marks : List ℕ) → length (marksBelow p F base m marks) ≡ length marks
+  unfolding marksBelow
+  length-below base marks = length-remade _ m marks
+
+  below-none : (marks : List ℕ) → droppedMarks F m marks ≡ marksBelow p F 0 m marks
+  unfolding droppedMarks marksBelow
+  below-none marks = remade-cong _ _ m marks (λ e x b. ap (markOf (F e)) (sym (ap (λ t. t && needed p F e) (le-ltb (countBelow e F) 0 (omega arith)))))
+
+  below-dropped : (base : ℕ) (marks : List ℕ) → marksBelow p F base m (droppedMarks F m marks) ≡ marksBelow p F base m marks
+  unfolding droppedMarks marksBelow
+  below-dropped base marks = remade-twice _ _ m marks
+
+  -- Before the first batch.
+  pub below-start : (marks : List ℕ) {dropped : List ℕ} → dropped ≡ droppedMarks F m marks → dropped ≡ marksBelow p F 0 m dropped
+  below-start marks h = h ∙ below-none marks ∙ sym (below-dropped 0 marks) ∙ ap (marksBelow p F 0 m) (sym h)
+
+  raise : (base e : ℕ) → cond (F e && (inBatch base (countBelow e F) && needed p F e)) 2 (markOf (F e) (ltb (countBelow e F) base && needed p F e))
+      ≡ markOf (F e) (ltb (countBelow e F) (base + wordBits) && needed p F e)
+  raise base e =
+      let i : ℕ = countBelow e F in
+      ⊎-elim
+      (λ (l : i < base).
+      rw
+      (lt-ltb i base l, batch-before base i l, lt-ltb i (base + wordBits) (omega arith))
+      (unraised (F e) (true && needed p F e) (needed p F e)))
+      (λ (l : base ≤ i).
+      ⊎-elim
+      (λ (u : i < base + wordBits).
+      rw
+      (le-ltb i base l, batch-in base i l (omega arith), lt-ltb i (base + wordBits) u)
+      (newly-raised (F e) (needed p F e)))
+      (λ (u : base + wordBits ≤ i).
+      rw
+      (le-ltb i base l, batch-after base i l (omega arith), le-ltb i (base + wordBits) u)
+      (unraised (F e) (false && needed p F e) (needed p F e)))
+      (lt-or-ge i (base + wordBits)))
+      (lt-or-ge i base)
+
+  -- One more batch.
+  pub below-more : (base : ℕ) (marks : List ℕ) {before after : List ℕ} → before ≡ marksBelow p F base m marks → after ≡ batchMarks p F base m before
+      → after ≡ marksBelow p F (base + wordBits) m marks
+  unfolding marksBelow batchMarks
+  below-more base marks h r =
+      r ∙ rw h (remade-twice _ _ m marks ∙ remade-cong _ _ m marks (λ e x b. raise base e))
+
+  -- No edge has a higher index.
+  below-all : (base : ℕ) (marks : List ℕ) → countBelow m F ≤ base → marksBelow p F base m marks ≡ prunedMarks p F m marks
+  unfolding marksBelow prunedMarks
+  below-all base marks h = remade-cong _ _ m marks (λ e x b. by e b (either (F e)))
+    where
+      by : (e : ℕ) → e < m → (F e ≡ true) ⊎ (F e ≡ false) → markOf (F e) (ltb (countBelow e F) base && needed p F e) ≡ markOf (F e) (needed p F e)
+      by e b (inl t) =
+          let l : countBelow e F < countBelow m F = count-lt m e F b t in
+          let u : countBelow e F < base = omega arith in
+          rw (lt-ltb (countBelow e F) base u)
+      by e b (inr t) = unmarked (F e) (ltb (countBelow e F) base && needed p F e) (needed p F e) t
+
+  -- After the last batch.
+  pub below-end : (base : ℕ) (marks : List ℕ) {dropped after : List ℕ} → countBelow m F ≤ base → dropped ≡ droppedMarks F m marks
+      → after ≡ marksBelow p F base m dropped → after ≡ prunedMarks p F m marks
+  below-end base marks few h r = r ∙ ap (marksBelow p F base m) h ∙ below-dropped base marks ∙ below-all base marks few

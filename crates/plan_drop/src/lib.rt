@@ -1,0 +1,81 @@
+// Pruning: which picked edges are kept. Definitions in specs/.
+ghost use Rattle.base_buffer.specs.Lent.{old, new};
+ghost use mathlib.Core.Path.{_≡_};
+ghost use mathlib.Core.Bool.{false};
+ghost use Prim.Native.Nat.{_≤_};
+ghost use lib.ListN.{length};
+ghost use Rattle.base_finite.specs.Below.{countBelow};
+ghost use Rattle.base_limits.specs.Limits.{maxEdges};
+ghost use Rattle.theory_steiner.specs.Pruning.{markOf};
+ghost use Rattle.plan_cuts.specs.Word.{pickedIn};
+ghost use Rattle.plan_drop.specs.Prunable.{Prunable, unweighted};
+ghost use Rattle.plan_drop.specs.Judge.{droppedMarks, batchMarks, prunedMarks};
+use base_buffer::put8;
+
+pub mod judge;
+
+// 1 for a picked edge, else 0.
+fn dropped_mark(picked: &[u8], e: usize) -> u8
+    ensures { λ r. ⌜ r ≡ markOf (pickedIn (old picked) e) false ⌝ }
+{
+    if plan_cuts::is_picked(picked, e) {
+        return 1;
+    }
+    0
+}
+
+// The marks before any edge is judged needed.
+fn drop_all(picked: &[u8], marks: &mut [u8], m: usize)
+    ensures { λ r. ⌜ new marks ≡ droppedMarks (pickedIn (old picked)) m (old marks) ⌝ }
+{
+    let mut e = 0;
+    while e < m {
+        put8(marks, e, dropped_mark(picked, e));
+        e += 1;
+    }
+}
+
+// How many edges below m are picked.
+fn count_picked(picked: &[u8], m: usize) -> usize
+    requires { ⌜ m ≤ maxEdges ⌝ }
+    ensures { λ r. ⌜ r ≡ countBelow m (pickedIn (old picked)) ⌝ }
+{
+    let mut count = 0;
+    let mut e = 0;
+    while e < m {
+        count += base_buffer::index8(dropped_mark(picked, e));
+        e += 1;
+    }
+    count
+}
+
+// The 64 picked edges from index base on.
+fn prune_batch(
+    groups: &[u8],
+    firsts: &[u32],
+    seconds: &[u32],
+    picked: &[u8],
+    marks: &mut [u8],
+    base: usize,
+)
+    requires { ⌜ Prunable (now groups) (now firsts) (now seconds) (now picked) ⌝ }
+    ensures { λ r. ⌜ new marks ≡ batchMarks (unweighted (old groups) (old firsts) (old seconds)) (pickedIn (old picked)) base (length (old firsts)) (old marks) ⌝ }
+{
+    let words = plan_cuts::side_words(firsts, seconds, picked, base);
+    judge::judge_edges(groups, &words, picked, base, marks, firsts.len());
+}
+
+// Marks every surveyed edge: 0 not picked, 1 picked and dropped, 2 needed. Which edges a picked set needs is found by their sides, and those
+// are only defined in a forest that joins every group: that is what growth leaves, and what is asked here.
+pub fn prune(groups: &[u8], firsts: &[u32], seconds: &[u32], picked: &[u8], marks: &mut [u8])
+    requires { ⌜ Prunable (now groups) (now firsts) (now seconds) (now picked) ⌝ }
+    ensures { λ r. ⌜ new marks ≡ prunedMarks (unweighted (old groups) (old firsts) (old seconds)) (pickedIn (old picked)) (length (old firsts)) (old marks) ⌝ }
+{
+    drop_all(picked, marks, firsts.len());
+    let count = count_picked(picked, firsts.len());
+    let mut base = 0;
+    while base < count {
+        prune_batch(groups, firsts, seconds, picked, marks, base);
+        base += plan_cuts::WORD_BITS;
+    }
+}

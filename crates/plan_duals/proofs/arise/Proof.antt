@@ -1,0 +1,49 @@
+-- `arise` meets its contract: nothing for a single vertex, else the labels of the ends are merged.
+use borrow.Author.Tests.{lt-ltb, le-ltb}
+use Rattle.plan_duals.specs.Trace.{endOf, arisen}
+use borrow.Author.Needs.{needs}
+use Rattle.plan_duals.proofs.arise.Statement.{statement}
+use Rattle.plan_duals.proofs.arise.Tie as tie
+
+returns : tie.Need-returns
+unfolding arisen
+returns c = rw (lt-ltb (c .before .before .before .before .before .args .c) (c .before .before .before .before .before .args .n) (c .if1 .taken))
+
+at32-requires : tie.Need-at32-requires
+at32-requires c κs = search needs
+
+index32-requires : tie.Need-index32-requires
+index32-requires c κs = search needs
+
+at32-requires-2 : tie.Need-at32-requires-2
+at32-requires-2 c κs = search needs
+
+at32-requires-3 : tie.Need-at32-requires-3
+at32-requires-3 c κs = search needs
+
+cast-merge : tie.Need-cast-merge
+cast-merge c = search needs
+
+merge-requires : tie.Need-merge-requires
+merge-requires c κs = search needs
+
+same-length : tie.Need-same-length
+same-length c = search needs
+
+returns-2 : tie.Need-returns-2
+unfolding arisen endOf
+returns-2 c = rw (le-ltb (c .before .before .before .before .before .before .before .before .before .before .before .before .before .args .c) (c .before .before .before .before .before .before .before .before .before .before .before .before .before .args .n) (c .before .before .before .before .before .before .before .before .if1 .left), ← c .before .before .before .before .before .before .before .at32 .ensures, ← c .before .before .before .before .before .before .index32 .ensures, ← c .before .before .before .before .at322 .ensures, ← c .before .before .before .at323 .ensures) (c .before .before .merge .ensures)
+
+pub arise-spec : {M : Type 1} → statement M
+arise-spec =
+    tie.close
+    (tie.spec
+    returns
+    at32-requires
+    index32-requires
+    at32-requires-2
+    at32-requires-3
+    cast-merge
+    merge-requires
+    same-length
+    returns-2)

@@ -1,0 +1,104 @@
+-- `draw` meets its contract: up to component number c, the labels are the trace's and the duals stand in the buffer.
+use borrow.Author.Needs.{needs}
+use Prim.Native.Nat.{_+_, _≤_, _-_}
+use mathlib.Core.Path.{refl, ap, sym, _∙_}
+use lib.ListN.{length}
+use Rattle.base_finite.specs.Laws.Below.{length-tabulate}
+use Rattle.base_limits.specs.Limits.{maxVertices}
+use Rattle.base_buffer.specs.Laws.Store.{remade-table}
+use Rattle.plan_duals.specs.Trace.{traceFrom}
+use Rattle.plan_duals.specs.Laws.Drawing.{drawn-fits, drawn-length}
+use Rattle.plan_duals.specs.Laws.Trace.{Replayed, replayed-none, replayed-more, replayed-end}
+use native.Mathlib.Omega.{arith}
+use Rattle.plan_duals.proofs.draw.Statement.{statement}
+use Rattle.plan_duals.proofs.draw.Tie as tie
+
+abbrev Inv-loop : tie.InvT-loop
+Inv-loop n firsts seconds values order rounds records₀ labels₀ end count₀ c₀ records labels count c =
+    (c ≤ end) × Replayed (traceFrom n firsts seconds values order rounds) c labels records₀ records count
+
+abbrev μ-loop : tie.MeasureT-loop
+μ-loop n firsts seconds values order rounds records₀ labels₀ end count₀ c₀ records labels count c =
+    end - c
+
+slice-aggregate-own-labels : tie.Need-slice-aggregate-own-labels Inv-loop μ-loop
+slice-aggregate-own-labels c = search needs
+
+own-labels-requires : tie.Need-own-labels-requires Inv-loop μ-loop
+own-labels-requires c κs = search needs
+
+add-end : tie.Need-add-end Inv-loop μ-loop
+add-end c = let pre = c .before .before .before .before .before .before .before .before .pre in omega arith
+
+loop-holds : tie.Need-loop-holds Inv-loop μ-loop
+loop-holds c =
+    (omega arith, replayed-none _ _ (c .before .own-labels .ensures ∙ remade-table (λ v x. v) maxVertices _ (λ v. v) refl (λ v b. refl)))
+
+slice-aggregate-arise : tie.Need-slice-aggregate-arise Inv-loop μ-loop
+slice-aggregate-arise c = sym (ap length (c .before .before .loop .inv .1 .labels-are) ∙ length-tabulate maxVertices _)
+
+arise-requires : tie.Need-arise-requires Inv-loop μ-loop
+arise-requires c κs = let pre = c .before .before .before .before .before .before .before .before .before .before .before .pre in omega arith
+
+at64-requires : tie.Need-at64-requires Inv-loop μ-loop
+at64-requires c κs = search needs
+
+slice-aggregate-write-dual : tie.Need-slice-aggregate-write-dual Inv-loop μ-loop
+slice-aggregate-write-dual c = sym (c .before .before .before .before .arise .kept .0 ∙ ap length (c .before .before .before .before .before .before .before .loop .inv .1 .labels-are) ∙ length-tabulate maxVertices _)
+
+cast-write-dual : tie.Need-cast-write-dual Inv-loop μ-loop
+cast-write-dual c = let pre = c .before .before .before .before .before .before .before .before .before .before .before .before .before .before .before .before .pre in omega arith
+
+write-dual-requires : tie.Need-write-dual-requires Inv-loop μ-loop
+write-dual-requires c κs =
+    let a = c .before .before .before .before .before .before .before .before .before .before .before .before .before .before .before .before .args in
+    let pre = c .before .before .before .before .before .before .before .before .before .before .before .before .before .before .before .before .pre in
+    drawn-fits _ _ (a .n) (a .n + a .rounds) (c .before .before .before .before .before .before .before .loop .c) (pre .few) (pre .room) (c .before .before .before .before .before .before .loop-test .taken) (c .before .before .before .before .before .before .before .loop .inv .1 .drawn)
+
+add-c : tie.Need-add-c Inv-loop μ-loop
+add-c c = search needs
+
+loop-less : tie.Need-loop-less Inv-loop μ-loop
+loop-less c = search needs
+
+loop-again : tie.Need-loop-again Inv-loop μ-loop
+loop-again c =
+    let a = c .before .before .before .before .before .before .before .before .before .before .before .before .before .before .before .before .before .before .before .args in
+    let w = c .before .before .write-dual .ensures in (
+      omega arith,
+      replayed-more (traceFrom (a .n) (a .firsts .now) (a .seconds .now) (a .values .now) (a .order .now) (a .rounds)) (c .before .before .before .before .before .before .before .before .before .before .loop .c) (c .before .before .before .before .before .before .before .before .before .before .before .before .before .before .before .before .before .before .before .pre) (c .before .before .before .before .before .before .before .before .before .loop-test .taken) (c .before .before .before .before .before .before .before .before .before .before .loop .inv .1) (c .before .before .before .before .before .before .before .arise .ensures) (c .before .before .before .before .at64 .ensures)
+          (w .0)
+          (w .1),
+    )
+
+same-length : tie.Need-same-length Inv-loop μ-loop
+same-length c =
+    let pre = c .before .before .before .before .before .before .before .before .before .before .pre in
+    drawn-length _ _ _ (omega arith) (c .before .loop .inv .1 .drawn)
+
+returns : tie.Need-returns Inv-loop μ-loop
+returns c =
+    let d = replayed-end _ (c .before .loop .c) (omega arith) (omega arith) (c .before .loop .inv .1) in
+    (d .counted, d .written)
+
+pub draw-spec : {M : Type 1} → statement M
+draw-spec =
+    tie.close
+    (tie.spec
+    Inv-loop
+    μ-loop
+    slice-aggregate-own-labels
+    own-labels-requires
+    add-end
+    loop-holds
+    slice-aggregate-arise
+    arise-requires
+    at64-requires
+    slice-aggregate-write-dual
+    cast-write-dual
+    write-dual-requires
+    add-c
+    loop-less
+    loop-again
+    same-length
+    returns)

@@ -1,0 +1,51 @@
+-- Duals as records in a buffer (document 01, 'What a plan holds': moat records).
+use Prim.Native.Nat.{ℕ, zero, suc, _*_, _≤_}
+use mathlib.Core.Path.{_≡_}
+use mathlib.Core.Bool.{Bool, _&&_, cond}
+use mathlib.Core.List.{List, [], _∷_, _++_}
+use lib.ListN.{length, getD, take, drop}
+use lib.Dec.{eqb, ltb}
+use Rattle.base_limits.specs.Limits.{maxVertices, recordBytes}
+use Rattle.format_record.specs.Record.{recordOf}
+use Rattle.theory_steiner.specs.Dual.{Dual}
+
+-- Records one after another.
+unfoldable pub recordsOf : List Dual → List ℕ
+recordsOf [] = []
+recordsOf (d ∷ ds) = recordOf (d .value) (d .holds) ++ recordsOf ds
+
+-- The records at the start of a buffer: 'bytes after the last .. record keep their values'.
+unfoldable pub recordsOver : List Dual → List ℕ → List ℕ
+recordsOver ds old = recordsOf ds ++ drop (recordBytes * length ds) old
+
+-- The records after the first k of a buffer.
+unfoldable pub recordsFrom : ℕ → List Dual → List ℕ → List ℕ
+recordsFrom k ds old = take (recordBytes * k) old ++ recordsOver ds (drop (recordBytes * k) old)
+
+-- The records of these duals, and nothing else, are new in the buffer, and `count` says how many there are.
+pub record Drawn (ds : List Dual) (old new : List ℕ) (count : ℕ) : Type 0 where
+  pub counted : count ≡ length ds
+  pub written : new ≡ recordsOver ds old
+
+-- 'Moats with amount 0 are left out': the dual with this value and these members, or none.
+unfoldable pub dualIf : ℕ → (ℕ → Bool) → List Dual
+dualIf value S = cond (ltb 0 value) (record { value = value; holds = S } ∷ []) []
+
+-- The duals of the component numbers below c, rising.
+unfoldable pub dualsBelow : (value : ℕ → ℕ) → (holds : ℕ → ℕ → Bool) → ℕ → List Dual
+dualsBelow value holds zero = []
+dualsBelow value holds (suc c) = dualsBelow value holds c ++ dualIf (value c) (holds c)
+
+-- The vertices below n that have label c.
+unfoldable pub labelled : (labels : List ℕ) → (n c : ℕ) → ℕ → Bool
+labelled labels n c v = ltb v n && eqb (getD labels v 0) c
+
+-- There is room for one record, and for every vertex in it.
+pub record PartFits (n : ℕ) (part : List ℕ) : Type 0 where
+  pub few : n ≤ maxVertices
+  pub long : length part ≡ recordBytes
+
+-- There is room for k records, and for every vertex in each.
+pub record Fits (n k : ℕ) (records : List ℕ) : Type 0 where
+  pub few : n ≤ maxVertices
+  pub room : recordBytes * k ≤ length records

@@ -1,0 +1,209 @@
+-- Laws of records in a buffer: lengths, reading back, and one record or one dual more. The code of drawing, the planner and the checker's laws use them.
+use Prim.Native.Nat.{ℕ, zero, suc, _+_, _*_, _-_, _≤_, _<_}
+use native.Mathlib.Omega.{arith}
+use native.Mathlib.Nat.{add-sub-cancel-left}
+use native.Mathlib.Numerals.{add-one, one-add}
+use native.Mathlib.Decide.{ℕ-discrete}
+use mathlib.Core.Path.{_≡_, refl, ap, ap₂, sym, _∙_, fun-ext}
+use mathlib.Core.Bool.{Bool, true, false, _||_, cond}
+use mathlib.Core.Logic.{⊎-elim}
+use mathlib.Core.List.{List, [], _∷_, _++_, append-assoc, append-nil}
+use lib.ListN.{length, getD, take, drop, length-append, length-drop, take-append-drop}
+use lib.Seq.{take-at, drop-at, drop-drop}
+use lib.Dec.{eqb, ltb}
+use borrow.Author.Tests.{eq-eqb, ne-eqb, eqb-true, lt-ltb, le-ltb, ltb-true}
+use Rattle.base_finite.specs.Laws.Test.{same-test, and-both, and-left, and-right, or-cases, or-left, or-right}
+use Rattle.base_limits.specs.Limits.{maxVertices, recordBytes}
+use Rattle.format_record.specs.Bits.{Bytes}
+use Rattle.format_record.specs.Record.{recordOf, recordAt, withMemberIn, startedAs}
+use Rattle.format_record.specs.Laws.Amount.{bytes-append}
+use Rattle.format_record.specs.Laws.Record.{length-record, bytes-record, record-at-first, record-at-right, started-whole, member-added-record}
+use Rattle.theory_steiner.specs.Dual.{Dual}
+use Rattle.plan_duals.specs.Drawing.{recordsOf, recordsOver, recordsFrom, dualIf, dualsBelow, labelled, Drawn, Fits}
+
+-- ---- records of a list of duals
+
+-- What stands at a place past the end.
+abbrev pub nothing : Dual
+nothing = record { value = 0; holds = λ v. false }
+
+pub length-records : (ds : List Dual) → length (recordsOf ds) ≡ recordBytes * length ds
+unfolding recordsOf
+length-records [] = refl
+length-records (d ∷ ds) =
+    omega (arith, length-append (recordOf (d .value) (d .holds)) (recordsOf ds), length-record (d .value) (d .holds), length-records ds)
+
+-- They are bytes.
+pub bytes-records : (ds : List Dual) → Bytes (recordsOf ds)
+unfolding recordsOf
+bytes-records [] i = omega arith
+bytes-records (d ∷ ds) i = bytes-append (recordOf (d .value) (d .holds)) (recordsOf ds) (bytes-record (d .value) (d .holds)) (bytes-records ds) i
+
+pub record-at : (ds : List Dual) (i : ℕ) → i < length ds → recordAt (recordsOf ds) i ≡ recordOf (getD ds i nothing .value) (getD ds i nothing .holds)
+unfolding recordsOf
+record-at [] i b = absurd (omega arith)
+record-at (d ∷ ds) zero b = record-at-first (recordOf (d .value) (d .holds)) (recordsOf ds) (length-record (d .value) (d .holds))
+record-at (d ∷ ds) (suc i) b =
+    ap (recordAt (recordOf (d .value) (d .holds) ++ recordsOf ds)) (sym (one-add i))
+    ∙ record-at-right 1 (recordOf (d .value) (d .holds)) (recordsOf ds) i (length-record (d .value) (d .holds) ∙ refl)
+    ∙ record-at ds i (omega arith)
+
+records-append : (ds es : List Dual) → recordsOf (ds ++ es) ≡ recordsOf ds ++ recordsOf es
+unfolding recordsOf
+records-append [] es = refl
+records-append (d ∷ ds) es = rw (records-append ds es) (sym (append-assoc (recordOf (d .value) (d .holds)) (recordsOf ds) (recordsOf es)))
+
+-- ---- records over a buffer
+
+length-over : (ds : List Dual) (old : List ℕ) → recordBytes * length ds ≤ length old → length (recordsOver ds old) ≡ length old
+unfolding recordsOver
+length-over ds old fits =
+    omega (
+      arith,
+      length-append (recordsOf ds) (drop (recordBytes * length ds) old),
+      length-records ds,
+      length-drop (recordBytes * length ds) old,
+    )
+
+-- Records after those that stand there already.
+over-more : (ds es : List Dual) (old : List ℕ) → recordsFrom (length ds) es (recordsOver ds old) ≡ recordsOver (ds ++ es) old
+unfolding recordsFrom recordsOver
+over-more ds es old =
+    let k : ℕ = recordBytes * length ds in
+    let first : take k (recordsOf ds ++ drop k old) ≡ recordsOf ds = take-at (recordsOf ds) (drop k old) k (length-records ds) in
+    let rest : drop k (recordsOf ds ++ drop k old) ≡ drop k old = drop-at (recordsOf ds) (drop k old) k (length-records ds) in
+    let next : drop (recordBytes * length es) (drop k old) ≡ drop (k + recordBytes * length es) old = drop-drop (recordBytes * length es) k old in
+    let all : k + recordBytes * length es ≡ recordBytes * length (ds ++ es) = omega (arith, length-append ds es) in
+    rw (first, rest, next, all, records-append ds es) (sym (append-assoc (recordsOf ds) (recordsOf es) (drop (recordBytes * length (ds ++ es)) old)))
+
+-- No record more.
+pub from-none : (k : ℕ) (old : List ℕ) → old ≡ recordsFrom k [] old
+unfolding recordsFrom recordsOver recordsOf
+from-none k old = sym (take-append-drop (recordBytes * k) old)
+
+-- One record more, put in the place of its part of the buffer.
+pub from-one : (k : ℕ) (d : Dual) (old : List ℕ) {new : List ℕ} → new ≡ recordOf (d .value) (d .holds) →
+    take (recordBytes * k) old ++ (new ++ drop (recordBytes * k + recordBytes - recordBytes * k) (drop (recordBytes * k) old)) ≡ recordsFrom k (d ∷ []) old
+unfolding recordsFrom recordsOver recordsOf
+from-one k d old h = rw (h, add-sub-cancel-left (recordBytes * k) recordBytes, append-nil (recordOf (d .value) (d .holds)))
+
+-- ---- duals
+
+pub dual-none : (x : ℕ) (S : ℕ → Bool) → x ≡ 0 → dualIf x S ≡ []
+unfolding dualIf
+dual-none x S h = rw h
+
+pub dual-one : (x : ℕ) (S : ℕ → Bool) → (x ≡ 0 → ⊥) → dualIf x S ≡ record { value = x; holds = S } ∷ []
+unfolding dualIf
+dual-one x S h = rw (lt-ltb 0 x (omega arith))
+
+length-dual : (x : ℕ) (S : ℕ → Bool) → length (dualIf x S) ≤ 1
+length-dual x S = by (ℕ-discrete x 0)
+  where
+    by : Dec (x ≡ 0) → length (dualIf x S) ≤ 1
+    by (yes e) = rw (dual-none x S e) (omega arith)
+    by (no d) = rw (dual-one x S d) (omega arith)
+
+-- There are no more duals than component numbers.
+pub length-duals : (value : ℕ → ℕ) (holds : ℕ → ℕ → Bool) (c : ℕ) → length (dualsBelow value holds c) ≤ c
+unfolding dualsBelow
+length-duals value holds zero = omega arith
+length-duals value holds (suc c) = simp length-append (omega (arith, length-dual (value c) (holds c), length-duals value holds c))
+
+-- ---- drawing
+
+pub drawn-none : (value : ℕ → ℕ) (holds : ℕ → ℕ → Bool) (old : List ℕ) → Drawn (dualsBelow value holds 0) old old 0
+unfolding dualsBelow recordsOver recordsOf
+drawn-none value holds old = record { counted = refl; written = refl }
+
+-- The dual of the next component number, whatever the code calls its value and its members.
+pub drawn-more : (value : ℕ → ℕ) (holds : ℕ → ℕ → Bool) (c : ℕ) {x : ℕ} {S : ℕ → Bool} {old mid new : List ℕ} {k count : ℕ} → x ≡ value c → S ≡ holds c →
+    Drawn (dualsBelow value holds c) old mid k → count ≡ k + length (dualIf x S) → new ≡ recordsFrom k (dualIf x S) mid →
+    Drawn (dualsBelow value holds (c + 1)) old new count
+unfolding dualsBelow
+drawn-more value holds c {x} {S} {old} {mid} {new} {k} e f d a b =
+    let ds = dualsBelow value holds c in
+    let es = dualIf (value c) (holds c) in
+    let same : dualIf x S ≡ es = ap₂ dualIf e f in
+    rw (add-one c)
+    (record {
+      counted = simp length-append (omega (arith, d .counted, ap length same));
+      written = b ∙ ap (λ l. recordsFrom k l mid) same ∙ rw (d .counted, d .written) (over-more ds es old);
+    })
+
+-- The loop has come to the end.
+pub drawn-end : (value : ℕ → ℕ) (holds : ℕ → ℕ → Bool) {i n : ℕ} {old new : List ℕ} {count : ℕ} → i ≤ n → n ≤ i → Drawn (dualsBelow value holds i) old new count →
+    Drawn (dualsBelow value holds n) old new count
+drawn-end value holds {i} {n} b c d = let e : i ≡ n = omega arith in rw e at d
+
+pub drawn-length : (value : ℕ → ℕ) (holds : ℕ → ℕ → Bool) (c : ℕ) {old new : List ℕ} {count : ℕ} → recordBytes * c ≤ length old →
+    Drawn (dualsBelow value holds c) old new count → length new ≡ length old
+drawn-length value holds c {old} room d =
+    ap length (d .written) ∙ length-over (dualsBelow value holds c) old (omega (arith, length-duals value holds c))
+
+-- There is room for one dual more.
+pub drawn-fits : (value : ℕ → ℕ) (holds : ℕ → ℕ → Bool) (n m c : ℕ) {old new : List ℕ} {count : ℕ} → n ≤ maxVertices → recordBytes * m ≤ length old → c < m →
+    Drawn (dualsBelow value holds c) old new count → Fits n (count + 1) new
+drawn-fits value holds n m c {old} few room b d =
+    record {
+      few = few;
+      room = omega (arith, drawn-length value holds c (omega arith) d, d .counted, length-duals value holds c);
+    }
+
+-- ---- members by label
+
+labelled-none : (labels : List ℕ) (c : ℕ) → labelled labels 0 c ≡ (λ v. false)
+unfolding labelled
+labelled-none labels c = fun-ext (λ v. rw (le-ltb v 0 (omega arith)))
+
+-- A record with no member yet.
+pub started-none : (part : List ℕ) (x : ℕ) (labels : List ℕ) (c : ℕ) → length part ≡ recordBytes → startedAs part x ≡ recordOf x (labelled labels 0 c)
+started-none part x labels c h = started-whole part x h ∙ ap (recordOf x) (sym (labelled-none labels c))
+
+labelled-intro : (labels : List ℕ) (n c v : ℕ) → v < n → getD labels v 0 ≡ c → labelled labels n c v ≡ true
+unfolding labelled
+labelled-intro labels n c v b h = and-both (ltb v n) (eqb (getD labels v 0) c) (lt-ltb v n b) (eq-eqb (getD labels v 0) c h)
+
+labelled-elim : (labels : List ℕ) (n c v : ℕ) → labelled labels n c v ≡ true → (v < n) × (getD labels v 0 ≡ c)
+unfolding labelled
+labelled-elim labels n c v h =
+    (ltb-true v n (and-left (ltb v n) (eqb (getD labels v 0) c) h), eqb-true (getD labels v 0) c (and-right (ltb v n) (eqb (getD labels v 0) c) h))
+
+-- Vertex n joins the members.
+labelled-in : (labels : List ℕ) (n c : ℕ) → getD labels n 0 ≡ c → (λ v. labelled labels n c v || eqb v n) ≡ labelled labels (n + 1) c
+labelled-in labels n c h = fun-ext (λ v. same-test (labelled labels n c v || eqb v n) (labelled labels (n + 1) c v) (to v) (from v (ℕ-discrete v n)))
+  where
+    to : (v : ℕ) → (labelled labels n c v || eqb v n) ≡ true → labelled labels (n + 1) c v ≡ true
+    to v k =
+        ⊎-elim
+        (λ old. let f = labelled-elim labels n c v old in labelled-intro labels (n + 1) c v (omega arith) (f .1))
+        (λ new. let e : v ≡ n = eqb-true v n new in labelled-intro labels (n + 1) c v (omega arith) (ap (λ i. getD labels i 0) e ∙ h))
+        (or-cases (labelled labels n c v) (eqb v n) k)
+
+    from : (v : ℕ) → Dec (v ≡ n) → labelled labels (n + 1) c v ≡ true → (labelled labels n c v || eqb v n) ≡ true
+    from v (yes e) k = or-right (labelled labels n c v) (eqb v n) (eq-eqb v n e)
+    from v (no d) k =
+        let f = labelled-elim labels (n + 1) c v k in
+        or-left (labelled labels n c v) (eqb v n) (labelled-intro labels n c v (omega arith) (f .1))
+
+-- Vertex n does not.
+labelled-out : (labels : List ℕ) (n c : ℕ) → (getD labels n 0 ≡ c → ⊥) → labelled labels n c ≡ labelled labels (n + 1) c
+labelled-out labels n c h = fun-ext (λ v. same-test (labelled labels n c v) (labelled labels (n + 1) c v) (to v) (from v (ℕ-discrete v n)))
+  where
+    to : (v : ℕ) → labelled labels n c v ≡ true → labelled labels (n + 1) c v ≡ true
+    to v k = let f = labelled-elim labels n c v k in labelled-intro labels (n + 1) c v (omega arith) (f .1)
+
+    from : (v : ℕ) → Dec (v ≡ n) → labelled labels (n + 1) c v ≡ true → labelled labels n c v ≡ true
+    from v (yes e) k = absurd (h (ap (λ i. getD labels i 0) (sym e) ∙ labelled-elim labels (n + 1) c v k .1))
+    from v (no d) k = let f = labelled-elim labels (n + 1) c v k in labelled-intro labels n c v (omega arith) (f .1)
+
+-- One vertex more in a record.
+pub record-more : (x : ℕ) (labels : List ℕ) (n c : ℕ) {part : List ℕ} → n < maxVertices → part ≡ recordOf x (labelled labels n c) →
+    cond (eqb (getD labels n 0) c) (withMemberIn part n) part ≡ recordOf x (labelled labels (n + 1) c)
+record-more x labels n c {part} b h = by (ℕ-discrete (getD labels n 0) c)
+  where
+    by : Dec (getD labels n 0 ≡ c) → cond (eqb (getD labels n 0) c) (withMemberIn part n) part ≡ recordOf x (labelled labels (n + 1) c)
+    by (yes e) =
+        rw (eq-eqb (getD labels n 0) c e, h)
+        (member-added-record x (labelled labels n c) n (omega arith) ∙ ap (recordOf x) (labelled-in labels n c e))
+    by (no d) = rw (ne-eqb (getD labels n 0) c d) (h ∙ ap (recordOf x) (labelled-out labels n c d))

@@ -1,0 +1,70 @@
+-- What a growth leaves of its rounds, and the duals that follow from it (document 01, 'How moats grow' and 'What a plan holds').
+use Prim.Native.Nat.{ℕ, zero, suc, _+_, _*_, _-_, _≤_, _<_}
+use mathlib.Core.Path.{_≡_}
+use mathlib.Core.Bool.{Bool, _&&_, cond}
+use mathlib.Core.List.{List}
+use lib.ListN.{length, getD}
+use lib.Dec.{eqb, ltb}
+use Rattle.theory_graph.specs.Component.{merged}
+use Rattle.base_limits.specs.Limits.{maxVertices, recordBytes}
+use Rattle.theory_steiner.specs.Problem.{Problem}
+use Rattle.theory_steiner.specs.Growth.{winner, edge, stateAt, grown}
+use Rattle.theory_steiner.specs.Dual.{Dual}
+use Rattle.survey_components.specs.Labels.{relabelled}
+use Rattle.plan_duals.specs.Drawing.{dualsBelow}
+
+-- Rounds are counted from 0; `first` and `second` are the ends of the edge that a round picked, and `value` is that of a component number.
+pub record Trace : Type 0 where
+  pub vertices : ℕ
+  pub rounds : ℕ
+  pub first : ℕ → ℕ
+  pub second : ℕ → ℕ
+  pub value : ℕ → ℕ
+
+-- The end, in a list of first or of second ends, of the edge that round r picked.
+unfoldable pub endOf : (ends order : List ℕ) → (r : ℕ) → ℕ
+endOf ends order r = getD ends (getD order r 0) 0
+
+-- A trace as it is lent: the ends of all edges, the values, and the edge of each round.
+abbrev pub traceFrom : (n : ℕ) → (firsts seconds values order : List ℕ) → (rounds : ℕ) → Trace
+traceFrom n firsts seconds values order rounds =
+    record {
+      vertices = n;
+      rounds = rounds;
+      first = endOf firsts order;
+      second = endOf seconds order;
+      value = λ c. getD values c 0;
+    }
+
+-- The component number of a vertex after r rounds: round r makes component n + r of those of its edge's ends.
+unfoldable pub labelAfter : Trace → ℕ → ℕ → ℕ
+labelAfter t zero v = v
+labelAfter t (suc r) v = merged (labelAfter t r (t .first r)) (labelAfter t r (t .second r)) (t .vertices + r) (labelAfter t r) v
+
+-- Labels in a buffer when component c has arisen: a single vertex is there from the start, any other is made of the components of vertices a and b.
+unfoldable pub arisen : (a b n c : ℕ) → List ℕ → List ℕ
+arisen a b n c labels = cond (ltb c n) labels (relabelled (getD labels a 0) (getD labels b 0) c labels)
+
+-- The members of component c are the vertices in it when it arose: at the start, or after round c - n.
+unfoldable pub memberOf : Trace → (c v : ℕ) → Bool
+memberOf t c v = ltb v (t .vertices) && eqb (labelAfter t (c + 1 - t .vertices) v) c
+
+-- 'Single junctions come first, rising; then merged components as they arose.'
+unfoldable pub dualsIn : Trace → List Dual
+dualsIn t = dualsBelow (t .value) (memberOf t) (t .vertices + t .rounds)
+
+-- What the replay needs: room for the records, and a label for every end.
+pub record Drawable (t : Trace) (records : List ℕ) : Type 0 where
+  pub few : t .vertices ≤ maxVertices
+  pub few-rounds : t .rounds ≤ t .vertices
+  pub room : recordBytes * (t .vertices + t .rounds) ≤ length records
+  pub first-below : (r : ℕ) → r < t .rounds → t .first r < maxVertices
+  pub second-below : (r : ℕ) → r < t .rounds → t .second r < maxVertices
+
+-- The trace of a problem's growth.
+pub record Traces (p : Problem) (t : Trace) : Type 0 where
+  pub vertices-are : t .vertices ≡ p .vertices
+  pub rounds-are : t .rounds ≡ grown p .rounds
+  pub firsts-are : (r e d : ℕ) → r < t .rounds → winner p (stateAt p r) ≡ edge e d → t .first r ≡ p .first e
+  pub seconds-are : (r e d : ℕ) → r < t .rounds → winner p (stateAt p r) ≡ edge e d → t .second r ≡ p .second e
+  pub values-are : (c : ℕ) → c < t .vertices + t .rounds → t .value c ≡ grown p .value c

@@ -1,0 +1,95 @@
+// Drawing: the duals of a finished growth as records, single vertices first, then merged components as they arose. Definitions in specs/.
+ghost use Rattle.base_buffer.specs.Lent.{old, new};
+ghost use mathlib.Core.Path.{_≡_};
+ghost use Prim.Native.Nat.{_+_, _-_, _<_, _^_};
+ghost use mathlib.Core.Bool.{cond};
+ghost use lib.ListN.{length};
+ghost use lib.Dec.{eqb};
+ghost use Rattle.format_record.specs.Record.{recordOf, withMemberIn};
+ghost use Rattle.plan_duals.specs.Drawing.{recordsOver, recordsFrom, dualIf, labelled, PartFits, Fits};
+ghost use Rattle.plan_duals.specs.Trace.{endOf, arisen, traceFrom, dualsIn, Drawable};
+use base_buffer::at64;
+use base_limits::RECORD_BYTES;
+use survey_components::merge;
+use survey_components::own_labels;
+
+// Adds member v, if its label is c.
+fn add_labelled(part: &mut [u8], v: usize, label: u32, c: u32)
+    ensures { λ r. ⌜ new part ≡ cond (eqb label c) (withMemberIn (old part) v) (old part) ⌝ }
+{
+    if label == c {
+        format_record::add_member(part, v);
+    }
+}
+
+// Writes a record of value x whose members are the vertices with label c.
+fn write_record(part: &mut [u8], x: u64, labels: &[u32], n: usize, c: u32)
+    requires { ⌜ PartFits n (now part) ⌝ }
+    ensures { λ r. ⌜ new part ≡ recordOf x (labelled (old labels) n c) ⌝ }
+{
+    format_record::start_record(part, x);
+    let mut v = 0;
+    while v < n {
+        add_labelled(part, v, base_buffer::at32(labels, v), c);
+        v += 1;
+    }
+}
+
+// Writes the dual of component c after the first `count` records, unless its value x is 0; answers how many records there are then.
+fn write_dual(records: &mut [u8], count: usize, x: u64, labels: &[u32], n: usize, c: u32) -> usize
+    requires { ⌜ Fits n (count + 1) (now records) ⌝ }
+    ensures count { λ r. ⌜ r ≡ count + length (dualIf x (labelled (old labels) n c)) ⌝ }
+    ensures written { λ r. ⌜ new records ≡ recordsFrom count (dualIf x (labelled (old labels) n c)) (old records) ⌝ }
+{
+    if x == 0 {
+        return count;
+    }
+    let at = RECORD_BYTES * count;
+    let end = at + RECORD_BYTES;
+    write_record(&mut records[at..end], x, labels, n, c);
+    count + 1
+}
+
+// Component c arises: a single vertex is one from the start, and component n + r is made of those of the ends of round r's edge.
+fn arise(labels: &mut [u32], firsts: &[u32], seconds: &[u32], order: &[u32], n: usize, c: usize)
+    requires { ⌜ c < 2 ^ 32 ⌝ }
+    ensures { λ r. ⌜ new labels ≡ arisen (endOf (old firsts) (old order) (c - n)) (endOf (old seconds) (old order) (c - n)) n c (old labels) ⌝ }
+{
+    if c < n {
+        return;
+    }
+    let e = base_buffer::index32(base_buffer::at32(order, c - n));
+    merge(
+        labels,
+        base_buffer::at32(firsts, e),
+        base_buffer::at32(seconds, e),
+        c as u32,
+    );
+}
+
+// The duals of a finished growth, from the values of the component numbers and the edges that the rounds picked in order; answers how many there are.
+pub fn draw(
+    n: usize,
+    firsts: &[u32],
+    seconds: &[u32],
+    values: &[u64],
+    order: &[u32],
+    rounds: usize,
+    records: &mut [u8],
+) -> usize
+    requires { ⌜ Drawable (traceFrom n (now firsts) (now seconds) (now values) (now order) rounds) (now records) ⌝ }
+    ensures count { λ r. ⌜ r ≡ length (dualsIn (traceFrom n (old firsts) (old seconds) (old values) (old order) rounds)) ⌝ }
+    ensures written { λ r. ⌜ new records ≡ recordsOver (dualsIn (traceFrom n (old firsts) (old seconds) (old values) (old order) rounds)) (old records) ⌝ }
+{
+    let mut labels = [0u32; 256];
+    own_labels(&mut labels);
+    let end = n + rounds;
+    let mut count = 0;
+    let mut c = 0;
+    while c < end {
+        arise(&mut labels, firsts, seconds, order, n, c);
+        count = write_dual(records, count, at64(values, c), &labels, n, c as u32);
+        c += 1;
+    }
+    count
+}

@@ -1,0 +1,42 @@
+-- `grow` meets its contract: a survey that is not refused is sound.
+use mathlib.Core.Path.{sym, _∙_}
+use Rattle.base_limits.specs.Verdict.{written}
+use Rattle.survey_core.specs.Laws.Refusal.{fine-survey}
+use borrow.Author.Needs.{needs}
+use Rattle.plan_growth.proofs.grow.Statement.{statement}
+use Rattle.plan_growth.proofs.grow.Tie as tie
+
+survey-refusal-requires : tie.Need-survey-refusal-requires
+survey-refusal-requires c κs = search needs
+
+enum-told : tie.Need-enum-told
+enum-told c = search needs
+
+no-rounds-requires : tie.Need-no-rounds-requires
+no-rounds-requires c κs = search needs
+
+returns : tie.Need-returns
+unfolding written
+returns c = rw (sym (c .before .before .before .survey-refusal .ensures) ∙ c .before .enum-told .given .1) (c .no-rounds .ensures _)
+
+enum-told-2 : tie.Need-enum-told-2
+enum-told-2 c = search needs
+
+grow-rounds-requires : tie.Need-grow-rounds-requires
+grow-rounds-requires c κs = fine-survey _ (sym (c .before .before .survey-refusal .ensures) ∙ c .enum-told2 .given .1)
+
+returns-2 : tie.Need-returns-2
+unfolding written
+returns-2 c = rw (sym (c .before .before .before .survey-refusal .ensures) ∙ c .before .enum-told2 .given .1) (c .grow-rounds .ensures)
+
+pub grow-spec : {M : Type 1} → statement M
+grow-spec =
+    tie.close
+    (tie.spec
+    survey-refusal-requires
+    enum-told
+    no-rounds-requires
+    returns
+    enum-told-2
+    grow-rounds-requires
+    returns-2)

@@ -1,0 +1,78 @@
+-- `raise_loads` meets its contract: it stores at rising places.
+use Prim.Native.Nat.{_+_, _≤_, _-_}
+use mathlib.Core.Path.{_≡_, refl, ap, _∙_}
+use lib.ListN.{length, getD}
+use lib.Dec.{eqb}
+use Rattle.base_finite.specs.Below.{counted}
+use Rattle.base_buffer.specs.Store.{remade}
+use Rattle.base_buffer.specs.Laws.Store.{length-remade, remade-end}
+use Rattle.plan_growth.specs.Tables.{raisedLoads}
+use Rattle.plan_growth.specs.Laws.Raise.{room-ahead, load-raised}
+use native.Mathlib.Omega.{arith}
+use borrow.Author.Needs.{needs}
+use Rattle.plan_growth.proofs.raise_loads.Statement.{statement}
+use Rattle.plan_growth.proofs.raise_loads.Tie as tie
+
+abbrev Inv-loop : tie.InvT-loop
+Inv-loop loads₀ labels flags n d v₀ loads v = (v ≤ n) × (loads ≡ remade (λ v x. x + counted (eqb (getD flags (getD labels v 0) 0) 1) d) v loads₀)
+
+abbrev μ-loop : tie.MeasureT-loop
+μ-loop loads₀ labels flags n d v₀ loads v = n - v
+
+loop-holds : tie.Need-loop-holds Inv-loop μ-loop
+unfolding remade
+loop-holds c = (omega arith, refl)
+
+at32-requires : tie.Need-at32-requires Inv-loop μ-loop
+at32-requires c κs = search needs
+
+index32-requires : tie.Need-index32-requires Inv-loop μ-loop
+index32-requires c κs = search needs
+
+at8-requires : tie.Need-at8-requires Inv-loop μ-loop
+at8-requires c κs = search needs
+
+at64-requires : tie.Need-at64-requires Inv-loop μ-loop
+at64-requires c κs = search needs
+
+raised-requires : tie.Need-raised-requires Inv-loop μ-loop
+raised-requires c κs = room-ahead _ _ (c .before .before .before .before .before .before .before .before .before .before .pre) (c .before .before .before .before .before .before .loop .inv .1) (c .at64 .ensures)
+
+put64-requires : tie.Need-put64-requires Inv-loop μ-loop
+put64-requires c κs = search needs
+
+add-v : tie.Need-add-v Inv-loop μ-loop
+add-v c = search needs
+
+loop-less : tie.Need-loop-less Inv-loop μ-loop
+loop-less c = omega arith
+
+loop-again : tie.Need-loop-again Inv-loop μ-loop
+loop-again c =
+    (omega arith, load-raised (c .before .before .before .before .before .before .before .before .before .before .before .before .before .before .before .args .flags .now) _ _ (c .before .before .before .before .before .before .before .before .before .before .before .before .before .before .before .args .loads .now) _ (c .before .before .before .before .before .at64 .ensures) (c .before .before .before .before .raised .ensures) (c .before .before .put64 .ensures) (c .before .before .before .before .before .before .before .before .before .before .before .before .before .before .before .args .labels .now) (c .before .before .before .before .before .before .before .before .before .before .before .loop .inv .1) (c .before .before .before .before .before .before .before .before .before .at32 .ensures) (c .before .before .before .before .before .before .before .before .index32 .ensures) (c .before .before .before .before .before .before .before .at8 .ensures))
+
+same-length : tie.Need-same-length Inv-loop μ-loop
+same-length c = ap length (c .before .loop .inv .1) ∙ length-remade _ _ _
+
+returns : tie.Need-returns Inv-loop μ-loop
+unfolding raisedLoads
+returns c = c .before .loop .inv .1 ∙ remade-end _ _ _ _ (omega arith) (omega arith)
+
+pub raise-loads-spec : {M : Type 1} → statement M
+raise-loads-spec =
+    tie.close
+    (tie.spec
+    Inv-loop
+    μ-loop
+    loop-holds
+    at32-requires
+    index32-requires
+    at8-requires
+    at64-requires
+    raised-requires
+    put64-requires
+    add-v
+    loop-less
+    loop-again
+    same-length
+    returns)

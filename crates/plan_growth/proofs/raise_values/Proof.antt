@@ -1,0 +1,72 @@
+-- `raise_values` meets its contract: it stores at rising places.
+use Prim.Native.Nat.{_+_, _≤_, _-_}
+use mathlib.Core.Path.{_≡_, refl, ap, _∙_}
+use lib.ListN.{length, getD}
+use lib.Dec.{eqb}
+use Rattle.base_finite.specs.Below.{counted}
+use Rattle.base_buffer.specs.Store.{remade}
+use Rattle.base_buffer.specs.Laws.Store.{length-remade, remade-end}
+use Rattle.plan_growth.specs.Tables.{raisedValues}
+use Rattle.plan_growth.specs.Laws.Raise.{room-ahead, value-raised}
+use native.Mathlib.Omega.{arith}
+use borrow.Author.Needs.{needs}
+use Rattle.plan_growth.proofs.raise_values.Statement.{statement}
+use Rattle.plan_growth.proofs.raise_values.Tie as tie
+
+abbrev Inv-loop : tie.InvT-loop
+Inv-loop values₀ flags d c₀ values c =
+    (c ≤ length values₀) × (length values ≡ length values₀) × (values ≡ remade (λ c x. x + counted (eqb (getD flags c 0) 1) d) c values₀)
+
+abbrev μ-loop : tie.MeasureT-loop
+μ-loop values₀ flags d c₀ values c = length values₀ - c
+
+loop-holds : tie.Need-loop-holds Inv-loop μ-loop
+unfolding remade
+loop-holds c = (omega arith, refl, refl)
+
+at64-requires : tie.Need-at64-requires Inv-loop μ-loop
+at64-requires c κs = search needs
+
+at8-requires : tie.Need-at8-requires Inv-loop μ-loop
+at8-requires c κs = search needs
+
+raised-requires : tie.Need-raised-requires Inv-loop μ-loop
+raised-requires c κs = room-ahead _ _ (c .before .before .before .before .before .before .before .pre) (c .before .before .before .before .loop .inv .2) (c .before .at64 .ensures)
+
+put64-requires : tie.Need-put64-requires Inv-loop μ-loop
+put64-requires c κs = search needs
+
+add-c : tie.Need-add-c Inv-loop μ-loop
+add-c c = search needs
+
+loop-less : tie.Need-loop-less Inv-loop μ-loop
+loop-less c = omega arith
+
+loop-again : tie.Need-loop-again Inv-loop μ-loop
+loop-again c =
+    let e = value-raised (c .before .before .before .before .before .before .before .before .before .before .before .before .args .flags .now) _ _ (c .before .before .before .before .before .before .before .before .before .before .before .before .args .values .now) _ (c .before .before .before .before .before .before .at64 .ensures) (c .before .before .before .before .raised .ensures) (c .before .before .put64 .ensures) (c .before .before .before .before .before .before .before .before .before .loop .inv .2) (c .before .before .before .before .before .at8 .ensures) in
+    (omega arith, ap length e ∙ length-remade _ _ _, e)
+
+same-length : tie.Need-same-length Inv-loop μ-loop
+same-length c = c .before .loop .inv .1
+
+returns : tie.Need-returns Inv-loop μ-loop
+unfolding raisedValues
+returns c = c .before .loop .inv .2 ∙ remade-end _ _ _ _ (omega arith) (omega arith)
+
+pub raise-values-spec : {M : Type 1} → statement M
+raise-values-spec =
+    tie.close
+    (tie.spec
+    Inv-loop
+    μ-loop
+    loop-holds
+    at64-requires
+    at8-requires
+    raised-requires
+    put64-requires
+    add-c
+    loop-less
+    loop-again
+    same-length
+    returns)

@@ -1,0 +1,23 @@
+-- What a round does to the flags, the values and the loads.
+use Prim.Native.Nat.{ℕ, _+_, _<_, _^_}
+use mathlib.Core.Bool.{cond}
+use mathlib.Core.List.{List}
+use lib.ListN.{getD, set, length}
+use lib.Dec.{eqb}
+use Rattle.base_finite.specs.Below.{counted}
+use Rattle.base_buffer.specs.Store.{remade}
+
+-- The flags after a vertex with this label, of a group with this summary (1: split).
+unfoldable pub flagged : (flags : List ℕ) → (summary label : ℕ) → List ℕ
+flagged flags summary label = cond (eqb summary 1) (set flags label 1) flags
+
+-- Every value, and every load of the first n vertices, raised by d where the component is active.
+unfoldable pub raisedValues : (flags : List ℕ) → (d : ℕ) → (values : List ℕ) → List ℕ
+raisedValues flags d values = remade (λ c x. x + counted (eqb (getD flags c 0) 1) d) (length values) values
+
+unfoldable pub raisedLoads : (labels flags : List ℕ) → (n d : ℕ) → (loads : List ℕ) → List ℕ
+raisedLoads labels flags n d loads = remade (λ v x. x + counted (eqb (getD flags (getD labels v 0) 0) 1) d) n loads
+
+-- Raising by d stays within 64 bits.
+pub record Room (l : List ℕ) (d : ℕ) : Type 0 where
+  pub fits : (i : ℕ) → getD l i 0 + d < 2 ^ 64

@@ -1,0 +1,265 @@
+// How duals grow, over arrays: labels, loads, values, picked marks, and the order of the picks. Definitions in specs/.
+ghost use Rattle.base_buffer.specs.Lent.{old, new};
+ghost use mathlib.Core.Path.{_≡_};
+ghost use Prim.Native.Nat.{_+_, _<_, _^_};
+ghost use lib.ListN.{getD, set, length};
+ghost use lib.Dec.{eqb};
+ghost use Rattle.base_finite.specs.Below.{counted, sumBelow, tabulate};
+ghost use Rattle.base_limits.specs.Verdict.{written};
+ghost use Rattle.base_limits.specs.Limits.{maxDuals};
+ghost use Rattle.theory_steiner.specs.Problem.{Problem};
+ghost use Rattle.survey_core.specs.Refusal.{surveyRefusal};
+ghost use Rattle.theory_steiner.specs.Growth.{active, winner, stateAt};
+ghost use Rattle.survey_core.specs.Survey.{surveyFrom, lentSurvey, groupsAlone, problemOf};
+ghost use Rattle.plan_winner.specs.Scan.{passOf};
+ghost use Rattle.plan_delay.specs.Between.{delayIn};
+ghost use Rattle.plan_growth.specs.Tables.{flagged, raisedValues, raisedLoads, Room};
+ghost use Rattle.plan_growth.specs.View.{waitOf, View, Growing, Shows, growthFrom, Small};
+ghost use Rattle.survey_core.specs.Laws.Refusal.{SurveySound};
+use base_buffer::at64;
+use base_buffer::put8;
+use base_buffer::put32;
+use base_buffer::put64;
+use base_limits::Verdict;
+use plan_delay::Delay;
+use plan_delay::Winner;
+
+// What growing leaves: how many rounds there were, the sum of all duals, the component numbers of the vertices, the values of the component numbers, 1 for each
+// picked edge, and the edges in the order of the rounds.
+pub struct Growth {
+    pub rounds: usize,
+    pub bound: u64,
+    pub labels: [u32; 256],
+    pub values: [u64; 511],
+    pub picked: [u8; 2048],
+    pub order: [u32; 256],
+}
+
+// The component of a vertex of a split group is active.
+fn flag_label(flags: &mut [u8], summary: u64, label: u32)
+    ensures { λ r. ⌜ new flags ≡ flagged (old flags) summary label ⌝ }
+{
+    if summary == 1 {
+        put8(flags, base_buffer::index32(label), 1);
+    }
+}
+
+// 1 for each active component number, 0 for the others.
+fn active_flags(groups: &[u8], labels: &[u32]) -> [u8; 511]
+    ensures { λ r. ⌜ r ≡ tabulate maxDuals (λ c. counted (active (problemOf (groupsAlone (old groups))) (λ v. getD (old labels) v 0) c) 1) ⌝ }
+{
+    let table = survey_groups::spreads(groups, labels);
+    let mut flags = [0u8; 511];
+    let mut v = 0;
+    while v < groups.len() {
+        let summary = at64(&table, base_buffer::index8(base_buffer::at8(groups, v)));
+        flag_label(&mut flags, summary, base_buffer::at32(labels, v));
+        v += 1;
+    }
+    flags
+}
+
+// A value raised by d where its flag is set.
+fn raised(x: u64, flag: u8, d: u64) -> u64
+    requires { ⌜ x + d < 2 ^ 64 ⌝ }
+    ensures { λ r. ⌜ r ≡ x + counted (eqb flag 1) d ⌝ }
+{
+    if flag == 1 {
+        return x + d;
+    }
+    x
+}
+
+// Every active component is raised.
+fn raise_values(values: &mut [u64], flags: &[u8], d: u64)
+    requires { ⌜ Room (now values) d ⌝ }
+    ensures { λ r. ⌜ new values ≡ raisedValues (old flags) d (old values) ⌝ }
+{
+    let mut c = 0;
+    while c < values.len() {
+        let x = raised(at64(values, c), base_buffer::at8(flags, c), d);
+        put64(values, c, x);
+        c += 1;
+    }
+}
+
+// Every vertex of an active component is loaded more.
+fn raise_loads(loads: &mut [u64], labels: &[u32], flags: &[u8], n: usize, d: u64)
+    requires { ⌜ Room (now loads) d ⌝ }
+    ensures { λ r. ⌜ new loads ≡ raisedLoads (old labels) (old flags) n d (old loads) ⌝ }
+{
+    let mut v = 0;
+    while v < n {
+        let flag = base_buffer::at8(flags, base_buffer::index32(base_buffer::at32(labels, v)));
+        let x = raised(at64(loads, v), flag, d);
+        put64(loads, v, x);
+        v += 1;
+    }
+}
+
+// Edge e is the pick of round r.
+fn note_pick(picked: &mut [u8], order: &mut [u32], e: usize, r: usize)
+    requires { ⌜ e < 2 ^ 32 ⌝ }
+    ensures { λ x. ⌜ new picked ≡ set (old picked) e 1 ⌝ }
+    ensures { λ x. ⌜ new order ≡ set (old order) r e ⌝ }
+{
+    put8(picked, e, 1);
+    put32(order, r, e as u32);
+}
+
+// One round: the winner's delay if there was a winner, and the arrays after it.
+fn round(
+    groups: &[u8],
+    firsts: &[u32],
+    seconds: &[u32],
+    weights: &[u32],
+    labels: &mut [u32],
+    loads: &mut [u64],
+    values: &mut [u64],
+    picked: &mut [u8],
+    order: &mut [u32],
+    keys: &mut [u64],
+    floors: &mut [u64],
+    r: usize,
+    time: u64,
+) -> Delay
+    requires { ⌜ Growing (surveyFrom (now groups) (now firsts) (now seconds) (now weights)) r time (now keys) (now floors) (now labels) (now loads) (now values) (now picked) (now order) ⌝ }
+    ensures { λ x. ⌜ delayIn x ≡ waitOf (winner (problemOf (lentSurvey groups firsts seconds weights)) (stateAt (problemOf (lentSurvey groups firsts seconds weights)) r)) ⌝ }
+    ensures { λ x. ⌜ View (problemOf (lentSurvey groups firsts seconds weights)) (r + 1) (new labels) (new loads) (new values) (new picked) (new order) ⌝ }
+    ensures { λ x. ⌜ new keys ≡ passOf (problemOf (lentSurvey groups firsts seconds weights)) (stateAt (problemOf (lentSurvey groups firsts seconds weights)) r) time (old keys) (old floors) .scanned .keys ⌝ }
+    ensures { λ x. ⌜ new floors ≡ passOf (problemOf (lentSurvey groups firsts seconds weights)) (stateAt (problemOf (lentSurvey groups firsts seconds weights)) r) time (old keys) (old floors) .floors ⌝ }
+{
+    let flags = active_flags(groups, labels);
+    let found = plan_winner::find_winner(
+        firsts,
+        seconds,
+        weights,
+        labels,
+        loads,
+        &flags,
+        time,
+        keys,
+        floors,
+    );
+    let Winner::Edge { e, d } = found else {
+        return Delay::Never;
+    };
+    raise_values(values, &flags, d);
+    raise_loads(loads, labels, &flags, groups.len(), d);
+    let z = (groups.len() + r) as u32;
+    survey_components::merge(
+        labels,
+        base_buffer::at32(firsts, e),
+        base_buffer::at32(seconds, e),
+        z,
+    );
+    note_pick(picked, order, e, r);
+    Delay::After(d)
+}
+
+// The sum of the first `count` values.
+fn sum_values(values: &[u64], count: usize) -> u64
+    requires { ⌜ Small (now values) count ⌝ }
+    ensures { λ r. ⌜ r ≡ sumBelow count (λ c. getD (old values) c 0) ⌝ }
+{
+    let mut sum = 0;
+    let mut c = 0;
+    while c < count {
+        sum += at64(values, c);
+        c += 1;
+    }
+    sum
+}
+
+// The answer after this many rounds.
+fn finished(
+    n: usize,
+    rounds: usize,
+    labels: [u32; 256],
+    values: [u64; 511],
+    picked: [u8; 2048],
+    order: [u32; 256],
+) -> Growth
+    requires { ⌜ Small values (n + rounds) ⌝ }
+    ensures { λ r. ⌜ r ≡ growthFrom rounds (sumBelow (n + rounds) (λ c. getD values c 0)) labels values picked order ⌝ }
+{
+    let bound = sum_values(&values, n + rounds);
+    Growth {
+        rounds,
+        bound,
+        labels,
+        values,
+        picked,
+        order,
+    }
+}
+
+// Rounds until no candidate is left.
+fn grow_rounds(groups: &[u8], firsts: &[u32], seconds: &[u32], weights: &[u32]) -> Growth
+    requires { ⌜ SurveySound (surveyFrom (now groups) (now firsts) (now seconds) (now weights)) ⌝ }
+    ensures { λ r. ⌜ Shows (problemOf (lentSurvey groups firsts seconds weights)) (length (old groups)) r ⌝ }
+{
+    let mut labels = [0u32; 256];
+    let mut loads = [0u64; 256];
+    let mut values = [0u64; 511];
+    let mut picked = [0u8; 2048];
+    let mut order = [0u32; 256];
+    let mut keys = [0u64; 2048];
+    let mut floors = [0u64; 129];
+    survey_components::own_labels(&mut labels);
+    let mut time = 0;
+    let mut r = 0;
+    while r < groups.len() {
+        let wait = round(
+            groups,
+            firsts,
+            seconds,
+            weights,
+            &mut labels,
+            &mut loads,
+            &mut values,
+            &mut picked,
+            &mut order,
+            &mut keys,
+            &mut floors,
+            r,
+            time,
+        );
+        let Delay::After(d) = wait else {
+            return finished(groups.len(), r, labels, values, picked, order);
+        };
+        time += d;
+        r += 1;
+    }
+    finished(groups.len(), r, labels, values, picked, order)
+}
+
+// No round at all.
+fn no_rounds() -> Growth
+    ensures { λ r. ⌜ ((p : Problem) → Shows p 0 r) ⌝ }
+{
+    let mut labels = [0u32; 256];
+    survey_components::own_labels(&mut labels);
+    Growth {
+        rounds: 0,
+        bound: 0,
+        labels,
+        values: [0u64; 511],
+        picked: [0u8; 2048],
+        order: [0u32; 256],
+    }
+}
+
+// Growth to its end; a refused survey has no round.
+pub fn grow(groups: &[u8], firsts: &[u32], seconds: &[u32], weights: &[u32]) -> Growth
+    ensures { λ r. ⌜ Shows (problemOf (lentSurvey groups firsts seconds weights)) (written (surveyRefusal (lentSurvey groups firsts seconds weights)) (length (old groups)) 0) r ⌝ }
+{
+    let found = survey_core::survey_refusal(groups, firsts, seconds, weights);
+    if let Verdict::Refused {
+        number: _,
+        place: _,
+    } = found {
+        return no_rounds();
+    }
+    grow_rounds(groups, firsts, seconds, weights)
+}

@@ -1,0 +1,23 @@
+-- `block_size` meets its contract: whole, or what is left.
+use borrow.Author.Tests.{lt-ltb, le-ltb}
+use Rattle.plan_winner.specs.Scan.{blockSize}
+use borrow.Author.Needs.{needs}
+use Rattle.plan_winner.proofs.block_size.Statement.{statement}
+use Rattle.plan_winner.proofs.block_size.Tie as tie
+
+mul-left : tie.Need-mul-left
+mul-left c = search needs
+
+sub-left : tie.Need-sub-left
+sub-left c = search needs
+
+returns : tie.Need-returns
+unfolding blockSize
+returns c = rw (lt-ltb _ _ (c .if1 .taken))
+
+returns-2 : tie.Need-returns-2
+unfolding blockSize
+returns-2 c = rw (le-ltb _ _ (c .if1 .left))
+
+pub block-size-spec : {M : Type 1} → statement M
+block-size-spec = tie.close (tie.spec mul-left sub-left returns returns-2)

@@ -1,0 +1,82 @@
+-- `find_winner` meets its contract: before block b it has what the passes have.
+use Prim.Native.Nat.{_-_}
+use mathlib.Core.Path.{ap, _∙_}
+use mathlib.Core.Logic.{⊎-elim}
+use Rattle.plan_winner.specs.Scan.{blocksOf}
+use Rattle.plan_winner.specs.Tables.{tablesFrom}
+use Rattle.plan_delay.specs.Between.{winnerIn}
+use Rattle.plan_winner.specs.Laws.Scan.{capped-small}
+use Rattle.plan_winner.specs.Laws.Loops.{Passing, passing-start, block-starts, passing-look, passing-over, passing-keys, passing-floors, passing-end}
+use borrow.Author.Needs.{needs}
+use native.Mathlib.Omega.{arith}
+use Rattle.plan_winner.proofs.find_winner.Statement.{statement}
+use Rattle.plan_winner.proofs.find_winner.Tie as tie
+
+abbrev Inv-loop : tie.InvT-loop
+Inv-loop firsts seconds weights labels loads flags time keys₀ floors₀ capped best₀ limit₀ blocks b₀ keys floors best limit b =
+    Passing (tablesFrom firsts seconds weights labels loads flags) capped keys₀ floors₀ blocks b limit (winnerIn best) keys floors
+
+abbrev μ-loop : tie.MeasureT-loop
+μ-loop firsts seconds weights labels loads flags time keys₀ floors₀ capped best₀ limit₀ blocks b₀ keys floors best limit b =
+    blocks - b
+
+capped-time-requires : tie.Need-capped-time-requires Inv-loop μ-loop
+capped-time-requires c κs = search needs
+
+add-blocks : tie.Need-add-blocks Inv-loop μ-loop
+add-blocks c = search needs
+
+loop-holds : tie.Need-loop-holds Inv-loop μ-loop
+unfolding winnerIn
+loop-holds c = passing-start _ _ _ _ _
+
+at64-requires : tie.Need-at64-requires Inv-loop μ-loop
+at64-requires c κs = search needs
+
+pass-block-requires : tie.Need-pass-block-requires Inv-loop μ-loop
+pass-block-requires c κs = (capped-small _ (c .before .before .before .before .before .before .before .capped-time .ensures), block-starts _ _ (c .before .before .before .before .before .loop-test .taken))
+
+limit-of-requires : tie.Need-limit-of-requires Inv-loop μ-loop
+limit-of-requires c κs = capped-small _ (c .before .before .before .before .before .before .before .before .before .before .before .before .capped-time .ensures)
+
+add-b : tie.Need-add-b Inv-loop μ-loop
+add-b c = search needs
+
+loop-less : tie.Need-loop-less Inv-loop μ-loop
+loop-less c = omega arith
+
+loop-again : tie.Need-loop-again Inv-loop μ-loop
+loop-again c =
+    ⊎-elim
+    (λ w. passing-look (c .before .before .before .before .loop .inv) (c .before .before .before .loop-test .taken) (c .before .at64 .ensures) (w .0 .taken) (w .3 .ensures .0) (w .3 .ensures .1 .0) (w .10 ∙ w .3 .ensures .1 .1) (ap winnerIn (w .11)) (w .12 ∙ w .8 .ensures) (w .9))
+    (λ w. passing-over (c .before .before .before .before .loop .inv) (c .before .before .before .loop-test .taken) (c .before .at64 .ensures) (w .0 .left) (ap winnerIn (w .3)) (w .4) (w .1) (w .2))
+    (c .if1 .came)
+
+same-length : tie.Need-same-length Inv-loop μ-loop
+same-length c = passing-keys (c .before .loop .inv)
+
+same-length-2 : tie.Need-same-length-2 Inv-loop μ-loop
+same-length-2 c = passing-floors (c .before .loop .inv)
+
+returns : tie.Need-returns Inv-loop μ-loop
+unfolding blocksOf
+returns c = passing-end (c .before .loop .inv) _ (c .before .before .capped-time .ensures) (c .loop-test .left)
+
+pub find-winner-spec : {M : Type 1} → statement M
+find-winner-spec =
+    tie.close
+    (tie.spec
+    Inv-loop
+    μ-loop
+    capped-time-requires
+    add-blocks
+    loop-holds
+    at64-requires
+    pass-block-requires
+    limit-of-requires
+    add-b
+    loop-less
+    loop-again
+    same-length
+    same-length-2
+    returns)

@@ -1,0 +1,59 @@
+-- `pass_block` meets its contract: the edges of the block, and then the lowest of their keys.
+use mathlib.Core.Path.{ap, _∙_}
+use lib.ListN.{length, set}
+use Rattle.plan_winner.specs.Tables.{onBy}
+use Rattle.plan_winner.specs.Laws.Blocks.{size-fits, size-is}
+use native.Mathlib.Omega.{arith}
+use borrow.Author.Needs.{needs}
+use Rattle.plan_winner.proofs.pass_block.Statement.{statement}
+use Rattle.plan_winner.proofs.pass_block.Tie as tie
+
+mul-from : tie.Need-mul-from
+mul-from c = search needs
+
+block-size-requires : tie.Need-block-size-requires
+block-size-requires c κs = search needs
+
+add-to : tie.Need-add-to
+add-to c =
+    let f = size-fits (length (c .before .before .before .before .before .before .before .before .before .args .firsts .now)) (c .before .before .before .before .before .before .before .before .before .args .b) (c .before .before .before .before .before .before .before .before .before .pre .1) in
+    let e = c .block-size .ensures in
+    omega arith
+
+scan-block-requires : tie.Need-scan-block-requires
+scan-block-requires c κs = search needs
+
+lowest-key-requires : tie.Need-lowest-key-requires
+lowest-key-requires c κs = search needs
+
+put64-requires : tie.Need-put64-requires
+put64-requires c κs = search needs
+
+same-length : tie.Need-same-length
+same-length c = c .before .before .before .before .before .before .before .keys .given
+
+same-length-2 : tie.Need-same-length-2
+same-length-2 c = c .before .floors .given
+
+returns : tie.Need-returns
+unfolding onBy
+returns c =
+    let z = size-is (c .before .before .before .before .before .before .before .before .before .before .before .before .before .before .before .before .before .before .before .args .b) (c .before .before .before .before .before .before .before .before .before .before .block-size .ensures) in
+    let best = c .before .before .before .before .before .before .before .before .scan-block .ensures .0 in
+    let keys = c .before .before .before .before .before .before .before .before .scan-block .ensures .1 in
+    let floors = c .before .before .put64 .ensures ∙ ap (λ x. set (c .before .before .before .before .before .before .before .before .before .before .before .before .before .before .before .before .before .before .before .args .floors .now) (c .before .before .before .before .before .before .before .before .before .before .before .before .before .before .before .before .before .before .before .args .b) x) (c .before .before .before .lowest-key .ensures) in
+    (rw z at best, (rw z at keys, rw z at floors))
+
+pub pass-block-spec : {M : Type 1} → statement M
+pass-block-spec =
+    tie.close
+    (tie.spec
+    mul-from
+    block-size-requires
+    add-to
+    scan-block-requires
+    lowest-key-requires
+    put64-requires
+    same-length
+    same-length-2
+    returns)

@@ -1,0 +1,70 @@
+-- `scan_block` meets its contract: before edge e it has what the scan has.
+use Prim.Native.Nat.{_-_}
+use mathlib.Core.Path.{ap, _∙_}
+use mathlib.Core.Logic.{⊎-elim}
+use Rattle.plan_winner.specs.Tables.{tablesFrom}
+use Rattle.plan_delay.specs.Between.{winnerIn}
+use Rattle.plan_winner.specs.Laws.Loops.{Scanning, scanning-start, scanning-look, scanning-pass, scanning-long, scanning-end}
+use borrow.Author.Needs.{needs}
+use native.Mathlib.Omega.{arith}
+use Rattle.plan_winner.proofs.scan_block.Statement.{statement}
+use Rattle.plan_winner.proofs.scan_block.Tie as tie
+
+abbrev Inv-loop : tie.InvT-loop
+Inv-loop firsts seconds weights labels loads flags time keys₀ from to champion₀ limit₀ e₀ keys champion limit e =
+    Scanning (tablesFrom firsts seconds weights labels loads flags) time (winnerIn champion₀) keys₀ from to e limit (winnerIn champion) keys
+
+abbrev μ-loop : tie.MeasureT-loop
+μ-loop firsts seconds weights labels loads flags time keys₀ from to champion₀ limit₀ e₀ keys champion limit e =
+    to - e
+
+limit-of-requires : tie.Need-limit-of-requires Inv-loop μ-loop
+limit-of-requires c κs = search needs
+
+loop-holds : tie.Need-loop-holds Inv-loop μ-loop
+loop-holds c = scanning-start _ _ _ _ _ _ (c .limit-of .ensures)
+
+at64-requires : tie.Need-at64-requires Inv-loop μ-loop
+at64-requires c κs = search needs
+
+look-requires : tie.Need-look-requires Inv-loop μ-loop
+look-requires c κs = search needs
+
+limit-of-requires-2 : tie.Need-limit-of-requires-2 Inv-loop μ-loop
+limit-of-requires-2 c κs = search needs
+
+add-e : tie.Need-add-e Inv-loop μ-loop
+add-e c = search needs
+
+loop-less : tie.Need-loop-less Inv-loop μ-loop
+loop-less c = omega arith
+
+loop-again : tie.Need-loop-again Inv-loop μ-loop
+loop-again c =
+    ⊎-elim
+    (λ w. scanning-look (c .before .before .before .before .loop .inv) (c .before .before .before .loop-test .taken) (c .before .at64 .ensures) (w .0 .taken) (w .2 .ensures .0) (w .2 .ensures .1) (ap winnerIn (w .7)) (w .8 ∙ w .5 .ensures) (w .6))
+    (λ w. scanning-pass (c .before .before .before .before .loop .inv) (c .before .before .before .loop-test .taken) (c .before .at64 .ensures) (w .0 .left) (ap winnerIn (w .2)) (w .3) (w .1))
+    (c .if1 .came)
+
+same-length : tie.Need-same-length Inv-loop μ-loop
+same-length c = scanning-long (c .before .loop .inv)
+
+returns : tie.Need-returns Inv-loop μ-loop
+returns c = scanning-end (c .before .loop .inv) (c .loop-test .left)
+
+pub scan-block-spec : {M : Type 1} → statement M
+scan-block-spec =
+    tie.close
+    (tie.spec
+    Inv-loop
+    μ-loop
+    limit-of-requires
+    loop-holds
+    at64-requires
+    look-requires
+    limit-of-requires-2
+    add-e
+    loop-less
+    loop-again
+    same-length
+    returns)

@@ -1,0 +1,174 @@
+-- A scan by keys finds the winner, and its keys serve the next round.
+use Prim.Native.Nat.{ℕ, zero, suc, _+_, _*_, _-_, _/_, _<_, _≤_, _^_}
+use native.Mathlib.Omega.{arith}
+use native.Mathlib.Numerals.{add-one}
+use mathlib.Core.Path.{_≡_, refl, ap, sym, _∙_, subst}
+use mathlib.Core.Bool.{Bool, true, false, cond}
+use mathlib.Core.List.{List}
+use lib.ListN.{length, getD, set, length-set, List·getD-eq-default}
+use lib.Seq.{getD-set-same, getD-set-other}
+use lib.Dec.{eqb, ltb}
+use borrow.Author.Tests.{eqb-true, eqb-false, ne-eqb, ltb-true, ltb-false, lt-ltb, le-ltb}
+use Rattle.base_finite.specs.Below.{counted, tabulate}
+use Rattle.base_finite.specs.Laws.Below.{counted-le, lt-or-ge, length-tabulate, getD-tabulate}
+use Rattle.base_limits.specs.Limits.{maxWeight}
+use mathlib.Core.Logic.{_⊎_, inl, inr}
+use Rattle.theory_steiner.specs.Problem.{Problem, Sound}
+use Rattle.theory_steiner.specs.Growth.{State, active, load, slack, Delay, never, after, delay, Winner, nobody, edge, better, winnerBelow, winner, pick, stateAt}
+use Rattle.theory_steiner.specs.Laws.Winner.{Waits, one-first, one-second, both, delay-elim}
+use Rattle.theory_steiner.specs.Laws.Round.{stateAt-reached, pick-rounds}
+use Rattle.theory_steiner.specs.Laws.Rounds.{stateAt-pick, stateAt-still, delay-le}
+use Rattle.theory_steiner.specs.Laws.Partition.{winner-below}
+use Rattle.theory_steiner.specs.Laws.Weighed.{load-pick}
+use Rattle.theory_steiner.specs.Laws.Degree.{label-later}
+use Rattle.plan_winner.specs.Scan.{noKey, key, cappedTime, limitOf, Scan, looked, scan, scanOf, Keyed, timeAfter, blockEdges, Floored}
+
+-- ---- the time
+
+pub capped-is : (time : ℕ) → time < 2 ^ 62 → cappedTime time ≡ time
+unfolding cappedTime
+capped-is time h = rw (lt-ltb time (2 ^ 62) h)
+
+pub capped-small : (time : ℕ) {capped : ℕ} → capped ≡ cappedTime time → capped < 2 ^ 62
+unfolding cappedTime
+capped-small time h = by (ltb time (2 ^ 62)) refl h
+  where
+    by : {capped : ℕ} (t : Bool) → ltb time (2 ^ 62) ≡ t → capped ≡ cond t time (2 ^ 62 - 1) → capped < 2 ^ 62
+    by true t h = let l = ltb-true time (2 ^ 62) t in omega arith
+    by false t h = omega arith
+
+-- ---- the winner
+
+pub set-low : (l : List ℕ) (e x i B : ℕ) → (i ≡ e → x ≤ B) → ((i ≡ e → ⊥) → getD l i 0 ≤ B) → getD (set l e x) i 0 ≤ B
+set-low l e x i B h k = by (eqb i e) refl (lt-or-ge e (length l))
+  where
+    by : (t : Bool) → eqb i e ≡ t → (e < length l) ⊎ (length l ≤ e) → getD (set l e x) i 0 ≤ B
+    by true t (inl b) = let q = eqb-true i e t in let s = getD-set-same l e x 0 b in let y = h q in rw q (omega arith)
+    by true t (inr b) =
+        let q = eqb-true i e t in
+        let n = length-set l e x in
+        let z : getD (set l e x) i 0 ≡ 0 = List·getD-eq-default (set l e x) 0 (omega arith) in
+        omega arith
+    by false t b = let d = eqb-false i e t in let s = getD-set-other l e i x 0 d in let y = k d in omega arith
+
+-- A delay is at least half of what remains.
+waits-half : {x y : Bool} {r d : ℕ} (c : ℕ) → Waits x y r d → 2 * c ≤ r → c ≤ d
+waits-half c (one-first a b e) h = omega arith
+waits-half c (one-second a b e) h = omega arith
+waits-half c (both a b e) h = omega arith
+
+module _ (p : Problem) (s : State) (light : (e : ℕ) → e < p .edges → p .weight e ≤ maxWeight) (few : s .rounds < 256) (time : ℕ) where
+  -- An edge whose key is not below the limit changes nothing.
+  pass-keeps : {keys : List ℕ} (k : ℕ) (best : Winner) → Keyed p s time keys → k < p .edges → limitOf time best ≤ getD keys k 0 → better best k (delay p s k) ≡ best
+  unfolding better limitOf slack
+  pass-keeps {keys} k best h b l = by-delay (delay p s k) refl best l
+    where
+      early : time < 2 ^ 62
+      early = let t = h .early in omega arith
+
+      by-delay : (w : Delay) → delay p s k ≡ w → (best : Winner) → limitOf time best ≤ getD keys k 0 → better best k w ≡ best
+      by-delay never q best l = refl
+      by-delay (after d) q nobody l =
+          let low = h .low k b (delay-elim p s k d q .apart) in
+          let w = light k b in
+          let t = early in
+          absurd (omega arith)
+      by-delay (after d) q (edge f c) l = by-size (ltb c (2 ^ 62)) refl
+        where
+          by-size : (x : Bool) → ltb c (2 ^ 62) ≡ x → cond (ltb d c) (edge k d) (edge f c) ≡ edge f c
+          by-size true x =
+              let low = h .low k b (delay-elim p s k d q .apart) in
+              let m : 2 * (time + c) ≤ getD keys k 0 = rw x at l in
+              let g = waits-half c (delay-elim p s k d q .waits) (omega arith) in
+              rw (le-ltb d c g)
+          by-size false x =
+              let low = h .low k b (delay-elim p s k d q .apart) in
+              let m : noKey ≤ getD keys k 0 = rw x at l in
+              let w = light k b in
+              let t = early in
+              absurd (omega arith)
+
+  key-low : (e : ℕ) → (s .label (p .first e) ≡ s .label (p .second e) → ⊥) → key p s time e ≤ 2 * time + slack p s e
+  unfolding key
+  key-low e h = rw (ne-eqb (s .label (p .first e)) (s .label (p .second e)) h) (omega arith)
+
+  scan-below : (keys : List ℕ) (k : ℕ) → k ≤ p .edges → Keyed p s time keys
+      → (scan (delay p s) (key p s time) time keys k .best ≡ winnerBelow p s k) × Keyed p s time (scan (delay p s) (key p s time) time keys k .keys)
+  unfolding scan looked winnerBelow
+  scan-below keys zero b h = (refl, h)
+  scan-below keys (suc k) b h = by-limit (ltb (getD (S .keys) k 0) (limitOf time (S .best))) refl (scan-below keys k (omega arith) h)
+    where
+      S : Scan
+      S = scan (delay p s) (key p s time) time keys k
+
+      by-limit : (x : Bool) → ltb (getD (S .keys) k 0) (limitOf time (S .best)) ≡ x → (S .best ≡ winnerBelow p s k) × Keyed p s time (S .keys)
+          → (cond x (record { best = better (S .best) k (delay p s k); keys = set (S .keys) k (key p s time k) }) S .best ≡ better (winnerBelow p s k) k (delay p s k))
+          × Keyed p s time (cond x (record { best = better (S .best) k (delay p s k); keys = set (S .keys) k (key p s time k) }) S .keys)
+      by-limit true x (ih, ik) = (
+        ap (λ w. better w k (delay p s k)) ih,
+        record {
+          early = ik .early;
+          low = λ e c a. set-low (S .keys) k (key p s time k) e (2 * time + slack p s e) (λ q. subst (λ i. key p s time i ≤ 2 * time + slack p s e) q (key-low e a)) (λ d. ik .low e c a);
+        },
+      )
+      by-limit false x (ih, ik) =
+          (ih ∙ sym (pass-keeps k (winnerBelow p s k) ik (omega arith) (subst (λ w. limitOf time w ≤ getD (S .keys) k 0) ih (ltb-false _ _ x))), ik)
+
+  -- The scan of a round finds the round's winner, and leaves keys that are good.
+  pub scan-wins : (keys : List ℕ) → Keyed p s time keys → (scanOf p s time keys .best ≡ winner p s) × Keyed p s time (scanOf p s time keys .keys)
+  unfolding scanOf winner
+  scan-wins keys h = scan-below keys (p .edges) (omega arith) h
+
+-- ---- the first round and the next
+
+zero-at : (n : ℕ) {l : List ℕ} → l ≡ tabulate n (λ e. 0) → (i : ℕ) → getD l i 0 ≡ 0
+zero-at n {l} h i = by (lt-or-ge i n)
+  where
+    by : (i < n) ⊎ (n ≤ i) → getD l i 0 ≡ 0
+    by (inl b) = ap (λ t. getD t i 0) h ∙ getD-tabulate n (λ e. 0) i 0 b
+    by (inr b) = let k : length l ≡ n = ap length h ∙ length-tabulate n (λ e. 0) in List·getD-eq-default l 0 (omega arith)
+
+-- Keys and floors of 0 bound nothing.
+pub keyed-start : (p : Problem) (n : ℕ) {keys : List ℕ} → keys ≡ tabulate n (λ e. 0) → Keyed p (stateAt p 0) 0 keys
+keyed-start p n h = record { early = omega arith; low = λ e b a. let z = zero-at n h e in omega arith }
+
+pub floored-start : (m n : ℕ) (keys : List ℕ) {floors : List ℕ} → floors ≡ tabulate n (λ b. 0) → Floored m keys floors
+floored-start m n keys h = record { low = λ e b. let z = zero-at n h (e / blockEdges) in omega arith }
+
+module _ (p : Problem) (ok : Sound p) (light : (e : ℕ) → e < p .edges → p .weight e ≤ maxWeight) (r time : ℕ) where
+  -- No edge comes nearer than by the delay at each end, and components never part.
+  keyed-pick : (e d : ℕ) {keys : List ℕ} → winner p (stateAt p r) ≡ edge e d → Keyed p (stateAt p r) time keys → Keyed p (stateAt p (r + 1)) (time + d) keys
+  unfolding slack
+  keyed-pick e d {keys} w h =
+      record {
+        early =
+            let l = delay-le p s e d w in
+            let m = light e (winner-below p s e d w) in
+            let t = h .early in
+            let q : stateAt p (r + 1) .rounds ≡ suc (s .rounds) = ap (λ x. x .rounds) next ∙ pick-rounds p s e d in
+            omega arith;
+        low = λ f b a.
+            let k = h .low f b (λ q. a (label-later p r 1 (p .first f) (p .second f) q)) in
+            let x = load-next (p .first f) (ok .first-below f b) in
+            let y = load-next (p .second f) (ok .second-below f b) in
+            omega arith;
+      }
+    where
+      s : State
+      s = stateAt p r
+
+      next : stateAt p (r + 1) ≡ pick p s e d
+      next = ap (stateAt p) (add-one r) ∙ stateAt-pick p r e d w
+
+      load-next : (v : ℕ) → v < p .vertices → load p (stateAt p (r + 1)) v ≤ load p s v + d
+      load-next v b =
+          let a : load p (stateAt p (r + 1)) v ≡ load p s v + counted (active p (s .label) (s .label v)) d =
+          ap (λ x. load p x v) next ∙ load-pick p ok (stateAt-reached p r) e d v b in
+          let c = counted-le (active p (s .label) (s .label v)) d in
+          omega arith
+
+  -- Good keys are good after the round.
+  pub keyed-next : {keys : List ℕ} (x : Winner) → winner p (stateAt p r) ≡ x → Keyed p (stateAt p r) time keys → Keyed p (stateAt p (r + 1)) (timeAfter time x) keys
+  unfolding timeAfter
+  keyed-next {keys} nobody w h = subst (λ (x : State). Keyed p x time keys) (sym (ap (stateAt p) (add-one r) ∙ stateAt-still p r w)) h
+  keyed-next (edge e d) w h = keyed-pick e d w h

@@ -1,0 +1,105 @@
+-- A scan for the winner that passes over edges which cannot win yet. An edge's key is twice the time at which it is reached if both its ends are active from now
+-- on; time is the sum of the delays so far. Keys that were noted in earlier rounds still bound that time from below (law `keyed-next`), so that an edge whose key is
+-- not below twice the time of the best so far needs no look, and the winner is the winner among all edges (law `scan-wins`). This is how the code looks for it; what
+-- `grow` answers is said without it, by the rounds of `steiner: Growth`.
+use Prim.Native.Nat.{ℕ, zero, suc, _+_, _*_, _-_, _/_, _<_, _≤_, _^_}
+use mathlib.Core.Path.{_≡_}
+use mathlib.Core.Bool.{cond}
+use mathlib.Core.List.{List}
+use lib.ListN.{getD, set}
+use lib.Dec.{eqb, ltb}
+use Rattle.base_limits.specs.Limits.{maxWeight}
+use Rattle.theory_steiner.specs.Problem.{Problem}
+use Rattle.theory_steiner.specs.Growth.{State, slack, Delay, Winner, nobody, edge, better, delay}
+
+-- The key of an edge inside a component, which is never reached.
+abbrev pub noKey : ℕ
+noKey = 18446744073709551615
+
+unfoldable pub key : Problem → State → (time e : ℕ) → ℕ
+key p s time e = cond (eqb (s .label (p .first e)) (s .label (p .second e))) noKey (2 * time + slack p s e)
+
+-- The time that the search goes by: no growth comes to 2^62 (law `capped-is`), and a later time is taken for the last before it.
+unfoldable pub cappedTime : (time : ℕ) → ℕ
+cappedTime time = cond (ltb time (2 ^ 62)) time (2 ^ 62 - 1)
+
+-- Twice the time of the best so far.
+unfoldable pub limitOf : (time : ℕ) → Winner → ℕ
+limitOf time nobody = noKey
+limitOf time (edge e d) = cond (ltb d (2 ^ 62)) (2 * (time + d)) noKey
+
+-- The best of the edges so far, and the keys as noted.
+pub record Scan : Type 0 where
+  pub best : Winner
+  pub keys : List ℕ
+
+-- One edge more: it is looked at if its key is below the limit.
+unfoldable pub looked : (delays : ℕ → Delay) (fresh : ℕ → ℕ) (time : ℕ) → Scan → ℕ → Scan
+looked delays fresh time s e =
+    cond (ltb (getD (s .keys) e 0) (limitOf time (s .best))) (record { best = better (s .best) e (delays e); keys = set (s .keys) e (fresh e) }) s
+
+unfoldable pub scan : (delays : ℕ → Delay) (fresh : ℕ → ℕ) (time : ℕ) (keys : List ℕ) → ℕ → Scan
+scan delays fresh time keys zero = record { best = nobody; keys = keys }
+scan delays fresh time keys (suc e) = looked delays fresh time (scan delays fresh time keys e) e
+
+-- So many edges more, from edge `from` on.
+unfoldable pub scanOn : (delays : ℕ → Delay) (fresh : ℕ → ℕ) (time : ℕ) → Scan → (from count : ℕ) → Scan
+scanOn delays fresh time s from zero = s
+scanOn delays fresh time s from (suc k) = looked delays fresh time (scanOn delays fresh time s from k) (from + k)
+
+-- The scan of a round.
+unfoldable pub scanOf : Problem → State → (time : ℕ) → (keys : List ℕ) → Scan
+scanOf p s time keys = scan (delay p s) (key p s time) time keys (p .edges)
+
+-- Keys that bound from below, and a time within what so many rounds can take.
+pub record Keyed (p : Problem) (s : State) (time : ℕ) (keys : List ℕ) : Type 0 where
+  pub early : time ≤ s .rounds * (2 * maxWeight)
+  pub low : (e : ℕ) → e < p .edges → (s .label (p .first e) ≡ s .label (p .second e) → ⊥) → getD keys e 0 ≤ 2 * time + slack p s e
+
+-- The time after a round.
+unfoldable pub timeAfter : (time : ℕ) → Winner → ℕ
+timeAfter time nobody = time
+timeAfter time (edge e d) = time + d
+
+-- ---- blocks
+
+-- Edges come in blocks, and a block's floor is not above any of its keys (law `passes-scan`: blocks whose floors say so are passed over whole).
+abbrev pub blockEdges : ℕ
+blockEdges = 16
+
+-- The edges of block b, where m are all.
+unfoldable pub blockSize : (m b : ℕ) → ℕ
+blockSize m b = cond (ltb (m - blockEdges * b) blockEdges) (m - blockEdges * b) blockEdges
+
+-- One block more than the whole ones: it holds what is left, if anything is.
+unfoldable pub blocksOf : (m : ℕ) → ℕ
+blocksOf m = m / blockEdges + 1
+
+-- The lowest of so many keys.
+unfoldable pub lowest : (keys : List ℕ) (from count : ℕ) → ℕ
+lowest keys from zero = noKey
+lowest keys from (suc k) = let x = lowest keys from k in let y = getD keys (from + k) 0 in cond (ltb y x) y x
+
+-- What the blocks so far leave.
+pub record Pass : Type 0 where
+  pub scanned : Scan
+  pub floors : List ℕ
+
+unfoldable pub blockPass : (delays : ℕ → Delay) (fresh : ℕ → ℕ) (time m : ℕ) → Pass → ℕ → Pass
+blockPass delays fresh time m s b =
+    let t = scanOn delays fresh time (s .scanned) (blockEdges * b) (blockSize m b) in
+    cond (ltb (getD (s .floors) b 0) (limitOf time (s .scanned .best)))
+    (record { scanned = t; floors = set (s .floors) b (lowest (t .keys) (blockEdges * b) (blockSize m b)) })
+    s
+
+unfoldable pub passes : (delays : ℕ → Delay) (fresh : ℕ → ℕ) (time m : ℕ) (keys floors : List ℕ) → ℕ → Pass
+passes delays fresh time m keys floors zero = record { scanned = record { best = nobody; keys = keys }; floors = floors }
+passes delays fresh time m keys floors (suc b) = blockPass delays fresh time m (passes delays fresh time m keys floors b) b
+
+-- All blocks of a round.
+unfoldable pub passOf : Problem → State → (time : ℕ) → (keys floors : List ℕ) → Pass
+passOf p s time keys floors = passes (delay p s) (key p s time) time (p .edges) keys floors (blocksOf (p .edges))
+
+-- No floor of a block is above its keys.
+pub record Floored (m : ℕ) (keys floors : List ℕ) : Type 0 where
+  pub low : (e : ℕ) → e < m → getD floors (e / blockEdges) 0 ≤ getD keys e 0

@@ -1,0 +1,65 @@
+-- `group_refusal` meets its contract: a sound survey has labels for every end, and the labels decide.
+use mathlib.Core.Path.{refl, ap, sym, _∙_}
+use lib.ListN.{length}
+use Rattle.base_finite.specs.Laws.Below.{length-tabulate}
+use Rattle.base_limits.specs.Limits.{maxVertices}
+use Rattle.base_limits.specs.Laws.Verdict.{before-fine, before-refused}
+use Rattle.survey_core.specs.Survey.{surveyFrom}
+use Rattle.survey_core.specs.Laws.Refusal.{fine-survey}
+use Rattle.survey_components.specs.Laws.Labels.{refusal-by-labels}
+use native.Mathlib.Omega.{arith}
+use borrow.Author.Needs.{needs}
+use Rattle.survey_components.proofs.group_refusal.Statement.{statement}
+use Rattle.survey_components.proofs.group_refusal.Tie as tie
+
+survey-refusal-requires : tie.Need-survey-refusal-requires
+survey-refusal-requires c κs = search needs
+
+enum-known-found : tie.Need-enum-known-found
+enum-known-found c = search needs
+
+returns : tie.Need-returns
+returns c = sym (before-refused (sym (c .before .before .before .survey-refusal .ensures) ∙ c .before .found .given .1) _)
+
+enum-told : tie.Need-enum-told
+enum-told c = search needs
+
+slice-aggregate-label-components : tie.Need-slice-aggregate-label-components
+slice-aggregate-label-components c = search needs
+
+label-components-requires : tie.Need-label-components-requires
+label-components-requires c κs =
+    let fine = fine-survey _ (sym (c .before .before .before .survey-refusal .ensures) ∙ c .before .enum-told .given .1) in
+    let few = fine .few in
+    record {
+      long = refl;
+      first-below = λ e b. let h = fine .edges e b .first-below in omega arith;
+      second-below = λ e b. let h = fine .edges e b .second-below in omega arith;
+    }
+
+slice-aggregate-split-refusal : tie.Need-slice-aggregate-split-refusal
+slice-aggregate-split-refusal c = sym (ap length (c .before .before .label-components .ensures) ∙ length-tabulate maxVertices _)
+
+split-refusal-requires : tie.Need-split-refusal-requires
+split-refusal-requires c κs = search needs
+
+returns-2 : tie.Need-returns-2
+returns-2 c =
+    let fine = sym (c .before .before .before .before .before .before .before .survey-refusal .ensures) ∙ c .before .before .before .before .before .enum-told .given .1 in
+    c .split-refusal .ensures
+    ∙ refusal-by-labels (surveyFrom _ _ _ _) _ _ (fine-survey _ fine .few) (c .before .before .before .label-components .ensures)
+    ∙ sym (before-fine fine _)
+
+pub group-refusal-spec : {M : Type 1} → statement M
+group-refusal-spec =
+    tie.close
+    (tie.spec
+    survey-refusal-requires
+    enum-known-found
+    returns
+    enum-told
+    slice-aggregate-label-components
+    label-components-requires
+    slice-aggregate-split-refusal
+    split-refusal-requires
+    returns-2)

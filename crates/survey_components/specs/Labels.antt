@@ -1,0 +1,34 @@
+-- Component labels as they stand in a buffer, and the sets of edges that are joined.
+use Prim.Native.Nat.{ℕ, _<_}
+use mathlib.Core.Path.{_≡_}
+use mathlib.Core.Bool.{Bool, true}
+use mathlib.Core.List.{List}
+use lib.ListN.{length, getD}
+use lib.Dec.{eqb}
+use Rattle.theory_graph.specs.Component.{merged}
+use Rattle.base_limits.specs.Limits.{maxVertices}
+use Rattle.survey_components.specs.declared.Chosen.{Chosen}
+use Rattle.survey_components.specs.declared.Chosen.the-variants.{All, Kept}
+use Rattle.base_buffer.specs.Store.{remade}
+
+-- All tracks, or those marked 2.
+unfoldable pub chosenMark : Chosen → ℕ → Bool
+chosenMark All mark = true
+chosenMark Kept mark = eqb mark 2
+
+unfoldable pub chosen : Chosen → (marks : List ℕ) → ℕ → Bool
+chosen set marks e = chosenMark set (getD marks e 0)
+
+-- Whoever had x or y has z.
+unfoldable pub relabelled : (x y z : ℕ) → List ℕ → List ℕ
+relabelled x y z labels = remade (λ v. merged x y z (λ l. l)) (length labels) labels
+
+-- The components of vertices a and b become a's.
+unfoldable pub endsJoined : (a b : ℕ) → List ℕ → List ℕ
+endsJoined a b labels = relabelled (getD labels a 0) (getD labels b 0) (getD labels a 0) labels
+
+-- Every end has a label in the buffer.
+pub record EndsFit (firsts seconds labels : List ℕ) : Type 0 where
+  pub long : length labels ≡ maxVertices
+  pub first-below : (e : ℕ) → e < length firsts → getD firsts e 0 < maxVertices
+  pub second-below : (e : ℕ) → e < length firsts → getD seconds e 0 < maxVertices

@@ -1,0 +1,52 @@
+-- `edge_refusal` meets its contract: each return by the law of its case.
+use native.Mathlib.Omega.{arith}
+use mathlib.Core.Path.{sym}
+use borrow.Author.Needs.{needs}
+use Rattle.survey_core.specs.Laws.Refusal.{edge-first-out, edge-second-out, edge-loop, edge-heavy, edge-fine}
+use Rattle.survey_core.proofs.edge_refusal.Statement.{statement}
+use Rattle.survey_core.proofs.edge_refusal.Tie as tie
+
+at32-requires : tie.Need-at32-requires
+at32-requires c κs = search needs
+
+at32-requires-2 : tie.Need-at32-requires-2
+at32-requires-2 c κs = search needs
+
+index32-requires : tie.Need-index32-requires
+index32-requires c κs = search needs
+
+returns : tie.Need-returns
+returns c = sym (edge-first-out _ _ (omega arith))
+
+index32-requires-2 : tie.Need-index32-requires-2
+index32-requires-2 c κs = search needs
+
+returns-2 : tie.Need-returns-2
+returns-2 c = sym (edge-second-out _ _ (omega arith) (omega arith))
+
+returns-3 : tie.Need-returns-3
+returns-3 c = sym (edge-loop _ _ (omega arith) (omega arith))
+
+at32-requires-3 : tie.Need-at32-requires-3
+at32-requires-3 c κs = search needs
+
+returns-4 : tie.Need-returns-4
+returns-4 c = sym (edge-heavy _ _ (omega arith) (omega arith) (omega (arith, c .before .before .if3 .left)) (omega arith))
+
+returns-5 : tie.Need-returns-5
+returns-5 c = sym (edge-fine _ _ (omega (arith, c .before .before .if3 .left)))
+
+pub edge-refusal-spec : {M : Type 1} → statement M
+edge-refusal-spec =
+    tie.close
+    (tie.spec
+    at32-requires
+    at32-requires-2
+    index32-requires
+    returns
+    index32-requires-2
+    returns-2
+    returns-3
+    at32-requires-3
+    returns-4
+    returns-5)

@@ -1,0 +1,157 @@
+-- A cut separates a required pair exactly if some group is not joined where the labels are the two sides. Refusal 12 and pruning use it.
+use Prim.Native.Nat.{ℕ, _<_}
+use native.Mathlib.Omega.{arith}
+use mathlib.Core.Path.{_≡_, refl, ap, sym, _∙_}
+use mathlib.Core.Logic.{_⊎_, inl, inr, ⊎-elim}
+use mathlib.Core.Bool.{Bool, true, false, _&&_, _||_, not}
+use lib.ListN.{length, getD}
+use lib.Dec.{eqb}
+use borrow.Author.Tests.{eq-eqb, eqb-true}
+use Rattle.base_finite.specs.Below.{counted, allBelow}
+use Rattle.base_finite.specs.Laws.Below.{all-intro, all-elim, counted-true, counted-false}
+use Rattle.base_finite.specs.Laws.Test.{either, and-left, and-right, and-both, or-right, true-not-false, not-true-false, not-of-false}
+use Rattle.base_limits.specs.Limits.{groupNumbers}
+use Rattle.base_limits.specs.Verdict.{refuseIf, lowestBelow}
+use Rattle.base_limits.specs.declared.Verdict.{Verdict}
+use Rattle.base_limits.specs.declared.Verdict.the-variants.{Fine, Refused}
+use Rattle.base_limits.specs.Laws.Verdict.{refuse-true, refuse-false, fine-refuse, lowest-none, none-lowest}
+use Rattle.theory_steiner.specs.Problem.{separates}
+use Rattle.theory_steiner.specs.Laws.Joined.{Split, separates-elim, separates-intro}
+use Rattle.survey_core.specs.Survey.{Survey, vertexCount, member, sameGroup, problemOf, groupJoined}
+use Rattle.survey_core.specs.Laws.Member.{member-elim, member-intro}
+
+-- The test of `groupJoined` at two vertices.
+abbrev test : Survey → (label : ℕ → ℕ) → (g u v : ℕ) → Bool
+test s label g u v = not (member s g u && member s g v) || eqb (label u) (label v)
+
+module _ (s : Survey) (S : ℕ → Bool) (label : ℕ → ℕ) (sided : (v : ℕ) → v < length (s .groups) → label v ≡ counted (S v) 1) where
+  -- A pair on two sides has two labels.
+  sides-differ : (u v : ℕ) → u < length (s .groups) → v < length (s .groups) → S u ≡ true → S v ≡ false → label u ≡ label v → ⊥
+  sides-differ u v bu bv hu hv e = omega (arith, sided u bu, sided v bv, counted-true hu 1, counted-false hv 1)
+
+  sides-agree : (u v : ℕ) → u < length (s .groups) → v < length (s .groups) → S u ≡ S v → label u ≡ label v
+  sides-agree u v bu bv h = sided u bu ∙ ap (λ t. counted t 1) h ∙ sym (sided v bv)
+
+  parted : (g u v : ℕ) → u < length (s .groups) → v < length (s .groups) → member s g u ≡ true → member s g v ≡ true → S u ≡ true → S v ≡ false
+      → separates (problemOf s) S ≡ true
+  unfolding problemOf vertexCount sameGroup
+  parted g u v bu bv mu mv hu hv =
+      separates-intro
+      (problemOf s)
+      S
+      (record {
+        u = u;
+        v = v;
+        u-below = bu;
+        v-below = bv;
+        required = rw (member-elim s g u mu .same) mv;
+        inside = hu;
+        outside = hv;
+      })
+
+  whole-pair : separates (problemOf s) S ≡ false → (g u v : ℕ) → u < length (s .groups) → v < length (s .groups) → test s label g u v ≡ true
+  whole-pair h g u v bu bv = by (either (member s g u && member s g v)) (either (S u)) (either (S v))
+    where
+      alike : S u ≡ S v → test s label g u v ≡ true
+      alike e = or-right (not (member s g u && member s g v)) (eqb (label u) (label v)) (eq-eqb (label u) (label v) (sides-agree u v bu bv e))
+
+      by : ((member s g u && member s g v) ≡ true) ⊎ ((member s g u && member s g v) ≡ false) → (S u ≡ true) ⊎ (S u ≡ false) → (S v ≡ true) ⊎ (S v ≡ false)
+          → test s label g u v ≡ true
+      by (inr m) a b = rw m
+      by (inl m) (inl a) (inl b) = alike (a ∙ sym b)
+      by (inl m) (inr a) (inr b) = alike (a ∙ sym b)
+      by (inl m) (inl a) (inr b) =
+          true-not-false
+          (separates (problemOf s) S)
+          (parted g u v bu bv (and-left (member s g u) (member s g v) m) (and-right (member s g u) (member s g v) m) a b)
+          h
+      by (inl m) (inr a) (inl b) =
+          true-not-false
+          (separates (problemOf s) S)
+          (parted g v u bv bu (and-right (member s g u) (member s g v) m) (and-left (member s g u) (member s g v) m) b a)
+          h
+
+  whole-joined : separates (problemOf s) S ≡ false → (g : ℕ) → groupJoined s label g ≡ true
+  unfolding groupJoined vertexCount
+  whole-joined h g =
+      all-intro
+      (length (s .groups))
+      (λ u. allBelow (length (s .groups)) (test s label g u))
+      (λ u bu. all-intro (length (s .groups)) (test s label g u) (λ v bv. whole-pair h g u v bu bv))
+
+  joined-pair : (g : ℕ) → groupJoined s label g ≡ true → (u v : ℕ) → u < length (s .groups) → v < length (s .groups) → member s g u ≡ true → member s g v ≡ true
+      → label u ≡ label v
+  unfolding groupJoined vertexCount
+  joined-pair g h u v bu bv mu mv =
+      let t : test s label g u v ≡ true =
+      all-elim (length (s .groups)) (test s label g u) (all-elim (length (s .groups)) (λ u. allBelow (length (s .groups)) (test s label g u)) h u bu) v bv in
+      let m : (member s g u && member s g v) ≡ true = and-both (member s g u) (member s g v) mu mv in
+      eqb-true (label u) (label v) (rw m at t)
+
+  module _ (number : ℕ) where
+    -- The lowest group that the sides part.
+    abbrev partedGroup : Verdict
+    partedGroup = lowestBelow groupNumbers (λ g. refuseIf (not (groupJoined s label g)) number g)
+
+    whole-fine : separates (problemOf s) S ≡ false → partedGroup ≡ Fine
+    whole-fine h =
+        lowest-none
+        groupNumbers
+        (λ g. refuseIf (not (groupJoined s label g)) number g)
+        (λ g b. refuse-false (ap not (whole-joined h g)) number g)
+
+    fine-whole : ((v : ℕ) → getD (s .groups) v 0 < groupNumbers) → partedGroup ≡ Fine → separates (problemOf s) S ≡ true → ⊥
+    unfolding problemOf vertexCount sameGroup
+    fine-whole small h k =
+        let p : Split (problemOf s) S = separates-elim (problemOf s) S k in
+        let g : ℕ = getD (s .groups) (p .u) 0 in
+        let j : groupJoined s label g ≡ true =
+        ⊎-elim
+        (λ e. e)
+        (λ e.
+        true-not-false
+        (not (groupJoined s label g))
+        (not-of-false (groupJoined s label g) e)
+        (fine-refuse
+        (not (groupJoined s label g))
+        number
+        g
+        (none-lowest groupNumbers (λ g. refuseIf (not (groupJoined s label g)) number g) h g (small (p .u)))))
+        (either (groupJoined s label g)) in
+        sides-differ
+        (p .u)
+        (p .v)
+        (p .u-below)
+        (p .v-below)
+        (p .inside)
+        (p .outside)
+        (joined-pair
+        g
+        j
+        (p .u)
+        (p .v)
+        (p .u-below)
+        (p .v-below)
+        (member-intro s g (p .u) (member-elim s g (p .v) (p .required) .some) refl)
+        (p .required))
+
+    -- No group is parted.
+    pub whole-separates-none : ((v : ℕ) → getD (s .groups) v 0 < groupNumbers) → partedGroup ≡ Fine → separates (problemOf s) S ≡ false
+    whole-separates-none small h = not-true-false (separates (problemOf s) S) (fine-whole small h)
+
+    -- Some group is.
+    pub parted-separates : {other place : ℕ} → partedGroup ≡ Refused other place → separates (problemOf s) S ≡ true
+    parted-separates h =
+        ⊎-elim
+        (λ e. e)
+        (λ e. let f = whole-fine e in let z : _≡_ {A = ℕ} 0 1 = cc in absurd (omega arith))
+        (either (separates (problemOf s) S))
+
+    -- No group is parted: the cut is refused.
+    pub cut-refused : ((v : ℕ) → getD (s .groups) v 0 < groupNumbers) → partedGroup ≡ Fine → (i : ℕ)
+        → refuseIf (not (separates (problemOf s) S)) number i ≡ Refused number i
+    cut-refused small h i = refuse-true (not-of-false (separates (problemOf s) S) (whole-separates-none small h)) number i
+
+    -- Some group is parted: the cut is fine.
+    pub cut-fine : {other place : ℕ} → partedGroup ≡ Refused other place → (i : ℕ) → refuseIf (not (separates (problemOf s) S)) number i ≡ Fine
+    cut-fine h i = refuse-false (ap not (parted-separates h)) number i

@@ -1,0 +1,137 @@
+-- Groups: what it is that a set of tracks joins a group, by paths; the lowest group that is not joined; and a group cannot be joined by all tracks
+-- exactly if no set of tracks joins it (document 01, 'The survey and the plan'; refusals 8 and 14).
+use Prim.Native.Nat.{ℕ, _<_}
+use mathlib.Core.Path.{_≡_, refl, sym, subst}
+use mathlib.Core.Logic.{⊎-elim, _↔_}
+use mathlib.Core.Bool.{Bool, true, false, _&&_, _||_, not}
+use lib.ListN.{getD}
+use lib.Dec.{eqb}
+use borrow.Author.Tests.{eqb-true, eq-eqb, not-true, not-false}
+use Rattle.base_finite.specs.Below.{allBelow}
+use Rattle.base_finite.specs.Laws.Test.{either, and-left, and-right, and-both, or-cases, or-left, or-right, not-of-false, true-not-false}
+use Rattle.base_finite.specs.Laws.Below.{all-intro, all-elim}
+use Rattle.theory_graph.specs.Path.{Linked}
+use Rattle.theory_graph.specs.Laws.Linked.{linked-mono}
+use Rattle.base_limits.specs.Limits.{groupNumbers}
+use Rattle.base_limits.specs.Verdict.{refuseIf}
+use Rattle.base_limits.specs.declared.Verdict.the-variants.{Fine, Refused}
+use Rattle.base_limits.specs.Laws.Verdict.{lowest-none, none-lowest, refuse-false, fine-refuse, Lowest, lowest-elim, refused-refuse}
+use Rattle.theory_steiner.specs.Problem.{EdgeSet, Joins, allUsable}
+use Rattle.theory_steiner.specs.Laws.Joined.{Bounded, label-linked, linked-label}
+use Rattle.theory_steiner.specs.Laws.Finish.{allUsable-all, allUsable-edges}
+use Rattle.survey_core.specs.Survey.{Survey, vertexCount, member, sameGroup, problemOf, groupJoined, componentsOf}
+use Rattle.survey_core.specs.Refusal.{groupRefusal}
+
+-- Any two members of group g are linked by tracks of F.
+abbrev pub JoinsGroup : Survey → (ℕ → Bool) → ℕ → Type 0
+JoinsGroup s F g =
+    (u v : ℕ) → u < vertexCount s → v < vertexCount s → member s g u ≡ true → member s g v ≡ true → Linked (problemOf s .first) (problemOf s .second) F u v
+
+-- Group numbers are bytes.
+abbrev pub Numbered : Survey → Type 0
+Numbered s = (v : ℕ) → getD (s .groups) v 0 < groupNumbers
+
+-- Two vertices share a group exactly if they are members of one.
+pub same-group-member : (s : Survey) (u v : ℕ) → sameGroup s u v ≡ true → member s (getD (s .groups) u 0) u ≡ true
+unfolding sameGroup member
+same-group-member s u v h =
+    and-both (not (eqb (getD (s .groups) u 0) 0)) (eqb (getD (s .groups) u 0) (getD (s .groups) u 0)) (and-left (not (eqb (getD (s .groups) u 0) 0)) _ h)
+    (eq-eqb (getD (s .groups) u 0) (getD (s .groups) u 0) refl)
+
+pub members-same-group : (s : Survey) (g u v : ℕ) → member s g u ≡ true → member s g v ≡ true → sameGroup s u v ≡ true
+unfolding sameGroup member
+members-same-group s g u v h k =
+    let e : getD (s .groups) u 0 ≡ g = eqb-true (getD (s .groups) u 0) g (and-right (not (eqb g 0)) _ h) in
+    subst (λ x. (not (eqb x 0) && eqb (getD (s .groups) v 0) x) ≡ true) (sym e) k
+
+-- To join every required pair is to join every group.
+pub joins-groups : (s : Survey) (F : ℕ → Bool) → Joins (problemOf s) F → (g : ℕ) → JoinsGroup s F g
+unfolding problemOf
+joins-groups s F h g u v bu bv mu mv = h u v bu bv (members-same-group s g u v mu mv)
+
+pub groups-join : (s : Survey) (F : ℕ → Bool) → Numbered s → ((g : ℕ) → g < groupNumbers → JoinsGroup s F g) → Joins (problemOf s) F
+unfolding problemOf sameGroup
+groups-join s F numbered h u v bu bv r = h (getD (s .groups) u 0) (numbered u) u v bu bv (same-group-member s u v r) r
+
+-- ---- the test of one group
+
+pub group-joined-elim : (s : Survey) (F : ℕ → Bool) (g : ℕ) → groupJoined s (componentsOf s F) g ≡ true → JoinsGroup s F g
+unfolding groupJoined componentsOf problemOf
+group-joined-elim s F g h u v bu bv mu mv =
+    label-linked (problemOf s) F u v
+    (⊎-elim
+    (λ n. true-not-false (member s g u && member s g v) (and-both (member s g u) (member s g v) mu mv) (not-true (member s g u && member s g v) n))
+    (λ e. eqb-true (componentsOf s F u) (componentsOf s F v) e)
+    (or-cases (not (member s g u && member s g v)) (eqb (componentsOf s F u) (componentsOf s F v))
+    (all-elim (vertexCount s) (λ v. not (member s g u && member s g v) || eqb (componentsOf s F u) (componentsOf s F v))
+    (all-elim (vertexCount s) (λ u. allBelow (vertexCount s) (λ v. not (member s g u && member s g v) || eqb (componentsOf s F u) (componentsOf s F v))) h u bu)
+    v bv)))
+
+pub group-joined-intro : (s : Survey) (F : ℕ → Bool) → Bounded (problemOf s) F → (g : ℕ) → JoinsGroup s F g → groupJoined s (componentsOf s F) g ≡ true
+unfolding groupJoined componentsOf problemOf
+group-joined-intro s F bounded g h =
+    all-intro (vertexCount s) (λ u. allBelow (vertexCount s) (λ v. not (member s g u && member s g v) || eqb (componentsOf s F u) (componentsOf s F v)))
+    (λ u bu.
+    all-intro (vertexCount s) (λ v. not (member s g u && member s g v) || eqb (componentsOf s F u) (componentsOf s F v))
+    (λ v bv.
+    ⊎-elim
+    (λ m.
+    or-right (not (member s g u && member s g v)) (eqb (componentsOf s F u) (componentsOf s F v))
+    (eq-eqb (componentsOf s F u) (componentsOf s F v)
+    (linked-label (problemOf s) F bounded u v (h u v bu bv (and-left (member s g u) (member s g v) m) (and-right (member s g u) (member s g v) m)))))
+    (λ n. or-left (not (member s g u && member s g v)) (eqb (componentsOf s F u) (componentsOf s F v)) (not-of-false (member s g u && member s g v) n))
+    (either (member s g u && member s g v))))
+
+-- ---- the lowest group that is not joined
+
+-- g is the lowest group that F does not join.
+pub record LowestUnjoined (s : Survey) (F : ℕ → Bool) (g : ℕ) : Type 0 where
+  pub below : g < groupNumbers
+  pub unjoined : JoinsGroup s F g → ⊥
+  pub lower : (i : ℕ) → i < g → JoinsGroup s F i
+
+module _ (s : Survey) (number : ℕ) (F : ℕ → Bool) (bounded : Bounded (problemOf s) F) where
+  -- No finding exactly if every required pair has a path.
+  pub group-fine : Numbered s → groupRefusal s number F ≡ Fine → Joins (problemOf s) F
+  unfolding groupRefusal
+  group-fine numbered h =
+      groups-join s F numbered
+      (λ g b.
+      group-joined-elim s F g
+      (not-false (groupJoined s (componentsOf s F) g) (fine-refuse (not (groupJoined s (componentsOf s F) g)) number g (none-lowest groupNumbers _ h g b))))
+
+  pub joins-fine : Joins (problemOf s) F → groupRefusal s number F ≡ Fine
+  unfolding groupRefusal
+  joins-fine h =
+      lowest-none groupNumbers _
+      (λ g b.
+      refuse-false
+      (rw (group-joined-intro s F bounded g (joins-groups s F h g))) number g)
+
+  -- The finding is that group.
+  pub group-refused : (k g : ℕ) → groupRefusal s number F ≡ Refused k g → (k ≡ number) × LowestUnjoined s F g
+  unfolding groupRefusal
+  group-refused k g h =
+      let l : Lowest groupNumbers (λ g. refuseIf (not (groupJoined s (componentsOf s F) g)) number g) k g = lowest-elim groupNumbers _ k g h in
+      let r = refused-refuse (not (groupJoined s (componentsOf s F) (l .at))) number (l .at) k g (l .found) in
+      let at : l .at ≡ g = r .1 .1 in (
+        sym (r .1 .0),
+        record {
+          below = subst (λ x. x < groupNumbers) at (l .below);
+          unjoined = λ j.
+              true-not-false (groupJoined s (componentsOf s F) g) (group-joined-intro s F bounded g j)
+              (subst (λ x. groupJoined s (componentsOf s F) x ≡ false) at (not-true (groupJoined s (componentsOf s F) (l .at)) (r .0)));
+          lower = λ i b.
+              group-joined-elim s F i
+              (not-false (groupJoined s (componentsOf s F) i)
+              (fine-refuse (not (groupJoined s (componentsOf s F) i)) number i (l .none-before i (subst (λ x. i < x) (sym at) b))));
+        },
+      )
+
+-- A group is unjoinable by all tracks exactly if no set of tracks joins it.
+pub unjoinable-iff : (s : Survey) (g : ℕ) →
+    (JoinsGroup s (allUsable (problemOf s)) g → ⊥) ↔ ((F : ℕ → Bool) → EdgeSet (problemOf s) F → JoinsGroup s F g → ⊥)
+unjoinable-iff s g = (
+  λ none F set h. none (λ u v bu bv mu mv. linked-mono (allUsable-all (problemOf s) F set) (h u v bu bv mu mv)),
+  λ none h. none (allUsable (problemOf s)) (allUsable-edges (problemOf s)) h,
+)

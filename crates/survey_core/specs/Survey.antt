@@ -1,0 +1,65 @@
+-- A survey, its groups, and the Steiner forest problem that it poses (document 01, 'The survey and the plan').
+use Prim.Native.Nat.{ℕ}
+use mathlib.Core.Bool.{Bool, true, _&&_, _||_, not}
+use mathlib.Core.List.{[], List}
+use lib.ListN.{length, getD}
+use lib.Dec.{eqb}
+use Rattle.base_finite.specs.Below.{allBelow}
+use Rattle.theory_graph.specs.Component.{components}
+use Rattle.base_buffer.specs.Lent.{Buffer, old}
+use Rattle.theory_steiner.specs.Problem.{Problem}
+
+-- The four buffers of a call: n is the length of the groups, m that of the first ends.
+pub record Survey : Type 0 where
+  pub groups : List ℕ
+  pub firsts : List ℕ
+  pub seconds : List ℕ
+  pub weights : List ℕ
+
+-- The survey that four buffers are.
+abbrev pub surveyFrom : (groups firsts seconds weights : List ℕ) → Survey
+surveyFrom groups firsts seconds weights = record { groups = groups; firsts = firsts; seconds = seconds; weights = weights }
+
+-- The survey that four lent buffers held when the call began.
+abbrev pub lentSurvey : (groups firsts seconds weights : Buffer) → Survey
+lentSurvey groups firsts seconds weights = surveyFrom (old groups) (old firsts) (old seconds) (old weights)
+
+-- Groups with no track.
+abbrev pub groupsAlone : List ℕ → Survey
+groupsAlone groups = surveyFrom groups [] [] []
+
+unfoldable pub vertexCount : Survey → ℕ
+vertexCount s = length (s .groups)
+
+unfoldable pub edgeCount : Survey → ℕ
+edgeCount s = length (s .firsts)
+
+-- v is a member of group g; 0 is no group.
+unfoldable pub member : Survey → (g v : ℕ) → Bool
+member s g v = not (eqb g 0) && eqb (getD (s .groups) v 0) g
+
+-- r(u, v) of source 001: the two belong to the same group.
+unfoldable pub sameGroup : Survey → (u v : ℕ) → Bool
+sameGroup s u v = member s (getD (s .groups) u 0) v
+
+-- The problem of a survey, with all its tracks to choose from.
+unfoldable pub problemOf : Survey → Problem
+problemOf s =
+    record {
+      vertices = vertexCount s;
+      edges = edgeCount s;
+      first = λ e. getD (s .firsts) e 0;
+      second = λ e. getD (s .seconds) e 0;
+      weight = λ e. getD (s .weights) e 0;
+      usable = λ e. true;
+      required = sameGroup s;
+    }
+
+-- Any two members of group g have the same label.
+unfoldable pub groupJoined : Survey → (label : ℕ → ℕ) → (g : ℕ) → Bool
+groupJoined s label g =
+    allBelow (vertexCount s) (λ u. allBelow (vertexCount s) (λ v. not (member s g u && member s g v) || eqb (label u) (label v)))
+
+-- Labels of the components that a set of tracks makes.
+unfoldable pub componentsOf : Survey → (ℕ → Bool) → ℕ → ℕ
+componentsOf s F = components (vertexCount s) (problemOf s .first) (problemOf s .second) F (edgeCount s)

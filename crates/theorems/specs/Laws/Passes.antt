@@ -1,0 +1,107 @@
+-- Every finished plan, printed behind the text of its survey, passes the checking program with the same counts, and both texts fit that program's buffer.
+use Prim.Native.Nat.{ℕ, _*_, _^_, _≤_, _<_}
+use native.Mathlib.Omega.{arith}
+use mathlib.Core.Path.{_≡_, ap, ap₂, sym, _∙_, subst}
+use mathlib.Core.List.{List, _++_}
+use lib.ListN.{length, take}
+use Rattle.base_limits.specs.Limits.{recordBytes}
+use Rattle.base_limits.specs.Verdict.{answer}
+use Rattle.base_limits.specs.declared.Verdict.the-variants.{Fine}
+use Rattle.format_write.specs.Text.{planText}
+use Rattle.format_survey.specs.Reading.{reading}
+use Rattle.format_survey.specs.Reading.{Survey as SurveyText}
+use Rattle.theory_steiner.specs.Laws.Rounds.{rounds-lt, grown-reached}
+use Rattle.survey_core.specs.Survey.{Survey, vertexCount, edgeCount, problemOf}
+use Rattle.survey_core.specs.Laws.Refusal.{SurveySound, survey-sound}
+use Rattle.survey_core.specs.Laws.Group.{Numbered}
+use Rattle.check_rule.specs.Check.{Checked}
+use Rattle.check_rule.specs.Laws.Accuracy.{answered}
+use Rattle.plan_duals.specs.Drawing.{recordsOf}
+use Rattle.plan_duals.specs.Laws.Drawing.{bytes-records}
+use Rattle.plan_core.specs.Plan.{Plan, planOf, planRefusal, Counts, countsOf, counting, marksAfter, recordsAfter}
+use Rattle.plan_core.specs.Laws.Ready.{Ready, fine-ready}
+use Rattle.plan_core.specs.Laws.Passes.{finished-passes}
+use Rattle.plan_core.specs.Laws.Promise.{cut-marks, cut-records}
+use Rattle.format_plan_lines.specs.Lines.{countDigits}
+use Rattle.check_text.specs.Verify.{verifying}
+use Rattle.check_text.specs.Laws.Accuracy.{surveyIn}
+use Rattle.check_text.specs.Laws.Passes.{read-numbered, printed-passes, printed-length}
+use Rattle.check_text.specs.Laws.Length.{verified-length}
+
+-- bytes that the checking program reads, at most
+abbrev pub verifyRoom : ℕ
+verifyRoom = 1048576
+
+-- The plan of the survey that a text says, and its text.
+abbrev pub planFor : SurveyText → Plan
+planFor s = planOf (problemOf (surveyIn s))
+
+abbrev pub printedPlan : Plan → List ℕ
+printedPlan p = planText (p .terminals) (p .cost) (p .bound) (p .rounds) (p .marks) (recordsOf (p .duals))
+
+-- What the program `plan` prints after its call: the counts, the first m marks and as many records as there are moats.
+abbrev pub printedCall : Survey → (marks records : List ℕ) → Counts → List ℕ
+printedCall s marks records c =
+    planText (c .terminals) (c .cost) (c .bound) (c .rounds) (take (edgeCount s) (marksAfter s marks records)) (take (recordBytes * c .duals) (recordsAfter s marks records))
+
+-- Rounds have few digits.
+rounds-few : (s : Survey) → SurveySound s → planOf (problemOf s) .rounds < 10 ^ countDigits
+unfolding planOf problemOf vertexCount
+rounds-few s sound =
+    let some = sound .some in
+    let few = sound .few in
+    let r = rounds-lt (problemOf s) (survey-sound s sound) (omega arith) (grown-reached (problemOf s)) in
+    omega arith
+
+-- Whatever passes, the checking program reads whole: what it cannot see does not pass.
+pub passed-fits : (t : List ℕ) (c : Checked) → verifying t ≡ answer c → length t ≤ verifyRoom
+passed-fits t c e = let l = verified-length t c e in omega arith
+
+-- A survey's text, read with any buffers.
+module _ (t gb fb sb wb : List ℕ) (s : SurveyText) (read : reading t gb fb sb wb ≡ answer s) where
+  numbered : Numbered (surveyIn s)
+  numbered = read-numbered t gb fb sb wb s read
+
+  module _ (marksLength recordsLength : ℕ) (fine : planRefusal (surveyIn s) marksLength recordsLength ≡ Fine) where
+    ready : Ready (surveyIn s) marksLength recordsLength
+    ready = fine-ready (surveyIn s) numbered marksLength recordsLength fine
+
+    -- Where none of 1 to 8 applies, the plan printed behind the survey's text passes, with its own k, cost and bound.
+    pub plan-passes : verifying (t ++ printedPlan (planFor s)) ≡ answer (record { terminals = planFor s .terminals; cost = planFor s .cost; bound = planFor s .bound })
+    plan-passes =
+        let p = planFor s in
+        printed-passes t gb fb sb wb s read (p .marks) (recordsOf (p .duals)) (bytes-records (p .duals)) (p .rounds) (rounds-few (surveyIn s) (ready .survey))
+        (record { terminals = p .terminals; cost = p .cost; bound = p .bound }) (finished-passes (surveyIn s) (ready .survey) (ready .joinable) numbered)
+
+    -- The checking program reads both texts whole.
+    pub plan-fits : length (t ++ printedPlan (planFor s)) ≤ verifyRoom
+    plan-fits =
+        let p = planFor s in
+        let l =
+        printed-length t gb fb sb wb s read (p .marks) (recordsOf (p .duals)) (bytes-records (p .duals)) (p .rounds) (rounds-few (surveyIn s) (ready .survey))
+        (record { terminals = p .terminals; cost = p .cost; bound = p .bound }) (finished-passes (surveyIn s) (ready .survey) (ready .joinable) numbered) in
+        omega arith
+
+  module _ (marks records : List ℕ) (c : Counts) (called : counting (surveyIn s) (length marks) (length records) ≡ answer c) where
+    finished : (planRefusal (surveyIn s) (length marks) (length records) ≡ Fine) × (countsOf (planFor s) ≡ c)
+    unfolding counting
+    finished = answered (planRefusal (surveyIn s) (length marks) (length records)) (countsOf (planFor s)) c called
+
+    same-text : printedCall (surveyIn s) marks records (countsOf (planFor s)) ≡ printedPlan (planFor s)
+    unfolding countsOf
+    same-text =
+        let p = planFor s in
+        ap₂ (planText (p .terminals) (p .cost) (p .bound) (p .rounds)) (cut-marks (surveyIn s) numbered marks records (finished .0)) (cut-records (surveyIn s) numbered marks records (finished .0))
+
+    -- Whatever a finished call leaves to print passes, with the counts that the call answered.
+    pub call-passes : verifying (t ++ printedCall (surveyIn s) marks records c) ≡ answer (record { terminals = c .terminals; cost = c .cost; bound = c .bound })
+    unfolding countsOf
+    call-passes =
+        subst (λ (x : Counts). verifying (t ++ printedCall (surveyIn s) marks records x) ≡ answer (record { terminals = x .terminals; cost = x .cost; bound = x .bound })) (finished .1)
+        (ap (λ (w : List ℕ). verifying (t ++ w)) same-text ∙ plan-passes (length marks) (length records) (finished .0))
+
+    -- The checking program reads both texts whole.
+    pub call-fits : length (t ++ printedCall (surveyIn s) marks records c) ≤ verifyRoom
+    call-fits =
+        subst (λ (x : Counts). length (t ++ printedCall (surveyIn s) marks records x) ≤ verifyRoom) (finished .1)
+        (subst (λ (w : List ℕ). length (t ++ w) ≤ verifyRoom) (sym same-text) (plan-fits (length marks) (length records) (finished .0)))

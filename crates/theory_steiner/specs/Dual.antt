@@ -1,0 +1,30 @@
+-- Duals as a list: cuts with values, whoever drew them (source 001, section 22.1: y_S). Document 01's word is moats. Values are in half units.
+use Prim.Native.Nat.{ℕ, _+_}
+use mathlib.Core.Bool.{Bool, true}
+use mathlib.Core.List.{[], List, _∷_, map}
+use lib.Dec.{ltb}
+use Rattle.base_finite.specs.Below.{counted, thoseBelow}
+use Rattle.theory_graph.specs.Path.{crosses}
+use Rattle.theory_steiner.specs.Problem.{Problem}
+use Rattle.theory_steiner.specs.Growth.{State, numbers}
+
+pub record Dual : Type 0 where
+  pub value : ℕ
+  pub holds : ℕ → Bool
+
+-- The sum of the values of those whose set passes the test; a set that occurs twice counts twice.
+unfoldable pub weigh : List Dual → ((ℕ → Bool) → Bool) → ℕ
+weigh [] t = 0
+weigh (d ∷ ds) t = counted (t (d .holds)) (d .value) + weigh ds t
+
+-- The sum of all.
+unfoldable pub total : List Dual → ℕ
+total ds = weigh ds (λ S. true)
+
+-- What edge e feels: the duals with exactly one of its ends inside.
+unfoldable pub felt : Problem → List Dual → ℕ → ℕ
+felt p ds e = weigh ds (λ S. crosses (p .first) (p .second) S e)
+
+-- The duals of a growth with a value above 0: single vertices first, then merged components as they arose.
+unfoldable pub dualsOf : Problem → State → List Dual
+dualsOf p s = map (λ c. record { value = s .value c; holds = s .holds c }) (thoseBelow (numbers p s) (λ c. ltb 0 (s .value c)))
