@@ -1,5 +1,6 @@
--- The limits of document 01, each in this one place ('Refused surveys and plans', 'What a plan holds').
-use Prim.Native.Nat.{ℕ, _+_, _*_, _-_}
+-- The limits of document 01 ('Refused surveys and plans', 'What a plan holds', 'Survey text and printed plan'), each in this one place, with
+-- what follows from them. src/lib.rt has the same numbers for the code.
+use Prim.Native.Nat.{ℕ, _+_, _*_, _-_, _/_}
 
 -- junctions, at most
 abbrev pub maxVertices : ℕ
@@ -37,6 +38,10 @@ dualsOf n = 2 * n - 1
 
 abbrev pub maxDuals : ℕ
 maxDuals = dualsOf maxVertices
+
+-- the bytes of so many records
+abbrev pub recordsRoom : ℕ
+recordsRoom = recordBytes * maxDuals
 
 -- digits of a number in a text, at most
 abbrev pub maxDigits : ℕ

@@ -1,4 +1,6 @@
-// The limits of document 01, and what a check answers.
+// The limits of document 01, each in this one place, with what follows from them; and what a check answers. specs/Limits.antt has the same names.
+
+// Vertices, edges, an edge's weight, a dual's value in half units: at most.
 pub const MAX_VERTICES: usize = 256;
 
 pub const MAX_EDGES: usize = 2048;
@@ -7,16 +9,22 @@ pub const MAX_WEIGHT: u32 = 1000000;
 
 pub const MAX_VALUE: u64 = 2000000;
 
+// Group numbers lie below this.
 pub const GROUP_NUMBERS: usize = 256;
 
+// Bytes of a dual's record: its value, its members, the whole.
 pub const VALUE_BYTES: usize = 8;
 
-pub const MEMBER_BYTES: usize = 32;
+pub const MEMBER_BYTES: usize = MAX_VERTICES / 8;
 
-pub const RECORD_BYTES: usize = 40;
+pub const RECORD_BYTES: usize = VALUE_BYTES + MEMBER_BYTES;
 
-pub const MAX_DUALS: usize = 511;
+// Duals, at most, and the bytes of so many records.
+pub const MAX_DUALS: usize = 2 * MAX_VERTICES - 1;
 
+pub const RECORDS_ROOM: usize = RECORD_BYTES * MAX_DUALS;
+
+// Digits of a number in a text, at most.
 pub const MAX_DIGITS: usize = 7;
 
 // A refusal is its number and its place; `Fine` where none applies.

@@ -26,10 +26,10 @@ fn side(part: &[u8], v: usize) -> u32
 }
 
 // The sides of a cut as labels.
-fn sides(part: &[u8]) -> [u32; 256]
+fn sides(part: &[u8]) -> [u32; MAX_VERTICES]
     ensures { λ r. ⌜ r ≡ tabulate maxVertices (λ v. counted (memberIn (old part) v) 1) ⌝ }
 {
-    let mut labels = [0u32; 256];
+    let mut labels = [0u32; MAX_VERTICES];
     let mut v = 0;
     while v < MAX_VERTICES {
         labels[v] = side(part, v);

@@ -14,6 +14,7 @@ ghost use Rattle.check_text.specs.Answer.{verifiedOutcome};
 use base_limits::MAX_EDGES;
 use base_limits::MAX_VERTICES;
 use base_limits::RECORD_BYTES;
+use base_limits::RECORDS_ROOM;
 use check_core::Checking;
 use format_number::Cursor;
 use format_number::Number;
@@ -93,8 +94,8 @@ fn verify_plan(
     requires { ⌜ length (now firsts) ≤ maxEdges ⌝ }
     ensures { λ r. ⌜ verifiedOutcome r ≡ planVerified (lentSurvey groups firsts seconds weights) (planFrom (old text) (lentSurvey groups firsts seconds weights) at) ⌝ }
 {
-    let mut marks = [0u8; 2048];
-    let mut records = [0u8; 20440];
+    let mut marks = [0u8; MAX_EDGES];
+    let mut records = [0u8; RECORDS_ROOM];
     let edges = firsts.len();
     match format_plan::read_plan(text, at, edges, &mut marks, &mut records) {
         PlanText::Refused { number, place } => Verified::Refused { number, place },
@@ -146,10 +147,10 @@ fn verify_lines(text: &[u8], cursor: Cursor, vertices: usize, edges: usize) -> V
     requires { ⌜ (vertices ≤ maxVertices) × (edges ≤ maxEdges) ⌝ }
     ensures { λ r. ⌜ verifiedOutcome r ≡ verifiedFrom (old text) (surveyAt (old text) (record { vertices = vertices; edges = edges }) (cursor .at)) ⌝ }
 {
-    let mut groups = [0u8; 256];
-    let mut firsts = [0u32; 2048];
-    let mut seconds = [0u32; 2048];
-    let mut weights = [0u32; 2048];
+    let mut groups = [0u8; MAX_VERTICES];
+    let mut firsts = [0u32; MAX_EDGES];
+    let mut seconds = [0u32; MAX_EDGES];
+    let mut weights = [0u32; MAX_EDGES];
     let step = survey_lines(
         text,
         cursor,

@@ -1,4 +1,7 @@
 // Reads a survey text on standard input and prints its plan, or the two lines of a refusal. A thin shell: reading, planning and printing are the libraries'.
+use base_limits::MAX_EDGES;
+use base_limits::MAX_VERTICES;
+use base_limits::RECORDS_ROOM;
 use format_print::Printed;
 use format_survey::Reading;
 use plan_core::Planned;
@@ -54,8 +57,8 @@ fn show(
 
 // Plans a survey and prints the plan.
 fn plan(groups: &[u8], firsts: &[u32], seconds: &[u32], weights: &[u32]) {
-    let mut marks = [0u8; 2048];
-    let mut records = [0u8; 20440];
+    let mut marks = [0u8; MAX_EDGES];
+    let mut records = [0u8; RECORDS_ROOM];
     let answer = plan_core::plan(groups, firsts, seconds, weights, &mut marks, &mut records);
     match answer {
         Planned::Refused { number, place } => refuse(number, place),
@@ -97,10 +100,10 @@ fn plan_first(groups: &[u8], firsts: &[u32], seconds: &[u32], weights: &[u32], n
 
 // Reads a survey and plans it.
 fn respond(input: &[u8]) {
-    let mut groups = [0u8; 256];
-    let mut firsts = [0u32; 2048];
-    let mut seconds = [0u32; 2048];
-    let mut weights = [0u32; 2048];
+    let mut groups = [0u8; MAX_VERTICES];
+    let mut firsts = [0u32; MAX_EDGES];
+    let mut seconds = [0u32; MAX_EDGES];
+    let mut weights = [0u32; MAX_EDGES];
     let answer = format_survey::read(input, &mut groups, &mut firsts, &mut seconds, &mut weights);
     match answer {
         Reading::Refused { number, place } => refuse(number, place),

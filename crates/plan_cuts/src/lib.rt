@@ -11,6 +11,7 @@ ghost use Rattle.plan_cuts.specs.Word.{pickedIn, ownWord, turned, turned
 ghost use Rattle.plan_cuts.specs.Taken.{EdgeStep, takenBelow};
 use base_buffer::at64;
 use base_buffer::put64;
+use base_limits::MAX_VERTICES;
 
 // Edges of one batch.
 pub const WORD_BITS: usize = 64;
@@ -115,12 +116,17 @@ fn take_edge(
 }
 
 // The words of all vertices for the picked edges whose indexes are the 64 from base on.
-pub fn side_words(firsts: &[u32], seconds: &[u32], picked: &[u8], base: usize) -> [u64; 256]
+pub fn side_words(
+    firsts: &[u32],
+    seconds: &[u32],
+    picked: &[u8],
+    base: usize,
+) -> [u64; MAX_VERTICES]
     ensures { λ r. ⌜ r ≡ takenBelow maxVertices (λ e. getD (old firsts) e 0) (λ e. getD (old seconds) e 0) (pickedIn (old picked)) base (length (old firsts)) .words ⌝ }
 {
-    let mut labels = [0u32; 256];
+    let mut labels = [0u32; MAX_VERTICES];
     survey_components::own_labels(&mut labels);
-    let mut words = [0u64; 256];
+    let mut words = [0u64; MAX_VERTICES];
     let mut i = 0;
     let mut e = 0;
     while e < firsts.len() {

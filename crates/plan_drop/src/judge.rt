@@ -30,11 +30,11 @@ fn side(word: u64, k: usize) -> u32
 }
 
 // The sides of the edge with bit k, as labels.
-fn sides(words: &[u64], k: usize) -> [u32; 256]
+fn sides(words: &[u64], k: usize) -> [u32; MAX_VERTICES]
     requires { ⌜ k < wordBits ⌝ }
     ensures { λ r. ⌜ r ≡ tabulate maxVertices (λ v. counted (sideIn (old words) k v) 1) ⌝ }
 {
-    let mut labels = [0u32; 256];
+    let mut labels = [0u32; MAX_VERTICES];
     let mut v = 0;
     while v < MAX_VERTICES {
         labels[v] = side(at64(words, v), k);

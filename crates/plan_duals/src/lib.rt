@@ -9,6 +9,7 @@ ghost use Rattle.format_record.specs.Record.{recordOf, withMemberIn};
 ghost use Rattle.plan_duals.specs.Drawing.{recordsOver, recordsFrom, dualIf, labelled, PartFits, Fits};
 ghost use Rattle.plan_duals.specs.Trace.{endOf, arisen, traceFrom, dualsIn, Drawable};
 use base_buffer::at64;
+use base_limits::MAX_VERTICES;
 use base_limits::RECORD_BYTES;
 use survey_components::merge;
 use survey_components::own_labels;
@@ -81,7 +82,7 @@ pub fn draw(
     ensures count { λ r. ⌜ r ≡ length (dualsIn (traceFrom n (old firsts) (old seconds) (old values) (old order) rounds)) ⌝ }
     ensures written { λ r. ⌜ new records ≡ recordsOver (dualsIn (traceFrom n (old firsts) (old seconds) (old values) (old order) rounds)) (old records) ⌝ }
 {
-    let mut labels = [0u32; 256];
+    let mut labels = [0u32; MAX_VERTICES];
     own_labels(&mut labels);
     let end = n + rounds;
     let mut count = 0;

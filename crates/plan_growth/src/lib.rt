@@ -20,6 +20,9 @@ use base_buffer::at64;
 use base_buffer::put8;
 use base_buffer::put32;
 use base_buffer::put64;
+use base_limits::MAX_DUALS;
+use base_limits::MAX_EDGES;
+use base_limits::MAX_VERTICES;
 use base_limits::Verdict;
 use plan_delay::Delay;
 use plan_delay::Winner;
@@ -29,10 +32,10 @@ use plan_delay::Winner;
 pub struct Growth {
     pub rounds: usize,
     pub bound: u64,
-    pub labels: [u32; 256],
-    pub values: [u64; 511],
-    pub picked: [u8; 2048],
-    pub order: [u32; 256],
+    pub labels: [u32; MAX_VERTICES],
+    pub values: [u64; MAX_DUALS],
+    pub picked: [u8; MAX_EDGES],
+    pub order: [u32; MAX_VERTICES],
 }
 
 // The component of a vertex of a split group is active.
@@ -45,11 +48,11 @@ fn flag_label(flags: &mut [u8], summary: u64, label: u32)
 }
 
 // 1 for each active component number, 0 for the others.
-fn active_flags(groups: &[u8], labels: &[u32]) -> [u8; 511]
+fn active_flags(groups: &[u8], labels: &[u32]) -> [u8; MAX_DUALS]
     ensures { λ r. ⌜ r ≡ tabulate maxDuals (λ c. counted (active (problemOf (groupsAlone (old groups))) (λ v. getD (old labels) v 0) c) 1) ⌝ }
 {
     let table = survey_groups::spreads(groups, labels);
-    let mut flags = [0u8; 511];
+    let mut flags = [0u8; MAX_DUALS];
     let mut v = 0;
     while v < groups.len() {
         let summary = at64(&table, base_buffer::index8(base_buffer::at8(groups, v)));
@@ -175,10 +178,10 @@ fn sum_values(values: &[u64], count: usize) -> u64
 fn finished(
     n: usize,
     rounds: usize,
-    labels: [u32; 256],
-    values: [u64; 511],
-    picked: [u8; 2048],
-    order: [u32; 256],
+    labels: [u32; MAX_VERTICES],
+    values: [u64; MAX_DUALS],
+    picked: [u8; MAX_EDGES],
+    order: [u32; MAX_VERTICES],
 ) -> Growth
     requires { ⌜ Small values (n + rounds) ⌝ }
     ensures { λ r. ⌜ r ≡ growthFrom rounds (sumBelow (n + rounds) (λ c. getD values c 0)) labels values picked order ⌝ }
@@ -199,12 +202,12 @@ fn grow_rounds(groups: &[u8], firsts: &[u32], seconds: &[u32], weights: &[u32]) 
     requires { ⌜ SurveySound (surveyFrom (now groups) (now firsts) (now seconds) (now weights)) ⌝ }
     ensures { λ r. ⌜ Shows (problemOf (lentSurvey groups firsts seconds weights)) (length (old groups)) r ⌝ }
 {
-    let mut labels = [0u32; 256];
-    let mut loads = [0u64; 256];
-    let mut values = [0u64; 511];
-    let mut picked = [0u8; 2048];
-    let mut order = [0u32; 256];
-    let mut keys = [0u64; 2048];
+    let mut labels = [0u32; MAX_VERTICES];
+    let mut loads = [0u64; MAX_VERTICES];
+    let mut values = [0u64; MAX_DUALS];
+    let mut picked = [0u8; MAX_EDGES];
+    let mut order = [0u32; MAX_VERTICES];
+    let mut keys = [0u64; MAX_EDGES];
     let mut floors = [0u64; 129];
     survey_components::own_labels(&mut labels);
     let mut time = 0;
@@ -238,15 +241,15 @@ fn grow_rounds(groups: &[u8], firsts: &[u32], seconds: &[u32], weights: &[u32]) 
 fn no_rounds() -> Growth
     ensures { λ r. ⌜ ((p : Problem) → Shows p 0 r) ⌝ }
 {
-    let mut labels = [0u32; 256];
+    let mut labels = [0u32; MAX_VERTICES];
     survey_components::own_labels(&mut labels);
     Growth {
         rounds: 0,
         bound: 0,
         labels,
-        values: [0u64; 511],
-        picked: [0u8; 2048],
-        order: [0u32; 256],
+        values: [0u64; MAX_DUALS],
+        picked: [0u8; MAX_EDGES],
+        order: [0u32; MAX_VERTICES],
     }
 }
 

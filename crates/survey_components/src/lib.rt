@@ -147,7 +147,7 @@ pub fn group_refusal(
     if let Verdict::Refused { number, place } = found {
         return Verdict::Refused { number, place };
     }
-    let mut labels = [0u32; 256];
+    let mut labels = [0u32; MAX_VERTICES];
     label_components(set, firsts, seconds, marks, &mut labels);
     survey_groups::split_refusal(groups, &labels, number)
 }

@@ -44,10 +44,10 @@ fn note(table: &mut [u64], group: u8, label: u64)
 }
 
 // The table of all groups under given labels.
-pub fn spreads(groups: &[u8], labels: &[u32]) -> [u64; 256]
+pub fn spreads(groups: &[u8], labels: &[u32]) -> [u64; GROUP_NUMBERS]
     ensures { λ r. ⌜ r ≡ tabulate groupNumbers (λ g. spread (groupsAlone (old groups)) (λ v. getD (old labels) v 0) g (length (old groups))) ⌝ }
 {
-    let mut table = [0u64; 256];
+    let mut table = [0u64; GROUP_NUMBERS];
     let mut v = 0;
     while v < groups.len() {
         note(
@@ -61,10 +61,10 @@ pub fn spreads(groups: &[u8], labels: &[u32]) -> [u64; 256]
 }
 
 // The table of all groups where each vertex has its own label.
-fn own_spreads(groups: &[u8]) -> [u64; 256]
+fn own_spreads(groups: &[u8]) -> [u64; GROUP_NUMBERS]
     ensures { λ r. ⌜ r ≡ tabulate groupNumbers (λ g. spread (groupsAlone (old groups)) (λ v. v) g (length (old groups))) ⌝ }
 {
-    let mut table = [0u64; 256];
+    let mut table = [0u64; GROUP_NUMBERS];
     let mut v = 0;
     while v < groups.len() {
         note(
