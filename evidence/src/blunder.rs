@@ -8,13 +8,13 @@ use crate::{refuse, Refusal, View, AMOUNT_BYTES, RECORD_BYTES};
 
 #[derive(Clone, Copy, Debug, PartialEq, Eq)]
 pub enum Blunder {
-    /// Grows one component until it meets another, then the next.
+    /// Grows a single component as far as the first meeting, and only then another.
     OneByOne,
     /// Halves in whole price units.
     WholeUnits,
     /// Drops only dead ends.
     DeadEnds,
-    /// Leaves a merged component idle because one part was idle.
+    /// A merged component rests if one of its parts rested.
     IdlePart,
     /// Counts lone group members in k.
     LoneMembers,

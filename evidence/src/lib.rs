@@ -37,7 +37,7 @@ pub const MAX_GROUP: u32 = 255;
 pub const RECORD_BYTES: usize = 40;
 /// Bytes of a record's amount, lowest first.
 pub const AMOUNT_BYTES: usize = 8;
-/// No well-formed text whose counts escape 1 and 3 is longer.
+/// The longest well-formed text that neither 1 nor 3 refuses.
 pub const MAX_TEXT: usize = 62_741;
 /// The program reads no more of its standard input.
 pub const MAX_INPUT: usize = 65_536;

@@ -6,7 +6,7 @@
 //!     EVIDENCE_NATIVE_DIR=DIR EVIDENCE_NATIVE_LIB=NAME [EVIDENCE_NATIVE_KIND=dylib|static] \
 //!         cargo run --release --features native --bin bench
 //!
-//! The function is declared below as the product's crate `exports` has it. Where the name, order of parameters or form of
+//! The function is declared below as the product's crate `api_c` has it. Where the name, order of parameters or form of
 //! answer differs, only the declaration and the body of `plan` change; nothing else knows of them.
 
 use crate::plan::Counts;
@@ -14,7 +14,7 @@ use crate::{Refusal, View};
 
 extern "C" {
     /// Every buffer is a pointer and a length in items. `counts` takes sites, cost, bound, rounds and moats. The answer
-    /// is 0, or the refusal's number plus 256 times its place.
+    /// is 0, or number + 256 * place of the refusal.
     fn foamsickle_plan(
         groups: *const u8,
         groups_length: usize,

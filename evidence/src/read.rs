@@ -112,8 +112,8 @@ pub fn parse(text: &[u8], lengths: Lengths) -> Result<Survey, Refusal> {
     Ok(survey)
 }
 
-/// Reads a text into lent buffers and answers with n and m. The first n groups and m ends and prices are filled only
-/// when all is well; everything else keeps its values.
+/// Reads a text into lent buffers and answers with n and m. What the text says goes into the buffers' beginnings,
+/// and only if nothing is refused; everything else keeps its values.
 pub fn read(
     text: &[u8],
     groups: &mut [u8],

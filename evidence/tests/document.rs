@@ -278,7 +278,7 @@ fn buffers_of_planning() {
 #[test]
 fn blunders() {
     for planner in PLANNERS {
-        // A track between two complete groups has sites at both ends and must still go: group 3 grows through groups
+        // Sites at both ends of a track do not make it needed, where their groups are complete: group 3 grows through groups
         // 1 and 2 and picks 2-3 on its way, but 0-5 joins it.
         let survey = Survey::new(&[3, 1, 1, 2, 2, 3], &[(0, 1, 1), (1, 2, 0), (2, 3, 1), (3, 4, 0), (0, 5, 5)]);
         let plan = owned(planner, survey.view()).unwrap();

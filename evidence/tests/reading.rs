@@ -1,5 +1,5 @@
-//! The reader against a second statement of "first offset whose byte no well-formed text could have after the bytes
-//! before it": prefixes are judged whole, line by line, with nothing carried over.
+//! The reader against a second statement of the place of 16 (the first byte that fits no well-formed
+//! text): prefixes are judged whole, line by line, with nothing carried over.
 
 use evidence::gen::{directed_texts, text_case, Rng};
 use evidence::read::{parse, Lengths};

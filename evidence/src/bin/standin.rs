@@ -1,4 +1,4 @@
-//! The program of 01, answered by our own library: reads a survey on standard input and prints the plan.
+//! The program of 01, answered by our own library: a survey in on standard input, its plan out.
 //!
 //!     standin [BLUNDER]
 //!
