@@ -8,7 +8,7 @@ ghost use Rattle.base_limits.specs.Limits.{maxVertices, maxDuals, recordBytes};
 ghost use Rattle.base_limits.specs.Verdict.{outcome, answer};
 ghost use Rattle.survey_core.specs.Survey.{surveyFrom, lentSurvey};
 ghost use Rattle.survey_core.specs.Accuracy.{Accurate};
-ghost use Rattle.check_rule.specs.Laws.Meaning.{Passing};
+ghost use Rattle.check_rule.specs.Passing.{Passing};
 ghost use Rattle.check_rule.specs.Check.{Checked, ruleRefusal, checkedOf, checking};
 ghost use Rattle.check_core.specs.Stage.{inputRefusal, dualsRefusal, allButRule, PlanFits, outcomeOf};
 use base_limits::Verdict;

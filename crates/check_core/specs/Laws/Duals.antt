@@ -21,7 +21,7 @@ use Rattle.theory_steiner.specs.Dual.{Dual, weigh, total, felt}
 use Rattle.theory_steiner.specs.Laws.Dual.{weigh-append}
 use Rattle.survey_core.specs.Survey.{Survey, vertexCount, edgeCount, problemOf}
 use Rattle.base_finite.specs.Laws.Count.{sum-end}
-use Rattle.survey_core.specs.Laws.Refusal.{SurveySound}
+use Rattle.survey_core.specs.Sound.{SurveySound}
 use Rattle.check_rule.specs.Check.{dualAt, dualsIn, keptBy, dualRefusal}
 use Rattle.check_core.specs.Stage.{feltBetween, DualsFit, CountsFit}
 use Rattle.check_rule.specs.Laws.Refusal.{fine-dual}

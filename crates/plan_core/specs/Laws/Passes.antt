@@ -19,7 +19,7 @@ use Rattle.format_record.specs.Record.{valueIn, memberIn}
 use Rattle.format_record.specs.Laws.Record.{value-of-record, member-of-record}
 use Rattle.theory_steiner.specs.Problem.{Problem, Sound, Joins, separates, terminals, cost, allUsable}
 use Rattle.theory_steiner.specs.Growth.{numbers, grown}
-use Rattle.theory_steiner.specs.Dual.{Dual, weigh, total, felt}
+use Rattle.theory_steiner.specs.Dual.{Dual, weigh, total, felt, Each, none, more}
 use Rattle.theory_steiner.specs.Dual.{dualsOf as grownDuals}
 use Rattle.theory_steiner.specs.Pruning.{picked, kept, markOf, mark, dualBound}
 use Rattle.theory_steiner.specs.Laws.Joined.{separates-cong}
@@ -27,14 +27,15 @@ use Rattle.theory_steiner.specs.Laws.Partition.{members-below}
 use Rattle.theory_steiner.specs.Laws.Weighed.{Local, value-fresh}
 use Rattle.theory_steiner.specs.Laws.Rounds.{grown-reached}
 use Rattle.theory_steiner.specs.Laws.Finish.{kept-joins, kept-picked, kept-edges}
-use Rattle.theory_steiner.specs.Laws.Dual.{Each, none, more, weigh-append, each-dual, value-separates, value-fits, duals-count, total-duals}
+use Rattle.theory_steiner.specs.Laws.Dual.{weigh-append, each-dual, value-separates, value-fits, duals-count, total-duals}
 use Rattle.theory_steiner.specs.Laws.Accuracy.{kept-accurate, no-terminal-free, grown-feasible}
 use Rattle.survey_core.specs.Survey.{Survey, vertexCount, edgeCount, problemOf}
 use Rattle.survey_core.specs.Accuracy.{Accurate}
-use Rattle.survey_core.specs.Laws.Refusal.{SurveySound, survey-sound}
-use Rattle.survey_core.specs.Laws.Group.{Numbered}
+use Rattle.survey_core.specs.Sound.{SurveySound, Numbered}
+use Rattle.survey_core.specs.Laws.Refusal.{survey-sound}
 use Rattle.check_rule.specs.Check.{dualAt, dualsIn, keptBy, checkedOf, checking}
-use Rattle.check_rule.specs.Laws.Meaning.{DualSound, Passing, passing-check}
+use Rattle.check_rule.specs.Passing.{DualSound, Passing}
+use Rattle.check_rule.specs.Laws.Meaning.{passing-check}
 use Rattle.check_rule.specs.Laws.Accuracy.{passing-accurate}
 use Rattle.plan_duals.specs.Drawing.{recordsOf}
 use Rattle.plan_duals.specs.Laws.Drawing.{nothing, length-records, record-at}

@@ -9,7 +9,7 @@ use native.Mathlib.Decide.{ℕ-discrete}
 use lib.Dec.{leb}
 use borrow.Author.Tests.{le-leb, leb-true}
 use Rattle.base_finite.specs.Laws.Test.{either, and-left, and-right, and-both, or-cases, or-left, or-right}
-use Rattle.theory_graph.specs.Path.{Linked, without}
+use Rattle.theory_graph.specs.Path.{Linked, without, Forest}
 use Rattle.theory_graph.specs.Laws.Linked.{
   Through,
   spared,
@@ -26,10 +26,6 @@ use Rattle.theory_graph.specs.Laws.Linked.{
   through-without,
   linked-without,
 }
-
--- No edge of F has its ends linked by the others (source 001, proof of Lemma 22.6: F is acyclic).
-abbrev pub Forest : (a b : ℕ → ℕ) → (ℕ → Bool) → Type 0
-Forest a b F = (e : ℕ) → F e ≡ true → Linked a b (without F e) (a e) (b e) → ⊥
 
 -- One more edge, between two components.
 module _ (a b : ℕ → ℕ) (F G : ℕ → Bool) (e : ℕ) (forest : Forest a b F) (apart : Linked a b F (a e) (b e) → ⊥)

@@ -13,19 +13,19 @@ use Rattle.base_finite.specs.Laws.Test.{true-not-false}
 use Rattle.base_finite.specs.Laws.Below.{sum-le, sum-cong, sum-add, sum-zero, sum-swap, sum-scale, counted-true, counted-false, counted-zero, counted-add, counted-mono, counted-sum, count-positive, count-labels}
 use Rattle.theory_graph.specs.Path.{crosses}
 use Rattle.theory_steiner.specs.Problem.{Problem, Sound, EdgeSet, Joins, cost, terminal, terminals, allUsable}
-use Rattle.theory_steiner.specs.Growth.{State, start, active, numbers, slack, Winner, nobody, edge, winner, pick, stateAt, grown}
-use Rattle.theory_steiner.specs.Dual.{Dual, total, felt, dualsOf}
+use Rattle.theory_steiner.specs.Growth.{State, start, active, numbers, slack, Winner, nobody, edge, winner, pick, stateAt, grown, Reached}
+use Rattle.theory_steiner.specs.Dual.{Dual, total, felt, dualsOf, Separating, Each}
 use Rattle.theory_steiner.specs.Pruning.{picked, kept, dualBound}
 use Rattle.theory_steiner.specs.Laws.Joined.{Split, separates-elim, terminal-intro}
-use Rattle.theory_steiner.specs.Laws.Round.{Reached, stateAt-reached}
+use Rattle.theory_steiner.specs.Laws.Round.{stateAt-reached}
 use Rattle.theory_steiner.specs.Laws.Winner.{Waits, one-first, one-second, both}
 use Rattle.theory_steiner.specs.Laws.Partition.{label-below, winner-candidate, winner-below}
 use Rattle.theory_steiner.specs.Laws.Weighed.{component, activeCount, feels, feels-pick}
 use Rattle.theory_steiner.specs.Laws.Feasible.{feels-start, picked-tight, not-overtight}
 use Rattle.theory_steiner.specs.Laws.Rounds.{meets, meets-intro, stateAt-pick, stateAt-still, grown-reached, delayIn, roundDelay, bound-by-rounds}
 use Rattle.theory_steiner.specs.Laws.Finish.{kept-picked}
-use Rattle.theory_steiner.specs.Laws.Dual.{Each, each-dual, value-separates, total-duals, felt-duals}
-use Rattle.theory_steiner.specs.Laws.WeakDuality.{Separating, weak-duality}
+use Rattle.theory_steiner.specs.Laws.Dual.{each-dual, value-separates, total-duals, felt-duals}
+use Rattle.theory_steiner.specs.Laws.WeakDuality.{weak-duality}
 use Rattle.theory_steiner.specs.Laws.Degree.{degree, activeDegree, degree-bound}
 
 -- ---- active components hold terminals

@@ -16,11 +16,11 @@ use Rattle.base_finite.specs.Laws.Below.{lt-or-ge, sum-member, counted-true, co
 use Rattle.theory_graph.specs.Path.{crosses}
 use Rattle.theory_graph.specs.Laws.Linked.{Crossing, cut-crossed}
 use Rattle.theory_steiner.specs.Problem.{Problem, Sound, Joins, separates, allUsable}
-use Rattle.theory_steiner.specs.Growth.{State, start, active, numbers, edge, pick}
-use Rattle.theory_steiner.specs.Dual.{Dual, weigh, total, felt, dualsOf}
+use Rattle.theory_steiner.specs.Growth.{State, start, active, numbers, edge, pick, Reached, first, next}
+use Rattle.theory_steiner.specs.Dual.{Dual, weigh, total, felt, Each, none, more, dualOf, dualsOf}
 use Rattle.theory_steiner.specs.Pruning.{dualBound}
 use Rattle.theory_steiner.specs.Laws.Joined.{Split, separates-elim, separates-cong}
-use Rattle.theory_steiner.specs.Laws.Round.{Reached, first, next, pick-value, pick-holds-old}
+use Rattle.theory_steiner.specs.Laws.Round.{pick-value, pick-holds-old}
 use Rattle.theory_steiner.specs.Laws.Partition.{active-members}
 use Rattle.theory_steiner.specs.Laws.Weighed.{weighed, value-fresh, value-newborn, feels, bound-weighed}
 use Rattle.theory_steiner.specs.Laws.Feasible.{not-overtight}
@@ -28,10 +28,6 @@ use Rattle.theory_steiner.specs.Laws.Rounds.{rounds-lt}
 use Rattle.theory_steiner.specs.Laws.Finish.{allUsable-edges}
 
 -- ---- the list
-
--- The dual of component number c.
-abbrev pub dualOf : State → ℕ → Dual
-dualOf s c = record { value = s .value c; holds = s .holds c }
 
 pub weigh-append : (ds es : List Dual) (t : (ℕ → Bool) → Bool) → weigh (ds ++ es) t ≡ weigh ds t + weigh es t
 unfolding weigh
@@ -99,11 +95,6 @@ duals-count p ok some {s} h =
     )
 
 -- ---- each dual
-
--- What holds of every dual of a list.
-pub data Each (P : Dual → Type 0) : List Dual → Type 0 where
-  none : Each P []
-  more : {d : Dual} {ds : List Dual} → P d → Each P ds → Each P (d ∷ ds)
 
 each-append : {P : Dual → Type 0} {ds es : List Dual} → Each P ds → Each P es → Each P (ds ++ es)
 each-append none k = k

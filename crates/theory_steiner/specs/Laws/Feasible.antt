@@ -13,9 +13,9 @@ use Rattle.base_finite.specs.Laws.Below.{sum-zero, counted-true, counted-false,
 use Rattle.theory_graph.specs.Component.{merged}
 use Rattle.theory_graph.specs.Laws.Component.{Merging, inside, outside, merged-cong}
 use Rattle.theory_steiner.specs.Problem.{Problem, Sound}
-use Rattle.theory_steiner.specs.Growth.{State, start, active, numbers, load, slack, Delay, never, after, delay, edge, winner, pick}
+use Rattle.theory_steiner.specs.Growth.{State, start, active, numbers, load, slack, Delay, never, after, delay, edge, winner, pick, Reached, first, next}
 use Rattle.theory_steiner.specs.Laws.Joined.{separates-cong}
-use Rattle.theory_steiner.specs.Laws.Round.{Reached, first, next, pick-label, pick-only}
+use Rattle.theory_steiner.specs.Laws.Round.{pick-label, pick-only}
 use Rattle.theory_steiner.specs.Laws.Winner.{Waits, one-first, one-second, both, Candidate, delay-elim, delay-never, winner-wins}
 use Rattle.theory_steiner.specs.Laws.Partition.{
   label-merging,

@@ -8,9 +8,9 @@ use native.Mathlib.Decide.{ℕ-discrete}
 use lib.Dec.{eqb, ltb}
 use borrow.Author.Tests.{eqb-true, eqb-false, eq-eqb, ne-eqb, not-false, ltb-true, lt-ltb}
 use Rattle.base_finite.specs.Laws.Test.{and-left, and-right, and-both, not-true-false, true-not-false}
-use Rattle.theory_graph.specs.Path.{without, crosses}
+use Rattle.theory_graph.specs.Path.{without, crosses, Forest}
 use Rattle.theory_graph.specs.Laws.Linked.{linked-mono, Crossing, cut-crossed, crosses-elim, without-mono}
-use Rattle.theory_graph.specs.Laws.Forest.{Forest, needed-joins}
+use Rattle.theory_graph.specs.Laws.Forest.{needed-joins}
 use Rattle.theory_steiner.specs.Problem.{Problem, Sound, EdgeSet, Joins, joined, separates, allUsable}
 use Rattle.theory_steiner.specs.Growth.{State, active, nobody, edge, winner, grown}
 use Rattle.theory_steiner.specs.Pruning.{needed, picked, kept}

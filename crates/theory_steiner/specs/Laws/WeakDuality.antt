@@ -10,12 +10,8 @@ use Rattle.base_finite.specs.Laws.Below.{sum-le, sum-cong, sum-add, sum-member,
 use Rattle.theory_graph.specs.Path.{crosses}
 use Rattle.theory_graph.specs.Laws.Linked.{Crossing, cut-crossed}
 use Rattle.theory_steiner.specs.Problem.{Problem, EdgeSet, Joins, separates, cost}
-use Rattle.theory_steiner.specs.Dual.{Dual, weigh, total, felt}
+use Rattle.theory_steiner.specs.Dual.{Dual, weigh, total, felt, Separating, Each, none, more}
 use Rattle.theory_steiner.specs.Laws.Joined.{Split, separates-elim}
-use Rattle.theory_steiner.specs.Laws.Dual.{Each, none, more}
-
-abbrev pub Separating : Problem → Dual → Type 0
-Separating p d = separates p (d .holds) ≡ true
 
 module _ (p : Problem) (F : ℕ → Bool) (set : EdgeSet p F) (joins : Joins p F) where
   -- Every cut that separates a required pair is crossed by F.

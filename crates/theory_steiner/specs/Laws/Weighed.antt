@@ -13,9 +13,9 @@ use Rattle.base_finite.specs.Laws.Below.{sum-suc, sum-cong, sum-add, sum-zero, 
 use Rattle.theory_graph.specs.Path.{crosses}
 use Rattle.theory_graph.specs.Laws.Linked.{crosses-cong, crosses-not}
 use Rattle.theory_steiner.specs.Problem.{Problem, Sound}
-use Rattle.theory_steiner.specs.Growth.{State, start, active, numbers, load, pick}
+use Rattle.theory_steiner.specs.Growth.{State, start, active, numbers, load, pick, Reached, first, next}
 use Rattle.theory_steiner.specs.Pruning.{dualBound}
-use Rattle.theory_steiner.specs.Laws.Round.{Reached, first, next, pick-numbers, pick-value, pick-holds-old}
+use Rattle.theory_steiner.specs.Laws.Round.{pick-numbers, pick-value, pick-holds-old}
 use Rattle.theory_steiner.specs.Laws.Partition.{label-below, active-below, active-members}
 
 -- The sum of the values of all component numbers whose members pass the test.
