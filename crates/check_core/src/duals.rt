@@ -1,9 +1,9 @@
 // Duals as moat records: their values and members, the cuts that they are, and what the edges feel of them.
 ghost use Rattle.base_buffer.specs.Lent.{old};
 ghost use mathlib.Core.Path.{_≡_};
-ghost use mathlib.Core.Bool.{_&&_, xor};
+ghost use mathlib.Core.Bool.{Bool, _&&_, xor};
 ghost use mathlib.Core.List.{[]};
-ghost use Prim.Native.Nat.{_*_, _/_};
+ghost use Prim.Native.Nat.{ℕ, _*_, _/_};
 ghost use lib.ListN.{getD, length};
 ghost use lib.Dec.{leb, ltb};
 ghost use Rattle.base_finite.specs.Below.{anyBelow, counted};
@@ -71,14 +71,15 @@ fn dual_refusal(groups: &[u8], part: &[u8], i: usize) -> Verdict
 
 // The lowest record that 11 refuses.
 pub fn values_refusal(groups: &[u8], records: &[u8]) -> Verdict
-    ensures { λ r. ⌜ r ≡ lowestBelow (length (old records) / recordBytes) (λ i. dualRefusal (groupsAlone (old groups)) (dualAt (old records) i) i) ⌝ }
+    ensures { λ r. let s = groupsAlone (old groups) in
+        ⌜ r ≡ lowestBelow (length (old records) / recordBytes) (λ i. dualRefusal s (dualAt (old records) i) i) ⌝ }
 {
     let mut i = 0;
     while i < records.len() / RECORD_BYTES {
         let found = dual_refusal(groups, format_record::record(records, i), i);
-        if let Verdict::Refused { number, place } = found {
-            return Verdict::Refused { number, place };
-        }
+        let Verdict::Fine = found else {
+            return found;
+        };
         i += 1;
     }
     Verdict::Fine
@@ -130,7 +131,9 @@ fn felt_refusal(records: &[u8], first: u32, second: u32, weight: u32, e: usize) 
 // The lowest edge that 13 refuses.
 pub fn felts_refusal(firsts: &[u32], seconds: &[u32], weights: &[u32], records: &[u8]) -> Verdict
     requires { ⌜ DualsFit (now records) ⌝ }
-    ensures { λ r. ⌜ r ≡ lowestBelow (length (old firsts)) (λ e. refuseIf (ltb (2 * getD (old weights) e 0) (felt (problemOf (surveyFrom [] (old firsts) (old seconds) (old weights))) (dualsIn (old records)) e)) 13 e) ⌝ }
+    ensures { λ r. let p = problemOf (surveyFrom [] (old firsts) (old seconds) (old weights)) in
+        let overtight : ℕ → Bool = λ e. ltb (2 * getD (old weights) e 0) (felt p (dualsIn (old records)) e) in
+        ⌜ r ≡ lowestBelow (length (old firsts)) (λ e. refuseIf (overtight e) 13 e) ⌝ }
 {
     let mut e = 0;
     while e < firsts.len() {
@@ -141,9 +144,9 @@ pub fn felts_refusal(firsts: &[u32], seconds: &[u32], weights: &[u32], records: 
             base_buffer::at32(weights, e),
             e,
         );
-        if let Verdict::Refused { number, place } = found {
-            return Verdict::Refused { number, place };
-        }
+        let Verdict::Fine = found else {
+            return found;
+        };
         e += 1;
     }
     Verdict::Fine

@@ -63,9 +63,9 @@ pub fn marks_refusal(m: usize, marks: &[u8]) -> Verdict
     let mut e = 0;
     while e < m {
         let found = mark_refusal(base_buffer::at8(marks, e), e);
-        if let Verdict::Refused { number, place } = found {
-            return Verdict::Refused { number, place };
-        }
+        let Verdict::Fine = found else {
+            return found;
+        };
         e += 1;
     }
     Verdict::Fine

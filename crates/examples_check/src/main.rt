@@ -1,4 +1,4 @@
-// Checks the plans of P1 to P11 of document 01, written by hand, and spoilt ones: at least one for each refusal from 9 to 15.
+// Checks the plans of P1 to P11 of document 01, written by hand, and spoilt ones: each refusal from 9 to 15.
 use check_core::Checking;
 
 // Writes the counts of a plan that passed, or the refusal, in a line under a name.

@@ -4,7 +4,7 @@
 use Prim.Native.Nat.{ℕ, _*_, _-_, _/_, _%_, _≤_, _<_}
 use mathlib.Core.Path.{_≡_, sym, _∙_, subst}
 use mathlib.Core.Logic.{⊎-elim, _↔_}
-use mathlib.Core.Bool.{true, false, _&&_, _||_, not}
+use mathlib.Core.Bool.{false, _&&_, _||_, not}
 use mathlib.Core.List.{List}
 use native.Mathlib.Omega.{arith}
 use native.Mathlib.Nat.{not-le-of-lt}
@@ -17,10 +17,10 @@ use Rattle.base_finite.specs.Laws.Below.{any-none, any-elim, Found, lt-or-ge}
 use Rattle.base_limits.specs.Limits.{maxValue, memberBytes, recordBytes, maxDuals}
 use Rattle.base_limits.specs.declared.Verdict.the-variants.{Fine}
 use Rattle.base_limits.specs.Laws.Verdict.{before-fine, fine-left, fine-right, refuse-false, fine-refuse, lowest-none, none-lowest}
-use Rattle.theory_steiner.specs.Problem.{Joins, separates, terminals, cost, Bounded}
-use Rattle.theory_steiner.specs.Dual.{Dual, total, felt}
+use Rattle.theory_steiner.specs.Problem.{separates, terminals, cost, Bounded}
+use Rattle.theory_steiner.specs.Dual.{Dual, felt}
 use Rattle.survey_core.specs.Survey.{Survey, vertexCount, edgeCount, problemOf}
-use Rattle.survey_core.specs.Sound.{SurveySound, Numbered}
+use Rattle.survey_core.specs.Sound.{Numbered}
 use Rattle.survey_core.specs.Laws.Refusal.{survey-fine, fine-survey}
 use Rattle.survey_core.specs.Laws.Group.{group-fine, joins-fine}
 use Rattle.check_rule.specs.Passing.{DualSound, Passing}

@@ -10,7 +10,6 @@ use borrow.Author.Tests.{eqb-true, eq-eqb, not-true, not-false}
 use Rattle.base_finite.specs.Below.{allBelow}
 use Rattle.base_finite.specs.Laws.Test.{either, and-left, and-right, and-both, or-cases, or-left, or-right, not-of-false, true-not-false}
 use Rattle.base_finite.specs.Laws.Below.{all-intro, all-elim}
-use Rattle.theory_graph.specs.Path.{Linked}
 use Rattle.theory_graph.specs.Laws.Linked.{linked-mono}
 use Rattle.base_limits.specs.Limits.{groupNumbers}
 use Rattle.base_limits.specs.Verdict.{refuseIf}

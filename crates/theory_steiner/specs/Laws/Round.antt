@@ -11,7 +11,7 @@ use Rattle.base_finite.specs.Below.{counted}
 use Rattle.base_finite.specs.Laws.Below.{memo-is}
 use Rattle.theory_graph.specs.Component.{merged}
 use Rattle.theory_steiner.specs.Problem.{Problem}
-use Rattle.theory_steiner.specs.Growth.{State, start, active, numbers, Winner, nobody, edge, winner, pick, Reached, first, next, advance, stateAt}
+use Rattle.theory_steiner.specs.Growth.{State, active, numbers, Winner, nobody, edge, winner, pick, Reached, first, next, advance, stateAt}
 
 pub advance-reached : (p : Problem) {s : State} → Reached p s → (w : Winner) → winner p s ≡ w → Reached p (advance p s w)
 unfolding advance

@@ -1,31 +1,27 @@
--- `felts_refusal` meets its contract: while it runs, no edge below e feels too much.
-use Prim.Native.Nat.{_≤_, _-_, _*_}
-use native.Mathlib.Omega.{arith}
+-- `felts_refusal` meets its contract: a scan of the edges for 13.
+use Prim.Native.Nat.{_-_, _*_}
+use mathlib.Core.Path.{sym}
 use mathlib.Core.List.{[]}
-use mathlib.Core.Path.{_≡_, refl, sym, _∙_}
 use lib.Dec.{ltb}
 use lib.ListN.{length, getD}
-use borrow.Author.Needs.{needs}
-use Rattle.base_limits.specs.Laws.Verdict.{lowest-more, lowest-found, lowest-end}
-use Rattle.base_limits.specs.declared.Verdict.the-variants.{Fine}
-use Rattle.base_limits.specs.Verdict.{refuseIf, lowestBelow}
+use Rattle.base_limits.specs.Verdict.{refuseIf}
 use Rattle.theory_steiner.specs.Dual.{felt}
 use Rattle.survey_core.specs.Survey.{surveyFrom, problemOf}
 use Rattle.check_rule.specs.Check.{dualsIn}
 use Rattle.check_core.specs.Laws.Duals.{felt-item}
+use Rattle.base_limits.specs.Laws.Verdict.{Scanned, scan-start, scan-turn, scan-found, scan-end}
+use borrow.Author.Needs.{needs}
 use Rattle.check_core.proofs.duals.felts_refusal.Statement.{statement}
 use Rattle.check_core.proofs.duals.felts_refusal.Tie as tie
 
 abbrev Inv-loop : tie.InvT-loop
-Inv-loop firsts seconds weights records e₀ e = (e ≤ length firsts)
-    × (lowestBelow e (λ e. refuseIf (ltb (2 * getD weights e 0) (felt (problemOf (surveyFrom [] firsts seconds weights)) (dualsIn records) e)) 13 e) ≡ Fine)
+Inv-loop firsts seconds weights records e₀ e = Scanned (length firsts) (λ e. refuseIf (ltb (2 * getD weights e 0) (felt (problemOf (surveyFrom [] firsts seconds weights)) (dualsIn records) e)) 13 e) e
 
 abbrev μ-loop : tie.MeasureT-loop
 μ-loop firsts seconds weights records e₀ e = length firsts - e
 
 loop-holds : tie.Need-loop-holds Inv-loop μ-loop
-unfolding lowestBelow
-loop-holds c = (omega arith, refl)
+loop-holds c = scan-start _ _
 
 at32-requires : tie.Need-at32-requires Inv-loop μ-loop
 at32-requires c κs = search needs
@@ -39,16 +35,24 @@ at32-requires-3 c κs = search needs
 felt-refusal-requires : tie.Need-felt-refusal-requires Inv-loop μ-loop
 felt-refusal-requires c κs = c .before .before .before .before .before .before .before .before .before .pre
 
-enum-known-found : tie.Need-enum-known-found Inv-loop μ-loop
-enum-known-found c = search needs
-
-returns : tie.Need-returns Inv-loop μ-loop
-returns c = let e = c .before .before .before .before .before .before .before .before .loop .e in
-    let s = surveyFrom [] (c .before .before .before .before .before .before .before .before .before .before .before .before .before .args .firsts .now) (c .before .before .before .before .before .before .before .before .before .before .before .before .before .args .seconds .now) (c .before .before .before .before .before .before .before .before .before .before .before .before .before .args .weights .now) in
-    sym (lowest-found _ e _ (omega arith) (c .before .before .before .before .before .before .before .before .loop .inv .1) (felt-item s _ e (c .before .before .before .before .before .before .at32 .ensures) (c .before .before .before .before .before .at322 .ensures) (c .before .before .before .before .at323 .ensures) (c .before .before .before .felt-refusal .ensures) ∙ c .before .found .given .1))
-
 enum-told : tie.Need-enum-told Inv-loop μ-loop
 enum-told c = search needs
+
+enum-told-2 : tie.Need-enum-told-2 Inv-loop μ-loop
+enum-told-2 c = search needs
+
+-- 13
+returns : tie.Need-returns Inv-loop μ-loop
+returns c =
+    let at = c .before .before .before .before .before .before in
+    let args = at .before .before .before .before .before .before .args in
+    let s = surveyFrom [] (args .firsts .now) (args .seconds .now) (args .weights .now) in
+    let read = c .before .before .before in
+    let is =
+    sym
+    (felt-item s _ (at .before .loop .e) (read .before .before .at32 .ensures) (read .before .at322 .ensures) (read .at323 .ensures)
+    (c .before .before .felt-refusal .ensures)) in
+    scan-found (at .before .loop .inv) (at .loop-test .taken) is (c .enum-told2 .given .1)
 
 add-e : tie.Need-add-e Inv-loop μ-loop
 add-e c = search needs
@@ -57,12 +61,20 @@ loop-less : tie.Need-loop-less Inv-loop μ-loop
 loop-less c = search needs
 
 loop-again : tie.Need-loop-again Inv-loop μ-loop
-loop-again c = let e = c .before .before .before .before .before .before .before .loop .e in
-    let s = surveyFrom [] (c .before .before .before .before .before .before .before .before .before .before .before .before .args .firsts .now) (c .before .before .before .before .before .before .before .before .before .before .before .before .args .seconds .now) (c .before .before .before .before .before .before .before .before .before .before .before .before .args .weights .now) in
-    (omega arith, lowest-more e _ (c .before .before .before .before .before .before .before .loop .inv .1) (felt-item s _ e (c .before .before .before .before .before .at32 .ensures) (c .before .before .before .before .at322 .ensures) (c .before .before .before .at323 .ensures) (c .before .before .felt-refusal .ensures) ∙ c .enum-told .given .1))
+loop-again c =
+    let at = c .before .before .before .before .before .before in
+    let args = at .before .before .before .before .before .before .args in
+    let s = surveyFrom [] (args .firsts .now) (args .seconds .now) (args .weights .now) in
+    let read = c .before .before .before in
+    let is =
+    sym
+    (felt-item s _ (at .before .loop .e) (read .before .before .at32 .ensures) (read .before .at322 .ensures) (read .at323 .ensures)
+    (c .before .before .felt-refusal .ensures)) in
+    scan-turn (at .before .loop .inv) (at .loop-test .taken) is (c .enum-told .given .1)
 
+-- 13 refuses no edge
 returns-2 : tie.Need-returns-2 Inv-loop μ-loop
-returns-2 c = sym (lowest-end _ (c .before .loop .e) _ (omega arith) (omega arith) (c .before .loop .inv .1))
+returns-2 c = scan-end (c .before .loop .inv) (c .loop-test .left)
 
 pub felts-refusal-spec : {M : Type 1} → statement M
 felts-refusal-spec =
@@ -75,9 +87,9 @@ felts-refusal-spec =
     at32-requires-2
     at32-requires-3
     felt-refusal-requires
-    enum-known-found
-    returns
     enum-told
+    enum-told-2
+    returns
     add-e
     loop-less
     loop-again
