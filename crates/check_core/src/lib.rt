@@ -72,7 +72,7 @@ fn duals_refusal(
     let Verdict::Fine = whole else {
         return whole;
     };
-    duals::felts_refusal(firsts, seconds, weights, records)
+    duals::loads_refusal(firsts, seconds, weights, records)
 }
 
 // All refusals but 15.

@@ -1,4 +1,4 @@
-// Marks: 0 not picked, 1 picked and dropped, 2 kept. The lengths of a plan, its marks, and what the kept edges cost.
+// The lengths of a plan, its marks (up to 2, which means kept), and what the kept edges cost.
 ghost use Rattle.base_buffer.specs.Lent.{old};
 ghost use mathlib.Core.Path.{_≡_};
 ghost use mathlib.Core.List.{[]};

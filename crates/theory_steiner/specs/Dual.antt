@@ -1,4 +1,4 @@
--- Duals as a list: cuts with values, whoever drew them (source 001, section 22.1: y_S). Document 01's word is moats. Values are in half units.
+-- Duals as a list: cuts with values (source 001, section 22.1: y_S; document 01's word is moats), in half units.
 use Prim.Native.Nat.{ℕ, _+_}
 use mathlib.Core.Path.{_≡_}
 use mathlib.Core.Bool.{Bool, true}
@@ -22,7 +22,7 @@ weigh (d ∷ ds) t = counted (t (d .holds)) (d .value) + weigh ds t
 unfoldable pub total : List Dual → ℕ
 total ds = weigh ds (λ S. true)
 
--- What edge e feels: the duals with exactly one of its ends inside.
+-- The dual load of edge e (document 01, refusal 13; 001, section 22.1): the duals with exactly one of its ends inside.
 unfoldable pub felt : Problem → List Dual → ℕ → ℕ
 felt p ds e = weigh ds (λ S. crosses (p .first) (p .second) S e)
 
@@ -31,9 +31,9 @@ abbrev pub Separating : Problem → Dual → Type 0
 Separating p d = separates p (d .holds) ≡ true
 
 -- What holds of every dual of a list.
-pub data Each (P : Dual → Type 0) : List Dual → Type 0 where
-  none : Each P []
-  more : {d : Dual} {ds : List Dual} → P d → Each P ds → Each P (d ∷ ds)
+pub data EachDual (P : Dual → Type 0) : List Dual → Type 0 where
+  none : EachDual P []
+  more : {d : Dual} {ds : List Dual} → P d → EachDual P ds → EachDual P (d ∷ ds)
 
 -- The dual of component number c.
 abbrev pub dualOf : State → ℕ → Dual

@@ -20,7 +20,7 @@ pub record State : Type 0 where
   -- the edges picked
   pub picked : ℕ → Bool
 
--- 'At the start each junction is a component of its own and nothing is picked.'
+-- Before the first round each vertex is its own component, and no edge is picked.
 unfoldable pub start : State
 start = record { rounds = 0; label = λ v. v; value = λ c. 0; holds = λ c v. eqb v c; picked = λ e. false }
 
@@ -76,7 +76,7 @@ winnerBelow p s (suc e) = better (winnerBelow p s e) e (delay p s e)
 unfoldable pub winner : Problem → State → Winner
 winner p s = winnerBelow p s (p .edges)
 
--- 'Every growing component is raised by that wait, the winner is picked, and its two components become one.'
+-- A round: the active components are raised by the delay, the edge is picked, and its two components become a new one.
 unfoldable pub pick : Problem → State → (e d : ℕ) → State
 pick p s e d =
     let x = s .label (p .first e) in

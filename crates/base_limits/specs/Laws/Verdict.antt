@@ -39,6 +39,9 @@ fine-left (Refused number place) w h = h
 pub fine-right : (v w : Verdict) → (v before w) ≡ Fine → w ≡ Fine
 fine-right v w h = sym (before-fine (fine-left v w h) w) ∙ h
 
+pub no-refusal : {number place : ℕ} {v : Verdict} → v ≡ Refused number place → v ≡ Fine → ⊥
+no-refusal h k = let z : _≡_ {A = ℕ} 0 1 = cc in omega arith
+
 pub refuse-true : {t : Bool} → t ≡ true → (number place : ℕ) → refuseIf t number place ≡ Refused number place
 unfolding refuseIf
 refuse-true h number place = rw h

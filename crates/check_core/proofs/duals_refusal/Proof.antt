@@ -41,8 +41,8 @@ returns-2 c =
     let found = c .before .before .before in
     goes-on (found .before .before .values-refusal .ensures) (found .enum-told .given .1) (passed-on (c .before .before .cuts-refusal .ensures) (c .enum-told4 .given .1) _)
 
-felts-refusal-requires : tie.Need-felts-refusal-requires
-felts-refusal-requires c κs =
+loads-refusal-requires : tie.Need-loads-refusal-requires
+loads-refusal-requires c κs =
     let found = c .before .before .before in
     let start = found .before .before .before .before .before .before .before .before in
     duals-fit _ _ (start .pre .1) (sym (found .before .before .values-refusal .ensures) ∙ found .enum-told .given .1)
@@ -53,7 +53,7 @@ unfolding dualsRefusal dualRefusal separates felt problemOf vertexCount edgeCoun
 returns-3 c =
     let found = c .before .before .before .before in
     goes-on (found .before .before .values-refusal .ensures) (found .enum-told .given .1)
-    (goes-on (c .before .before .before .cuts-refusal .ensures) (c .before .enum-told3 .given .1) (c .felts-refusal .ensures))
+    (goes-on (c .before .before .before .cuts-refusal .ensures) (c .before .enum-told3 .given .1) (c .loads-refusal .ensures))
 
 pub duals-refusal-spec : {M : Type 1} → statement M
 duals-refusal-spec =
@@ -67,5 +67,5 @@ duals-refusal-spec =
     enum-told-3
     enum-told-4
     returns-2
-    felts-refusal-requires
+    loads-refusal-requires
     returns-3)

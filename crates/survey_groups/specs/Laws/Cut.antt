@@ -16,7 +16,7 @@ use Rattle.base_limits.specs.Limits.{groupNumbers}
 use Rattle.base_limits.specs.Verdict.{refuseIf, lowestBelow}
 use Rattle.base_limits.specs.declared.Verdict.{Verdict}
 use Rattle.base_limits.specs.declared.Verdict.the-variants.{Fine, Refused}
-use Rattle.base_limits.specs.Laws.Verdict.{refuse-false, fine-refuse, lowest-none, none-lowest}
+use Rattle.base_limits.specs.Laws.Verdict.{no-refusal, refuse-false, fine-refuse, lowest-none, none-lowest}
 use Rattle.theory_steiner.specs.Problem.{separates}
 use Rattle.theory_steiner.specs.Laws.Joined.{Split, separates-elim, separates-intro}
 use Rattle.survey_core.specs.Survey.{Survey, vertexCount, member, sameGroup, problemOf, groupJoined}
@@ -147,7 +147,7 @@ module _ (s : Survey) (S : ℕ → Bool) (label : ℕ → ℕ) (sided : (v : ℕ
     parted-separates h =
         ⊎-elim
         (λ e. e)
-        (λ e. let f = whole-fine e in let z : _≡_ {A = ℕ} 0 1 = cc in absurd (omega arith))
+        (λ e. absurd (no-refusal h (whole-fine e)))
         (either (separates (problemOf s) S))
 
 -- A table of sides.
