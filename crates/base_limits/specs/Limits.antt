@@ -27,7 +27,7 @@ abbrev pub valueBytes : ℕ
 valueBytes = 8
 
 abbrev pub memberBytes : ℕ
-memberBytes = 32
+memberBytes = maxVertices / 8
 
 abbrev pub recordBytes : ℕ
 recordBytes = valueBytes + memberBytes

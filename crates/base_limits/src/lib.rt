@@ -1,4 +1,5 @@
-// The limits of document 01, each in this one place, with what follows from them; and what a check answers. specs/Limits.antt has the same names.
+// The limits of document 01, each in this one place, with what follows from them; and what a check answers.
+// specs/Limits.antt has the same names.
 
 // Vertices, edges, an edge's weight, a dual's value in half units: at most.
 pub const MAX_VERTICES: usize = 256;

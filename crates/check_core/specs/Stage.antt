@@ -21,9 +21,9 @@ use Rattle.check_core.specs.declared.Checking.the-variants.{Passed, Refu
 abbrev pub dualOf : List ℕ → Dual
 dualOf part = record { value = valueIn part; holds = memberIn part }
 
--- What an edge between u and v feels of the records.
-unfoldable pub feltBetween : List ℕ → (u v : ℕ) → ℕ
-feltBetween records u v = weigh (dualsIn records) (λ S. xor (S u) (S v))
+-- The dual load of an edge between u and v.
+unfoldable pub loadBetween : List ℕ → (u v : ℕ) → ℕ
+loadBetween records u v = weigh (dualsIn records) (λ S. xor (S u) (S v))
 
 -- What 9 and 11 leave of the records: few, and each of a value within the limit.
 pub record DualsFit (records : List ℕ) : Type 0 where

@@ -1,8 +1,8 @@
 // The cuts that duals are: whether each has members of some group on both sides.
 ghost use Rattle.base_buffer.specs.Lent.{old};
 ghost use mathlib.Core.Path.{_≡_};
-ghost use mathlib.Core.Bool.{not};
-ghost use Prim.Native.Nat.{_≤_, _/_};
+ghost use mathlib.Core.Bool.{Bool, not};
+ghost use Prim.Native.Nat.{ℕ, _≤_, _/_};
 ghost use lib.ListN.{length};
 ghost use Rattle.base_finite.specs.Below.{counted, tabulate};
 ghost use Rattle.base_limits.specs.Limits.{maxVertices, recordBytes};
@@ -41,33 +41,32 @@ fn sides(part: &[u8]) -> [u32; MAX_VERTICES]
 // 12: a cut with no group's members on both sides.
 fn cut_refusal(groups: &[u8], part: &[u8], i: usize) -> Verdict
     requires { ⌜ length (now groups) ≤ maxVertices ⌝ }
-    ensures { λ r. ⌜ r ≡ refuseIf (not (separates (problemOf (groupsAlone (old groups))) (memberIn (old part)))) 12 i ⌝ }
+    ensures { λ r. let p = problemOf (groupsAlone (old groups)) in
+        ⌜ r ≡ refuseIf (not (separates p (memberIn (old part)))) 12 i ⌝ }
 {
     let labels = sides(part);
-    let split = survey_groups::split_refusal(groups, &labels, 12);
-    match split {
-        Verdict::Fine => Verdict::Refused {
-            number: 12,
-            place: i,
-        },
-        Verdict::Refused {
-            number: _,
-            place: _,
-        } => Verdict::Fine,
+    if survey_groups::is_separating(groups, &labels) {
+        return Verdict::Fine;
+    }
+    Verdict::Refused {
+        number: 12,
+        place: i,
     }
 }
 
 // The lowest record that 12 refuses.
 pub fn cuts_refusal(groups: &[u8], records: &[u8]) -> Verdict
     requires { ⌜ length (now groups) ≤ maxVertices ⌝ }
-    ensures { λ r. ⌜ r ≡ lowestBelow (length (old records) / recordBytes) (λ i. refuseIf (not (separates (problemOf (groupsAlone (old groups))) (dualAt (old records) i .holds))) 12 i) ⌝ }
+    ensures { λ r. let p = problemOf (groupsAlone (old groups)) in
+        let cut : ℕ → ℕ → Bool = λ i. dualAt (old records) i .holds in
+        ⌜ r ≡ lowestBelow (length (old records) / recordBytes) (λ i. refuseIf (not (separates p (cut i))) 12 i) ⌝ }
 {
     let mut i = 0;
     while i < records.len() / RECORD_BYTES {
         let found = cut_refusal(groups, format_record::record(records, i), i);
-        if let Verdict::Refused { number, place } = found {
-            return Verdict::Refused { number, place };
-        }
+        let Verdict::Fine = found else {
+            return found;
+        };
         i += 1;
     }
     Verdict::Fine

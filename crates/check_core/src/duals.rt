@@ -1,9 +1,9 @@
-// Duals as moat records: their values and members, the cuts that they are, and what the edges feel of them.
+// Duals as moat records: their values and members, and the dual loads of the edges.
 ghost use Rattle.base_buffer.specs.Lent.{old};
 ghost use mathlib.Core.Path.{_≡_};
-ghost use mathlib.Core.Bool.{_&&_, xor};
+ghost use mathlib.Core.Bool.{Bool, _&&_, xor};
 ghost use mathlib.Core.List.{[]};
-ghost use Prim.Native.Nat.{_*_, _/_};
+ghost use Prim.Native.Nat.{ℕ, _*_, _/_};
 ghost use lib.ListN.{getD, length};
 ghost use lib.Dec.{leb, ltb};
 ghost use Rattle.base_finite.specs.Below.{anyBelow, counted};
@@ -13,7 +13,7 @@ ghost use Rattle.format_record.specs.Record.{valueIn, memberIn};
 ghost use Rattle.theory_steiner.specs.Dual.{total, felt};
 ghost use Rattle.survey_core.specs.Survey.{surveyFrom, groupsAlone, problemOf};
 ghost use Rattle.check_rule.specs.Check.{dualAt, dualsIn, dualRefusal};
-ghost use Rattle.check_core.specs.Stage.{dualOf, feltBetween, DualsFit};
+ghost use Rattle.check_core.specs.Stage.{dualOf, loadBetween, DualsFit};
 use base_limits::MAX_VALUE;
 use base_limits::MEMBER_BYTES;
 use base_limits::RECORD_BYTES;
@@ -71,14 +71,15 @@ fn dual_refusal(groups: &[u8], part: &[u8], i: usize) -> Verdict
 
 // The lowest record that 11 refuses.
 pub fn values_refusal(groups: &[u8], records: &[u8]) -> Verdict
-    ensures { λ r. ⌜ r ≡ lowestBelow (length (old records) / recordBytes) (λ i. dualRefusal (groupsAlone (old groups)) (dualAt (old records) i) i) ⌝ }
+    ensures { λ r. let s = groupsAlone (old groups) in
+        ⌜ r ≡ lowestBelow (length (old records) / recordBytes) (λ i. dualRefusal s (dualAt (old records) i) i) ⌝ }
 {
     let mut i = 0;
     while i < records.len() / RECORD_BYTES {
         let found = dual_refusal(groups, format_record::record(records, i), i);
-        if let Verdict::Refused { number, place } = found {
-            return Verdict::Refused { number, place };
-        }
+        let Verdict::Fine = found else {
+            return found;
+        };
         i += 1;
     }
     Verdict::Fine
@@ -94,10 +95,10 @@ fn crossing_value(part: &[u8], u: usize, v: usize) -> u64
     0
 }
 
-// What an edge between u and v feels.
-fn felt_between(records: &[u8], u: usize, v: usize) -> u64
+// The dual load of an edge between u and v.
+fn load_between(records: &[u8], u: usize, v: usize) -> u64
     requires { ⌜ DualsFit (now records) ⌝ }
-    ensures { λ r. ⌜ r ≡ feltBetween (old records) u v ⌝ }
+    ensures { λ r. ⌜ r ≡ loadBetween (old records) u v ⌝ }
 {
     let mut sum: u64 = 0;
     let mut i = 0;
@@ -108,17 +109,17 @@ fn felt_between(records: &[u8], u: usize, v: usize) -> u64
     sum
 }
 
-// 13: an edge feels more than twice its weight.
-fn felt_refusal(records: &[u8], first: u32, second: u32, weight: u32, e: usize) -> Verdict
+// 13: a dual load above twice the weight.
+fn load_refusal(records: &[u8], first: u32, second: u32, weight: u32, e: usize) -> Verdict
     requires { ⌜ DualsFit (now records) ⌝ }
-    ensures { λ r. ⌜ r ≡ refuseIf (ltb (2 * weight) (feltBetween (old records) first second)) 13 e ⌝ }
+    ensures { λ r. ⌜ r ≡ refuseIf (ltb (2 * weight) (loadBetween (old records) first second)) 13 e ⌝ }
 {
-    let felt = felt_between(
+    let load = load_between(
         records,
         base_buffer::index32(first),
         base_buffer::index32(second),
     );
-    if 2 * base_buffer::wide32(weight) < felt {
+    if 2 * base_buffer::wide32(weight) < load {
         return Verdict::Refused {
             number: 13,
             place: e,
@@ -128,22 +129,24 @@ fn felt_refusal(records: &[u8], first: u32, second: u32, weight: u32, e: usize) 
 }
 
 // The lowest edge that 13 refuses.
-pub fn felts_refusal(firsts: &[u32], seconds: &[u32], weights: &[u32], records: &[u8]) -> Verdict
+pub fn loads_refusal(firsts: &[u32], seconds: &[u32], weights: &[u32], records: &[u8]) -> Verdict
     requires { ⌜ DualsFit (now records) ⌝ }
-    ensures { λ r. ⌜ r ≡ lowestBelow (length (old firsts)) (λ e. refuseIf (ltb (2 * getD (old weights) e 0) (felt (problemOf (surveyFrom [] (old firsts) (old seconds) (old weights))) (dualsIn (old records)) e)) 13 e) ⌝ }
+    ensures { λ r. let p = problemOf (surveyFrom [] (old firsts) (old seconds) (old weights)) in
+        let overtight : ℕ → Bool = λ e. ltb (2 * getD (old weights) e 0) (felt p (dualsIn (old records)) e) in
+        ⌜ r ≡ lowestBelow (length (old firsts)) (λ e. refuseIf (overtight e) 13 e) ⌝ }
 {
     let mut e = 0;
     while e < firsts.len() {
-        let found = felt_refusal(
+        let found = load_refusal(
             records,
             base_buffer::at32(firsts, e),
             base_buffer::at32(seconds, e),
             base_buffer::at32(weights, e),
             e,
         );
-        if let Verdict::Refused { number, place } = found {
-            return Verdict::Refused { number, place };
-        }
+        let Verdict::Fine = found else {
+            return found;
+        };
         e += 1;
     }
     Verdict::Fine

@@ -8,7 +8,7 @@ ghost use Rattle.base_limits.specs.Limits.{maxVertices, maxDuals, recordBytes};
 ghost use Rattle.base_limits.specs.Verdict.{outcome, answer};
 ghost use Rattle.survey_core.specs.Survey.{surveyFrom, lentSurvey};
 ghost use Rattle.survey_core.specs.Accuracy.{Accurate};
-ghost use Rattle.check_rule.specs.Laws.Meaning.{Passing};
+ghost use Rattle.check_rule.specs.Passing.{Passing};
 ghost use Rattle.check_rule.specs.Check.{Checked, ruleRefusal, checkedOf, checking};
 ghost use Rattle.check_core.specs.Stage.{inputRefusal, dualsRefusal, allButRule, PlanFits, outcomeOf};
 use base_limits::Verdict;
@@ -43,13 +43,13 @@ fn input_refusal(
     ensures { λ r. ⌜ r ≡ inputRefusal (lentSurvey groups firsts seconds weights) (old marks) (old records) ⌝ }
 {
     let unsound = survey_core::survey_refusal(groups, firsts, seconds, weights);
-    if let Verdict::Refused { number, place } = unsound {
-        return Verdict::Refused { number, place };
-    }
+    let Verdict::Fine = unsound else {
+        return unsound;
+    };
     let unshaped = check_marks::shape_refusal(firsts, marks, records);
-    if let Verdict::Refused { number, place } = unshaped {
-        return Verdict::Refused { number, place };
-    }
+    let Verdict::Fine = unshaped else {
+        return unshaped;
+    };
     check_marks::marks_refusal(firsts.len(), marks)
 }
 
@@ -65,14 +65,14 @@ fn duals_refusal(
     ensures { λ r. ⌜ r ≡ dualsRefusal (lentSurvey groups firsts seconds weights) (old records) ⌝ }
 {
     let unfit = duals::values_refusal(groups, records);
-    if let Verdict::Refused { number, place } = unfit {
-        return Verdict::Refused { number, place };
-    }
+    let Verdict::Fine = unfit else {
+        return unfit;
+    };
     let whole = cuts::cuts_refusal(groups, records);
-    if let Verdict::Refused { number, place } = whole {
-        return Verdict::Refused { number, place };
-    }
-    duals::felts_refusal(firsts, seconds, weights, records)
+    let Verdict::Fine = whole else {
+        return whole;
+    };
+    duals::loads_refusal(firsts, seconds, weights, records)
 }
 
 // All refusals but 15.
@@ -87,20 +87,22 @@ fn all_but_rule(
     ensures { λ r. ⌜ r ≡ allButRule (lentSurvey groups firsts seconds weights) (old marks) (old records) ⌝ }
 {
     let unfit = input_refusal(groups, firsts, seconds, weights, marks, records);
-    if let Verdict::Refused { number, place } = unfit {
-        return Verdict::Refused { number, place };
-    }
+    let Verdict::Fine = unfit else {
+        return unfit;
+    };
     let unsound = duals_refusal(groups, firsts, seconds, weights, records);
-    if let Verdict::Refused { number, place } = unsound {
-        return Verdict::Refused { number, place };
-    }
+    let Verdict::Fine = unsound else {
+        return unsound;
+    };
     survey_components::group_refusal(groups, firsts, seconds, weights, Chosen::Kept, marks, 14)
 }
 
 // The counts, if the accuracy rule's premise holds of them; else 15.
 fn judge(groups: &[u8], firsts: &[u32], weights: &[u32], marks: &[u8], records: &[u8]) -> Checking
     requires { ⌜ PlanFits (now groups) (now firsts) (now weights) (now marks) (now records) ⌝ }
-    ensures { λ r. ⌜ outcomeOf r ≡ outcome (ruleRefusal (checkedOf (surveyFrom (old groups) (old firsts) [] (old weights)) (old marks) (old records))) (checkedOf (surveyFrom (old groups) (old firsts) [] (old weights)) (old marks) (old records)) ⌝ }
+    ensures { λ r. let s = surveyFrom (old groups) (old firsts) [] (old weights) in
+        let counts = checkedOf s (old marks) (old records) in
+        ⌜ outcomeOf r ≡ outcome (ruleRefusal counts) counts ⌝ }
 {
     let terminals = survey_groups::terminals(groups);
     let cost = check_marks::kept_cost(firsts, weights, marks);
@@ -116,7 +118,8 @@ fn judge(groups: &[u8], firsts: &[u32], weights: &[u32], marks: &[u8], records: 
     }
 }
 
-// Checks a plan: marks and moat records against a survey. It passes exactly if none of 1 to 6 and 9 to 15 applies, and whatever passes is within the accuracy rule.
+// Checks a plan, marks and moat records, against a survey. It passes exactly if none of 1 to 6 and 9 to 15 applies,
+// and then the accuracy rule holds of the k and the kept cost that it answers.
 pub fn check(
     groups: &[u8],
     firsts: &[u32],
@@ -125,9 +128,13 @@ pub fn check(
     marks: &[u8],
     records: &[u8],
 ) -> Checking
-    ensures { λ r. ⌜ outcomeOf r ≡ checking (lentSurvey groups firsts seconds weights) (old marks) (old records) ⌝ }
-    ensures passed { λ r. ⌜ (((c : Checked) → outcomeOf r ≡ answer c → Passing (lentSurvey groups firsts seconds weights) (old marks) (old records)) × (Passing (lentSurvey groups firsts seconds weights) (old marks) (old records) → outcomeOf r ≡ answer (checkedOf (lentSurvey groups firsts seconds weights) (old marks) (old records)))) ⌝ }
-    ensures accurate { λ r. ⌜ ((c : Checked) → outcomeOf r ≡ answer c → Accurate (lentSurvey groups firsts seconds weights) (c .terminals) (c .cost)) ⌝ }
+    ensures { λ r. let s = lentSurvey groups firsts seconds weights in
+        ⌜ outcomeOf r ≡ checking s (old marks) (old records) ⌝ }
+    ensures passed { λ r. let s = lentSurvey groups firsts seconds weights in
+        ⌜ ((c : Checked) → outcomeOf r ≡ answer c → Passing s (old marks) (old records))
+        × (Passing s (old marks) (old records) → outcomeOf r ≡ answer (checkedOf s (old marks) (old records))) ⌝ }
+    ensures accurate { λ r. let s = lentSurvey groups firsts seconds weights in
+        ⌜ ((c : Checked) → outcomeOf r ≡ answer c → Accurate s (c .terminals) (c .cost)) ⌝ }
 {
     let found = all_but_rule(groups, firsts, seconds, weights, marks, records);
     if let Verdict::Refused { number, place } = found {

@@ -4,7 +4,7 @@ ghost use Rattle.check_rule.specs.Check.{ruleRefusal};
 ghost use Rattle.check_core.specs.Stage.{checkedAs, CountsFit};
 use base_limits::Verdict;
 
-// 15: k is 0 and the cost is not, or k times cost exceeds k - 1 times bound.
+// 15: a cost with no terminal, or k times cost above k - 1 times bound.
 pub fn rule_refusal(terminals: u64, cost: u64, bound: u64) -> Verdict
     requires { ⌜ CountsFit terminals cost bound ⌝ }
     ensures { λ r. ⌜ r ≡ ruleRefusal (checkedAs terminals cost bound) ⌝ }

@@ -1,4 +1,4 @@
-// Marks: 0 not picked, 1 picked and dropped, 2 kept. The lengths of a plan, its marks, and what the kept edges cost.
+// The lengths of a plan, its marks (up to 2, which means kept), and what the kept edges cost.
 ghost use Rattle.base_buffer.specs.Lent.{old};
 ghost use mathlib.Core.Path.{_≡_};
 ghost use mathlib.Core.List.{[]};
@@ -63,9 +63,9 @@ pub fn marks_refusal(m: usize, marks: &[u8]) -> Verdict
     let mut e = 0;
     while e < m {
         let found = mark_refusal(base_buffer::at8(marks, e), e);
-        if let Verdict::Refused { number, place } = found {
-            return Verdict::Refused { number, place };
-        }
+        let Verdict::Fine = found else {
+            return found;
+        };
         e += 1;
     }
     Verdict::Fine

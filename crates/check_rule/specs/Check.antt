@@ -61,7 +61,7 @@ checkedOf s marks records =
       bound = total (dualsIn records);
     }
 
--- 1 to 6, then 9 to 15, each over all its items, lowest first.
+-- The survey first, then the plan: the refusals in the order of their numbers, each over all its items.
 unfoldable pub checkRefusal : Survey → (marks records : List ℕ) → Verdict
 checkRefusal s marks records =
     let p = problemOf s in

@@ -1,7 +1,7 @@
 // One word for each vertex: its sides of up to 64 picked edges.
 ghost use Rattle.base_buffer.specs.Lent.{old, new};
 ghost use mathlib.Core.Path.{_≡_};
-ghost use Prim.Native.Nat.{_+_, _<_, _^_};
+ghost use Prim.Native.Nat.{ℕ, _+_, _<_, _^_};
 ghost use lib.ListN.{getD, length};
 ghost use lib.Dec.{eqb};
 ghost use Rattle.base_finite.specs.Below.{counted};
@@ -77,7 +77,8 @@ fn turn_all(x: u32, y: u32, delta: u64, own: u64, labels: &[u32], words: &mut [u
 
 // The edge between two vertices comes in, with its own bit.
 fn take_ends(a: u32, b: u32, own: u64, labels: &mut [u32], words: &mut [u64])
-    ensures { λ r. ⌜ (new labels ≡ endsJoined a b (old labels)) × (new words ≡ edgeTaken a b own (old labels) (old words)) ⌝ }
+    ensures { λ r. ⌜ (new labels ≡ endsJoined a b (old labels))
+        × (new words ≡ edgeTaken a b own (old labels) (old words)) ⌝ }
 {
     let u = base_buffer::index32(a);
     let v = base_buffer::index32(b);
@@ -100,7 +101,9 @@ fn take_edge(
     i: usize,
 ) -> usize
     requires { ⌜ i + 1 < 2 ^ 64 ⌝ }
-    ensures { λ r. ⌜ EdgeStep (pickedIn (old picked) e) (getD (old firsts) e 0) (getD (old seconds) e 0) base i (old labels) (old words) r (new labels) (new words) ⌝ }
+    ensures { λ r. let first = getD (old firsts) e 0 in
+        let second = getD (old seconds) e 0 in
+        ⌜ EdgeStep (pickedIn (old picked) e) first second base i (old labels) (old words) r (new labels) (new words) ⌝ }
 {
     if is_picked(picked, e) {
         take_ends(
@@ -122,7 +125,9 @@ pub fn side_words(
     picked: &[u8],
     base: usize,
 ) -> [u64; MAX_VERTICES]
-    ensures { λ r. ⌜ r ≡ takenBelow maxVertices (λ e. getD (old firsts) e 0) (λ e. getD (old seconds) e 0) (pickedIn (old picked)) base (length (old firsts)) .words ⌝ }
+    ensures { λ r. let first : ℕ → ℕ = λ e. getD (old firsts) e 0 in
+        let second : ℕ → ℕ = λ e. getD (old seconds) e 0 in
+        ⌜ r ≡ takenBelow maxVertices first second (pickedIn (old picked)) base (length (old firsts)) .words ⌝ }
 {
     let mut labels = [0u32; MAX_VERTICES];
     survey_components::own_labels(&mut labels);

@@ -1,4 +1,4 @@
--- Marks: 0 not picked, 1 picked and dropped, 2 kept (document 01, 'What a plan holds'); and what judging a batch of 64 edges makes of them.
+-- Document 01, 'What a plan holds': the marks, and what judging a batch of edges, as many as a word has bits, makes of them.
 use Prim.Native.Nat.{ℕ, _+_, _-_, _<_, _≤_}
 use mathlib.Core.Path.{_≡_}
 use mathlib.Core.Bool.{Bool, false, _&&_, cond}

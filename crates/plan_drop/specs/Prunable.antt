@@ -2,10 +2,9 @@
 use Prim.Native.Nat.{ℕ, _≤_}
 use mathlib.Core.List.{List, []}
 use lib.ListN.{length}
-use Rattle.theory_graph.specs.Laws.Forest.{Forest}
+use Rattle.theory_graph.specs.Path.{Forest}
 use Rattle.base_limits.specs.Limits.{maxVertices, maxEdges}
-use Rattle.theory_steiner.specs.Problem.{Problem, Sound, Joins}
-use Rattle.theory_steiner.specs.Laws.Joined.{Bounded}
+use Rattle.theory_steiner.specs.Problem.{Problem, Sound, Joins, Bounded}
 use Rattle.survey_core.specs.Survey.{surveyFrom, problemOf}
 use Rattle.plan_cuts.specs.Word.{pickedIn}
 

@@ -14,7 +14,6 @@ ghost use Rattle.plan_drop.specs.Judge.{sideIn, judged, raised, MarkStep
 use base_buffer::at64;
 use base_buffer::put8;
 use base_limits::MAX_VERTICES;
-use base_limits::Verdict;
 use plan_cuts::WORD_BITS;
 use plan_cuts::is_picked;
 
@@ -49,14 +48,7 @@ fn parts_group(groups: &[u8], words: &[u64], k: usize) -> bool
     ensures { λ r. ⌜ r ≡ separates (problemOf (groupsAlone (old groups))) (sideIn (old words) k) ⌝ }
 {
     let labels = sides(words, k);
-    let split = survey_groups::split_refusal(groups, &labels, 0);
-    match split {
-        Verdict::Fine => false,
-        Verdict::Refused {
-            number: _,
-            place: _,
-        } => true,
-    }
+    survey_groups::is_separating(groups, &labels)
 }
 
 // Whether the edge with index i is of this batch and needed.
@@ -84,7 +76,8 @@ fn judge_edge(
     i: usize,
 ) -> usize
     requires { ⌜ (length (now groups) ≤ maxVertices) × (i ≤ maxEdges) ⌝ }
-    ensures { λ r. ⌜ MarkStep (pickedIn (old picked) e) (judged (old groups) (old words) base i) e i (old marks) r (new marks) ⌝ }
+    ensures { λ r. let good = judged (old groups) (old words) base i in
+        ⌜ MarkStep (pickedIn (old picked) e) good e i (old marks) r (new marks) ⌝ }
 {
     if is_picked(picked, e) {
         if is_needed(groups, words, base, i) {
@@ -106,7 +99,8 @@ pub fn judge_edges(
     m: usize,
 )
     requires { ⌜ (length (now groups) ≤ maxVertices) × (m ≤ maxEdges) ⌝ }
-    ensures { λ r. ⌜ new marks ≡ remade (raised (pickedIn (old picked)) (judged (old groups) (old words) base)) m (old marks) ⌝ }
+    ensures { λ r. let judgement = judged (old groups) (old words) base in
+        ⌜ new marks ≡ remade (raised (pickedIn (old picked)) judgement) m (old marks) ⌝ }
 {
     let mut i = 0;
     let mut e = 0;

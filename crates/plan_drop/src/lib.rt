@@ -59,17 +59,19 @@ fn prune_batch(
     base: usize,
 )
     requires { ⌜ Prunable (now groups) (now firsts) (now seconds) (now picked) ⌝ }
-    ensures { λ r. ⌜ new marks ≡ batchMarks (unweighted (old groups) (old firsts) (old seconds)) (pickedIn (old picked)) base (length (old firsts)) (old marks) ⌝ }
+    ensures { λ r. let p = unweighted (old groups) (old firsts) (old seconds) in
+        ⌜ new marks ≡ batchMarks p (pickedIn (old picked)) base (length (old firsts)) (old marks) ⌝ }
 {
     let words = plan_cuts::side_words(firsts, seconds, picked, base);
     judge::judge_edges(groups, &words, picked, base, marks, firsts.len());
 }
 
-// Marks every surveyed edge: 0 not picked, 1 picked and dropped, 2 needed. Which edges a picked set needs is found by their sides, and those
-// are only defined in a forest that joins every group: that is what growth leaves, and what is asked here.
+// Marks every surveyed edge: 0 not picked, 1 picked and dropped, 2 needed. Which edges a picked set needs is found by
+// their sides, and those are only defined in a forest that joins every group: what growth leaves is asked here.
 pub fn prune(groups: &[u8], firsts: &[u32], seconds: &[u32], picked: &[u8], marks: &mut [u8])
     requires { ⌜ Prunable (now groups) (now firsts) (now seconds) (now picked) ⌝ }
-    ensures { λ r. ⌜ new marks ≡ prunedMarks (unweighted (old groups) (old firsts) (old seconds)) (pickedIn (old picked)) (length (old firsts)) (old marks) ⌝ }
+    ensures { λ r. let p = unweighted (old groups) (old firsts) (old seconds) in
+        ⌜ new marks ≡ prunedMarks p (pickedIn (old picked)) (length (old firsts)) (old marks) ⌝ }
 {
     drop_all(picked, marks, firsts.len());
     let count = count_picked(picked, firsts.len());

@@ -12,7 +12,7 @@ use Rattle.theory_steiner.specs.Pruning.{dualBound}
 use Rattle.survey_core.specs.Survey.{Survey, problemOf}
 use Rattle.plan_winner.specs.Scan.{Keyed, blockEdges, Floored}
 use Rattle.plan_growth.specs.declared.Growth.{Growth}
-use Rattle.survey_core.specs.Laws.Refusal.{SurveySound}
+use Rattle.survey_core.specs.Sound.{SurveySound}
 
 unfoldable pub edgeOf : Winner → ℕ
 edgeOf nobody = 0

@@ -15,7 +15,7 @@ ghost use Rattle.plan_winner.specs.Scan.{passOf};
 ghost use Rattle.plan_delay.specs.Between.{delayIn};
 ghost use Rattle.plan_growth.specs.Tables.{flagged, raisedValues, raisedLoads, Room};
 ghost use Rattle.plan_growth.specs.View.{waitOf, View, Growing, Shows, growthFrom, Small};
-ghost use Rattle.survey_core.specs.Laws.Refusal.{SurveySound};
+ghost use Rattle.survey_core.specs.Sound.{SurveySound};
 use base_buffer::at64;
 use base_buffer::put8;
 use base_buffer::put32;

@@ -19,7 +19,7 @@ chosenMark Kept mark = eqb mark 2
 unfoldable pub chosen : Chosen → (marks : List ℕ) → ℕ → Bool
 chosen set marks e = chosenMark set (getD marks e 0)
 
--- Whoever had x or y has z.
+-- z in place of x and of y.
 unfoldable pub relabelled : (x y z : ℕ) → List ℕ → List ℕ
 relabelled x y z labels = remade (λ v. merged x y z (λ l. l)) (length labels) labels
 

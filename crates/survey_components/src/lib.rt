@@ -1,7 +1,7 @@
 // Component labels in a lent buffer: one relabelling for each edge that joins two components.
 ghost use Rattle.base_buffer.specs.Lent.{old, new};
 ghost use mathlib.Core.Path.{_≡_};
-ghost use Prim.Native.Nat.{_<_};
+ghost use Prim.Native.Nat.{ℕ, _<_};
 ghost use mathlib.Core.Bool.{cond};
 ghost use lib.ListN.{getD, length};
 ghost use lib.Dec.{eqb};
@@ -107,7 +107,8 @@ fn join_edge(
     labels: &mut [u32],
     e: usize,
 )
-    ensures { λ r. ⌜ new labels ≡ cond (chosen set (old marks) e) (endsJoined (getD (old firsts) e 0) (getD (old seconds) e 0) (old labels)) (old labels) ⌝ }
+    ensures { λ r. let joined = endsJoined (getD (old firsts) e 0) (getD (old seconds) e 0) (old labels) in
+        ⌜ new labels ≡ cond (chosen set (old marks) e) joined (old labels) ⌝ }
 {
     if is_chosen(set, base_buffer::at8(marks, e)) {
         join_ends(
@@ -121,7 +122,10 @@ fn join_edge(
 // The labels of the components that the edges of the set make.
 fn label_components(set: Chosen, firsts: &[u32], seconds: &[u32], marks: &[u8], labels: &mut [u32])
     requires { ⌜ EndsFit (now firsts) (now seconds) (now labels) ⌝ }
-    ensures { λ r. ⌜ new labels ≡ tabulate maxVertices (components maxVertices (λ e. getD (old firsts) e 0) (λ e. getD (old seconds) e 0) (chosen set (old marks)) (length (old firsts))) ⌝ }
+    ensures { λ r. let first : ℕ → ℕ = λ e. getD (old firsts) e 0 in
+        let second : ℕ → ℕ = λ e. getD (old seconds) e 0 in
+        let label = components maxVertices first second (chosen set (old marks)) (length (old firsts)) in
+        ⌜ new labels ≡ tabulate maxVertices label ⌝ }
 {
     own_labels(labels);
     let mut e = 0;
@@ -131,7 +135,8 @@ fn label_components(set: Chosen, firsts: &[u32], seconds: &[u32], marks: &[u8], 
     }
 }
 
-// 1 to 6, and then the lowest group that the set of tracks does not join, under the number given (8 of all tracks, 14 of the kept ones).
+// 1 to 6, and then the lowest group that the set of tracks does not join, under the number given: 8 of all tracks,
+// 14 of the kept ones.
 pub fn group_refusal(
     groups: &[u8],
     firsts: &[u32],
@@ -141,12 +146,13 @@ pub fn group_refusal(
     marks: &[u8],
     number: u64,
 ) -> Verdict
-    ensures { λ r. ⌜ r ≡ (surveyRefusal (lentSurvey groups firsts seconds weights) before groupRefusal (lentSurvey groups firsts seconds weights) number (chosen set (old marks))) ⌝ }
+    ensures { λ r. let s = lentSurvey groups firsts seconds weights in
+        ⌜ r ≡ (surveyRefusal s before groupRefusal s number (chosen set (old marks))) ⌝ }
 {
     let found = survey_core::survey_refusal(groups, firsts, seconds, weights);
-    if let Verdict::Refused { number, place } = found {
-        return Verdict::Refused { number, place };
-    }
+    let Verdict::Fine = found else {
+        return found;
+    };
     let mut labels = [0u32; MAX_VERTICES];
     label_components(set, firsts, seconds, marks, &mut labels);
     survey_groups::split_refusal(groups, &labels, number)

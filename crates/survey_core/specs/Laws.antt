@@ -1,4 +1,3 @@
 pub mod Member
 pub mod Refusal
 pub mod Group
-pub mod Cut

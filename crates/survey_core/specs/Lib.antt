@@ -1,4 +1,5 @@
 pub mod Survey
+pub mod Sound
 pub mod Refusal
 pub mod Accuracy
 pub mod Laws

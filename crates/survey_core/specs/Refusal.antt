@@ -1,13 +1,13 @@
 -- The refusals that planning and the checker share: 1 to 6, and the lowest group that a set of tracks does not join
 -- (document 01, 'Refused surveys and plans').
-use Prim.Native.Nat.{ℕ}
+use Prim.Native.Nat.{ℕ, _<_}
 use mathlib.Core.Bool.{Bool, _&&_, _||_, not}
 use lib.ListN.{length, getD}
 use lib.Dec.{eqb, ltb, leb}
 use Rattle.base_limits.specs.Limits.{maxVertices, maxEdges, maxWeight, groupNumbers}
 use Rattle.base_limits.specs.Verdict.{refuseIf, _before_, lowestBelow}
 use Rattle.base_limits.specs.declared.Verdict.{Verdict}
-use Rattle.survey_core.specs.Survey.{Survey, vertexCount, edgeCount, groupJoined, componentsOf}
+use Rattle.survey_core.specs.Survey.{Survey, vertexCount, edgeCount, JoinsGroup, groupJoined, componentsOf}
 
 -- 4, 5 and 6 in that order at one track.
 unfoldable pub edgeRefusal : Survey → ℕ → Verdict
@@ -28,3 +28,9 @@ surveyRefusal s =
 unfoldable pub groupRefusal : Survey → (number : ℕ) → (ℕ → Bool) → Verdict
 groupRefusal s number F =
     let label = componentsOf s F in lowestBelow groupNumbers (λ g. refuseIf (not (groupJoined s label g)) number g)
+
+-- The same in terms of paths (law `group-refused`).
+pub record LowestUnjoined (s : Survey) (F : ℕ → Bool) (g : ℕ) : Type 0 where
+  pub below : g < groupNumbers
+  pub unjoined : JoinsGroup s F g → ⊥
+  pub lower : (i : ℕ) → i < g → JoinsGroup s F i

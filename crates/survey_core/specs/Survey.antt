@@ -1,10 +1,12 @@
 -- A survey, its groups, and the Steiner forest problem that it poses (document 01, 'The survey and the plan').
-use Prim.Native.Nat.{ℕ}
+use Prim.Native.Nat.{ℕ, _<_}
+use mathlib.Core.Path.{_≡_}
 use mathlib.Core.Bool.{Bool, true, _&&_, _||_, not}
 use mathlib.Core.List.{[], List}
 use lib.ListN.{length, getD}
 use lib.Dec.{eqb}
 use Rattle.base_finite.specs.Below.{allBelow}
+use Rattle.theory_graph.specs.Path.{Linked}
 use Rattle.theory_graph.specs.Component.{components}
 use Rattle.base_buffer.specs.Lent.{Buffer, old}
 use Rattle.theory_steiner.specs.Problem.{Problem}
@@ -55,7 +57,13 @@ problemOf s =
       required = sameGroup s;
     }
 
--- Any two members of group g have the same label.
+-- Any two members of group g are linked by tracks of F.
+abbrev pub JoinsGroup : Survey → (ℕ → Bool) → ℕ → Type 0
+JoinsGroup s F g =
+    (u v : ℕ) → u < vertexCount s → v < vertexCount s → member s g u ≡ true → member s g v ≡ true
+    → Linked (problemOf s .first) (problemOf s .second) F u v
+
+-- The same by labels: any two members of group g have the same one.
 unfoldable pub groupJoined : Survey → (label : ℕ → ℕ) → (g : ℕ) → Bool
 groupJoined s label g =
     allBelow (vertexCount s) (λ u. allBelow (vertexCount s) (λ v. not (member s g u && member s g v) || eqb (label u) (label v)))

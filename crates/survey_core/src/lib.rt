@@ -49,14 +49,15 @@ fn edge_refusal(
 
 // What is wrong with the lowest track that has something wrong.
 fn edges_refusal(groups: &[u8], firsts: &[u32], seconds: &[u32], weights: &[u32]) -> Verdict
-    ensures { λ r. ⌜ r ≡ lowestBelow (edgeCount (lentSurvey groups firsts seconds weights)) (edgeRefusal (lentSurvey groups firsts seconds weights)) ⌝ }
+    ensures { λ r. let s = lentSurvey groups firsts seconds weights in
+        ⌜ r ≡ lowestBelow (edgeCount s) (edgeRefusal s) ⌝ }
 {
     let mut e = 0;
     while e < firsts.len() {
         let found = edge_refusal(groups, firsts, seconds, weights, e);
-        if let Verdict::Refused { number, place } = found {
-            return Verdict::Refused { number, place };
-        }
+        let Verdict::Fine = found else {
+            return found;
+        };
         e += 1;
     }
     Verdict::Fine

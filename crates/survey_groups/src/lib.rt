@@ -1,16 +1,16 @@
 // How the members of the groups lie over components: which groups are split, and how many vertices are terminals.
 ghost use Rattle.base_buffer.specs.Lent.{old, new};
 ghost use mathlib.Core.Path.{_≡_};
-ghost use Prim.Native.Nat.{_+_, _<_, _^_};
-ghost use mathlib.Core.Bool.{not};
+ghost use Prim.Native.Nat.{ℕ, _+_, _<_, _^_};
+ghost use mathlib.Core.Bool.{Bool, not};
 ghost use lib.ListN.{getD, length};
 ghost use lib.Dec.{eqb};
 ghost use Rattle.base_finite.specs.Below.{counted, countBelow, tabulate};
 ghost use Rattle.base_limits.specs.Limits.{groupNumbers};
 ghost use Rattle.base_limits.specs.Verdict.{refuseIf, lowestBelow};
-ghost use Rattle.theory_steiner.specs.Problem.{terminals};
+ghost use Rattle.theory_steiner.specs.Problem.{separates, terminals};
 ghost use Rattle.survey_core.specs.Survey.{groupsAlone, groupJoined, problemOf};
-ghost use Rattle.survey_groups.specs.Spread.{noted, notedIn, spread};
+ghost use Rattle.survey_groups.specs.Spread.{noted, notedIn, spread, Sides};
 use base_buffer::at64;
 use base_buffer::put64;
 use base_limits::GROUP_NUMBERS;
@@ -45,7 +45,8 @@ fn note(table: &mut [u64], group: u8, label: u64)
 
 // The table of all groups under given labels.
 pub fn spreads(groups: &[u8], labels: &[u32]) -> [u64; GROUP_NUMBERS]
-    ensures { λ r. ⌜ r ≡ tabulate groupNumbers (λ g. spread (groupsAlone (old groups)) (λ v. getD (old labels) v 0) g (length (old groups))) ⌝ }
+    ensures { λ r. let label : ℕ → ℕ = λ v. getD (old labels) v 0 in
+        ⌜ r ≡ tabulate groupNumbers (λ g. spread (groupsAlone (old groups)) label g (length (old groups))) ⌝ }
 {
     let mut table = [0u64; GROUP_NUMBERS];
     let mut v = 0;
@@ -62,7 +63,8 @@ pub fn spreads(groups: &[u8], labels: &[u32]) -> [u64; GROUP_NUMBERS]
 
 // The table of all groups where each vertex has its own label.
 fn own_spreads(groups: &[u8]) -> [u64; GROUP_NUMBERS]
-    ensures { λ r. ⌜ r ≡ tabulate groupNumbers (λ g. spread (groupsAlone (old groups)) (λ v. v) g (length (old groups))) ⌝ }
+    ensures { λ r. let s = groupsAlone (old groups) in
+        ⌜ r ≡ tabulate groupNumbers (λ g. spread s (λ v. v) g (length (old groups))) ⌝ }
 {
     let mut table = [0u64; GROUP_NUMBERS];
     let mut v = 0;
@@ -93,10 +95,26 @@ fn first_split(table: &[u64], number: u64) -> Verdict
 
 // The lowest group whose members have different labels.
 pub fn split_refusal(groups: &[u8], labels: &[u32], number: u64) -> Verdict
-    ensures { λ r. ⌜ r ≡ lowestBelow groupNumbers (λ g. refuseIf (not (groupJoined (groupsAlone (old groups)) (λ v. getD (old labels) v 0) g)) number g) ⌝ }
+    ensures { λ r. let label : ℕ → ℕ = λ v. getD (old labels) v 0 in
+        ⌜ r ≡ lowestBelow groupNumbers (λ g. refuseIf (not (groupJoined (groupsAlone (old groups)) label g)) number g) ⌝ }
 {
     let table = spreads(groups, labels);
     first_split(&table, number)
+}
+
+// Whether some group has members on both sides of a set of vertices, whose sides the labels are.
+pub fn is_separating(groups: &[u8], labels: &[u32]) -> bool
+    ensures { λ r. ⌜ ((S : ℕ → Bool) → Sides S (length (old groups)) (old labels)
+        → r ≡ separates (problemOf (groupsAlone (old groups))) S) ⌝ }
+{
+    let split = split_refusal(groups, labels, 0);
+    match split {
+        Verdict::Fine => false,
+        Verdict::Refused {
+            number: _,
+            place: _,
+        } => true,
+    }
 }
 
 // 1 for the summary of a split group, else 0.

@@ -4,7 +4,7 @@ use mathlib.Core.Bool.{Bool, _||_, cond}
 use lib.Dec.{eqb}
 use Rattle.base_finite.specs.Below.{memo}
 
--- Labels in which whoever had x or y has z: two components become one.
+-- Labels with z in place of x and of y: two components become one.
 unfoldable pub merged : (x y z : ℕ) → (ℕ → ℕ) → ℕ → ℕ
 merged x y z label v = cond (eqb (label v) x || eqb (label v) y) z (label v)
 

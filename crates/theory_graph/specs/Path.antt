@@ -22,3 +22,7 @@ without F e f = F f && not (eqb f e)
 unfoldable pub crosses : (a b : ℕ → ℕ) → (ℕ → Bool) → ℕ → Bool
 unfolding xor
 crosses a b S e = xor (S (a e)) (S (b e))
+
+-- No edge of F has its ends linked by the others (source 001, proof of Lemma 22.6: F is acyclic).
+abbrev pub Forest : (a b : ℕ → ℕ) → (ℕ → Bool) → Type 0
+Forest a b F = (e : ℕ) → F e ≡ true → Linked a b (without F e) (a e) (b e) → ⊥

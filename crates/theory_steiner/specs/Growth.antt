@@ -1,6 +1,7 @@
 -- How duals grow (document 01, 'How moats grow'; source 001, Algorithm 22.3, steps 1 and 2). Values are in half units.
 -- Components are numbered as they arise: the single vertices first, then one for each round. A component's dual has its number.
 use Prim.Native.Nat.{ℕ, zero, suc, _+_, _*_, _-_, _/_}
+use mathlib.Core.Path.{_≡_}
 use mathlib.Core.Bool.{Bool, true, false, _&&_, _||_, not, cond}
 use lib.Dec.{eqb, ltb}
 use Rattle.base_finite.specs.Below.{counted, sumBelow, memo}
@@ -19,7 +20,7 @@ pub record State : Type 0 where
   -- the edges picked
   pub picked : ℕ → Bool
 
--- 'At the start each junction is a component of its own and nothing is picked.'
+-- Before the first round each vertex is its own component, and no edge is picked.
 unfoldable pub start : State
 start = record { rounds = 0; label = λ v. v; value = λ c. 0; holds = λ c v. eqb v c; picked = λ e. false }
 
@@ -75,7 +76,7 @@ winnerBelow p s (suc e) = better (winnerBelow p s e) e (delay p s e)
 unfoldable pub winner : Problem → State → Winner
 winner p s = winnerBelow p s (p .edges)
 
--- 'Every growing component is raised by that wait, the winner is picked, and its two components become one.'
+-- A round: the active components are raised by the delay, the edge is picked, and its two components become a new one.
 unfoldable pub pick : Problem → State → (e d : ℕ) → State
 pick p s e d =
     let x = s .label (p .first e) in
@@ -88,6 +89,11 @@ pick p s e d =
       holds = λ c v. cond (eqb c z) (s .holds x v || s .holds y v) (s .holds c v);
       picked = λ f. s .picked f || eqb f e;
     }
+
+-- The states that rounds lead to: a round picks its winner.
+pub data Reached (p : Problem) : State → Type 0 where
+  first : Reached p start
+  next : {s : State} {e d : ℕ} → Reached p s → winner p s ≡ edge e d → Reached p (pick p s e d)
 
 -- One round; with no candidate nothing happens.
 unfoldable pub advance : Problem → State → Winner → State

@@ -25,6 +25,10 @@ pub record Sound (p : Problem) : Type 0 where
   pub ends-differ : (e : ℕ) → e < p .edges → p .first e ≡ p .second e → ⊥
   pub symmetric : (u v : ℕ) → p .required u v ≡ true → p .required v u ≡ true
 
+-- F holds numbers of edges only.
+abbrev pub Bounded : Problem → (ℕ → Bool) → Type 0
+Bounded p F = (e : ℕ) → F e ≡ true → e < p .edges
+
 -- F is a set of numbers of edges that may be used.
 abbrev pub EdgeSet : Problem → (ℕ → Bool) → Type 0
 EdgeSet p F = (e : ℕ) → F e ≡ true → (e < p .edges) × (p .usable e ≡ true)

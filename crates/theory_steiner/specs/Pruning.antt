@@ -16,7 +16,7 @@ picked p = grown p .picked
 unfoldable pub kept : Problem → ℕ → Bool
 kept p = needed p (picked p)
 
--- 0 not picked, 1 picked and dropped, 2 kept (document 01, 'What a plan holds').
+-- Document 01, 'What a plan holds': 0 for an edge not picked, 1 for one picked and pruned, 2 for one kept.
 unfoldable pub markOf : Bool → Bool → ℕ
 markOf false k = 0
 markOf true false = 1

@@ -68,6 +68,11 @@ remade-table f n l g long h =
     (e ∙ sym (length-tabulate n g))
     (λ k b. remade-passed f n l k (omega arith) (omega arith) ∙ h k (omega arith) ∙ sym (getD-tabulate n g k 0 (omega arith)))
 
+-- The same at the end of the loop that stores it.
+pub stored-table : (f : ℕ → ℕ → ℕ) (n i : ℕ) (l : List ℕ) (g : ℕ → ℕ) {after : List ℕ} → i ≤ n → n ≤ i → length l ≡ n
+    → ((k : ℕ) → k < n → f k (getD l k 0) ≡ g k) → after ≡ remade f i l → after ≡ tabulate n g
+stored-table f n i l g b c long h k = k ∙ remade-end f n i l b c ∙ remade-table f n l g long h
+
 -- A table changed in its first n places.
 pub remade-part : (f : ℕ → ℕ → ℕ) (n N : ℕ) (l : List ℕ) (g : ℕ → ℕ) → length l ≡ N → n ≤ N → ((k : ℕ) → k < n → f k (getD l k 0) ≡ g k)
     → ((k : ℕ) → n ≤ k → k < N → getD l k 0 ≡ g k) → remade f n l ≡ tabulate N g

@@ -1,10 +1,10 @@
--- Counts and sums that a loop gathers upwards.
+-- Counts, sums and searches of a loop that runs upwards.
 use Prim.Native.Nat.{ℕ, _+_, _≤_}
 use native.Mathlib.Omega.{arith}
 use native.Mathlib.Numerals.{add-one}
 use mathlib.Core.Path.{_≡_}
-use mathlib.Core.Bool.{Bool}
-use Rattle.base_finite.specs.Below.{counted, sumBelow, countBelow}
+use mathlib.Core.Bool.{Bool, false}
+use Rattle.base_finite.specs.Below.{counted, sumBelow, countBelow, anyBelow}
 use Rattle.base_finite.specs.Laws.Below.{count-le, counted-le}
 
 -- One more number, as a call leaves the sum.
@@ -30,3 +30,11 @@ count-bound v t h k =
     let a : countBelow v t ≤ v = count-le v t in
     let b : counted (t v) 1 ≤ 1 = counted-le (t v) 1 in
     omega arith
+
+-- A loop that looks for a number that passes a test: one more does not, and all are looked at.
+pub any-more : (i : ℕ) (t : ℕ → Bool) → anyBelow i t ≡ false → t i ≡ false → anyBelow (i + 1) t ≡ false
+unfolding anyBelow
+any-more i t h k = rw (add-one i, h, k)
+
+pub any-end : (n i : ℕ) (t : ℕ → Bool) → i ≤ n → n ≤ i → anyBelow i t ≡ false → anyBelow n t ≡ false
+any-end n i t b c h = let e : n ≡ i = omega arith in rw e h

@@ -18,6 +18,14 @@ pub before-refused : {v : Verdict} {number place : ℕ} → v ≡ Refused number
 unfolding _before_
 before-refused h w = rw h
 
+-- A finding is passed on.
+pub passed-on : {found v : Verdict} {number place : ℕ} → found ≡ v → found ≡ Refused number place → (w : Verdict) → found ≡ (v before w)
+passed-on is refused w = refused ∙ sym (before-refused (sym is ∙ refused) w)
+
+-- Nothing is found, and what comes next decides.
+pub goes-on : {found v w next : Verdict} → found ≡ v → found ≡ Fine → next ≡ w → next ≡ (v before w)
+goes-on {w = w} is fine h = h ∙ sym (before-fine (sym is ∙ fine) w)
+
 pub before-assoc : (u v w : Verdict) → ((u before v) before w) ≡ (u before v before w)
 unfolding _before_
 before-assoc Fine v w = refl
@@ -30,6 +38,9 @@ fine-left (Refused number place) w h = h
 
 pub fine-right : (v w : Verdict) → (v before w) ≡ Fine → w ≡ Fine
 fine-right v w h = sym (before-fine (fine-left v w h) w) ∙ h
+
+pub no-refusal : {number place : ℕ} {v : Verdict} → v ≡ Refused number place → v ≡ Fine → ⊥
+no-refusal h k = let z : _≡_ {A = ℕ} 0 1 = cc in omega arith
 
 pub refuse-true : {t : Bool} → t ≡ true → (number place : ℕ) → refuseIf t number place ≡ Refused number place
 unfolding refuseIf
@@ -69,13 +80,29 @@ lowest-found (suc n) i f b h k =
     (λ e. before-fine (ap (λ j. lowestBelow j f) (sym e) ∙ h) (f n) ∙ ap f (sym e) ∙ k)
     (below-suc i n b)
 
-pub lowest-more : (i : ℕ) (f : ℕ → Verdict) → lowestBelow i f ≡ Fine → f i ≡ Fine → lowestBelow (i + 1) f ≡ Fine
-unfolding lowestBelow
-lowest-more i f h k = rw (add-one i) (before-fine h (f i) ∙ k)
+-- A loop that looks for the lowest finding below n: so far it has looked below i and found nothing.
+pub record Scanned (n : ℕ) (f : ℕ → Verdict) (i : ℕ) : Type 0 where
+  pub within : i ≤ n
+  pub none : lowestBelow i f ≡ Fine
 
--- A scan that has come to the end.
-pub lowest-end : (n i : ℕ) (f : ℕ → Verdict) → i ≤ n → n ≤ i → lowestBelow i f ≡ Fine → lowestBelow n f ≡ Fine
-lowest-end n i f b c h = let e : n ≡ i = omega arith in rw e h
+pub scan-start : (n : ℕ) (f : ℕ → Verdict) → Scanned n f 0
+unfolding lowestBelow
+scan-start n f = record { within = omega arith; none = refl }
+
+-- Nothing found at i.
+pub scan-turn : {n i : ℕ} {f : ℕ → Verdict} {found : Verdict} → Scanned n f i → i < n → found ≡ f i → found ≡ Fine → Scanned n f (i + 1)
+unfolding lowestBelow
+scan-turn {i = i} {f = f} h b is fine =
+    record { within = omega arith; none = rw (add-one i) (before-fine (h .none) (f i) ∙ sym is ∙ fine) }
+
+-- The finding at i is the answer.
+pub scan-found : {n i number place : ℕ} {f : ℕ → Verdict} {found : Verdict} → Scanned n f i → i < n → found ≡ f i → found ≡ Refused number place
+    → found ≡ lowestBelow n f
+scan-found {n} {i} {f = f} h b is refused = refused ∙ sym (lowest-found n i f b (h .none) (sym is ∙ refused))
+
+-- All looked at.
+pub scan-end : {n i : ℕ} {f : ℕ → Verdict} → Scanned n f i → n ≤ i → Fine ≡ lowestBelow n f
+scan-end {n} {i} {f} h c = let w : i ≤ n = h .within in let e : n ≡ i = omega arith in rw e (sym (h .none))
 
 pub lowest-cong : (n : ℕ) (f g : ℕ → Verdict) → ((i : ℕ) → i < n → f i ≡ g i) → lowestBelow n f ≡ lowestBelow n g
 unfolding lowestBelow

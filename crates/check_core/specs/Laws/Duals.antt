@@ -1,13 +1,13 @@
 -- Sums over the duals of a buffer of records, as a loop over the records gathers them, and their limits: no sum wraps.
-use Prim.Native.Nat.{ℕ, zero, suc, _+_, _*_, _-_, _/_, _<_, _≤_, _^_}
+use Prim.Native.Nat.{ℕ, _+_, _*_, _/_, _<_, _≤_, _^_}
 use native.Mathlib.Omega.{arith}
 use native.Mathlib.Nat.{mul-le-mul}
-use mathlib.Core.Path.{_≡_, refl, ap, ap₂, sym, _∙_}
+use mathlib.Core.Path.{_≡_, ap, ap₂, sym, _∙_}
 use mathlib.Core.Bool.{Bool, true}
-use mathlib.Core.List.{List, [], _∷_}
+use mathlib.Core.List.{List}
 use lib.ListN.{length, getD}
 use lib.Dec.{ltb}
-use Rattle.base_finite.specs.Below.{counted, sumBelow, tabulate}
+use Rattle.base_finite.specs.Below.{counted, sumBelow}
 use Rattle.base_finite.specs.Laws.Below.{counted-le, count-le, sum-limit}
 use Rattle.base_limits.specs.Limits.{maxVertices, maxWeight, maxValue, recordBytes, maxDuals}
 use Rattle.theory_graph.specs.Path.{crosses}
@@ -17,23 +17,18 @@ use Rattle.base_limits.specs.declared.Verdict.the-variants.{Fine}
 use Rattle.base_limits.specs.Laws.Verdict.{none-lowest}
 use Rattle.format_record.specs.Record.{valueIn, memberIn, recordAt}
 use Rattle.theory_steiner.specs.Problem.{terminal, terminals, cost}
-use Rattle.theory_steiner.specs.Dual.{Dual, weigh, total, felt}
-use Rattle.theory_steiner.specs.Laws.Dual.{weigh-append}
+use Rattle.theory_steiner.specs.Dual.{weigh, total, felt}
+use Rattle.theory_steiner.specs.Laws.Dual.{weigh-tabulate}
 use Rattle.survey_core.specs.Survey.{Survey, vertexCount, edgeCount, problemOf}
 use Rattle.base_finite.specs.Laws.Count.{sum-end}
-use Rattle.survey_core.specs.Laws.Refusal.{SurveySound}
+use Rattle.survey_core.specs.Sound.{SurveySound}
 use Rattle.check_rule.specs.Check.{dualAt, dualsIn, keptBy, dualRefusal}
-use Rattle.check_core.specs.Stage.{feltBetween, DualsFit, CountsFit}
+use Rattle.check_core.specs.Stage.{loadBetween, DualsFit, CountsFit}
 use Rattle.check_rule.specs.Laws.Refusal.{fine-dual}
 
 -- What record i adds to the duals that pass the test.
 abbrev pub weighedAt : List ℕ → ((ℕ → Bool) → Bool) → ℕ → ℕ
 weighedAt records t i = counted (t (memberIn (recordAt records i))) (valueIn (recordAt records i))
-
-weigh-tabulate : (n : ℕ) (f : ℕ → Dual) (t : (ℕ → Bool) → Bool) → weigh (tabulate n f) t ≡ sumBelow n (λ i. counted (t (f i .holds)) (f i .value))
-unfolding weigh tabulate sumBelow
-weigh-tabulate zero f t = refl
-weigh-tabulate (suc n) f t = omega (arith, weigh-append (tabulate n f) (f n ∷ []) t, weigh-tabulate n f t)
 
 pub weigh-records : (records : List ℕ) (t : (ℕ → Bool) → Bool) → weigh (dualsIn records) t ≡ sumBelow (length records / recordBytes) (weighedAt records t)
 unfolding dualsIn dualAt
@@ -69,15 +64,15 @@ module _ (records : List ℕ) (fit : DualsFit records) (t : (ℕ → Bool) → B
   weigh-limit = omega (arith, weigh-records records t, weighed-le (length records / recordBytes) (omega arith), fit .few)
 
 -- What 13 says of edge e, from what its ends and its weight were read as.
-pub felt-item : (s : Survey) (records : List ℕ) (e : ℕ) {found : Verdict} {first second weight : ℕ} → first ≡ getD (s .firsts) e 0
+pub load-item : (s : Survey) (records : List ℕ) (e : ℕ) {found : Verdict} {first second weight : ℕ} → first ≡ getD (s .firsts) e 0
     → second ≡ getD (s .seconds) e 0
     → weight ≡ getD (s .weights) e 0
-    → found ≡ refuseIf (ltb (2 * weight) (feltBetween records first second)) 13 e
+    → found ≡ refuseIf (ltb (2 * weight) (loadBetween records first second)) 13 e
     → refuseIf (ltb (2 * getD (s .weights) e 0) (felt (problemOf s) (dualsIn records) e)) 13 e ≡ found
-unfolding felt crosses problemOf feltBetween
-felt-item s records e {found} {first} {second} {weight} a b c h =
-    sym (h ∙ ap (λ x. refuseIf (ltb (2 * x) (feltBetween records first second)) 13 e) c
-    ∙ ap₂ (λ x y. refuseIf (ltb (2 * getD (s .weights) e 0) (feltBetween records x y)) 13 e) a b)
+unfolding felt crosses problemOf loadBetween
+load-item s records e {found} {first} {second} {weight} a b c h =
+    sym (h ∙ ap (λ x. refuseIf (ltb (2 * x) (loadBetween records first second)) 13 e) c
+    ∙ ap₂ (λ x y. refuseIf (ltb (2 * getD (s .weights) e 0) (loadBetween records x y)) 13 e) a b)
 
 -- 9 and 11 leave few records of small values.
 pub duals-fit : (s : Survey) (records : List ℕ) → length records / recordBytes ≤ maxDuals

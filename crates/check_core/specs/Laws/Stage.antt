@@ -16,7 +16,8 @@ use Rattle.survey_core.specs.Survey.{Survey, surveyFrom, vertexCount, edgeCount
 use Rattle.survey_core.specs.Refusal.{surveyRefusal, groupRefusal}
 use Rattle.survey_components.specs.Labels.{chosenMark, chosen}
 use Rattle.survey_components.specs.declared.Chosen.the-variants.{Kept}
-use Rattle.survey_core.specs.Laws.Refusal.{SurveySound, fine-survey}
+use Rattle.survey_core.specs.Sound.{SurveySound}
+use Rattle.survey_core.specs.Laws.Refusal.{fine-survey}
 use Rattle.check_rule.specs.Check.{Checked, dualAt, dualsIn, keptBy, shapeRefusal, dualRefusal, ruleRefusal, checkedOf, checkRefusal, checking}
 use Rattle.check_core.specs.Stage.{checkedAs, inputRefusal, dualsRefusal, allButRule, PlanFits}
 use Rattle.check_rule.specs.Laws.Refusal.{fine-shape}

@@ -1,25 +1,22 @@
--- `marks_refusal` meets its contract: while it runs, no edge below e has a mark above 2.
-use Prim.Native.Nat.{_≤_, _-_}
-use native.Mathlib.Omega.{arith}
-use mathlib.Core.Path.{_≡_, refl, ap, sym, _∙_}
+-- `marks_refusal` meets its contract: a scan of the marks.
+use Prim.Native.Nat.{_-_}
+use mathlib.Core.Path.{ap, _∙_}
 use lib.ListN.{getD}
 use lib.Dec.{ltb}
+use Rattle.base_limits.specs.Verdict.{refuseIf}
+use Rattle.base_limits.specs.Laws.Verdict.{Scanned, scan-start, scan-turn, scan-found, scan-end}
 use borrow.Author.Needs.{needs}
-use Rattle.base_limits.specs.Verdict.{refuseIf, lowestBelow}
-use Rattle.base_limits.specs.declared.Verdict.the-variants.{Fine}
-use Rattle.base_limits.specs.Laws.Verdict.{lowest-more, lowest-found, lowest-end}
 use Rattle.check_marks.proofs.marks_refusal.Statement.{statement}
 use Rattle.check_marks.proofs.marks_refusal.Tie as tie
 
 abbrev Inv-loop : tie.InvT-loop
-Inv-loop m marks e₀ e = (e ≤ m) × (lowestBelow e (λ e. refuseIf (ltb 2 (getD marks e 0)) 10 e) ≡ Fine)
+Inv-loop m marks e₀ e = Scanned m (λ e. refuseIf (ltb 2 (getD marks e 0)) 10 e) e
 
 abbrev μ-loop : tie.MeasureT-loop
 μ-loop m marks e₀ e = m - e
 
 loop-holds : tie.Need-loop-holds Inv-loop μ-loop
-unfolding lowestBelow
-loop-holds c = (omega arith, refl)
+loop-holds c = scan-start _ _
 
 at8-requires : tie.Need-at8-requires Inv-loop μ-loop
 at8-requires c κs = search needs
@@ -27,22 +24,18 @@ at8-requires c κs = search needs
 mark-refusal-requires : tie.Need-mark-refusal-requires Inv-loop μ-loop
 mark-refusal-requires c κs = search needs
 
-enum-known-found : tie.Need-enum-known-found Inv-loop μ-loop
-enum-known-found c = search needs
-
-returns : tie.Need-returns Inv-loop μ-loop
-returns c = let e = c .before .before .before .before .before .before .loop .e in
-    sym
-    (lowest-found
-    _
-    e
-    _
-    (omega arith)
-    (c .before .before .before .before .before .before .loop .inv .1)
-    (ap (λ x. refuseIf (ltb 2 x) 10 e) (sym (c .before .before .before .before .at8 .ensures)) ∙ sym (c .before .before .before .mark-refusal .ensures) ∙ c .before .found .given .1))
-
 enum-told : tie.Need-enum-told Inv-loop μ-loop
 enum-told c = search needs
+
+enum-told-2 : tie.Need-enum-told-2 Inv-loop μ-loop
+enum-told-2 c = search needs
+
+-- a mark above 2
+returns : tie.Need-returns Inv-loop μ-loop
+returns c =
+    let at = c .before .before .before .before in
+    let is = c .before .before .mark-refusal .ensures ∙ ap (λ x. refuseIf (ltb 2 x) 10 (at .before .loop .e)) (c .before .before .before .at8 .ensures) in
+    scan-found (at .before .loop .inv) (at .loop-test .taken) is (c .enum-told2 .given .1)
 
 add-e : tie.Need-add-e Inv-loop μ-loop
 add-e c = search needs
@@ -51,11 +44,14 @@ loop-less : tie.Need-loop-less Inv-loop μ-loop
 loop-less c = search needs
 
 loop-again : tie.Need-loop-again Inv-loop μ-loop
-loop-again c = let e = c .before .before .before .before .before .loop .e in
-    (omega arith, lowest-more e _ (c .before .before .before .before .before .loop .inv .1) (ap (λ x. refuseIf (ltb 2 x) 10 e) (sym (c .before .before .before .at8 .ensures)) ∙ sym (c .before .before .mark-refusal .ensures) ∙ c .enum-told .given .1))
+loop-again c =
+    let at = c .before .before .before .before in
+    let is = c .before .before .mark-refusal .ensures ∙ ap (λ x. refuseIf (ltb 2 x) 10 (at .before .loop .e)) (c .before .before .before .at8 .ensures) in
+    scan-turn (at .before .loop .inv) (at .loop-test .taken) is (c .enum-told .given .1)
 
+-- no mark is above 2
 returns-2 : tie.Need-returns-2 Inv-loop μ-loop
-returns-2 c = sym (lowest-end _ (c .before .loop .e) _ (omega arith) (omega arith) (c .before .loop .inv .1))
+returns-2 c = scan-end (c .before .loop .inv) (c .loop-test .left)
 
 pub marks-refusal-spec : {M : Type 1} → statement M
 marks-refusal-spec =
@@ -66,9 +62,9 @@ marks-refusal-spec =
     loop-holds
     at8-requires
     mark-refusal-requires
-    enum-known-found
-    returns
     enum-told
+    enum-told-2
+    returns
     add-e
     loop-less
     loop-again

@@ -11,21 +11,21 @@ use Rattle.base_limits.specs.Verdict.{Outcome, answer, outcome}
 use Rattle.base_limits.specs.declared.Verdict.{Verdict}
 use Rattle.base_limits.specs.declared.Verdict.the-variants.{Fine, Refused}
 use Rattle.theory_steiner.specs.Problem.{terminals, cost}
-use Rattle.theory_steiner.specs.Dual.{Dual}
-use Rattle.theory_steiner.specs.Laws.Dual.{Each, none, more}
+use Rattle.theory_steiner.specs.Dual.{Dual, EachDual, none, more}
 use Rattle.theory_steiner.specs.Laws.Accuracy.{within-factor}
 use Rattle.survey_core.specs.Survey.{Survey, problemOf}
 use Rattle.survey_core.specs.Accuracy.{Accurate}
-use Rattle.survey_core.specs.Laws.Group.{Numbered}
+use Rattle.survey_core.specs.Sound.{Numbered}
 use Rattle.check_rule.specs.Check.{Checked, dualAt, dualsIn, keptBy, checkedOf, checkRefusal, checking}
-use Rattle.check_rule.specs.Laws.Meaning.{Passing, check-passing, passing-check}
+use Rattle.check_rule.specs.Passing.{Passing}
+use Rattle.check_rule.specs.Laws.Meaning.{check-passing, passing-check}
 
-each-tabulate : {P : Dual → Type 0} (n : ℕ) (f : ℕ → Dual) → ((i : ℕ) → i < n → P (f i)) → Each P (tabulate n f)
+each-tabulate : {P : Dual → Type 0} (n : ℕ) (f : ℕ → Dual) → ((i : ℕ) → i < n → P (f i)) → EachDual P (tabulate n f)
 unfolding tabulate
 each-tabulate zero f h = none
 each-tabulate {P} (suc n) f h = snoc (each-tabulate n f (λ i b. h i (omega arith))) (h n (omega arith))
   where
-    snoc : {ds : List Dual} {d : Dual} → Each P ds → P d → Each P (ds ++ (d ∷ []))
+    snoc : {ds : List Dual} {d : Dual} → EachDual P ds → P d → EachDual P (ds ++ (d ∷ []))
     snoc none x = more x none
     snoc (more y hs) x = more y (snoc hs x)
 

@@ -4,7 +4,7 @@
 use Prim.Native.Nat.{ℕ, _*_, _-_, _/_, _%_, _≤_, _<_}
 use mathlib.Core.Path.{_≡_, sym, _∙_, subst}
 use mathlib.Core.Logic.{⊎-elim, _↔_}
-use mathlib.Core.Bool.{true, false, _&&_, _||_, not}
+use mathlib.Core.Bool.{false, _&&_, _||_, not}
 use mathlib.Core.List.{List}
 use native.Mathlib.Omega.{arith}
 use native.Mathlib.Nat.{not-le-of-lt}
@@ -17,12 +17,13 @@ use Rattle.base_finite.specs.Laws.Below.{any-none, any-elim, Found, lt-or-ge}
 use Rattle.base_limits.specs.Limits.{maxValue, memberBytes, recordBytes, maxDuals}
 use Rattle.base_limits.specs.declared.Verdict.the-variants.{Fine}
 use Rattle.base_limits.specs.Laws.Verdict.{before-fine, fine-left, fine-right, refuse-false, fine-refuse, lowest-none, none-lowest}
-use Rattle.theory_steiner.specs.Problem.{Joins, separates, terminals, cost}
-use Rattle.theory_steiner.specs.Dual.{Dual, total, felt}
-use Rattle.theory_steiner.specs.Laws.Joined.{Bounded}
+use Rattle.theory_steiner.specs.Problem.{separates, terminals, cost, Bounded}
+use Rattle.theory_steiner.specs.Dual.{Dual, felt}
 use Rattle.survey_core.specs.Survey.{Survey, vertexCount, edgeCount, problemOf}
-use Rattle.survey_core.specs.Laws.Refusal.{SurveySound, survey-fine, fine-survey}
-use Rattle.survey_core.specs.Laws.Group.{Numbered, group-fine, joins-fine}
+use Rattle.survey_core.specs.Sound.{Numbered}
+use Rattle.survey_core.specs.Laws.Refusal.{survey-fine, fine-survey}
+use Rattle.survey_core.specs.Laws.Group.{group-fine, joins-fine}
+use Rattle.check_rule.specs.Passing.{DualSound, Passing}
 use Rattle.check_rule.specs.Check.{
   Checked,
   dualAt,
@@ -34,26 +35,6 @@ use Rattle.check_rule.specs.Check.{
   checkedOf,
   checkRefusal,
 }
-
--- 11 of one dual: a value from 1 to the limit, and members that are vertices.
-pub record DualSound (s : Survey) (d : Dual) : Type 0 where
-  pub positive : 0 < d .value
-  pub small : d .value ≤ maxValue
-  pub vertices-only : (v : ℕ) → v < 8 * memberBytes → d .holds v ≡ true → v < vertexCount s
-
--- All that passing says.
-pub record Passing (s : Survey) (marks records : List ℕ) : Type 0 where
-  pub survey : SurveySound s
-  pub marks-long : length marks ≡ edgeCount s
-  pub records-whole : length records % recordBytes ≡ 0
-  pub records-few : length records / recordBytes ≤ maxDuals
-  pub marks-known : (e : ℕ) → e < edgeCount s → getD marks e 0 ≤ 2
-  pub duals-sound : (i : ℕ) → i < length records / recordBytes → DualSound s (dualAt records i)
-  pub duals-separate : (i : ℕ) → i < length records / recordBytes → separates (problemOf s) (dualAt records i .holds) ≡ true
-  pub not-overtight : (e : ℕ) → e < edgeCount s → felt (problemOf s) (dualsIn records) e ≤ 2 * problemOf s .weight e
-  pub kept-joins : Joins (problemOf s) (keptBy marks)
-  pub none-free : terminals (problemOf s) ≡ 0 → cost (problemOf s) (keptBy marks) ≡ 0
-  pub rule : terminals (problemOf s) * cost (problemOf s) (keptBy marks) ≤ (terminals (problemOf s) - 1) * total (dualsIn records)
 
 -- ---- each refusal
 

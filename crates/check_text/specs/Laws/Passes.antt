@@ -18,7 +18,7 @@ use Rattle.format_survey.specs.Laws.WellFormed.{Within, accepted-render}
 use Rattle.format_survey.specs.Laws.WellFormed.{surveyFrom as surveyOfText}
 use Rattle.format_survey.specs.Laws.Longest.{longestText, longest-read}
 use Rattle.survey_core.specs.Survey.{Survey, edgeCount}
-use Rattle.survey_core.specs.Laws.Group.{Numbered}
+use Rattle.survey_core.specs.Sound.{Numbered}
 use Rattle.check_rule.specs.Check.{Checked, dualAt, checkedOf, checking}
 use Rattle.check_core.specs.Stage.{DualsFit, CountsFit}
 use Rattle.check_rule.specs.Laws.Accuracy.{checking-passing}

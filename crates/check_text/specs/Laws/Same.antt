@@ -23,9 +23,9 @@ use Rattle.base_limits.specs.Verdict.{answer}
 use Rattle.theory_steiner.specs.Problem.{Joins, terminals, cost}
 use Rattle.theory_steiner.specs.Dual.{total}
 use Rattle.survey_core.specs.Survey.{Survey, edgeCount, problemOf}
-use Rattle.survey_core.specs.Laws.Group.{Numbered}
+use Rattle.survey_core.specs.Sound.{Numbered}
 use Rattle.check_rule.specs.Check.{Checked, dualsIn, keptBy, checkedOf, checking}
-use Rattle.check_rule.specs.Laws.Meaning.{Passing}
+use Rattle.check_rule.specs.Passing.{Passing}
 use Rattle.check_rule.specs.Laws.Accuracy.{checking-passing}
 use Rattle.format_plan_lines.specs.Lines.{Moat, isIn, moatRecord}
 use Rattle.format_plan.specs.Plan.{marksOf, moatRecords}

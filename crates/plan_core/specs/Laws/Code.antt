@@ -14,10 +14,9 @@ use Rattle.base_finite.specs.Laws.Test.{not-true-false}
 use Rattle.base_finite.specs.Laws.Below.{sum-cong, length-tabulate, getD-tabulate, lt-or-ge, counted-true}
 use Rattle.base_limits.specs.Limits.{maxVertices, maxEdges, recordBytes, dualsOf}
 use Rattle.base_limits.specs.Verdict.{answer, written}
-use Rattle.theory_graph.specs.Laws.Forest.{Forest}
-use Rattle.theory_steiner.specs.Problem.{Problem, Sound, Joins, joined, terminal, terminals, cost}
+use Rattle.theory_graph.specs.Path.{Forest}
+use Rattle.theory_steiner.specs.Problem.{Problem, Sound, Joins, joined, terminal, terminals, cost, Bounded}
 use Rattle.theory_steiner.specs.Growth.{edge, winner, stateAt, grown}
-use Rattle.theory_steiner.specs.Laws.Joined.{Bounded}
 use Rattle.theory_steiner.specs.Laws.Finish.{picked-joins}
 use Rattle.theory_steiner.specs.Pruning.{needed, picked, kept, markOf, mark}
 use Rattle.theory_steiner.specs.Laws.Rounds.{rounds-lt, grown-reached}

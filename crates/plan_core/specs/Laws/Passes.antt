@@ -19,7 +19,7 @@ use Rattle.format_record.specs.Record.{valueIn, memberIn}
 use Rattle.format_record.specs.Laws.Record.{value-of-record, member-of-record}
 use Rattle.theory_steiner.specs.Problem.{Problem, Sound, Joins, separates, terminals, cost, allUsable}
 use Rattle.theory_steiner.specs.Growth.{numbers, grown}
-use Rattle.theory_steiner.specs.Dual.{Dual, weigh, total, felt}
+use Rattle.theory_steiner.specs.Dual.{Dual, weigh, total, felt, EachDual, none, more}
 use Rattle.theory_steiner.specs.Dual.{dualsOf as grownDuals}
 use Rattle.theory_steiner.specs.Pruning.{picked, kept, markOf, mark, dualBound}
 use Rattle.theory_steiner.specs.Laws.Joined.{separates-cong}
@@ -27,14 +27,15 @@ use Rattle.theory_steiner.specs.Laws.Partition.{members-below}
 use Rattle.theory_steiner.specs.Laws.Weighed.{Local, value-fresh}
 use Rattle.theory_steiner.specs.Laws.Rounds.{grown-reached}
 use Rattle.theory_steiner.specs.Laws.Finish.{kept-joins, kept-picked, kept-edges}
-use Rattle.theory_steiner.specs.Laws.Dual.{Each, none, more, weigh-append, each-dual, value-separates, value-fits, duals-count, total-duals}
+use Rattle.theory_steiner.specs.Laws.Dual.{weigh-tabulate, each-dual, value-separates, value-fits, duals-count, total-duals}
 use Rattle.theory_steiner.specs.Laws.Accuracy.{kept-accurate, no-terminal-free, grown-feasible}
 use Rattle.survey_core.specs.Survey.{Survey, vertexCount, edgeCount, problemOf}
 use Rattle.survey_core.specs.Accuracy.{Accurate}
-use Rattle.survey_core.specs.Laws.Refusal.{SurveySound, survey-sound}
-use Rattle.survey_core.specs.Laws.Group.{Numbered}
+use Rattle.survey_core.specs.Sound.{SurveySound, Numbered}
+use Rattle.survey_core.specs.Laws.Refusal.{survey-sound}
 use Rattle.check_rule.specs.Check.{dualAt, dualsIn, keptBy, checkedOf, checking}
-use Rattle.check_rule.specs.Laws.Meaning.{DualSound, Passing, passing-check}
+use Rattle.check_rule.specs.Passing.{DualSound, Passing}
+use Rattle.check_rule.specs.Laws.Meaning.{passing-check}
 use Rattle.check_rule.specs.Laws.Accuracy.{passing-accurate}
 use Rattle.plan_duals.specs.Drawing.{recordsOf}
 use Rattle.plan_duals.specs.Laws.Drawing.{nothing, length-records, record-at}
@@ -55,13 +56,7 @@ weigh-at (d ∷ ds) t =
     ap (λ x. counted (t (d .holds)) (d .value) + x) (weigh-at ds t)
     ∙ sym (sum-front (length ds) (λ i. counted (t (getD (d ∷ ds) i nothing .holds)) (getD (d ∷ ds) i nothing .value)))
 
-weigh-tabulate : (n : ℕ) (f : ℕ → Dual) (t : (ℕ → Bool) → Bool) → weigh (tabulate n f) t ≡ sumBelow n (λ i. counted (t (f i .holds)) (f i .value))
-unfolding tabulate weigh sumBelow
-weigh-tabulate zero f t = refl
-weigh-tabulate (suc n) f t =
-    weigh-append (tabulate n f) (f n ∷ []) t ∙ omega (arith, weigh-tabulate n f t)
-
-each-at : {P : Dual → Type 0} {ds : List Dual} → Each P ds → (i : ℕ) → i < length ds → P (getD ds i nothing)
+each-at : {P : Dual → Type 0} {ds : List Dual} → EachDual P ds → (i : ℕ) → i < length ds → P (getD ds i nothing)
 each-at none i b = absurd (omega arith)
 each-at (more h hs) zero b = h
 each-at (more h hs) (suc i) b = each-at hs i (omega arith)
@@ -90,7 +85,7 @@ module _ (s : Survey) (sound : SurveySound s) (joinable : Joins (problemOf s) (a
   unfolding problemOf edgeCount
   light e b = sound .edges e b .weight-le
 
-  each-grown : Each (Grown (problemOf s) (problemOf s .vertices)) (grownDuals (problemOf s) (grown (problemOf s)))
+  each-grown : EachDual (Grown (problemOf s) (problemOf s .vertices)) (grownDuals (problemOf s) (grown (problemOf s)))
   each-grown =
       each-dual (problemOf s) (grown (problemOf s))
       (λ c pos.

@@ -19,8 +19,9 @@ use Rattle.survey_core.specs.Survey.{Survey, vertexCount, edgeCount, problemOf,
 use Rattle.survey_components.specs.Labels.{chosenMark, chosen}
 use Rattle.survey_components.specs.declared.Chosen.the-variants.{All}
 use Rattle.survey_core.specs.Refusal.{surveyRefusal, groupRefusal}
-use Rattle.survey_core.specs.Laws.Refusal.{SurveySound, survey-fine, fine-survey}
-use Rattle.survey_core.specs.Laws.Group.{Numbered, group-fine, joins-fine}
+use Rattle.survey_core.specs.Sound.{SurveySound, Numbered}
+use Rattle.survey_core.specs.Laws.Refusal.{survey-fine, fine-survey}
+use Rattle.survey_core.specs.Laws.Group.{group-fine, joins-fine}
 use Rattle.plan_core.specs.Plan.{planRefusal}
 
 -- None of 1 to 8 applies.

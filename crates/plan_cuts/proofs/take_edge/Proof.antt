@@ -31,10 +31,12 @@ same-length-2 c = search needs
 
 returns : tie.Need-returns
 returns c =
-    let args = c .before .before .before .before .before .before .before .before .before .before .before .before .before .before .before .before .before .args in
-    step-taken _ _ _ _ (sym (c .before .before .before .before .before .before .before .before .before .before .before .is-picked .ensures) ∙ c .before .before .before .before .before .before .before .before .before .before .if1 .taken)
-    (c .before .before .before .before .take-ends .ensures .0 ∙ rw (c .before .before .before .before .before .before .before .before .before .at32 .ensures, c .before .before .before .before .before .before .before .before .at322 .ensures))
-    (c .before .before .before .before .take-ends .ensures .1 ∙ rw (c .before .before .before .before .before .before .before .before .before .at32 .ensures, c .before .before .before .before .before .before .before .before .at322 .ensures, c .before .before .before .before .before .before .before .own-word .ensures))
+    let taken = c .before .before .before .before in
+    let test = taken .before .before .before .before .before .before in
+    let args = test .before .before .before .before .before .before .before .args in
+    step-taken _ _ _ _ (sym (test .before .is-picked .ensures) ∙ test .if1 .taken)
+    (taken .take-ends .ensures .0 ∙ rw (taken .before .before .before .before .before .at32 .ensures, taken .before .before .before .before .at322 .ensures))
+    (taken .take-ends .ensures .1 ∙ rw (taken .before .before .before .before .before .at32 .ensures, taken .before .before .before .before .at322 .ensures, taken .before .before .before .own-word .ensures))
 
 returns-2 : tie.Need-returns-2
 returns-2 c =

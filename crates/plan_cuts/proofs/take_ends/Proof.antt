@@ -38,14 +38,16 @@ same-length-2 c = search needs
 
 returns : tie.Need-returns
 returns c =
-    let args = c .before .before .before .before .before .before .before .before .before .before .before .before .before .before .before .before .before .before .before .before .before .args in
-    let x = c .before .before .before .before .before .before .before .before .before .before .before .before .before .before .before .at32 .ensures ∙ ap (λ i. getD (args .labels .now) i 0) (c .before .before .before .before .before .before .before .before .before .before .before .before .before .before .before .before .before .before .index32 .ensures) in
-    let y = c .before .before .before .before .before .before .before .before .before .before .before .before .before .at322 .ensures ∙ ap (λ i. getD (args .labels .now) i 0) (c .before .before .before .before .before .before .before .before .before .before .before .before .before .before .before .before .before .index322 .ensures) in (
+    let turned = c .before .before .before .before .before .before in
+    let ends = turned .before .before .before .before .before .before .before in
+    let args = ends .before .before .before .before .before .before .before .before .args in
+    let x = ends .before .before .at32 .ensures ∙ ap (λ i. getD (args .labels .now) i 0) (ends .before .before .before .before .before .index32 .ensures) in
+    let y = ends .at322 .ensures ∙ ap (λ i. getD (args .labels .now) i 0) (ends .before .before .before .before .index322 .ensures) in (
       ends-joined-by (args .a) (args .b) (args .labels .now) x y (c .before .before .relabel .ensures),
       edge-taken-by (args .a) (args .b) (args .own) (args .labels .now) (args .words .now) x y
-          (c .before .before .before .before .before .before .before .before .before .before .before .at64 .ensures ∙ ap (λ i. getD (args .words .now) i 0) (c .before .before .before .before .before .before .before .before .before .before .before .before .before .before .before .before .before .before .index32 .ensures))
-          (c .before .before .before .before .before .before .before .before .before .at642 .ensures ∙ ap (λ i. getD (args .words .now) i 0) (c .before .before .before .before .before .before .before .before .before .before .before .before .before .before .before .before .before .index322 .ensures))
-          (c .before .before .before .before .before .before .turn-all .ensures),
+          (turned .before .before .before .before .before .at64 .ensures ∙ ap (λ i. getD (args .words .now) i 0) (ends .before .before .before .before .before .index32 .ensures))
+          (turned .before .before .before .at642 .ensures ∙ ap (λ i. getD (args .words .now) i 0) (ends .before .before .before .before .index322 .ensures))
+          (turned .turn-all .ensures),
     )
 
 pub take-ends-spec : {M : Type 1} → statement M

@@ -8,14 +8,12 @@ use lib.Dec.{eqb, ltb}
 use borrow.Author.Tests.{eqb-true, eq-eqb, ne-eqb, lt-ltb, ltb-true}
 use Rattle.base_finite.specs.Laws.Test.{either, and-both, and-left, and-right}
 use Rattle.base_finite.specs.Laws.Below.{below-suc}
-use Rattle.theory_graph.specs.Path.{crosses}
+use Rattle.theory_graph.specs.Path.{crosses, Forest}
 use Rattle.theory_graph.specs.Component.{components}
 use Rattle.theory_graph.specs.Laws.Linked.{linked-mono, without-intro}
 use Rattle.theory_graph.specs.Laws.Component.{components-right}
-use Rattle.theory_graph.specs.Laws.Forest.{Forest}
-use Rattle.theory_steiner.specs.Problem.{Problem, Sound, Joins, separates}
+use Rattle.theory_steiner.specs.Problem.{Problem, Sound, Joins, separates, Bounded}
 use Rattle.theory_steiner.specs.Pruning.{needed}
-use Rattle.theory_steiner.specs.Laws.Joined.{Bounded}
 use Rattle.theory_steiner.specs.Laws.Cut.{needed-by-cut}
 use Rattle.plan_cuts.specs.Side.{sideStep, sides}
 

@@ -36,7 +36,9 @@ prune-batch-requires c κs =
 
 add-base : tie.Need-add-base Inv-loop μ-loop
 add-base c =
-    let few = c .before .before .before .before .before .before .before .before .before .before .before .before .before .before .before .before .pre .edges-few in omega (arith, c .before .before .before .before .before .before .count-picked .ensures, count-le (length (c .before .before .before .before .before .before .before .before .before .before .before .before .before .before .before .before .args .firsts .now)) (pickedIn (c .before .before .before .before .before .before .before .before .before .before .before .before .before .before .before .before .args .picked .now)))
+    let counted = c .before .before .before .before .before .before in
+    let start = counted .before .before .before .before .before .before .before .before .before .before in
+    let few = start .pre .edges-few in omega (arith, counted .count-picked .ensures, count-le (length (start .args .firsts .now)) (pickedIn (start .args .picked .now)))
 
 loop-less : tie.Need-loop-less Inv-loop μ-loop
 loop-less c =

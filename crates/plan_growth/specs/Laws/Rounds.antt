@@ -11,7 +11,7 @@ use Rattle.theory_steiner.specs.Growth.{active, nobody, edge, winner, start, st
 use Rattle.base_buffer.specs.Store.{remade}
 use Rattle.survey_core.specs.Survey.{Survey, groupsAlone, problemOf}
 use Rattle.survey_components.specs.Labels.{relabelled}
-use Rattle.survey_core.specs.Laws.Refusal.{SurveySound}
+use Rattle.survey_core.specs.Sound.{SurveySound}
 use Rattle.base_buffer.specs.Laws.Store.{remade-table, replicate-table}
 use Rattle.plan_winner.specs.Scan.{cappedTime, Keyed, timeAfter, blockEdges, blocksOf, passOf, Floored}
 use Rattle.plan_delay.specs.Between.{delayIn, winnerIn}

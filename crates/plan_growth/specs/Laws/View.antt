@@ -16,18 +16,19 @@ use Rattle.base_finite.specs.Laws.Below.{sum-cong, sum-le, sum-const, sum-zero,
 use Rattle.theory_graph.specs.Component.{merged}
 use Rattle.base_limits.specs.Limits.{maxVertices, maxEdges, maxWeight, maxDuals}
 use Rattle.theory_steiner.specs.Problem.{Problem, Sound, separates}
-use Rattle.theory_steiner.specs.Growth.{active, numbers, load, slack, never, after, delay, Winner, nobody, edge, winner, start, pick, stateAt}
+use Rattle.theory_steiner.specs.Growth.{active, numbers, load, slack, never, after, delay, Winner, nobody, edge, winner, start, pick, stateAt, Reached}
 use Rattle.theory_steiner.specs.Pruning.{dualBound}
 use Rattle.plan_growth.specs.declared.Growth.{Growth}
 use Rattle.theory_steiner.specs.Laws.Joined.{separates-cong}
-use Rattle.theory_steiner.specs.Laws.Round.{Reached, stateAt-reached, pick-rounds, pick-label, pick-value, pick-picked, pick-new}
+use Rattle.theory_steiner.specs.Laws.Round.{stateAt-reached, pick-rounds, pick-label, pick-value, pick-picked, pick-new}
 use Rattle.theory_steiner.specs.Laws.Rounds.{rounds-lt, stateAt-pick, stateAt-still, delay-le, value-bounded, load-bounded}
 use Rattle.theory_steiner.specs.Laws.Partition.{label-below, winner-below}
 use Rattle.theory_steiner.specs.Laws.Feasible.{load-start}
 use Rattle.theory_steiner.specs.Laws.Weighed.{load-pick}
 use Rattle.survey_core.specs.Survey.{Survey, groupsAlone, vertexCount, edgeCount, sameGroup, member, problemOf}
 use Rattle.survey_components.specs.Labels.{relabelled}
-use Rattle.survey_core.specs.Laws.Refusal.{SurveySound, survey-sound}
+use Rattle.survey_core.specs.Sound.{SurveySound}
+use Rattle.survey_core.specs.Laws.Refusal.{survey-sound}
 use Rattle.base_buffer.specs.Laws.Store.{tabulate-cong, set-table, remade-table, remade-part}
 use Rattle.survey_components.specs.Laws.Labels.{relabelled-table}
 use Rattle.plan_winner.specs.Scan.{key, cappedTime, Scan, scanOf, Keyed, timeAfter, blocksOf, passOf, Floored}

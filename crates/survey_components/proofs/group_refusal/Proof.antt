@@ -3,7 +3,7 @@ use mathlib.Core.Path.{refl, ap, sym, _∙_}
 use lib.ListN.{length}
 use Rattle.base_finite.specs.Laws.Below.{length-tabulate}
 use Rattle.base_limits.specs.Limits.{maxVertices}
-use Rattle.base_limits.specs.Laws.Verdict.{before-fine, before-refused}
+use Rattle.base_limits.specs.Laws.Verdict.{passed-on, goes-on}
 use Rattle.survey_core.specs.Survey.{surveyFrom}
 use Rattle.survey_core.specs.Laws.Refusal.{fine-survey}
 use Rattle.survey_components.specs.Laws.Labels.{refusal-by-labels}
@@ -15,14 +15,15 @@ use Rattle.survey_components.proofs.group_refusal.Tie as tie
 survey-refusal-requires : tie.Need-survey-refusal-requires
 survey-refusal-requires c κs = search needs
 
-enum-known-found : tie.Need-enum-known-found
-enum-known-found c = search needs
-
-returns : tie.Need-returns
-returns c = sym (before-refused (sym (c .before .before .before .survey-refusal .ensures) ∙ c .before .found .given .1) _)
-
 enum-told : tie.Need-enum-told
 enum-told c = search needs
+
+enum-told-2 : tie.Need-enum-told-2
+enum-told-2 c = search needs
+
+-- 1 to 6
+returns : tie.Need-returns
+returns c = passed-on (c .before .before .survey-refusal .ensures) (c .enum-told2 .given .1) _
 
 slice-aggregate-label-components : tie.Need-slice-aggregate-label-components
 slice-aggregate-label-components c = search needs
@@ -43,21 +44,23 @@ slice-aggregate-split-refusal c = sym (ap length (c .before .before .label-compo
 split-refusal-requires : tie.Need-split-refusal-requires
 split-refusal-requires c κs = search needs
 
+-- a group, or nothing
 returns-2 : tie.Need-returns-2
 returns-2 c =
-    let fine = sym (c .before .before .before .before .before .before .before .survey-refusal .ensures) ∙ c .before .before .before .before .before .enum-told .given .1 in
-    c .split-refusal .ensures
-    ∙ refusal-by-labels (surveyFrom _ _ _ _) _ _ (fine-survey _ fine .few) (c .before .before .before .label-components .ensures)
-    ∙ sym (before-fine fine _)
+    let found = c .before .before .before .before .before in
+    let fine = sym (found .before .before .survey-refusal .ensures) ∙ found .enum-told .given .1 in
+    goes-on (found .before .before .survey-refusal .ensures) (found .enum-told .given .1)
+    (c .split-refusal .ensures
+    ∙ refusal-by-labels (surveyFrom _ _ _ _) _ _ (fine-survey _ fine .few) (c .before .before .before .label-components .ensures))
 
 pub group-refusal-spec : {M : Type 1} → statement M
 group-refusal-spec =
     tie.close
     (tie.spec
     survey-refusal-requires
-    enum-known-found
-    returns
     enum-told
+    enum-told-2
+    returns
     slice-aggregate-label-components
     label-components-requires
     slice-aggregate-split-refusal

@@ -39,7 +39,9 @@ loop-less c = omega arith
 
 loop-again : tie.Need-loop-again Inv-loop μ-loop
 loop-again c =
-    (omega arith, components-more _ _ _ _ maxVertices _ (c .before .before .before .before .before .before .before .before .before .before .before .before .before .before .pre .first-below _ (c .before .before .before .before .loop-test .taken)) (c .before .before .before .before .before .before .before .before .before .before .before .before .before .before .pre .second-below _ (c .before .before .before .before .loop-test .taken)) (c .before .before .before .before .before .loop .inv .1) (c .before .before .join-edge .ensures))
+    let turn = c .before .before .before .before in
+    let start = turn .before .before .before .before .before .before .before .before .before .before in
+    (omega arith, components-more _ _ _ _ maxVertices _ (start .pre .first-below _ (turn .loop-test .taken)) (start .pre .second-below _ (turn .loop-test .taken)) (turn .before .loop .inv .1) (c .before .before .join-edge .ensures))
 
 same-length : tie.Need-same-length Inv-loop μ-loop
 same-length c = ap length (c .before .loop .inv .1) ∙ length-tabulate maxVertices _ ∙ sym (c .before .before .before .before .before .before .before .before .before .before .pre .long)

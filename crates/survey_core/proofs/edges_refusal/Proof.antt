@@ -1,48 +1,37 @@
--- `edges_refusal` meets its contract: while it runs, no track below e has anything wrong.
-use Prim.Native.Nat.{_≤_, _-_}
-use mathlib.Core.Path.{_≡_, refl, sym, _∙_}
+-- `edges_refusal` meets its contract: a scan of the tracks.
+use Prim.Native.Nat.{_-_}
 use lib.ListN.{length}
-use Rattle.base_limits.specs.Verdict.{lowestBelow}
-use Rattle.base_limits.specs.declared.Verdict.the-variants.{Fine}
-use Rattle.base_limits.specs.Laws.Verdict.{lowest-more, lowest-found, lowest-end}
+use Rattle.base_limits.specs.Laws.Verdict.{Scanned, scan-start, scan-turn, scan-found, scan-end}
 use Rattle.survey_core.specs.Survey.{surveyFrom, edgeCount}
 use Rattle.survey_core.specs.Refusal.{edgeRefusal}
 use borrow.Author.Needs.{needs}
-use native.Mathlib.Omega.{arith}
 use Rattle.survey_core.proofs.edges_refusal.Statement.{statement}
 use Rattle.survey_core.proofs.edges_refusal.Tie as tie
 
 abbrev Inv-loop : tie.InvT-loop
-Inv-loop groups firsts seconds weights e₀ e =
-    (e ≤ length firsts) × (lowestBelow e (edgeRefusal (surveyFrom groups firsts seconds weights)) ≡ Fine)
+Inv-loop groups firsts seconds weights e₀ e = Scanned (length firsts) (edgeRefusal (surveyFrom groups firsts seconds weights)) e
 
 abbrev μ-loop : tie.MeasureT-loop
 μ-loop groups firsts seconds weights e₀ e = length firsts - e
 
 loop-holds : tie.Need-loop-holds Inv-loop μ-loop
-unfolding lowestBelow
-loop-holds c = (omega arith, refl)
+loop-holds c = scan-start _ _
 
 edge-refusal-requires : tie.Need-edge-refusal-requires Inv-loop μ-loop
 edge-refusal-requires c κs = search needs
 
-enum-known-found : tie.Need-enum-known-found Inv-loop μ-loop
-enum-known-found c = search needs
+enum-told : tie.Need-enum-told Inv-loop μ-loop
+enum-told c = search needs
 
+enum-told-2 : tie.Need-enum-told-2 Inv-loop μ-loop
+enum-told-2 c = search needs
+
+-- 4, 5 or 6
 returns : tie.Need-returns Inv-loop μ-loop
 unfolding edgeCount
 returns c =
-    sym
-    (lowest-found
-    _
-    (c .before .before .before .before .before .loop .e)
-    (edgeRefusal _)
-    (omega arith)
-    (c .before .before .before .before .before .loop .inv .1)
-    (sym (c .before .before .before .edge-refusal .ensures) ∙ c .before .found .given .1))
-
-enum-told : tie.Need-enum-told Inv-loop μ-loop
-enum-told c = search needs
+    let at = c .before .before .before in
+    scan-found (at .before .loop .inv) (at .loop-test .taken) (c .before .before .edge-refusal .ensures) (c .enum-told2 .given .1)
 
 add-e : tie.Need-add-e Inv-loop μ-loop
 add-e c = search needs
@@ -51,11 +40,14 @@ loop-less : tie.Need-loop-less Inv-loop μ-loop
 loop-less c = search needs
 
 loop-again : tie.Need-loop-again Inv-loop μ-loop
-loop-again c = (omega arith, lowest-more _ _ (c .before .before .before .before .loop .inv .1) (sym (c .before .before .edge-refusal .ensures) ∙ c .enum-told .given .1))
+loop-again c =
+    let at = c .before .before .before in
+    scan-turn (at .before .loop .inv) (at .loop-test .taken) (c .before .before .edge-refusal .ensures) (c .enum-told .given .1)
 
+-- no track has anything wrong
 returns-2 : tie.Need-returns-2 Inv-loop μ-loop
 unfolding edgeCount
-returns-2 c = sym (lowest-end _ (c .before .loop .e) (edgeRefusal _) (omega arith) (omega arith) (c .before .loop .inv .1))
+returns-2 c = scan-end (c .before .loop .inv) (c .loop-test .left)
 
 pub edges-refusal-spec : {M : Type 1} → statement M
 edges-refusal-spec =
@@ -65,9 +57,9 @@ edges-refusal-spec =
     μ-loop
     loop-holds
     edge-refusal-requires
-    enum-known-found
-    returns
     enum-told
+    enum-told-2
+    returns
     add-e
     loop-less
     loop-again

@@ -10,26 +10,17 @@ use borrow.Author.Tests.{eqb-true, eq-eqb, not-true, not-false}
 use Rattle.base_finite.specs.Below.{allBelow}
 use Rattle.base_finite.specs.Laws.Test.{either, and-left, and-right, and-both, or-cases, or-left, or-right, not-of-false, true-not-false}
 use Rattle.base_finite.specs.Laws.Below.{all-intro, all-elim}
-use Rattle.theory_graph.specs.Path.{Linked}
 use Rattle.theory_graph.specs.Laws.Linked.{linked-mono}
 use Rattle.base_limits.specs.Limits.{groupNumbers}
 use Rattle.base_limits.specs.Verdict.{refuseIf}
 use Rattle.base_limits.specs.declared.Verdict.the-variants.{Fine, Refused}
 use Rattle.base_limits.specs.Laws.Verdict.{lowest-none, none-lowest, refuse-false, fine-refuse, Lowest, lowest-elim, refused-refuse}
-use Rattle.theory_steiner.specs.Problem.{EdgeSet, Joins, allUsable}
-use Rattle.theory_steiner.specs.Laws.Joined.{Bounded, label-linked, linked-label}
+use Rattle.theory_steiner.specs.Problem.{EdgeSet, Joins, allUsable, Bounded}
+use Rattle.theory_steiner.specs.Laws.Joined.{label-linked, linked-label}
 use Rattle.theory_steiner.specs.Laws.Finish.{allUsable-all, allUsable-edges}
-use Rattle.survey_core.specs.Survey.{Survey, vertexCount, member, sameGroup, problemOf, groupJoined, componentsOf}
-use Rattle.survey_core.specs.Refusal.{groupRefusal}
-
--- Any two members of group g are linked by tracks of F.
-abbrev pub JoinsGroup : Survey → (ℕ → Bool) → ℕ → Type 0
-JoinsGroup s F g =
-    (u v : ℕ) → u < vertexCount s → v < vertexCount s → member s g u ≡ true → member s g v ≡ true → Linked (problemOf s .first) (problemOf s .second) F u v
-
--- Group numbers are bytes.
-abbrev pub Numbered : Survey → Type 0
-Numbered s = (v : ℕ) → getD (s .groups) v 0 < groupNumbers
+use Rattle.survey_core.specs.Survey.{Survey, vertexCount, member, sameGroup, problemOf, JoinsGroup, groupJoined, componentsOf}
+use Rattle.survey_core.specs.Sound.{Numbered}
+use Rattle.survey_core.specs.Refusal.{groupRefusal, LowestUnjoined}
 
 -- Two vertices share a group exactly if they are members of one.
 pub same-group-member : (s : Survey) (u v : ℕ) → sameGroup s u v ≡ true → member s (getD (s .groups) u 0) u ≡ true
@@ -83,12 +74,6 @@ group-joined-intro s F bounded g h =
     (either (member s g u && member s g v))))
 
 -- ---- the lowest group that is not joined
-
--- g is the lowest group that F does not join.
-pub record LowestUnjoined (s : Survey) (F : ℕ → Bool) (g : ℕ) : Type 0 where
-  pub below : g < groupNumbers
-  pub unjoined : JoinsGroup s F g → ⊥
-  pub lower : (i : ℕ) → i < g → JoinsGroup s F i
 
 module _ (s : Survey) (number : ℕ) (F : ℕ → Bool) (bounded : Bounded (problemOf s) F) where
   -- No finding exactly if every required pair has a path.

@@ -14,23 +14,8 @@ use Rattle.base_limits.specs.declared.Verdict.the-variants.{Fine, Refused}
 use Rattle.base_limits.specs.Laws.Verdict.{before-fine, before-refused, fine-left, fine-right, refuse-true, refuse-false, fine-refuse, lowest-none, none-lowest}
 use Rattle.theory_steiner.specs.Problem.{Sound}
 use Rattle.survey_core.specs.Survey.{Survey, vertexCount, edgeCount, member, sameGroup, problemOf}
+use Rattle.survey_core.specs.Sound.{EdgeSound, SurveySound}
 use Rattle.survey_core.specs.Refusal.{edgeRefusal, surveyRefusal}
-
--- What 4, 5 and 6 leave of a track.
-pub record EdgeSound (s : Survey) (e : ℕ) : Type 0 where
-  pub first-below : getD (s .firsts) e 0 < length (s .groups)
-  pub second-below : getD (s .seconds) e 0 < length (s .groups)
-  pub ends-differ : getD (s .firsts) e 0 ≡ getD (s .seconds) e 0 → ⊥
-  pub weight-le : getD (s .weights) e 0 ≤ maxWeight
-
--- What 1 to 6 leave of a survey.
-pub record SurveySound (s : Survey) : Type 0 where
-  pub some : 1 ≤ length (s .groups)
-  pub few : length (s .groups) ≤ maxVertices
-  pub seconds-long : length (s .firsts) ≡ length (s .seconds)
-  pub weights-long : length (s .firsts) ≡ length (s .weights)
-  pub edges-few : length (s .firsts) ≤ maxEdges
-  pub edges : (e : ℕ) → e < length (s .firsts) → EdgeSound s e
 
 module _ (s : Survey) (e : ℕ) where
   pub edge-first-out : length (s .groups) ≤ getD (s .firsts) e 0 → edgeRefusal s e ≡ Refused 4 e

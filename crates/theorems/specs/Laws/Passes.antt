@@ -12,8 +12,8 @@ use Rattle.format_survey.specs.Reading.{reading}
 use Rattle.format_survey.specs.Reading.{Survey as SurveyText}
 use Rattle.theory_steiner.specs.Laws.Rounds.{rounds-lt, grown-reached}
 use Rattle.survey_core.specs.Survey.{Survey, vertexCount, edgeCount, problemOf}
-use Rattle.survey_core.specs.Laws.Refusal.{SurveySound, survey-sound}
-use Rattle.survey_core.specs.Laws.Group.{Numbered}
+use Rattle.survey_core.specs.Sound.{SurveySound, Numbered}
+use Rattle.survey_core.specs.Laws.Refusal.{survey-sound}
 use Rattle.check_rule.specs.Check.{Checked}
 use Rattle.check_rule.specs.Laws.Accuracy.{answered}
 use Rattle.plan_duals.specs.Drawing.{recordsOf}

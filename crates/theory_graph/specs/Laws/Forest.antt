@@ -9,10 +9,10 @@ use native.Mathlib.Decide.{ℕ-discrete}
 use lib.Dec.{leb}
 use borrow.Author.Tests.{le-leb, leb-true}
 use Rattle.base_finite.specs.Laws.Test.{either, and-left, and-right, and-both, or-cases, or-left, or-right}
-use Rattle.theory_graph.specs.Path.{Linked, without}
+use Rattle.theory_graph.specs.Path.{Linked, without, Forest}
 use Rattle.theory_graph.specs.Laws.Linked.{
   Through,
-  spared,
+  avoids,
   forwards,
   backwards,
   one-more,
@@ -27,15 +27,11 @@ use Rattle.theory_graph.specs.Laws.Linked.{
   linked-without,
 }
 
--- No edge of F has its ends linked by the others (source 001, proof of Lemma 22.6: F is acyclic).
-abbrev pub Forest : (a b : ℕ → ℕ) → (ℕ → Bool) → Type 0
-Forest a b F = (e : ℕ) → F e ≡ true → Linked a b (without F e) (a e) (b e) → ⊥
-
 -- One more edge, between two components.
 module _ (a b : ℕ → ℕ) (F G : ℕ → Bool) (e : ℕ) (forest : Forest a b F) (apart : Linked a b F (a e) (b e) → ⊥)
     (only : (f : ℕ) → G f ≡ true → (F f ≡ true) ⊎ (f ≡ e)) where
   older : (f : ℕ) → F f ≡ true → Through a b (without F f) e (a f) (b f) → ⊥
-  older f h (spared p) = forest f h p
+  older f h (avoids p) = forest f h p
   older f h (forwards p q) =
       apart (linked-trans (linked-sym (linked-without f p)) (linked-trans (linked-ends f h) (linked-sym (linked-without f q))))
   older f h (backwards p q) =
@@ -93,7 +89,7 @@ module _ (a b : ℕ → ℕ) (F needs : ℕ → Bool) (m : ℕ) (R : ℕ → ℕ
       left-step i e (without-intro (left i) i e h (λ same. false≢true (sym n ∙ ap F (sym same) ∙ left-sub i e h)))
 
   dropped : (i : ℕ) → F i ≡ true → needs i ≡ false → (u w : ℕ) → R u w → Through a b (without (left i) i) i u w → Linked a b (left (suc i)) u w
-  dropped i f n u w r (spared p) = linked-mono (left-step i) p
+  dropped i f n u w r (avoids p) = linked-mono (left-step i) p
   dropped i f n u w r (forwards p q) =
       absurd
       (forest i f

@@ -42,22 +42,22 @@ linked-ends e f = linked-edge e f (forth refl refl)
 
 -- How u and w are linked by F and one edge e more: without it, or through it one way or the other.
 pub data Through (a b : ℕ → ℕ) (F : ℕ → Bool) (e u w : ℕ) : Type 0 where
-  spared : Linked a b F u w → Through a b F e u w
+  avoids : Linked a b F u w → Through a b F e u w
   forwards : Linked a b F u (a e) → Linked a b F (b e) w → Through a b F e u w
   backwards : Linked a b F u (b e) → Linked a b F (a e) w → Through a b F e u w
 
 through-step : {a b : ℕ → ℕ} {F : ℕ → Bool} {e u v w : ℕ} → Linked a b F u v → Through a b F e v w → Through a b F e u w
-through-step p (spared q) = spared (linked-trans p q)
+through-step p (avoids q) = avoids (linked-trans p q)
 through-step p (forwards q r) = forwards (linked-trans p q) r
 through-step p (backwards q r) = backwards (linked-trans p q) r
 
 -- The edge itself first: what comes after it needs no second passage.
 through-edge : {a b : ℕ → ℕ} {F : ℕ → Bool} {e u v w : ℕ} → Leads a b e u v → Through a b F e v w → Through a b F e u w
-through-edge (forth p q) (spared r) = forwards (linked-refl (sym p)) (linked-from q r)
+through-edge (forth p q) (avoids r) = forwards (linked-refl (sym p)) (linked-from q r)
 through-edge (forth p q) (forwards r s) = forwards (linked-refl (sym p)) s
-through-edge (forth p q) (backwards r s) = spared (linked-from (sym p) s)
-through-edge (back p q) (spared r) = backwards (linked-refl (sym p)) (linked-from q r)
-through-edge (back p q) (forwards r s) = spared (linked-from (sym p) s)
+through-edge (forth p q) (backwards r s) = avoids (linked-from (sym p) s)
+through-edge (back p q) (avoids r) = backwards (linked-refl (sym p)) (linked-from q r)
+through-edge (back p q) (forwards r s) = avoids (linked-from (sym p) s)
 through-edge (back p q) (backwards r s) = backwards (linked-refl (sym p)) s
 
 -- One more edge: G has, beside edges of F, e alone.
@@ -65,7 +65,7 @@ pub one-more :
     {a b : ℕ → ℕ} {F G : ℕ → Bool} (e : ℕ) →
     ((f : ℕ) → G f ≡ true → (F f ≡ true) ⊎ (f ≡ e)) →
     {u w : ℕ} → Linked a b G u w → Through a b F e u w
-one-more e h here = spared here
+one-more e h here = avoids here
 one-more {a} {b} {F} {G} e h (step {u = u} {v = v} {w = w} f g l p) =
     let rest : Through a b F e v w = one-more e h p in
     ⊎-elim

@@ -13,19 +13,19 @@ use Rattle.base_finite.specs.Laws.Test.{true-not-false}
 use Rattle.base_finite.specs.Laws.Below.{sum-le, sum-cong, sum-add, sum-zero, sum-swap, sum-scale, counted-true, counted-false, counted-zero, counted-add, counted-mono, counted-sum, count-positive, count-labels}
 use Rattle.theory_graph.specs.Path.{crosses}
 use Rattle.theory_steiner.specs.Problem.{Problem, Sound, EdgeSet, Joins, cost, terminal, terminals, allUsable}
-use Rattle.theory_steiner.specs.Growth.{State, start, active, numbers, slack, Winner, nobody, edge, winner, pick, stateAt, grown}
-use Rattle.theory_steiner.specs.Dual.{Dual, total, felt, dualsOf}
+use Rattle.theory_steiner.specs.Growth.{State, start, active, numbers, slack, Winner, nobody, edge, winner, pick, stateAt, grown, Reached}
+use Rattle.theory_steiner.specs.Dual.{Dual, total, felt, dualsOf, Separating, EachDual}
 use Rattle.theory_steiner.specs.Pruning.{picked, kept, dualBound}
 use Rattle.theory_steiner.specs.Laws.Joined.{Split, separates-elim, terminal-intro}
-use Rattle.theory_steiner.specs.Laws.Round.{Reached, stateAt-reached}
+use Rattle.theory_steiner.specs.Laws.Round.{stateAt-reached}
 use Rattle.theory_steiner.specs.Laws.Winner.{Waits, one-first, one-second, both}
 use Rattle.theory_steiner.specs.Laws.Partition.{label-below, winner-candidate, winner-below}
-use Rattle.theory_steiner.specs.Laws.Weighed.{component, activeCount, feels, feels-pick}
+use Rattle.theory_steiner.specs.Laws.Weighed.{component, activeCount, dualLoadAt, feels-pick}
 use Rattle.theory_steiner.specs.Laws.Feasible.{feels-start, picked-tight, not-overtight}
 use Rattle.theory_steiner.specs.Laws.Rounds.{meets, meets-intro, stateAt-pick, stateAt-still, grown-reached, delayIn, roundDelay, bound-by-rounds}
 use Rattle.theory_steiner.specs.Laws.Finish.{kept-picked}
-use Rattle.theory_steiner.specs.Laws.Dual.{Each, each-dual, value-separates, total-duals, felt-duals}
-use Rattle.theory_steiner.specs.Laws.WeakDuality.{Separating, weak-duality}
+use Rattle.theory_steiner.specs.Laws.Dual.{each-dual, value-separates, total-duals, load-duals}
+use Rattle.theory_steiner.specs.Laws.WeakDuality.{weak-duality}
 use Rattle.theory_steiner.specs.Laws.Degree.{degree, activeDegree, degree-bound}
 
 -- ---- active components hold terminals
@@ -78,7 +78,7 @@ winner-active p ok {s} h e d w = by (winner-candidate p s e d w .waits)
 
 -- What the kept edges feel.
 keptFeels : Problem → State → ℕ
-keptFeels p s = sumBelow (p .edges) (λ e. counted (kept p e) (feels p s e))
+keptFeels p s = sumBelow (p .edges) (λ e. counted (kept p e) (dualLoadAt p s e))
 
 both-counted : (s a t : Bool) (d : ℕ) → counted s (counted (a && t) d) ≡ d * counted a (counted (s && t) 1)
 unfolding counted
@@ -92,10 +92,10 @@ both-counted false false t d = omega arith
 kept-feels-pick : (p : Problem) (ok : Sound p) {s : State} → Reached p s → (e d : ℕ) → keptFeels p (pick p s e d) ≡ keptFeels p s + d * activeDegree p s
 unfolding keptFeels activeDegree degree countBelow
 kept-feels-pick p ok {s} h e d =
-    sum-cong M _ (λ f. counted (kept p f) (feels p s f) + counted (kept p f) (sumBelow N (added f)))
-    (λ f b. ap (counted (kept p f)) (feels-pick p ok h e d f b) ∙ counted-add (kept p f) (feels p s f) (sumBelow N (added f)))
-    ∙ sum-add M (λ f. counted (kept p f) (feels p s f)) (λ f. counted (kept p f) (sumBelow N (added f)))
-    ∙ ap (λ x. sumBelow M (λ f. counted (kept p f) (feels p s f)) + x) exchanged
+    sum-cong M _ (λ f. counted (kept p f) (dualLoadAt p s f) + counted (kept p f) (sumBelow N (added f)))
+    (λ f b. ap (counted (kept p f)) (feels-pick p ok h e d f b) ∙ counted-add (kept p f) (dualLoadAt p s f) (sumBelow N (added f)))
+    ∙ sum-add M (λ f. counted (kept p f) (dualLoadAt p s f)) (λ f. counted (kept p f) (sumBelow N (added f)))
+    ∙ ap (λ x. sumBelow M (λ f. counted (kept p f) (dualLoadAt p s f)) + x) exchanged
   where
     M : ℕ
     M = p .edges
@@ -157,14 +157,14 @@ ratio (suc j) D A d h l =
     suc-sub-one j = omega arith
 
 -- What the checker's premises give: duals that weak duality bounds, and k times a cost within k - 1 times their sum.
-pub within-factor : (p : Problem) (F : ℕ → Bool) → EdgeSet p F → Joins p F → (ds : List Dual) → Each (Separating p) ds →
+pub within-factor : (p : Problem) (F : ℕ → Bool) → EdgeSet p F → Joins p F → (ds : List Dual) → EachDual (Separating p) ds →
     ((e : ℕ) → e < p .edges → p .usable e ≡ true → felt p ds e ≤ 2 * p .weight e) → (k c : ℕ) → k * c ≤ (k - 1) * total ds →
     k * c ≤ (2 * k - 2) * cost p F
 within-factor p F set joins ds separating fits k c rule =
     let twice : 2 * k - 2 ≡ 2 * (k - 1) = omega arith in
     omega (arith, ap (λ x. x * cost p F) twice, mul-le-mul-left (k - 1) (weak-duality p F set joins ds separating fits))
 
-grown-tight : (p : Problem) (ok : Sound p) (e : ℕ) → picked p e ≡ true → feels p (grown p) e ≡ 2 * p .weight e
+grown-tight : (p : Problem) (ok : Sound p) (e : ℕ) → picked p e ≡ true → dualLoadAt p (grown p) e ≡ 2 * p .weight e
 unfolding picked
 grown-tight p ok e h = picked-tight p ok (grown-reached p) e h
 
@@ -173,13 +173,13 @@ module _ (p : Problem) (ok : Sound p) (some : 0 < p .vertices) (joinable : Joins
   unfolding cost keptFeels
   twice-cost =
       sym (sum-scale (p .edges) 2 (λ e. counted (kept p e) (p .weight e)))
-      ∙ sum-cong (p .edges) (λ e. 2 * counted (kept p e) (p .weight e)) (λ e. counted (kept p e) (feels p (grown p) e)) (λ e b. at e (kept p e) refl)
+      ∙ sum-cong (p .edges) (λ e. 2 * counted (kept p e) (p .weight e)) (λ e. counted (kept p e) (dualLoadAt p (grown p) e)) (λ e b. at e (kept p e) refl)
     where
-      at : (e : ℕ) (t : Bool) → kept p e ≡ t → 2 * counted (kept p e) (p .weight e) ≡ counted (kept p e) (feels p (grown p) e)
+      at : (e : ℕ) (t : Bool) → kept p e ≡ t → 2 * counted (kept p e) (p .weight e) ≡ counted (kept p e) (dualLoadAt p (grown p) e)
       at e true k =
           omega
-          (arith, counted-true k (p .weight e), counted-true k (feels p (grown p) e), grown-tight p ok e (kept-picked p ok some joinable e k))
-      at e false k = omega (arith, counted-false k (p .weight e), counted-false k (feels p (grown p) e))
+          (arith, counted-true k (p .weight e), counted-true k (dualLoadAt p (grown p) e), grown-tight p ok e (kept-picked p ok some joinable e k))
+      at e false k = omega (arith, counted-false k (p .weight e), counted-false k (dualLoadAt p (grown p) e))
 
   -- twice the cost, and the bound, as sums over rounds
   cost-by-rounds : 2 * cost p (kept p) ≡ sumBelow (p .vertices) (λ i. roundDelay p i * activeDegree p (stateAt p i))
@@ -229,11 +229,11 @@ module _ (p : Problem) (ok : Sound p) (some : 0 < p .vertices) (joinable : Joins
       idle i (edge e d) w = absurd (omega (arith, winner-active p ok (stateAt-reached p i) e d w, active-le-terminals p ok (stateAt p i)))
 
   -- Each dual of the growth separates a required pair, and no usable edge is overtight.
-  pub grown-separating : Each (Separating p) (dualsOf p (grown p))
+  pub grown-separating : EachDual (Separating p) (dualsOf p (grown p))
   grown-separating = each-dual p (grown p) (λ c pos. value-separates p ok (grown-reached p) c pos)
 
   pub grown-feasible : (e : ℕ) → e < p .edges → p .usable e ≡ true → felt p (dualsOf p (grown p)) e ≤ 2 * p .weight e
-  grown-feasible e b u = omega (arith, felt-duals p (grown p) e, not-overtight p ok (grown-reached p) e b u)
+  grown-feasible e b u = omega (arith, load-duals p (grown p) e, not-overtight p ok (grown-reached p) e b u)
 
   -- The accuracy rule of the kept edges (source 001, Theorem 22.9, with source 003's factor).
   pub kept-within-factor : (F : ℕ → Bool) → EdgeSet p F → Joins p F → terminals p * cost p (kept p) ≤ (2 * terminals p - 2) * cost p F

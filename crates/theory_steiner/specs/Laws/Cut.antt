@@ -6,10 +6,10 @@ use mathlib.Core.Logic.{_⊎_, inl, inr, ⊎-elim}
 use mathlib.Core.Bool.{Bool, true, false}
 use Rattle.base_finite.specs.Laws.Test.{either, same-test, true-not-false}
 use Rattle.theory_graph.specs.Path.{Linked, crosses, without}
-use Rattle.theory_graph.specs.Laws.Linked.{Through, spared, forwards, backwards, through-without, without-elim, side-kept, crosses-not}
-use Rattle.theory_steiner.specs.Problem.{Problem, Sound, Joins, separates}
+use Rattle.theory_graph.specs.Laws.Linked.{Through, avoids, forwards, backwards, through-without, without-elim, side-kept, crosses-not}
+use Rattle.theory_steiner.specs.Problem.{Problem, Sound, Joins, separates, Bounded}
 use Rattle.theory_steiner.specs.Pruning.{needed}
-use Rattle.theory_steiner.specs.Laws.Joined.{Bounded, needed-iff, Split, separates-elim, separates-intro}
+use Rattle.theory_steiner.specs.Laws.Joined.{needed-iff, Split, separates-elim, separates-intro}
 
 module _ (p : Problem) (ok : Sound p) (F : ℕ → Bool) (joins : Joins p F) (e : ℕ) (S : ℕ → Bool) (own : crosses (p .first) (p .second) S e ≡ true)
     (only : (f : ℕ) → F f ≡ true → crosses (p .first) (p .second) S f ≡ true → f ≡ e) where
@@ -43,7 +43,7 @@ module _ (p : Problem) (ok : Sound p) (F : ℕ → Bool) (joins : Joins p F) (e 
       ends same = true-not-false (crosses (p .first) (p .second) S e) own (crosses-not (p .first) (p .second) S e same)
 
       by : Through (p .first) (p .second) (without F e) e u v → Linked (p .first) (p .second) (without F e) u v
-      by (spared l) = l
+      by (avoids l) = l
       by (forwards l m) = absurd (parted (λ same. ends (sym (side l) ∙ same ∙ sym (side m))))
       by (backwards l m) = absurd (parted (λ same. ends (side m ∙ sym same ∙ side l)))
 

@@ -4,43 +4,40 @@ use Prim.Native.Nat.{ℕ, zero, suc, _+_, _*_, _-_, _≤_, _<_}
 use mathlib.Core.Path.{_≡_, refl, ap, sym, _∙_, subst}
 use mathlib.Core.Logic.{_⊎_, inl, inr, ⊎-elim}
 use mathlib.Core.Bool.{Bool, true, false, cond}
-use mathlib.Core.List.{[], List, _∷_, _++_, map}
+use mathlib.Core.List.{[], List, _∷_, _++_, map, map-append}
 use native.Mathlib.Omega.{arith}
 use native.Mathlib.Decide.{ℕ-discrete}
 use lib.ListN.{length, length-append, length-map}
 use lib.Dec.{eqb, ltb}
 use borrow.Author.Tests.{ltb-true, ltb-false}
-use Rattle.base_finite.specs.Below.{counted, sumBelow, countBelow, thoseBelow}
+use Rattle.base_finite.specs.Below.{counted, sumBelow, countBelow, thoseBelow, tabulate}
 use Rattle.base_finite.specs.Laws.Test.{either}
 use Rattle.base_finite.specs.Laws.Below.{lt-or-ge, sum-member, counted-true, counted-false, counted-zero, count-le}
 use Rattle.theory_graph.specs.Path.{crosses}
 use Rattle.theory_graph.specs.Laws.Linked.{Crossing, cut-crossed}
 use Rattle.theory_steiner.specs.Problem.{Problem, Sound, Joins, separates, allUsable}
-use Rattle.theory_steiner.specs.Growth.{State, start, active, numbers, edge, pick}
-use Rattle.theory_steiner.specs.Dual.{Dual, weigh, total, felt, dualsOf}
+use Rattle.theory_steiner.specs.Growth.{State, start, active, numbers, edge, pick, Reached, first, next}
+use Rattle.theory_steiner.specs.Dual.{Dual, weigh, total, felt, EachDual, none, more, dualOf, dualsOf}
 use Rattle.theory_steiner.specs.Pruning.{dualBound}
 use Rattle.theory_steiner.specs.Laws.Joined.{Split, separates-elim, separates-cong}
-use Rattle.theory_steiner.specs.Laws.Round.{Reached, first, next, pick-value, pick-holds-old}
+use Rattle.theory_steiner.specs.Laws.Round.{pick-value, pick-holds-old}
 use Rattle.theory_steiner.specs.Laws.Partition.{active-members}
-use Rattle.theory_steiner.specs.Laws.Weighed.{weighed, value-fresh, value-newborn, feels, bound-weighed}
+use Rattle.theory_steiner.specs.Laws.Weighed.{weighed, value-fresh, value-newborn, dualLoadAt, bound-weighed}
 use Rattle.theory_steiner.specs.Laws.Feasible.{not-overtight}
 use Rattle.theory_steiner.specs.Laws.Rounds.{rounds-lt}
 use Rattle.theory_steiner.specs.Laws.Finish.{allUsable-edges}
 
 -- ---- the list
 
--- The dual of component number c.
-abbrev pub dualOf : State → ℕ → Dual
-dualOf s c = record { value = s .value c; holds = s .holds c }
-
 pub weigh-append : (ds es : List Dual) (t : (ℕ → Bool) → Bool) → weigh (ds ++ es) t ≡ weigh ds t + weigh es t
 unfolding weigh
 weigh-append [] es t = omega arith
 weigh-append (d ∷ ds) es t = omega (arith, weigh-append ds es t)
 
-map-append : {A B : Type 0} (f : A → B) (xs ys : List A) → map f (xs ++ ys) ≡ map f xs ++ map f ys
-map-append f [] ys = refl
-map-append f (x ∷ xs) ys = ap (λ l. f x ∷ l) (map-append f xs ys)
+pub weigh-tabulate : (n : ℕ) (f : ℕ → Dual) (t : (ℕ → Bool) → Bool) → weigh (tabulate n f) t ≡ sumBelow n (λ i. counted (t (f i .holds)) (f i .value))
+unfolding weigh tabulate sumBelow
+weigh-tabulate zero f t = refl
+weigh-tabulate (suc n) f t = omega (arith, weigh-append (tabulate n f) (f n ∷ []) t, weigh-tabulate n f t)
 
 -- Those with value 0 weigh nothing.
 weigh-those : (s : State) (t : (ℕ → Bool) → Bool) (n : ℕ) →
@@ -70,9 +67,9 @@ pub total-duals : (p : Problem) (s : State) → total (dualsOf p s) ≡ dualBoun
 unfolding total
 total-duals p s = weigh-duals p s (λ S. true) ∙ sym (bound-weighed p s)
 
-pub felt-duals : (p : Problem) (s : State) (e : ℕ) → felt p (dualsOf p s) e ≡ feels p s e
-unfolding felt feels
-felt-duals p s e = weigh-duals p s _
+pub load-duals : (p : Problem) (s : State) (e : ℕ) → felt p (dualsOf p s) e ≡ dualLoadAt p s e
+unfolding felt dualLoadAt
+load-duals p s e = weigh-duals p s _
 
 length-those : (n : ℕ) (t : ℕ → Bool) → length (thoseBelow n t) ≡ countBelow n t
 unfolding thoseBelow countBelow sumBelow
@@ -100,28 +97,23 @@ duals-count p ok some {s} h =
 
 -- ---- each dual
 
--- What holds of every dual of a list.
-pub data Each (P : Dual → Type 0) : List Dual → Type 0 where
-  none : Each P []
-  more : {d : Dual} {ds : List Dual} → P d → Each P ds → Each P (d ∷ ds)
-
-each-append : {P : Dual → Type 0} {ds es : List Dual} → Each P ds → Each P es → Each P (ds ++ es)
+each-append : {P : Dual → Type 0} {ds es : List Dual} → EachDual P ds → EachDual P es → EachDual P (ds ++ es)
 each-append none k = k
 each-append (more h hs) k = more h (each-append hs k)
 
 each-those : {P : Dual → Type 0} (s : State) → ((c : ℕ) → 0 < s .value c → P (dualOf s c)) → (n : ℕ) →
-    Each P (map (dualOf s) (thoseBelow n (λ c. ltb 0 (s .value c))))
+    EachDual P (map (dualOf s) (thoseBelow n (λ c. ltb 0 (s .value c))))
 unfolding thoseBelow
 each-those s h zero = none
 each-those {P} s h (suc n) =
-    subst (Each P) (sym (map-append (dualOf s) (thoseBelow n (λ c. ltb 0 (s .value c))) (cond (ltb 0 (s .value n)) (n ∷ []) [])))
+    subst (EachDual P) (sym (map-append (dualOf s) (thoseBelow n (λ c. ltb 0 (s .value c))) (cond (ltb 0 (s .value n)) (n ∷ []) [])))
     (each-append (each-those s h n) (by (ltb 0 (s .value n)) refl))
   where
-    by : (b : Bool) → ltb 0 (s .value n) ≡ b → Each P (map (dualOf s) (cond b (n ∷ []) []))
+    by : (b : Bool) → ltb 0 (s .value n) ≡ b → EachDual P (map (dualOf s) (cond b (n ∷ []) []))
     by true k = more (h n (ltb-true 0 (s .value n) k)) none
     by false k = none
 
-pub each-dual : {P : Dual → Type 0} (p : Problem) (s : State) → ((c : ℕ) → 0 < s .value c → P (dualOf s c)) → Each P (dualsOf p s)
+pub each-dual : {P : Dual → Type 0} (p : Problem) (s : State) → ((c : ℕ) → 0 < s .value c → P (dualOf s c)) → EachDual P (dualsOf p s)
 unfolding dualsOf
 each-dual p s h = each-those s h (numbers p s)
 
@@ -145,7 +137,7 @@ value-separates p ok (next {s = s} {e = e} {d = d} h w) c pos = by (ℕ-discrete
 -- Some usable edge crosses it, and its value is at most twice that edge's weight.
 pub value-fits : (p : Problem) (ok : Sound p) → Joins p (allUsable p) → {s : State} → Reached p s → (W : ℕ) → ((e : ℕ) → e < p .edges → p .weight e ≤ W) →
     (c : ℕ) → 0 < s .value c → s .value c ≤ 2 * W
-unfolding feels weighed
+unfolding dualLoadAt weighed
 value-fits p ok joinable {s} h W light c pos =
     let split : Split p (s .holds c) = separates-elim p (s .holds c) (value-separates p ok h c pos) in
     let x : Crossing (p .first) (p .second) (allUsable p) (s .holds c) =

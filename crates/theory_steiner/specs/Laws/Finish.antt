@@ -8,9 +8,9 @@ use native.Mathlib.Decide.{ℕ-discrete}
 use lib.Dec.{eqb, ltb}
 use borrow.Author.Tests.{eqb-true, eqb-false, eq-eqb, ne-eqb, not-false, ltb-true, lt-ltb}
 use Rattle.base_finite.specs.Laws.Test.{and-left, and-right, and-both, not-true-false, true-not-false}
-use Rattle.theory_graph.specs.Path.{without, crosses}
+use Rattle.theory_graph.specs.Path.{without, crosses, Forest}
 use Rattle.theory_graph.specs.Laws.Linked.{linked-mono, Crossing, cut-crossed, crosses-elim, without-mono}
-use Rattle.theory_graph.specs.Laws.Forest.{Forest, needed-joins}
+use Rattle.theory_graph.specs.Laws.Forest.{needed-joins}
 use Rattle.theory_steiner.specs.Problem.{Problem, Sound, EdgeSet, Joins, joined, separates, allUsable}
 use Rattle.theory_steiner.specs.Growth.{State, active, nobody, edge, winner, grown}
 use Rattle.theory_steiner.specs.Pruning.{needed, picked, kept}
@@ -101,7 +101,7 @@ module _ (p : Problem) (ok : Sound p) (some : 0 < p .vertices) (joinable : Joins
   unfolding picked
   picked-acyclic = picked-forest p ok (grown-reached p)
 
-  -- An edge that is not kept can be spared.
+  -- The others join without an edge that is not kept.
   spare : (e : ℕ) → picked p e ≡ true → not (joined p (without (picked p) e)) ≡ false → Joins p (without (picked p) e)
   spare e f n = joined-elim p (without (picked p) e) (not-false (joined p (without (picked p) e)) n)
 
@@ -125,7 +125,7 @@ module _ (p : Problem) (ok : Sound p) (some : 0 < p .vertices) (joinable : Joins
   pub kept-edges : EdgeSet p (kept p)
   kept-edges e k = picked-edges e (kept-picked e k)
 
-  -- None of the kept edges can be spared.
+  -- Without a kept edge the others do not join.
   pub kept-spares-none : (e : ℕ) → kept p e ≡ true → Joins p (without (kept p) e) → ⊥
   kept-spares-none e k joins = kept-fails e k (λ u v bu bv r. linked-mono (without-mono e kept-picked) (joins u v bu bv r))
 

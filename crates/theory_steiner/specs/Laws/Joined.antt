@@ -12,12 +12,8 @@ use Rattle.theory_graph.specs.Path.{Linked, without}
 use Rattle.theory_graph.specs.Component.{components}
 use Rattle.theory_graph.specs.Laws.Linked.{linked-mono, without-elim}
 use Rattle.theory_graph.specs.Laws.Component.{below, components-iff}
-use Rattle.theory_steiner.specs.Problem.{Problem, Joins, joined, separates, terminal}
+use Rattle.theory_steiner.specs.Problem.{Problem, Bounded, Joins, joined, separates, terminal}
 use Rattle.theory_steiner.specs.Pruning.{needed}
-
--- A set of edge numbers below the count.
-abbrev pub Bounded : Problem → (ℕ → Bool) → Type 0
-Bounded p F = (e : ℕ) → F e ≡ true → e < p .edges
 
 -- Labels of the components of F, and what equal ones say.
 abbrev pub labelOf : Problem → (ℕ → Bool) → ℕ → ℕ

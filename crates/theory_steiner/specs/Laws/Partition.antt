@@ -9,27 +9,15 @@ use native.Mathlib.Decide.{ℕ-discrete}
 use lib.Dec.{eqb}
 use borrow.Author.Tests.{eqb-true, eq-eqb, ne-eqb}
 use Rattle.base_finite.specs.Laws.Test.{or-cases, or-left, or-right}
-use Rattle.theory_graph.specs.Path.{Linked}
+use Rattle.theory_graph.specs.Path.{Linked, Forest}
 use Rattle.theory_graph.specs.Component.{merged}
 use Rattle.theory_graph.specs.Laws.Linked.{linked-refl}
 use Rattle.theory_graph.specs.Laws.Component.{Labels, linked-label, labels-iff, labels-merged, labels-cong, Merging, inside, outside, merging}
-use Rattle.theory_graph.specs.Laws.Forest.{Forest, forest-more}
+use Rattle.theory_graph.specs.Laws.Forest.{forest-more}
 use Rattle.theory_steiner.specs.Problem.{Problem, Sound, EdgeSet}
-use Rattle.theory_steiner.specs.Growth.{State, start, active, numbers, edge, winner, pick, stateAt}
+use Rattle.theory_steiner.specs.Growth.{State, start, active, numbers, edge, winner, pick, stateAt, Reached, first, next}
 use Rattle.theory_steiner.specs.Laws.Joined.{Split, separates-elim}
-use Rattle.theory_steiner.specs.Laws.Round.{
-  Reached,
-  first,
-  next,
-  stateAt-reached,
-  pick-numbers,
-  pick-label,
-  pick-holds-old,
-  pick-holds-new,
-  pick-more,
-  pick-new,
-  pick-only,
-}
+use Rattle.theory_steiner.specs.Laws.Round.{stateAt-reached, pick-numbers, pick-label, pick-holds-old, pick-holds-new, pick-more, pick-new, pick-only}
 use Rattle.theory_steiner.specs.Laws.Winner.{Candidate, delay-elim, winner-wins}
 
 abbrev pub Vertex : Problem → ℕ → Type 0

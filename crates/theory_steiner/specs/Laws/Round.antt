@@ -11,12 +11,7 @@ use Rattle.base_finite.specs.Below.{counted}
 use Rattle.base_finite.specs.Laws.Below.{memo-is}
 use Rattle.theory_graph.specs.Component.{merged}
 use Rattle.theory_steiner.specs.Problem.{Problem}
-use Rattle.theory_steiner.specs.Growth.{State, start, active, numbers, Winner, nobody, edge, winner, pick, advance, stateAt}
-
--- The states that rounds lead to.
-pub data Reached (p : Problem) : State → Type 0 where
-  first : Reached p start
-  next : {s : State} {e d : ℕ} → Reached p s → winner p s ≡ edge e d → Reached p (pick p s e d)
+use Rattle.theory_steiner.specs.Growth.{State, active, numbers, Winner, nobody, edge, winner, pick, Reached, first, next, advance, stateAt}
 
 pub advance-reached : (p : Problem) {s : State} → Reached p s → (w : Winner) → winner p s ≡ w → Reached p (advance p s w)
 unfolding advance

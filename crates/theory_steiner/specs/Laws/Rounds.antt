@@ -13,24 +13,9 @@ use Rattle.base_finite.specs.Laws.Below.{sum-suc, sum-zero, sum-at, sum-at-two,
 use Rattle.theory_graph.specs.Component.{merged}
 use Rattle.theory_graph.specs.Laws.Component.{Merging, inside, outside, merged-in}
 use Rattle.theory_steiner.specs.Problem.{Problem, Sound}
-use Rattle.theory_steiner.specs.Growth.{
-  State,
-  start,
-  active,
-  numbers,
-  load,
-  slack,
-  Winner,
-  nobody,
-  edge,
-  winner,
-  pick,
-  advance,
-  stateAt,
-  grown,
-}
+use Rattle.theory_steiner.specs.Growth.{State, start, active, numbers, load, slack, Winner, nobody, edge, winner, pick, advance, stateAt, grown, Reached, first, next}
 use Rattle.theory_steiner.specs.Pruning.{dualBound}
-use Rattle.theory_steiner.specs.Laws.Round.{Reached, first, next, stateAt-reached, pick-rounds, pick-numbers, pick-label, pick-value, pick-more, pick-new, pick-only}
+use Rattle.theory_steiner.specs.Laws.Round.{stateAt-reached, pick-rounds, pick-numbers, pick-label, pick-value, pick-more, pick-new, pick-only}
 use Rattle.theory_steiner.specs.Laws.Winner.{Waits, one-first, one-second, both}
 use Rattle.theory_steiner.specs.Laws.Partition.{label-merging, label-below, label-fresh, winner-candidate, winner-below, partition}
 use Rattle.theory_steiner.specs.Laws.Weighed.{activeCount, bound-pick, load-pick}

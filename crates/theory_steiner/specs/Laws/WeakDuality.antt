@@ -10,12 +10,8 @@ use Rattle.base_finite.specs.Laws.Below.{sum-le, sum-cong, sum-add, sum-member,
 use Rattle.theory_graph.specs.Path.{crosses}
 use Rattle.theory_graph.specs.Laws.Linked.{Crossing, cut-crossed}
 use Rattle.theory_steiner.specs.Problem.{Problem, EdgeSet, Joins, separates, cost}
-use Rattle.theory_steiner.specs.Dual.{Dual, weigh, total, felt}
+use Rattle.theory_steiner.specs.Dual.{Dual, weigh, total, felt, Separating, EachDual, none, more}
 use Rattle.theory_steiner.specs.Laws.Joined.{Split, separates-elim}
-use Rattle.theory_steiner.specs.Laws.Dual.{Each, none, more}
-
-abbrev pub Separating : Problem → Dual → Type 0
-Separating p d = separates p (d .holds) ≡ true
 
 module _ (p : Problem) (F : ℕ → Bool) (set : EdgeSet p F) (joins : Joins p F) where
   -- Every cut that separates a required pair is crossed by F.
@@ -24,15 +20,15 @@ module _ (p : Problem) (F : ℕ → Bool) (set : EdgeSet p F) (joins : Joins p F
       let split : Split p S = separates-elim p S a in
       cut-crossed S (joins (split .u) (split .v) (split .u-below) (split .v-below) (split .required)) (split .inside) (split .outside)
 
-  -- Each dual is felt by an edge of F.
-  total-le-felt : (ds : List Dual) → Each (Separating p) ds → total ds ≤ sumBelow (p .edges) (λ e. counted (F e) (felt p ds e))
+  -- Each dual is in the load of an edge of F.
+  total-le-load : (ds : List Dual) → EachDual (Separating p) ds → total ds ≤ sumBelow (p .edges) (λ e. counted (F e) (felt p ds e))
   unfolding total weigh felt
-  total-le-felt [] none = omega arith
-  total-le-felt (d ∷ ds) (more h hs) =
+  total-le-load [] none = omega arith
+  total-le-load (d ∷ ds) (more h hs) =
       let x : Crossing (p .first) (p .second) F (d .holds) = crossed (d .holds) h in
       omega (
         arith,
-        total-le-felt ds hs,
+        total-le-load ds hs,
         sum-cong (p .edges) (λ e. counted (F e) (counted (crosses (p .first) (p .second) (d .holds) e) (d .value) + felt p ds e))
             (λ e. counted (F e) (counted (crosses (p .first) (p .second) (d .holds) e) (d .value)) + counted (F e) (felt p ds e))
             (λ e b. counted-add (F e) (counted (crosses (p .first) (p .second) (d .holds) e) (d .value)) (felt p ds e)),
@@ -43,10 +39,10 @@ module _ (p : Problem) (F : ℕ → Bool) (set : EdgeSet p F) (joins : Joins p F
         counted-true {t = true} refl (d .value),
       )
 
-  felt-le-cost : (ds : List Dual) → ((e : ℕ) → e < p .edges → p .usable e ≡ true → felt p ds e ≤ 2 * p .weight e) →
+  load-le-cost : (ds : List Dual) → ((e : ℕ) → e < p .edges → p .usable e ≡ true → felt p ds e ≤ 2 * p .weight e) →
       sumBelow (p .edges) (λ e. counted (F e) (felt p ds e)) ≤ 2 * cost p F
   unfolding cost
-  felt-le-cost ds fits =
+  load-le-cost ds fits =
       omega (
         arith,
         sum-le (p .edges) (λ e. counted (F e) (felt p ds e)) (λ e. 2 * counted (F e) (p .weight e)) (λ e b. by e b (F e) refl),
@@ -58,6 +54,6 @@ module _ (p : Problem) (F : ℕ → Bool) (set : EdgeSet p F) (joins : Joins p F
       by e b false k = omega (arith, counted-false k (felt p ds e))
 
   -- The duals come to at most twice the cost of any set that joins.
-  pub weak-duality : (ds : List Dual) → Each (Separating p) ds → ((e : ℕ) → e < p .edges → p .usable e ≡ true → felt p ds e ≤ 2 * p .weight e) →
+  pub weak-duality : (ds : List Dual) → EachDual (Separating p) ds → ((e : ℕ) → e < p .edges → p .usable e ≡ true → felt p ds e ≤ 2 * p .weight e) →
       total ds ≤ 2 * cost p F
-  weak-duality ds h fits = omega (arith, total-le-felt ds h, felt-le-cost ds fits)
+  weak-duality ds h fits = omega (arith, total-le-load ds h, load-le-cost ds fits)

@@ -1,5 +1,5 @@
--- What a round adds to a sum over the duals: the delay for each active component whose set passes the test. The load of a vertex, what an edge
--- feels and the dual bound are three such sums.
+-- What a round adds to a sum over the duals: the delay for each active component whose set passes the test. The load of a vertex, the dual
+-- load of an edge and the dual bound are three such sums.
 use Prim.Native.Nat.{ℕ, suc, _+_, _*_, _≤_, _<_}
 use mathlib.Core.Path.{_≡_, refl, ap, ap₂, sym, _∙_}
 use mathlib.Core.Bool.{Bool, true, false, _&&_, xor, and-true, and-false}
@@ -13,9 +13,9 @@ use Rattle.base_finite.specs.Laws.Below.{sum-suc, sum-cong, sum-add, sum-zero, 
 use Rattle.theory_graph.specs.Path.{crosses}
 use Rattle.theory_graph.specs.Laws.Linked.{crosses-cong, crosses-not}
 use Rattle.theory_steiner.specs.Problem.{Problem, Sound}
-use Rattle.theory_steiner.specs.Growth.{State, start, active, numbers, load, pick}
+use Rattle.theory_steiner.specs.Growth.{State, start, active, numbers, load, pick, Reached, first, next}
 use Rattle.theory_steiner.specs.Pruning.{dualBound}
-use Rattle.theory_steiner.specs.Laws.Round.{Reached, first, next, pick-numbers, pick-value, pick-holds-old}
+use Rattle.theory_steiner.specs.Laws.Round.{pick-numbers, pick-value, pick-holds-old}
 use Rattle.theory_steiner.specs.Laws.Partition.{label-below, active-below, active-members}
 
 -- The sum of the values of all component numbers whose members pass the test.
@@ -113,31 +113,31 @@ load-pick p ok {s} h e d v b =
     load-weighed p (pick p s e d) v ∙ weighed-pick p ok h e d (λ S. S v) (λ S R k. k v b)
     ∙ ap (λ x. weighed p s (λ S. S v) + x) (raised-at p h d v b) ∙ ap (λ x. x + counted (active p (s .label) (s .label v)) d) (sym (load-weighed p s v))
 
--- ---- what an edge feels
+-- ---- the dual load of an edge
 
--- The duals of a growth that an edge feels.
-unfoldable pub feels : Problem → State → ℕ → ℕ
-feels p s e = weighed p s (λ S. crosses (p .first) (p .second) S e)
+-- The dual load of an edge after some rounds.
+unfoldable pub dualLoadAt : Problem → State → ℕ → ℕ
+dualLoadAt p s e = weighed p s (λ S. crosses (p .first) (p .second) S e)
 
 pub feels-pick : (p : Problem) (ok : Sound p) {s : State} → Reached p s → (e d f : ℕ) → f < p .edges →
-    feels p (pick p s e d) f
-    ≡ feels p s f + sumBelow (numbers p s) (λ c. counted (active p (s .label) c && crosses (p .first) (p .second) (component (s .label) c) f) d)
-unfolding feels
+    dualLoadAt p (pick p s e d) f
+    ≡ dualLoadAt p s f + sumBelow (numbers p s) (λ c. counted (active p (s .label) c && crosses (p .first) (p .second) (component (s .label) c) f) d)
+unfolding dualLoadAt
 feels-pick p ok {s} h e d f b =
     weighed-pick p ok h e d (λ S. crosses (p .first) (p .second) S f)
     (λ S R k. crosses-cong (p .first) (p .second) S R f (k (p .first f) (ok .first-below f b)) (k (p .second f) (ok .second-below f b)))
 
--- An edge inside a component feels nothing more.
+-- Inside a component it stays.
 pub feels-inside : (p : Problem) (ok : Sound p) {s : State} → Reached p s → (e d f : ℕ) → f < p .edges →
-    s .label (p .first f) ≡ s .label (p .second f) → feels p (pick p s e d) f ≡ feels p s f
+    s .label (p .first f) ≡ s .label (p .second f) → dualLoadAt p (pick p s e d) f ≡ dualLoadAt p s f
 feels-inside p ok {s} h e d f b same =
     let z : sumBelow (numbers p s) (λ c. counted (active p (s .label) c && crosses (p .first) (p .second) (component (s .label) c) f) d) ≡ 0 =
     sum-zero (numbers p s) _
     (λ c bc.
     counted-false
     (rw (crosses-not (p .first) (p .second) (component (s .label) c) f (ap (λ x. eqb x c) same)) (and-false (active p (s .label) c))) d) in
-    let q : feels p (pick p s e d) f
-    ≡ feels p s f + sumBelow (numbers p s) (λ c. counted (active p (s .label) c && crosses (p .first) (p .second) (component (s .label) c) f) d) =
+    let q : dualLoadAt p (pick p s e d) f
+    ≡ dualLoadAt p s f + sumBelow (numbers p s) (λ c. counted (active p (s .label) c && crosses (p .first) (p .second) (component (s .label) c) f) d) =
     feels-pick p ok h e d f b in
     omega arith
 
@@ -153,14 +153,14 @@ two-ends a x y c d apart = by a (eqb x c) (eqb y c) (λ p q. apart (eqb-true x c
     by true false true k = omega arith
     by true true true k = absurd (k refl refl)
 
--- An edge between two components feels what each end is raised.
+-- Between two components it rises by what each end is raised.
 pub feels-between : (p : Problem) (ok : Sound p) {s : State} → Reached p s → (e d f : ℕ) → f < p .edges →
     (s .label (p .first f) ≡ s .label (p .second f) → ⊥) →
-    feels p (pick p s e d) f
-    ≡ feels p s f + (counted (active p (s .label) (s .label (p .first f))) d + counted (active p (s .label) (s .label (p .second f))) d)
+    dualLoadAt p (pick p s e d) f
+    ≡ dualLoadAt p s f + (counted (active p (s .label) (s .label (p .first f))) d + counted (active p (s .label) (s .label (p .second f))) d)
 unfolding crosses
 feels-between p ok {s} h e d f b apart =
-    feels-pick p ok h e d f b ∙ ap (λ x. feels p s f + x) ends
+    feels-pick p ok h e d f b ∙ ap (λ x. dualLoadAt p s f + x) ends
   where
     x : ℕ
     x = s .label (p .first f)

@@ -1,64 +1,40 @@
--- `cut_refusal` meets its contract: a cut separates exactly if its sides, as labels, split a group.
-use native.Mathlib.Omega.{arith}
+-- `cut_refusal` meets its contract: the test of one cut, for the members of a record.
 use mathlib.Core.Path.{ap, sym, _∙_}
-use lib.ListN.{getD}
+use mathlib.Core.Bool.{not}
 use borrow.Author.Needs.{needs}
-use Rattle.base_finite.specs.Laws.Below.{getD-tabulate}
 use Rattle.base_limits.specs.Limits.{maxVertices}
+use Rattle.base_limits.specs.Laws.Verdict.{refuse-true, refuse-false}
 use Rattle.format_record.specs.Record.{memberIn}
-use Rattle.survey_core.specs.Survey.{groupsAlone}
-use Rattle.survey_core.specs.Laws.Cut.{cut-refused, cut-fine}
+use Rattle.survey_groups.specs.Laws.Cut.{sides-table}
 use Rattle.check_core.proofs.cuts.cut_refusal.Statement.{statement}
 use Rattle.check_core.proofs.cuts.cut_refusal.Tie as tie
 
 sides-requires : tie.Need-sides-requires
 sides-requires c κs = search needs
 
-slice-aggregate-split-refusal : tie.Need-slice-aggregate-split-refusal
-slice-aggregate-split-refusal c = search needs
+slice-aggregate-is-separating : tie.Need-slice-aggregate-is-separating
+slice-aggregate-is-separating c = search needs
 
-split-refusal-requires : tie.Need-split-refusal-requires
-split-refusal-requires c κs = search needs
+is-separating-requires : tie.Need-is-separating-requires
+is-separating-requires c κs = search needs
 
-enum-told : tie.Need-enum-told
-enum-told c = search needs
-
-enum-told-2 : tie.Need-enum-told-2
-enum-told-2 c = search needs
-
+-- some group has members on both sides
 returns : tie.Need-returns
-returns c = let args = c .before .before .before .before .before .before .before .args in
-    sym
-    (cut-refused
-    (groupsAlone (args .groups .now))
-    (memberIn (args .part .now))
-    _
-    (λ v b. ap (λ l. getD l v 0) (c .before .before .before .before .sides .ensures) ∙ getD-tabulate maxVertices _ v 0 (omega arith))
-    12
-    (λ v. omega (arith, c .before .before .before .before .before .before .shared-slice-known .given v))
-    (sym (c .before .before .split-refusal .ensures) ∙ c .enum-told .given .1)
-    _)
+returns c =
+    let start = c .before .before .before .before .before .before in
+    let S = memberIn (start .args .part .now) in
+    let is = c .before .is-separating .ensures S (sides-table S _ maxVertices (start .pre) (c .before .before .before .sides .ensures)) in
+    sym (refuse-false (ap not (sym is ∙ c .if1 .taken)) 12 _)
 
+-- 12
 returns-2 : tie.Need-returns-2
-returns-2 c = let args = c .before .before .before .before .before .before .before .args in
-    sym
-    (cut-fine
-    (groupsAlone (args .groups .now))
-    (memberIn (args .part .now))
-    _
-    (λ v b. ap (λ l. getD l v 0) (c .before .before .before .before .sides .ensures) ∙ getD-tabulate maxVertices _ v 0 (omega arith))
-    12
-    (sym (c .before .before .split-refusal .ensures) ∙ c .enum-told2 .given .1)
-    _)
+returns-2 c =
+    let start = c .before .before .before .before .before .before in
+    let S = memberIn (start .args .part .now) in
+    let is = c .before .is-separating .ensures S (sides-table S _ maxVertices (start .pre) (c .before .before .before .sides .ensures)) in
+    sym (refuse-true (ap not (sym is ∙ c .if1 .left)) 12 _)
 
 pub cut-refusal-spec : {M : Type 1} → statement M
 cut-refusal-spec =
     tie.close
-    (tie.spec
-    sides-requires
-    slice-aggregate-split-refusal
-    split-refusal-requires
-    enum-told
-    enum-told-2
-    returns
-    returns-2)
+    (tie.spec sides-requires slice-aggregate-is-separating is-separating-requires returns returns-2)

@@ -1,31 +1,27 @@
--- `cuts_refusal` meets its contract: while it runs, every record below i separates some group.
-use Prim.Native.Nat.{_≤_, _-_, _/_}
-use native.Mathlib.Omega.{arith}
+-- `cuts_refusal` meets its contract: a scan of the records for 12.
+use Prim.Native.Nat.{_-_, _/_}
+use mathlib.Core.Path.{ap, _∙_}
 use mathlib.Core.Bool.{not}
-use mathlib.Core.Path.{_≡_, refl, ap, sym, _∙_}
 use lib.ListN.{length}
-use borrow.Author.Needs.{needs}
-use Rattle.base_limits.specs.Laws.Verdict.{lowest-more, lowest-found, lowest-end}
-use Rattle.base_limits.specs.declared.Verdict.the-variants.{Fine}
-use Rattle.base_limits.specs.Verdict.{refuseIf, lowestBelow}
 use Rattle.base_limits.specs.Limits.{recordBytes}
+use Rattle.base_limits.specs.Verdict.{refuseIf}
 use Rattle.format_record.specs.Record.{memberIn}
 use Rattle.theory_steiner.specs.Problem.{separates}
 use Rattle.survey_core.specs.Survey.{groupsAlone, problemOf}
 use Rattle.check_rule.specs.Check.{dualAt}
+use Rattle.base_limits.specs.Laws.Verdict.{Scanned, scan-start, scan-turn, scan-found, scan-end}
+use borrow.Author.Needs.{needs}
 use Rattle.check_core.proofs.cuts.cuts_refusal.Statement.{statement}
 use Rattle.check_core.proofs.cuts.cuts_refusal.Tie as tie
 
 abbrev Inv-loop : tie.InvT-loop
-Inv-loop groups records i₀ i = (i ≤ length records / recordBytes)
-    × (lowestBelow i (λ i. refuseIf (not (separates (problemOf (groupsAlone groups)) (dualAt records i .holds))) 12 i) ≡ Fine)
+Inv-loop groups records i₀ i = Scanned (length records / recordBytes) (λ i. refuseIf (not (separates (problemOf (groupsAlone groups)) (dualAt records i .holds))) 12 i) i
 
 abbrev μ-loop : tie.MeasureT-loop
 μ-loop groups records i₀ i = length records / recordBytes - i
 
 loop-holds : tie.Need-loop-holds Inv-loop μ-loop
-unfolding lowestBelow
-loop-holds c = (omega arith, refl)
+loop-holds c = scan-start _ _
 
 record-requires : tie.Need-record-requires Inv-loop μ-loop
 record-requires c κs = search needs
@@ -33,24 +29,20 @@ record-requires c κs = search needs
 cut-refusal-requires : tie.Need-cut-refusal-requires Inv-loop μ-loop
 cut-refusal-requires c κs = c .before .before .before .before .before .pre
 
-enum-known-found : tie.Need-enum-known-found Inv-loop μ-loop
-enum-known-found c = search needs
-
-returns : tie.Need-returns Inv-loop μ-loop
-unfolding dualAt
-returns c = let i = c .before .before .before .before .before .before .loop .i in
-    let groups = c .before .before .before .before .before .before .before .before .before .args .groups .now in
-    sym
-    (lowest-found
-    _
-    i
-    _
-    (omega arith)
-    (c .before .before .before .before .before .before .loop .inv .1)
-    (ap (λ part. refuseIf (not (separates (problemOf (groupsAlone groups)) (memberIn part))) 12 i) (sym (c .before .before .before .before .«record» .ensures)) ∙ sym (c .before .before .before .cut-refusal .ensures) ∙ c .before .found .given .1))
-
 enum-told : tie.Need-enum-told Inv-loop μ-loop
 enum-told c = search needs
+
+enum-told-2 : tie.Need-enum-told-2 Inv-loop μ-loop
+enum-told-2 c = search needs
+
+-- 12
+returns : tie.Need-returns Inv-loop μ-loop
+unfolding dualAt
+returns c =
+    let at = c .before .before .before .before in
+    let p = problemOf (groupsAlone (at .before .before .before .before .args .groups .now)) in
+    let is = c .before .before .cut-refusal .ensures ∙ ap (λ part. refuseIf (not (separates p (memberIn part))) 12 (at .before .loop .i)) (c .before .before .before .«record» .ensures) in
+    scan-found (at .before .loop .inv) (at .loop-test .taken) is (c .enum-told2 .given .1)
 
 add-i : tie.Need-add-i Inv-loop μ-loop
 add-i c = search needs
@@ -60,12 +52,15 @@ loop-less c = search needs
 
 loop-again : tie.Need-loop-again Inv-loop μ-loop
 unfolding dualAt
-loop-again c = let i = c .before .before .before .before .before .loop .i in
-    let groups = c .before .before .before .before .before .before .before .before .args .groups .now in
-    (omega arith, lowest-more i _ (c .before .before .before .before .before .loop .inv .1) (ap (λ part. refuseIf (not (separates (problemOf (groupsAlone groups)) (memberIn part))) 12 i) (sym (c .before .before .before .«record» .ensures)) ∙ sym (c .before .before .cut-refusal .ensures) ∙ c .enum-told .given .1))
+loop-again c =
+    let at = c .before .before .before .before in
+    let p = problemOf (groupsAlone (at .before .before .before .before .args .groups .now)) in
+    let is = c .before .before .cut-refusal .ensures ∙ ap (λ part. refuseIf (not (separates p (memberIn part))) 12 (at .before .loop .i)) (c .before .before .before .«record» .ensures) in
+    scan-turn (at .before .loop .inv) (at .loop-test .taken) is (c .enum-told .given .1)
 
+-- 12 refuses no record
 returns-2 : tie.Need-returns-2 Inv-loop μ-loop
-returns-2 c = sym (lowest-end _ (c .before .loop .i) _ (omega arith) (omega arith) (c .before .loop .inv .1))
+returns-2 c = scan-end (c .before .loop .inv) (c .loop-test .left)
 
 pub cuts-refusal-spec : {M : Type 1} → statement M
 cuts-refusal-spec =
@@ -76,9 +71,9 @@ cuts-refusal-spec =
     loop-holds
     record-requires
     cut-refusal-requires
-    enum-known-found
-    returns
     enum-told
+    enum-told-2
+    returns
     add-i
     loop-less
     loop-again

@@ -7,9 +7,8 @@ use borrow.Author.Needs.{needs}
 use Rattle.base_finite.specs.Below.{counted}
 use Rattle.base_limits.specs.Limits.{maxVertices}
 use Rattle.format_record.specs.Record.{memberIn}
-use Rattle.base_buffer.specs.Laws.Store.{remade-more}
+use Rattle.base_buffer.specs.Laws.Store.{remade-more, stored-table}
 use Rattle.base_buffer.specs.Store.{remade}
-use Rattle.check_core.specs.Laws.Scan.{remade-end}
 use Rattle.check_core.proofs.cuts.sides.Statement.{statement}
 use Rattle.check_core.proofs.cuts.sides.Tie as tie
 
@@ -42,7 +41,7 @@ loop-again : tie.Need-loop-again Inv-loop μ-loop
 loop-again c = (omega arith, remade-more _ _ _ _ _ (c .before .before .loop .inv .1) (c .side .ensures))
 
 returns : tie.Need-returns Inv-loop μ-loop
-returns c = remade-end _ maxVertices (c .before .loop .v) _ _ (omega arith) (omega arith) (length-replicate {A = ℕ} maxVertices 0) (λ k b. refl) (c .before .loop .inv .1)
+returns c = stored-table _ maxVertices (c .before .loop .v) _ _ (omega arith) (omega arith) (length-replicate {A = ℕ} maxVertices 0) (λ k b. refl) (c .before .loop .inv .1)
 
 pub sides-spec : {M : Type 1} → statement M
 sides-spec =

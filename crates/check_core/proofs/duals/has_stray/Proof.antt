@@ -9,7 +9,7 @@ use Rattle.base_finite.specs.Below.{anyBelow}
 use Rattle.base_finite.specs.Laws.Below.{any-intro}
 use Rattle.base_limits.specs.Limits.{memberBytes}
 use Rattle.format_record.specs.Record.{memberIn}
-use Rattle.check_core.specs.Laws.Scan.{any-more, any-end}
+use Rattle.base_finite.specs.Laws.Count.{any-more, any-end}
 use Rattle.check_core.proofs.duals.has_stray.Statement.{statement}
 use Rattle.check_core.proofs.duals.has_stray.Tie as tie
 

@@ -1,28 +1,24 @@
--- `values_refusal` meets its contract: while it runs, 11 refuses no record below i.
-use Prim.Native.Nat.{_≤_, _-_, _/_}
-use native.Mathlib.Omega.{arith}
-use mathlib.Core.Path.{_≡_, refl, ap, sym, _∙_}
+-- `values_refusal` meets its contract: a scan of the records for 11.
+use Prim.Native.Nat.{_-_, _/_}
+use mathlib.Core.Path.{ap, _∙_}
 use lib.ListN.{length}
-use borrow.Author.Needs.{needs}
-use Rattle.base_limits.specs.Laws.Verdict.{lowest-more, lowest-found, lowest-end}
-use Rattle.base_limits.specs.declared.Verdict.the-variants.{Fine}
-use Rattle.base_limits.specs.Verdict.{lowestBelow}
 use Rattle.base_limits.specs.Limits.{recordBytes}
 use Rattle.survey_core.specs.Survey.{groupsAlone}
-use Rattle.check_core.specs.Stage.{dualOf}
 use Rattle.check_rule.specs.Check.{dualAt, dualRefusal}
+use Rattle.check_core.specs.Stage.{dualOf}
+use Rattle.base_limits.specs.Laws.Verdict.{Scanned, scan-start, scan-turn, scan-found, scan-end}
+use borrow.Author.Needs.{needs}
 use Rattle.check_core.proofs.duals.values_refusal.Statement.{statement}
 use Rattle.check_core.proofs.duals.values_refusal.Tie as tie
 
 abbrev Inv-loop : tie.InvT-loop
-Inv-loop groups records i₀ i = (i ≤ length records / recordBytes) × (lowestBelow i (λ i. dualRefusal (groupsAlone groups) (dualAt records i) i) ≡ Fine)
+Inv-loop groups records i₀ i = Scanned (length records / recordBytes) (λ i. dualRefusal (groupsAlone groups) (dualAt records i) i) i
 
 abbrev μ-loop : tie.MeasureT-loop
 μ-loop groups records i₀ i = length records / recordBytes - i
 
 loop-holds : tie.Need-loop-holds Inv-loop μ-loop
-unfolding lowestBelow
-loop-holds c = (omega arith, refl)
+loop-holds c = scan-start _ _
 
 record-requires : tie.Need-record-requires Inv-loop μ-loop
 record-requires c κs = search needs
@@ -30,24 +26,20 @@ record-requires c κs = search needs
 dual-refusal-requires : tie.Need-dual-refusal-requires Inv-loop μ-loop
 dual-refusal-requires c κs = search needs
 
-enum-known-found : tie.Need-enum-known-found Inv-loop μ-loop
-enum-known-found c = search needs
-
-returns : tie.Need-returns Inv-loop μ-loop
-unfolding dualAt
-returns c = let i = c .before .before .before .before .before .before .loop .i in
-    let s = groupsAlone (c .before .before .before .before .before .before .before .before .before .args .groups .now) in
-    sym
-    (lowest-found
-    _
-    i
-    _
-    (omega arith)
-    (c .before .before .before .before .before .before .loop .inv .1)
-    (ap (λ part. dualRefusal s (dualOf part) i) (sym (c .before .before .before .before .«record» .ensures)) ∙ sym (c .before .before .before .dual-refusal .ensures) ∙ c .before .found .given .1))
-
 enum-told : tie.Need-enum-told Inv-loop μ-loop
 enum-told c = search needs
+
+enum-told-2 : tie.Need-enum-told-2 Inv-loop μ-loop
+enum-told-2 c = search needs
+
+-- 11
+returns : tie.Need-returns Inv-loop μ-loop
+unfolding dualAt
+returns c =
+    let at = c .before .before .before .before in
+    let s = groupsAlone (at .before .before .before .before .args .groups .now) in
+    let is = c .before .before .dual-refusal .ensures ∙ ap (λ part. dualRefusal s (dualOf part) (at .before .loop .i)) (c .before .before .before .«record» .ensures) in
+    scan-found (at .before .loop .inv) (at .loop-test .taken) is (c .enum-told2 .given .1)
 
 add-i : tie.Need-add-i Inv-loop μ-loop
 add-i c = search needs
@@ -57,12 +49,15 @@ loop-less c = search needs
 
 loop-again : tie.Need-loop-again Inv-loop μ-loop
 unfolding dualAt
-loop-again c = let i = c .before .before .before .before .before .loop .i in
-    let s = groupsAlone (c .before .before .before .before .before .before .before .before .args .groups .now) in
-    (omega arith, lowest-more i _ (c .before .before .before .before .before .loop .inv .1) (ap (λ part. dualRefusal s (dualOf part) i) (sym (c .before .before .before .«record» .ensures)) ∙ sym (c .before .before .dual-refusal .ensures) ∙ c .enum-told .given .1))
+loop-again c =
+    let at = c .before .before .before .before in
+    let s = groupsAlone (at .before .before .before .before .args .groups .now) in
+    let is = c .before .before .dual-refusal .ensures ∙ ap (λ part. dualRefusal s (dualOf part) (at .before .loop .i)) (c .before .before .before .«record» .ensures) in
+    scan-turn (at .before .loop .inv) (at .loop-test .taken) is (c .enum-told .given .1)
 
+-- 11 refuses no record
 returns-2 : tie.Need-returns-2 Inv-loop μ-loop
-returns-2 c = sym (lowest-end _ (c .before .loop .i) _ (omega arith) (omega arith) (c .before .loop .inv .1))
+returns-2 c = scan-end (c .before .loop .inv) (c .loop-test .left)
 
 pub values-refusal-spec : {M : Type 1} → statement M
 values-refusal-spec =
@@ -73,9 +68,9 @@ values-refusal-spec =
     loop-holds
     record-requires
     dual-refusal-requires
-    enum-known-found
-    returns
     enum-told
+    enum-told-2
+    returns
     add-i
     loop-less
     loop-again

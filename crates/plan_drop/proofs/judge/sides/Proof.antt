@@ -1,7 +1,7 @@
 -- `sides` meets its contract: after v turns the first v labels are the sides of their vertices.
 use Rattle.plan_drop.specs.Judge.{sideIn}
 use Rattle.base_buffer.specs.Store.{remade}
-use Rattle.base_buffer.specs.Laws.Store.{remade-more, remade-end, remade-table}
+use Rattle.base_buffer.specs.Laws.Store.{remade-more, stored-table}
 use Rattle.format_record.specs.Bits.{bitAt}
 use Rattle.base_limits.specs.Limits.{maxVertices}
 use Rattle.base_finite.specs.Below.{counted}
@@ -48,13 +48,13 @@ loop-again : tie.Need-loop-again Inv-loop μ-loop
 unfolding sideIn
 loop-again c = (
   omega arith,
-  remade-more (λ v x. counted (sideIn (c .before .before .before .before .before .args .words .now) (c .before .before .before .before .before .args .k) v) 1) _ _ _ _ (c .before .before .before .loop .inv .1)
+  remade-more _ _ _ _ _ (c .before .before .before .loop .inv .1)
       (c .side .ensures ∙ ap (λ x. counted (bitAt x (c .before .before .before .before .before .args .k)) 1) (c .before .at64 .ensures)),
 )
 
 returns : tie.Need-returns Inv-loop μ-loop
 returns c =
-    c .before .loop .inv .1 ∙ remade-end _ maxVertices _ _ (omega arith) (omega arith) ∙ remade-table _ maxVertices _ _ (length-replicate {A = ℕ} maxVertices 0) (λ v b. refl)
+    stored-table _ maxVertices (c .before .loop .v) _ _ (omega arith) (omega arith) (length-replicate {A = ℕ} maxVertices 0) (λ v b. refl) (c .before .loop .inv .1)
 
 pub sides-spec : {M : Type 1} → statement M
 sides-spec =

@@ -1,4 +1,4 @@
--- `felt_between` meets its contract: while it runs, the sum is that of the records below i.
+-- `load_between` meets its contract: while it runs, the sum is that of the records below i.
 use Prim.Native.Nat.{_≤_, _-_, _/_}
 use native.Mathlib.Omega.{arith}
 use mathlib.Core.Bool.{xor}
@@ -9,10 +9,10 @@ use Rattle.base_finite.specs.Below.{counted, sumBelow}
 use Rattle.base_limits.specs.Limits.{recordBytes}
 use Rattle.format_record.specs.Record.{memberIn, valueIn}
 use Rattle.base_finite.specs.Laws.Count.{sum-more}
-use Rattle.check_core.specs.Stage.{feltBetween}
+use Rattle.check_core.specs.Stage.{loadBetween}
 use Rattle.check_core.specs.Laws.Duals.{weighedAt, weigh-end, weighed-fits}
-use Rattle.check_core.proofs.duals.felt_between.Statement.{statement}
-use Rattle.check_core.proofs.duals.felt_between.Tie as tie
+use Rattle.check_core.proofs.duals.load_between.Statement.{statement}
+use Rattle.check_core.proofs.duals.load_between.Tie as tie
 
 abbrev Inv-loop : tie.InvT-loop
 Inv-loop records u v sum₀ i₀ sum i = (i ≤ length records / recordBytes) × (sum ≡ sumBelow i (weighedAt records (λ S. xor (S u) (S v))))
@@ -44,11 +44,11 @@ loop-again : tie.Need-loop-again Inv-loop μ-loop
 loop-again c = (omega arith, sum-more _ _ (c .before .before .before .loop .inv .1) (c .crossing-value .ensures ∙ ap (λ part. counted (xor (memberIn part (c .before .before .before .before .before .args .u)) (memberIn part (c .before .before .before .before .before .args .v))) (valueIn part)) (c .before .«record» .ensures)))
 
 returns : tie.Need-returns Inv-loop μ-loop
-unfolding feltBetween
+unfolding loadBetween
 returns c = weigh-end _ _ (c .before .loop .i) (omega arith) (omega arith) (c .before .loop .inv .1)
 
-pub felt-between-spec : {M : Type 1} → statement M
-felt-between-spec =
+pub load-between-spec : {M : Type 1} → statement M
+load-between-spec =
     tie.close
     (tie.spec
     Inv-loop

@@ -1,24 +1,27 @@
--- A cut separates a required pair exactly if some group is not joined where the labels are the two sides. Refusal 12 and pruning use it.
-use Prim.Native.Nat.{ℕ, _<_}
+-- A cut separates a required pair exactly if some group is not joined where the labels are its two sides. The test of one cut uses it,
+-- for refusal 12 and for pruning (source 001, section 22.1).
+use Prim.Native.Nat.{ℕ, _<_, _≤_}
 use native.Mathlib.Omega.{arith}
 use mathlib.Core.Path.{_≡_, refl, ap, sym, _∙_}
 use mathlib.Core.Logic.{_⊎_, inl, inr, ⊎-elim}
 use mathlib.Core.Bool.{Bool, true, false, _&&_, _||_, not}
+use mathlib.Core.List.{List}
 use lib.ListN.{length, getD}
 use lib.Dec.{eqb}
 use borrow.Author.Tests.{eq-eqb, eqb-true}
-use Rattle.base_finite.specs.Below.{counted, allBelow}
-use Rattle.base_finite.specs.Laws.Below.{all-intro, all-elim, counted-true, counted-false}
+use Rattle.base_finite.specs.Below.{counted, allBelow, tabulate}
+use Rattle.base_finite.specs.Laws.Below.{all-intro, all-elim, counted-true, counted-false, getD-tabulate}
 use Rattle.base_finite.specs.Laws.Test.{either, and-left, and-right, and-both, or-right, true-not-false, not-true-false, not-of-false}
 use Rattle.base_limits.specs.Limits.{groupNumbers}
 use Rattle.base_limits.specs.Verdict.{refuseIf, lowestBelow}
 use Rattle.base_limits.specs.declared.Verdict.{Verdict}
 use Rattle.base_limits.specs.declared.Verdict.the-variants.{Fine, Refused}
-use Rattle.base_limits.specs.Laws.Verdict.{refuse-true, refuse-false, fine-refuse, lowest-none, none-lowest}
+use Rattle.base_limits.specs.Laws.Verdict.{no-refusal, refuse-false, fine-refuse, lowest-none, none-lowest}
 use Rattle.theory_steiner.specs.Problem.{separates}
 use Rattle.theory_steiner.specs.Laws.Joined.{Split, separates-elim, separates-intro}
 use Rattle.survey_core.specs.Survey.{Survey, vertexCount, member, sameGroup, problemOf, groupJoined}
+use Rattle.survey_groups.specs.Spread.{Sides}
 use Rattle.survey_core.specs.Laws.Member.{member-elim, member-intro}
 
 -- The test of `groupJoined` at two vertices.
 abbrev test : Survey → (label : ℕ → ℕ) → (g u v : ℕ) → Bool
@@ -144,14 +147,9 @@ module _ (s : Survey) (S : ℕ → Bool) (label : ℕ → ℕ) (sided : (v : ℕ
     parted-separates h =
         ⊎-elim
         (λ e. e)
-        (λ e. let f = whole-fine e in let z : _≡_ {A = ℕ} 0 1 = cc in absurd (omega arith))
+        (λ e. absurd (no-refusal h (whole-fine e)))
         (either (separates (problemOf s) S))
 
-    -- No group is parted: the cut is refused.
-    pub cut-refused : ((v : ℕ) → getD (s .groups) v 0 < groupNumbers) → partedGroup ≡ Fine → (i : ℕ)
-        → refuseIf (not (separates (problemOf s) S)) number i ≡ Refused number i
-    cut-refused small h i = refuse-true (not-of-false (separates (problemOf s) S) (whole-separates-none small h)) number i
-
-    -- Some group is parted: the cut is fine.
-    pub cut-fine : {other place : ℕ} → partedGroup ≡ Refused other place → (i : ℕ) → refuseIf (not (separates (problemOf s) S)) number i ≡ Fine
-    cut-fine h i = refuse-false (ap not (parted-separates h)) number i
+-- A table of sides.
+pub sides-table : (S : ℕ → Bool) (n N : ℕ) {labels : List ℕ} → n ≤ N → labels ≡ tabulate N (λ v. counted (S v) 1) → Sides S n labels
+sides-table S n N fits h v b = ap (λ l. getD l v 0) h ∙ getD-tabulate N (λ v. counted (S v) 1) v 0 (omega arith)

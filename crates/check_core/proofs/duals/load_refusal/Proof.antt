@@ -1,0 +1,49 @@
+-- `load_refusal` meets its contract: the test is the definition's.
+use Prim.Native.Nat.{_*_}
+use native.Mathlib.Omega.{arith}
+use mathlib.Core.Path.{_≡_, ap₂, sym, _∙_}
+use borrow.Author.Tests.{le-ltb, lt-ltb}
+use borrow.Author.Needs.{needs}
+use Rattle.base_limits.specs.Laws.Verdict.{refuse-true, refuse-false}
+use Rattle.check_core.specs.Stage.{loadBetween}
+use Rattle.check_core.proofs.duals.load_refusal.Statement.{statement}
+use Rattle.check_core.proofs.duals.load_refusal.Tie as tie
+
+index32-requires : tie.Need-index32-requires
+index32-requires c κs = search needs
+
+index32-requires-2 : tie.Need-index32-requires-2
+index32-requires-2 c κs = search needs
+
+load-between-requires : tie.Need-load-between-requires
+load-between-requires c κs = c .before .before .before .pre
+
+wide32-requires : tie.Need-wide32-requires
+wide32-requires c κs = search needs
+
+mul-if1 : tie.Need-mul-if1
+mul-if1 c = search needs
+
+returns : tie.Need-returns
+returns c = let args = c .before .before .before .before .before .before .args in
+    let felt : c .before .before .load-between .result ≡ loadBetween (args .records .now) (args .first) (args .second) =
+    c .before .before .load-between .ensures ∙ ap₂ (loadBetween (args .records .now)) (c .before .before .before .before .index32 .ensures) (c .before .before .before .index322 .ensures) in
+    sym (refuse-true (lt-ltb (2 * args .weight) (loadBetween (args .records .now) (args .first) (args .second)) (omega arith)) 13 _)
+
+returns-2 : tie.Need-returns-2
+returns-2 c = let args = c .before .before .before .before .before .before .args in
+    let felt : c .before .before .load-between .result ≡ loadBetween (args .records .now) (args .first) (args .second) =
+    c .before .before .load-between .ensures ∙ ap₂ (loadBetween (args .records .now)) (c .before .before .before .before .index32 .ensures) (c .before .before .before .index322 .ensures) in
+    sym (refuse-false (le-ltb (2 * args .weight) (loadBetween (args .records .now) (args .first) (args .second)) (omega arith)) 13 _)
+
+pub load-refusal-spec : {M : Type 1} → statement M
+load-refusal-spec =
+    tie.close
+    (tie.spec
+    index32-requires
+    index32-requires-2
+    load-between-requires
+    wide32-requires
+    mul-if1
+    returns
+    returns-2)

@@ -1,0 +1,26 @@
+-- A survey that nothing is wrong with, in terms of its numbers (document 01, 'Refused surveys and plans', 1 to 6; laws `survey-fine`, `fine-survey`).
+use Prim.Native.Nat.{ℕ, _<_, _≤_}
+use mathlib.Core.Path.{_≡_}
+use lib.ListN.{length, getD}
+use Rattle.base_limits.specs.Limits.{maxVertices, maxEdges, maxWeight, groupNumbers}
+use Rattle.survey_core.specs.Survey.{Survey}
+
+-- Group numbers are bytes.
+abbrev pub Numbered : Survey → Type 0
+Numbered s = (v : ℕ) → getD (s .groups) v 0 < groupNumbers
+
+-- What 4, 5 and 6 leave of a track.
+pub record EdgeSound (s : Survey) (e : ℕ) : Type 0 where
+  pub first-below : getD (s .firsts) e 0 < length (s .groups)
+  pub second-below : getD (s .seconds) e 0 < length (s .groups)
+  pub ends-differ : getD (s .firsts) e 0 ≡ getD (s .seconds) e 0 → ⊥
+  pub weight-le : getD (s .weights) e 0 ≤ maxWeight
+
+-- What 1 to 6 leave of a survey.
+pub record SurveySound (s : Survey) : Type 0 where
+  pub some : 1 ≤ length (s .groups)
+  pub few : length (s .groups) ≤ maxVertices
+  pub seconds-long : length (s .firsts) ≡ length (s .seconds)
+  pub weights-long : length (s .firsts) ≡ length (s .weights)
+  pub edges-few : length (s .firsts) ≤ maxEdges
+  pub edges : (e : ℕ) → e < length (s .firsts) → EdgeSound s e
