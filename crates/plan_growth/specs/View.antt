@@ -1,5 +1,5 @@
 -- What the arrays of a growth hold after r steps of the definition.
-use Prim.Native.Nat.{ℕ, _+_, _*_, _/_, _<_, _≤_, _^_}
+use Prim.Native.Nat.{ℕ, _+_, _*_, _<_, _≤_, _^_}
 use mathlib.Core.Path.{_≡_}
 use mathlib.Core.List.{List}
 use lib.ListN.{length, getD}
@@ -10,7 +10,7 @@ use Rattle.theory_steiner.specs.Problem.{Problem}
 use Rattle.theory_steiner.specs.Growth.{Delay, never, after, Winner, nobody, edge, winner, load, stateAt}
 use Rattle.theory_steiner.specs.Pruning.{dualBound}
 use Rattle.survey_core.specs.Survey.{Survey, problemOf}
-use Rattle.plan_winner.specs.Scan.{Keyed, blockEdges, Floored}
+use Rattle.plan_winner.specs.Scan.{Keyed, maxBlocks, Floored}
 use Rattle.plan_growth.specs.declared.Growth.{Growth}
 use Rattle.survey_core.specs.Laws.Refusal.{SurveySound}
 
@@ -51,7 +51,7 @@ pub record Rounds (s : Survey) (r time : ℕ) (keys floors labels loads values p
   pub floored : Floored (length (s .firsts)) keys floors
   pub view : View (problemOf s) r labels loads values picked order
   pub keys-long : maxEdges ≡ length keys
-  pub floors-long : maxEdges / blockEdges + 1 ≡ length floors
+  pub floors-long : maxBlocks ≡ length floors
   pub labels-long : maxVertices ≡ length labels
   pub loads-long : maxVertices ≡ length loads
   pub values-long : maxDuals ≡ length values

@@ -26,6 +26,7 @@ use base_limits::MAX_VERTICES;
 use base_limits::Verdict;
 use plan_delay::Delay;
 use plan_delay::Winner;
+use plan_winner::MAX_BLOCKS;
 
 // What growing leaves: how many rounds there were, the sum of all duals, the component numbers of the vertices, the values of the component numbers, 1 for each
 // picked edge, and the edges in the order of the rounds.
@@ -208,7 +209,7 @@ fn grow_rounds(groups: &[u8], firsts: &[u32], seconds: &[u32], weights: &[u32]) 
     let mut picked = [0u8; MAX_EDGES];
     let mut order = [0u32; MAX_VERTICES];
     let mut keys = [0u64; MAX_EDGES];
-    let mut floors = [0u64; 129];
+    let mut floors = [0u64; MAX_BLOCKS];
     survey_components::own_labels(&mut labels);
     let mut time = 0;
     let mut r = 0;

@@ -1,5 +1,5 @@
 -- One round, and one round after another: what a round requires and leaves, and what holds before the first, after each and at the end.
-use Prim.Native.Nat.{ℕ, _+_, _/_, _<_, _≤_, _^_}
+use Prim.Native.Nat.{ℕ, _+_, _<_, _≤_, _^_}
 use native.Mathlib.Omega.{arith}
 use mathlib.Core.Path.{_≡_, refl, ap, sym, _∙_, subst}
 use mathlib.Core.List.{List}
@@ -13,7 +13,7 @@ use Rattle.survey_core.specs.Survey.{Survey, groupsAlone, problemOf}
 use Rattle.survey_components.specs.Labels.{relabelled}
 use Rattle.survey_core.specs.Laws.Refusal.{SurveySound}
 use Rattle.base_buffer.specs.Laws.Store.{remade-table, replicate-table}
-use Rattle.plan_winner.specs.Scan.{cappedTime, Keyed, timeAfter, blockEdges, blocksOf, passOf, Floored}
+use Rattle.plan_winner.specs.Scan.{cappedTime, Keyed, timeAfter, maxBlocks, blocksOf, passOf, Floored}
 use Rattle.plan_delay.specs.Between.{delayIn, winnerIn}
 use Rattle.plan_winner.specs.Tables.{tablesFrom, passBy}
 use Rattle.plan_winner.specs.Laws.Scan.{keyed-start, floored-start}
@@ -99,7 +99,7 @@ rounds-with : {s : Survey} {r time : ℕ} {keys floors labels loads values picke
     → Floored (length (s .firsts)) keys floors
     → View (problemOf s) r labels loads values picked order
     → maxEdges ≡ length keys
-    → maxEdges / blockEdges + 1 ≡ length floors
+    → maxBlocks ≡ length floors
     → Rounds s r time keys floors labels loads values picked order
 rounds-with b n k f v l m =
     record {
@@ -119,14 +119,14 @@ rounds-with b n k f v l m =
 
 -- Before the first round.
 pub rounds-start : (s : Survey) {labels : List ℕ} → labels ≡ remade (λ v x. v) maxVertices (replicate maxVertices 0)
-    → Rounds s 0 0 (replicate maxEdges 0) (replicate (maxEdges / blockEdges + 1) 0) labels (replicate maxVertices 0) (replicate maxDuals 0) (replicate maxEdges 0) (replicate maxVertices 0)
+    → Rounds s 0 0 (replicate maxEdges 0) (replicate maxBlocks 0) labels (replicate maxVertices 0) (replicate maxDuals 0) (replicate maxEdges 0) (replicate maxVertices 0)
 unfolding stateAt start
 rounds-start s h =
     rounds-with
     (omega arith)
     refl
     (keyed-start (problemOf s) maxEdges (replicate-table maxEdges 0))
-    (floored-start (length (s .firsts)) (maxEdges / blockEdges + 1) _ (replicate-table (maxEdges / blockEdges + 1) 0))
+    (floored-start (length (s .firsts)) maxBlocks _ (replicate-table maxBlocks 0))
     (view-start
     (problemOf s)
     (h ∙ remade-table (λ v x. v) maxVertices _ (λ v. v) refl (λ v b. refl))
@@ -135,7 +135,7 @@ rounds-start s h =
     (replicate-table maxEdges 0)
     (replicate-table maxVertices 0))
     (sym (ap length (replicate-table maxEdges 0) ∙ length-tabulate maxEdges _))
-    (sym (ap length (replicate-table (maxEdges / blockEdges + 1) 0) ∙ length-tabulate (maxEdges / blockEdges + 1) _))
+    (sym (ap length (replicate-table maxBlocks 0) ∙ length-tabulate maxBlocks _))
 
 module _ {s : Survey} {r time : ℕ} {keys floors labels loads values picked order : List ℕ} (sound : SurveySound s)
     (h : Rounds s r time keys floors labels loads values picked order) where

@@ -30,7 +30,7 @@ use Rattle.survey_components.specs.Labels.{relabelled}
 use Rattle.survey_core.specs.Laws.Refusal.{SurveySound, survey-sound}
 use Rattle.base_buffer.specs.Laws.Store.{tabulate-cong, set-table, remade-table, remade-part}
 use Rattle.survey_components.specs.Laws.Labels.{relabelled-table}
-use Rattle.plan_winner.specs.Scan.{key, cappedTime, Scan, scanOf, Keyed, timeAfter, blocksOf, passOf, Floored}
+use Rattle.plan_winner.specs.Scan.{timeLimit, key, cappedTime, Scan, scanOf, Keyed, timeAfter, blocksOf, passOf, Floored}
 use Rattle.plan_winner.specs.Tables.{tablesFrom, delayBy, keyBetween, keyBy, passBy}
 use Rattle.plan_delay.specs.Between.{delayBetween}
 use Rattle.plan_growth.specs.Tables.{raisedValues, raisedLoads, Room}
@@ -113,7 +113,7 @@ module _ (s : Survey) (r : ℕ) {time : ℕ} {keys floors labels loads values pi
       let few = h .sound .few in
       omega arith
 
-  in-time : time < 2 ^ 62
+  in-time : time < timeLimit
   in-time = let q = rounds-few in let t = h .keyed .early in omega arith
 
   -- The blocks of the round scan all its edges.
