@@ -60,11 +60,6 @@ pub record Keyed (p : Problem) (s : State) (time : ℕ) (keys : List ℕ) : Type
   pub early : time ≤ s .rounds * (2 * maxWeight)
   pub low : (e : ℕ) → e < p .edges → (s .label (p .first e) ≡ s .label (p .second e) → ⊥) → getD keys e 0 ≤ 2 * time + slack p s e
 
--- The time after a round.
-unfoldable pub timeAfter : (time : ℕ) → Winner → ℕ
-timeAfter time nobody = time
-timeAfter time (edge e d) = time + d
-
 -- ---- blocks
 
 -- Edges come in blocks, and a block's floor is not above any of its keys (law `passes-scan`: blocks whose floors say so are passed over whole).

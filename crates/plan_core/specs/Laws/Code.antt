@@ -30,7 +30,8 @@ use Rattle.base_buffer.specs.Laws.Store.{tabulate-cong, length-remade, remade-p
 use Rattle.plan_cuts.specs.Word.{pickedIn}
 use Rattle.plan_drop.specs.Prunable.{Prunable, unweighted}
 use Rattle.plan_drop.specs.Judge.{prunedMarks}
-use Rattle.plan_growth.specs.View.{Shows, turn, edgeOf}
+use Rattle.plan_growth.specs.Represents.{pickAt, winnerEdge}
+use Rattle.plan_growth.specs.Grown.{GrownAfter}
 use Rattle.plan_growth.specs.declared.Growth.{Growth}
 use Rattle.plan_duals.specs.Trace.{traceFrom, dualsIn, Drawable, Traces}
 use Rattle.plan_duals.specs.Laws.Growth.{trace-duals, trace-drawable, traces-from}
@@ -194,7 +195,7 @@ front-kept groups firsts seconds weights rest e b =
 -- ---- after growing
 
 module _ (groups firsts seconds weights : List ℕ) (marksLength recordsLength : ℕ) (ready : Ready (surveyFrom groups firsts seconds weights) marksLength recordsLength) (g : Growth)
-    (grew : Shows (problemOf (surveyFrom groups firsts seconds weights)) (written (surveyRefusal (surveyFrom groups firsts seconds weights)) (length groups) 0) g) where
+    (grew : GrownAfter (problemOf (surveyFrom groups firsts seconds weights)) (written (surveyRefusal (surveyFrom groups firsts seconds weights)) (length groups) 0) g) where
   p : Problem
   p = problemOf (surveyFrom groups firsts seconds weights)
 
@@ -209,10 +210,10 @@ module _ (groups firsts seconds weights : List ℕ) (marksLength recordsLength :
   unfolding problemOf vertexCount
   few = ready .survey .few
 
-  to-the-end : Shows (problemOf (surveyFrom groups firsts seconds weights)) (problemOf (surveyFrom groups firsts seconds weights) .vertices) g
+  to-the-end : GrownAfter (problemOf (surveyFrom groups firsts seconds weights)) (problemOf (surveyFrom groups firsts seconds weights) .vertices) g
   unfolding written problemOf vertexCount
   to-the-end =
-      subst (λ v. Shows (problemOf (surveyFrom groups firsts seconds weights)) (written v (length groups) 0) g)
+      subst (λ v. GrownAfter (problemOf (surveyFrom groups firsts seconds weights)) (written v (length groups) 0) g)
       (survey-fine (surveyFrom groups firsts seconds weights) (ready .survey)) grew
 
   pub grown-picks : g .picked ≡ tabulate maxEdges (λ e. counted (grown (problemOf (surveyFrom groups firsts seconds weights)) .picked e) 1)
@@ -253,14 +254,14 @@ module _ (groups firsts seconds weights : List ℕ) (marksLength recordsLength :
 
   order-at : (r e d : ℕ) → r < g .rounds → winner (problemOf (surveyFrom groups firsts seconds weights)) (stateAt (problemOf (surveyFrom groups firsts seconds weights)) r) ≡ edge e d →
       getD (g .order) r 0 ≡ e
-  unfolding turn edgeOf grown
+  unfolding pickAt winnerEdge grown
   order-at r e d b w =
       let P = problemOf (surveyFrom groups firsts seconds weights) in
       let lt : grown P .rounds < P .vertices = rounds-lt P ok some (grown-reached P) in
       let r-lt : r < P .vertices = omega (arith, to-the-end .rounds-are) in
       ap (λ l. getD l r 0) (to-the-end .order-is)
-      ∙ getD-tabulate maxVertices (λ i. counted (ltb i (P .vertices)) (turn P i)) r 0 (omega (arith, few))
-      ∙ counted-true (lt-ltb r (P .vertices) r-lt) (turn P r) ∙ ap edgeOf w
+      ∙ getD-tabulate maxVertices (λ i. counted (ltb i (P .vertices)) (pickAt P i)) r 0 (omega (arith, few))
+      ∙ counted-true (lt-ltb r (P .vertices) r-lt) (pickAt P r) ∙ ap winnerEdge w
 
   traces : Traces (problemOf (surveyFrom groups firsts seconds weights)) (traceFrom (length groups) firsts seconds (g .values) (g .order) (g .rounds))
   unfolding grown problemOf vertexCount edgeCount
@@ -289,7 +290,7 @@ module _ (groups firsts seconds weights : List ℕ) (marksLength recordsLength :
 
 -- All together: what the calls leave is the plan.
 pub finish-plan : (groups firsts seconds weights marks records : List ℕ) → (ready : Ready (surveyFrom groups firsts seconds weights) (length marks) (length records)) → (g : Growth) →
-    Shows (problemOf (surveyFrom groups firsts seconds weights)) (written (surveyRefusal (surveyFrom groups firsts seconds weights)) (length groups) 0) g →
+    GrownAfter (problemOf (surveyFrom groups firsts seconds weights)) (written (surveyRefusal (surveyFrom groups firsts seconds weights)) (length groups) 0) g →
     (marked drawn : List ℕ) (count k c rounds duals : ℕ) →
     marked ≡ prunedMarks (unweighted groups firsts seconds) (pickedIn (g .picked)) (length firsts) marks →
     count ≡ length (dualsIn (traceFrom (length groups) firsts seconds (g .values) (g .order) (g .rounds))) → drawn ≡ recordsOver (dualsIn (traceFrom (length groups) firsts seconds (g .values) (g .order) (g .rounds))) records →

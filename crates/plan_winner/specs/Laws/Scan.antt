@@ -17,11 +17,11 @@ use Rattle.theory_steiner.specs.Problem.{Problem, Sound}
 use Rattle.theory_steiner.specs.Growth.{State, active, load, slack, Delay, never, after, delay, Winner, nobody, edge, better, winnerBelow, winner, pick, stateAt}
 use Rattle.theory_steiner.specs.Laws.Winner.{Waits, one-first, one-second, both, delay-elim}
 use Rattle.theory_steiner.specs.Laws.Round.{stateAt-reached, pick-rounds}
-use Rattle.theory_steiner.specs.Laws.Rounds.{stateAt-pick, stateAt-still, delay-le}
+use Rattle.theory_steiner.specs.Laws.Rounds.{stateAt-pick, delay-le}
 use Rattle.theory_steiner.specs.Laws.Partition.{winner-below}
 use Rattle.theory_steiner.specs.Laws.Weighed.{load-pick}
 use Rattle.theory_steiner.specs.Laws.Degree.{label-later}
-use Rattle.plan_winner.specs.Scan.{noKey, timeLimit, key, cappedTime, limitOf, Scan, looked, scan, scanOf, Keyed, timeAfter, blockEdges, Floored}
+use Rattle.plan_winner.specs.Scan.{noKey, timeLimit, key, cappedTime, limitOf, Scan, looked, scan, scanOf, Keyed, blockEdges, Floored}
 
 -- ---- the time
 
@@ -136,10 +136,10 @@ pub floored-start : (m n : ℕ) (keys : List ℕ) {floors : List ℕ} → floors
 floored-start m n keys h = record { low = λ e b. let z = zero-at n h (e / blockEdges) in omega arith }
 
 module _ (p : Problem) (ok : Sound p) (light : (e : ℕ) → e < p .edges → p .weight e ≤ maxWeight) (r time : ℕ) where
-  -- No edge comes nearer than by the delay at each end, and components never part.
-  keyed-pick : (e d : ℕ) {keys : List ℕ} → winner p (stateAt p r) ≡ edge e d → Keyed p (stateAt p r) time keys → Keyed p (stateAt p (r + 1)) (time + d) keys
+  -- Good keys are good after the round: no edge comes nearer than by the delay at each end, and components never part.
+  pub keyed-next : (e d : ℕ) {keys : List ℕ} → winner p (stateAt p r) ≡ edge e d → Keyed p (stateAt p r) time keys → Keyed p (stateAt p (r + 1)) (time + d) keys
   unfolding slack
-  keyed-pick e d {keys} w h =
+  keyed-next e d {keys} w h =
       record {
         early =
             let l = delay-le p s e d w in
@@ -166,9 +166,3 @@ module _ (p : Problem) (ok : Sound p) (light : (e : ℕ) → e < p .edges → p 
           ap (λ x. load p x v) next ∙ load-pick p ok (stateAt-reached p r) e d v b in
           let c = counted-le (active p (s .label) (s .label v)) d in
           omega arith
-
-  -- Good keys are good after the round.
-  pub keyed-next : {keys : List ℕ} (x : Winner) → winner p (stateAt p r) ≡ x → Keyed p (stateAt p r) time keys → Keyed p (stateAt p (r + 1)) (timeAfter time x) keys
-  unfolding timeAfter
-  keyed-next {keys} nobody w h = subst (λ (x : State). Keyed p x time keys) (sym (ap (stateAt p) (add-one r) ∙ stateAt-still p r w)) h
-  keyed-next (edge e d) w h = keyed-pick e d w h
