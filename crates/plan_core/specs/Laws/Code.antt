@@ -36,7 +36,7 @@ use Rattle.plan_growth.specs.declared.Growth.{Growth}
 use Rattle.plan_duals.specs.Trace.{traceFrom, dualsIn, Drawable, Traces}
 use Rattle.plan_duals.specs.Laws.Growth.{trace-duals, trace-drawable, traces-from}
 use Rattle.check_rule.specs.Check.{keptBy}
-use Rattle.plan_core.specs.Laws.Ready.{Ready}
+use Rattle.plan_core.specs.Promise.{Ready}
 use Rattle.plan_core.specs.Laws.Passes.{marks-cost}
 use Rattle.plan_duals.specs.Drawing.{recordsOver}
 use Rattle.plan_core.specs.declared.Planned.the-variants.{Finished}

@@ -22,13 +22,7 @@ use Rattle.survey_core.specs.Refusal.{surveyRefusal, groupRefusal}
 use Rattle.survey_core.specs.Laws.Refusal.{SurveySound, survey-fine, fine-survey}
 use Rattle.survey_core.specs.Laws.Group.{Numbered, group-fine, joins-fine}
 use Rattle.plan_core.specs.Plan.{planRefusal}
-
--- None of 1 to 8 applies.
-pub record Ready (s : Survey) (marksLength recordsLength : ℕ) : Type 0 where
-  pub survey : SurveySound s
-  pub marks-fit : edgeCount s ≤ marksLength
-  pub records-fit : recordBytes * dualsOf (vertexCount s) ≤ recordsLength
-  pub joinable : Joins (problemOf s) (allUsable (problemOf s))
+use Rattle.plan_core.specs.Promise.{Ready}
 
 pub all-bounded : (s : Survey) (e : ℕ) → allUsable (problemOf s) e ≡ true → e < problemOf s .edges
 all-bounded s e h = allUsable-edges (problemOf s) e h .0
