@@ -67,13 +67,13 @@ fn plan_refusal(
     ensures { λ r. ⌜ r ≡ planRefusal (lentSurvey groups firsts seconds weights) marks records ⌝ }
 {
     let unsound = survey_core::survey_refusal(groups, firsts, seconds, weights);
-    if let Verdict::Refused { number, place } = unsound {
-        return Verdict::Refused { number, place };
-    }
+    let Verdict::Fine = unsound else {
+        return unsound;
+    };
     let short = room_refusal(groups.len(), firsts.len(), marks, records);
-    if let Verdict::Refused { number, place } = short {
-        return Verdict::Refused { number, place };
-    }
+    let Verdict::Fine = short else {
+        return short;
+    };
     survey_components::group_refusal(groups, firsts, seconds, weights, Chosen::All, &[], 8)
 }
 

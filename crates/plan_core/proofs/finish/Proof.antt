@@ -22,7 +22,9 @@ slice-aggregate-draw-2 : tie.Need-slice-aggregate-draw-2
 slice-aggregate-draw-2 c = search needs
 
 draw-requires : tie.Need-draw-requires
-draw-requires c κs = drawable _ _ _ _ _ _ (c .before .before .before .before .before .before .before .before .before .before .before .before .before .before .before .before .before .before .pre) _ (c .before .before .before .before .before .before .before .before .before .before .before .grow .ensures) _ refl
+draw-requires c κs =
+    let entry = c .before .before .before .before .before .before .before .before .before .before .before .before .before .before .before .before .before .before in
+    drawable _ _ _ _ _ _ (entry .pre) _ (c .before .before .before .before .before .before .before .before .before .before .before .grow .ensures) _ refl
 
 terminals-requires : tie.Need-terminals-requires
 terminals-requires c κs = search needs
@@ -44,8 +46,10 @@ same-length-2 c = search needs
 
 returns : tie.Need-returns
 returns c =
-    finish-plan _ _ _ _ _ _ (c .before .before .before .before .before .before .before .before .before .before .before .before .before .before .before .before .before .before .before .before .before .before .before .before .before .before .pre) _ (c .before .before .before .before .before .before .before .before .before .before .before .before .before .before .before .before .before .before .before .grow .ensures) _ _ _ _ _ _ _ (c .before .before .before .before .before .before .before .before .before .before .before .before .before .prune .ensures) (c .before .before .before .before .before .before .before .draw .ensures .0)
-    (c .before .before .before .before .before .before .before .draw .ensures .1) (c .before .before .before .before .terminals .ensures) (kept-cost-all _ _ _ (c .before .before .before .before .before .before .before .before .before .before .before .before .before .before .before .before .before .before .before .before .before .before .before .before .before .before .pre .survey .edges-few) (c .before .before .kept-cost .ensures)) (c .before .wide .ensures) (c .wide2 .ensures)
+    let to-grow = c .before .before .before .before .before .before .before .before .before .before .before .before .before .before .before .before .before .before .before in
+    let entry = to-grow .before .before .before .before .before .before .before in
+    finish-plan _ _ _ _ _ _ (entry .pre) _ (to-grow .grow .ensures) _ _ _ _ _ _ _ (c .before .before .before .before .before .before .before .before .before .before .before .before .before .prune .ensures) (c .before .before .before .before .before .before .before .draw .ensures .0)
+    (c .before .before .before .before .before .before .before .draw .ensures .1) (c .before .before .before .before .terminals .ensures) (kept-cost-all _ _ _ (entry .pre .survey .edges-few) (c .before .before .kept-cost .ensures)) (c .before .wide .ensures) (c .wide2 .ensures)
 
 pub finish-spec : {M : Type 1} → statement M
 finish-spec =

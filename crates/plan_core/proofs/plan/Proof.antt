@@ -36,7 +36,8 @@ same-length-2 c = search needs
 returns-2 : tie.Need-returns-2
 unfolding edgeCount
 returns-2 c =
-    finished-call _ (λ v. omega (arith, c .before .before .before .before .before .before .before .before .before .before .before .before .before .before .before .shared-slice-known .given v)) _ _ _ _ _ (sym (c .before .before .before .before .before .before .before .before .before .plan-refusal .ensures) ∙ c .before .before .before .before .before .before .before .enum-told .given .1)
+    let to-shared-slice-known = c .before .before .before .before .before .before .before .before .before .before .before .before .before .before .before in
+    finished-call _ (λ v. omega (arith, to-shared-slice-known .shared-slice-known .given v)) _ _ _ _ _ (sym (c .before .before .before .before .before .before .before .before .before .plan-refusal .ensures) ∙ c .before .before .before .before .before .before .before .enum-told .given .1)
     (c .before .before .before .before .finish .ensures .0) (c .before .before .before .before .finish .ensures .1 .0) (c .before .before .before .before .finish .ensures .1 .1)
 
 pub plan-spec : {M : Type 1} → statement M

@@ -2,7 +2,7 @@
 use mathlib.Core.Path.{sym}
 use native.Mathlib.Omega.{arith}
 use borrow.Author.Needs.{needs}
-use Rattle.plan_core.specs.Laws.Ready.{marks-short, records-short, room-enough}
+use Rattle.plan_core.specs.Laws.Ready.{marks-short, records-short, buffers-fit}
 use Rattle.plan_core.proofs.room_refusal.Statement.{statement}
 use Rattle.plan_core.proofs.room_refusal.Tie as tie
 
@@ -10,7 +10,7 @@ returns : tie.Need-returns
 returns c = sym (marks-short (c .before .args .n) (c .before .args .m) (c .before .args .marks) (c .before .args .records) (c .if1 .taken))
 
 returns-2 : tie.Need-returns-2
-returns-2 c = sym (room-enough (c .before .before .args .n) (c .before .before .args .m) (c .before .before .args .marks) (c .before .before .args .records) (omega arith) (omega arith))
+returns-2 c = sym (buffers-fit (c .before .before .args .n) (c .before .before .args .m) (c .before .before .args .marks) (c .before .before .args .records) (omega arith) (omega arith))
 
 mul-if3 : tie.Need-mul-if3
 mul-if3 c = search needs
@@ -25,7 +25,7 @@ returns-3 : tie.Need-returns-3
 returns-3 c = sym (records-short (c .before .before .before .args .n) (c .before .before .before .args .m) (c .before .before .before .args .marks) (c .before .before .before .args .records) (c .if3 .taken))
 
 returns-4 : tie.Need-returns-4
-returns-4 c = sym (room-enough (c .before .before .before .args .n) (c .before .before .before .args .m) (c .before .before .before .args .marks) (c .before .before .before .args .records) (omega arith) (omega arith))
+returns-4 c = sym (buffers-fit (c .before .before .before .args .n) (c .before .before .before .args .m) (c .before .before .before .args .marks) (c .before .before .before .args .records) (omega arith) (omega arith))
 
 pub room-refusal-spec : {M : Type 1} → statement M
 room-refusal-spec =

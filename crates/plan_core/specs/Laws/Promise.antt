@@ -34,7 +34,7 @@ use Rattle.plan_duals.specs.Drawing.{recordsOf, recordsOver}
 use Rattle.plan_duals.specs.Laws.Drawing.{length-records}
 use Rattle.plan_core.specs.Plan.{planOf, planRefusal, Counts, countsOf, counting, marksAfter, recordsAfter}
 use Rattle.plan_core.specs.Promise.{Ready, Unjoinable, FinishedPlan, Promises}
-use Rattle.plan_core.specs.Laws.Ready.{fine-ready, ready-fine, all-bounded, room-enough}
+use Rattle.plan_core.specs.Laws.Ready.{fine-ready, ready-fine, all-bounded, buffers-fit}
 use Rattle.plan_core.specs.Laws.Passes.{finished-passes, finished-accurate}
 
 -- ---- which test a number comes from
@@ -114,7 +114,7 @@ module _ (s : Survey) (marksLength recordsLength : ℕ) where
   unfolding planRefusal groupRefusal
   unjoinable-eight numbered g u =
       before-fine (survey-fine s (u .survey)) _
-      ∙ before-fine (room-enough (vertexCount s) (edgeCount s) marksLength recordsLength (u .marks-fit) (u .records-fit)) _
+      ∙ before-fine (buffers-fit (vertexCount s) (edgeCount s) marksLength recordsLength (u .marks-fit) (u .records-fit)) _
       ∙ lowest-found groupNumbers g _ below
       (lowest-none g _ (λ i b. refuse-false (rw (group-joined-intro s (allUsable (problemOf s)) (all-bounded s) i (u .lower-joined i b))) 8 i))
       (refuse-true (not-of-false (groupJoined s (componentsOf s (allUsable (problemOf s))) g) apart) 8 g)

@@ -47,12 +47,15 @@ slice-aggregate-write-dual : tie.Need-slice-aggregate-write-dual Inv-loop μ-loo
 slice-aggregate-write-dual c = sym (c .before .before .before .before .arise .kept .0 ∙ ap length (c .before .before .before .before .before .before .before .loop .inv .1 .labels-are) ∙ length-tabulate maxVertices _)
 
 cast-write-dual : tie.Need-cast-write-dual Inv-loop μ-loop
-cast-write-dual c = let pre = c .before .before .before .before .before .before .before .before .before .before .before .before .before .before .before .before .pre in omega arith
+cast-write-dual c =
+    let entry = c .before .before .before .before .before .before .before .before .before .before .before .before .before .before .before .before in
+    let pre = entry .pre in omega arith
 
 write-dual-requires : tie.Need-write-dual-requires Inv-loop μ-loop
 write-dual-requires c κs =
-    let a = c .before .before .before .before .before .before .before .before .before .before .before .before .before .before .before .before .args in
-    let pre = c .before .before .before .before .before .before .before .before .before .before .before .before .before .before .before .before .pre in
+    let entry = c .before .before .before .before .before .before .before .before .before .before .before .before .before .before .before .before in
+    let a = entry .args in
+    let pre = entry .pre in
     drawn-fits _ _ (a .n) (a .n + a .rounds) (c .before .before .before .before .before .before .before .loop .c) (pre .few) (pre .room) (c .before .before .before .before .before .before .loop-test .taken) (c .before .before .before .before .before .before .before .loop .inv .1 .drawn)
 
 add-c : tie.Need-add-c Inv-loop μ-loop
@@ -63,10 +66,11 @@ loop-less c = search needs
 
 loop-again : tie.Need-loop-again Inv-loop μ-loop
 loop-again c =
-    let a = c .before .before .before .before .before .before .before .before .before .before .before .before .before .before .before .before .before .before .before .args in
+    let entry = c .before .before .before .before .before .before .before .before .before .before .before .before .before .before .before .before .before .before .before in
+    let a = entry .args in
     let w = c .before .before .write-dual .ensures in (
       omega arith,
-      replayed-more (traceFrom (a .n) (a .firsts .now) (a .seconds .now) (a .values .now) (a .order .now) (a .rounds)) (c .before .before .before .before .before .before .before .before .before .before .loop .c) (c .before .before .before .before .before .before .before .before .before .before .before .before .before .before .before .before .before .before .before .pre) (c .before .before .before .before .before .before .before .before .before .loop-test .taken) (c .before .before .before .before .before .before .before .before .before .before .loop .inv .1) (c .before .before .before .before .before .before .before .arise .ensures) (c .before .before .before .before .at64 .ensures)
+      replayed-more (traceFrom (a .n) (a .firsts .now) (a .seconds .now) (a .values .now) (a .order .now) (a .rounds)) (c .before .before .before .before .before .before .before .before .before .before .loop .c) (entry .pre) (c .before .before .before .before .before .before .before .before .before .loop-test .taken) (c .before .before .before .before .before .before .before .before .before .before .loop .inv .1) (c .before .before .before .before .before .before .before .arise .ensures) (c .before .before .before .before .at64 .ensures)
           (w .0)
           (w .1),
     )
