@@ -33,7 +33,7 @@ use Rattle.plan_drop.specs.Judge.{prunedMarks}
 use Rattle.plan_growth.specs.Represents.{pickAt, winnerEdge}
 use Rattle.plan_growth.specs.Grown.{GrownAfter}
 use Rattle.plan_growth.specs.declared.Growth.{Growth}
-use Rattle.plan_duals.specs.Trace.{traceFrom, dualsIn, Drawable, Traces}
+use Rattle.plan_duals.specs.Trace.{traceFrom, traceDuals, Drawable, TraceOf}
 use Rattle.plan_duals.specs.Laws.Growth.{trace-duals, trace-drawable, traces-from}
 use Rattle.check_rule.specs.Check.{keptBy}
 use Rattle.plan_core.specs.Promise.{Ready}
@@ -263,7 +263,7 @@ module _ (groups firsts seconds weights : List ℕ) (marksLength recordsLength :
       ∙ getD-tabulate maxVertices (λ i. counted (ltb i (P .vertices)) (pickAt P i)) r 0 (omega (arith, few))
       ∙ counted-true (lt-ltb r (P .vertices) r-lt) (pickAt P r) ∙ ap winnerEdge w
 
-  traces : Traces (problemOf (surveyFrom groups firsts seconds weights)) (traceFrom (length groups) firsts seconds (g .values) (g .order) (g .rounds))
+  traces : TraceOf (problemOf (surveyFrom groups firsts seconds weights)) (traceFrom (length groups) firsts seconds (g .values) (g .order) (g .rounds))
   unfolding grown problemOf vertexCount edgeCount
   traces =
       traces-from (problemOf (surveyFrom groups firsts seconds weights)) ok firsts seconds (g .values) (g .order) (g .rounds) some few (λ e b. refl) (λ e b. refl)
@@ -275,7 +275,7 @@ module _ (groups firsts seconds weights : List ℕ) (marksLength recordsLength :
       trace-drawable (problemOf (surveyFrom groups firsts seconds weights)) ok (traceFrom (length groups) firsts seconds (g .values) (g .order) (g .rounds)) traces records some few
       (subst (λ x. recordBytes * dualsOf (length groups) ≤ x) (sym long) (ready .records-fit))
 
-  pub duals-plan : dualsIn (traceFrom (length groups) firsts seconds (g .values) (g .order) (g .rounds)) ≡ planOf (problemOf (surveyFrom groups firsts seconds weights)) .duals
+  pub duals-plan : traceDuals (traceFrom (length groups) firsts seconds (g .values) (g .order) (g .rounds)) ≡ planOf (problemOf (surveyFrom groups firsts seconds weights)) .duals
   unfolding planOf
   duals-plan = trace-duals (problemOf (surveyFrom groups firsts seconds weights)) ok (traceFrom (length groups) firsts seconds (g .values) (g .order) (g .rounds)) traces
 
@@ -293,7 +293,7 @@ pub finish-plan : (groups firsts seconds weights marks records : List ℕ) → (
     GrownAfter (problemOf (surveyFrom groups firsts seconds weights)) (written (surveyRefusal (surveyFrom groups firsts seconds weights)) (length groups) 0) g →
     (marked drawn : List ℕ) (count k c rounds duals : ℕ) →
     marked ≡ prunedMarks (unweighted groups firsts seconds) (pickedIn (g .picked)) (length firsts) marks →
-    count ≡ length (dualsIn (traceFrom (length groups) firsts seconds (g .values) (g .order) (g .rounds))) → drawn ≡ recordsOver (dualsIn (traceFrom (length groups) firsts seconds (g .values) (g .order) (g .rounds))) records →
+    count ≡ length (traceDuals (traceFrom (length groups) firsts seconds (g .values) (g .order) (g .rounds))) → drawn ≡ recordsOver (traceDuals (traceFrom (length groups) firsts seconds (g .values) (g .order) (g .rounds))) records →
     k ≡ terminals (problemOf (groupsAlone groups)) → c ≡ cost (problemOf (surveyFrom [] firsts [] weights)) (keptBy marked) → rounds ≡ g .rounds → duals ≡ count →
     (outcomeOf (Finished k c (g .bound) rounds duals) ≡ answer (countsOf (planOf (problemOf (surveyFrom groups firsts seconds weights)))))
     × ((marked ≡ planOf (problemOf (surveyFrom groups firsts seconds weights)) .marks ++ drop (length firsts) marks) × (drawn ≡ recordsOver (planOf (problemOf (surveyFrom groups firsts seconds weights)) .duals) records))
@@ -303,7 +303,7 @@ finish-plan groups firsts seconds weights marks records ready g grew marked draw
   (marks-are, h-drawn ∙ ap (λ d. recordsOver d records) the-duals),
 )
   where
-    the-duals : dualsIn (traceFrom (length groups) firsts seconds (g .values) (g .order) (g .rounds)) ≡ planOf (problemOf (surveyFrom groups firsts seconds weights)) .duals
+    the-duals : traceDuals (traceFrom (length groups) firsts seconds (g .values) (g .order) (g .rounds)) ≡ planOf (problemOf (surveyFrom groups firsts seconds weights)) .duals
     the-duals = duals-plan groups firsts seconds weights (length marks) (length records) ready g grew
 
     marks-are : marked ≡ planOf (problemOf (surveyFrom groups firsts seconds weights)) .marks ++ drop (length firsts) marks

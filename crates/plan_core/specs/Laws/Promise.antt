@@ -18,17 +18,15 @@ use Rattle.base_limits.specs.Verdict.{Outcome, refusal, refuseIf, _before_, low
 use Rattle.base_limits.specs.declared.Verdict.{Verdict}
 use Rattle.base_limits.specs.declared.Verdict.the-variants.{Fine, Refused}
 use Rattle.base_limits.specs.Laws.Verdict.{before-fine, refuse-true, refuse-false, lowest-none, lowest-found, lowest-elim, Lowest, refused-refuse, fine-refuse}
-use Rattle.theory_steiner.specs.Problem.{Sound, EdgeSet, allUsable}
+use Rattle.theory_steiner.specs.Problem.{Sound, allUsable}
 use Rattle.theory_steiner.specs.Pruning.{picked}
 use Rattle.theory_steiner.specs.Laws.Rounds.{grown-reached, picked-count}
 use Rattle.survey_core.specs.Survey.{Survey, vertexCount, edgeCount, problemOf, groupJoined, componentsOf}
 use Rattle.survey_core.specs.Refusal.{edgeRefusal, surveyRefusal, groupRefusal}
-use Rattle.survey_core.specs.Accuracy.{Accurate}
-use Rattle.survey_core.specs.Laws.Refusal.{SurveySound, survey-fine, fine-survey, survey-sound}
-use Rattle.survey_core.specs.Laws.Group.{Numbered, JoinsGroup, LowestUnjoined, group-joined-elim, group-joined-intro, group-refused, unjoinable-iff}
+use Rattle.survey_core.specs.Laws.Refusal.{survey-fine, fine-survey, survey-sound}
+use Rattle.survey_core.specs.Laws.Group.{Numbered, LowestUnjoined, group-joined-elim, group-joined-intro, group-refused, unjoinable-iff}
 use Rattle.survey_core.specs.Laws.Member.{member-elim}
 use Rattle.theory_steiner.specs.Laws.Finish.{allUsable-edges}
-use Rattle.check_rule.specs.Check.{checking}
 use Rattle.check_rule.specs.Laws.Accuracy.{answered}
 use Rattle.plan_duals.specs.Drawing.{recordsOf, recordsOver}
 use Rattle.plan_duals.specs.Laws.Drawing.{length-records}

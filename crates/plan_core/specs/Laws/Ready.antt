@@ -13,14 +13,14 @@ use Rattle.base_limits.specs.Verdict.{refuseIf, _before_, lowestBelow}
 use Rattle.base_limits.specs.declared.Verdict.{Verdict}
 use Rattle.base_limits.specs.declared.Verdict.the-variants.{Fine, Refused}
 use Rattle.base_limits.specs.Laws.Verdict.{before-fine, before-refused, fine-left, fine-right, refuse-true, refuse-false, fine-refuse}
-use Rattle.theory_steiner.specs.Problem.{Joins, allUsable}
+use Rattle.theory_steiner.specs.Problem.{allUsable}
 use Rattle.theory_steiner.specs.Laws.Finish.{allUsable-edges}
 use Rattle.theory_graph.specs.Laws.Component.{components-cong}
 use Rattle.survey_core.specs.Survey.{Survey, vertexCount, edgeCount, problemOf, groupJoined, componentsOf}
 use Rattle.survey_components.specs.Labels.{chosenMark, chosen}
 use Rattle.survey_components.specs.declared.Chosen.the-variants.{All}
 use Rattle.survey_core.specs.Refusal.{surveyRefusal, groupRefusal}
-use Rattle.survey_core.specs.Laws.Refusal.{SurveySound, survey-fine, fine-survey}
+use Rattle.survey_core.specs.Laws.Refusal.{survey-fine, fine-survey}
 use Rattle.survey_core.specs.Laws.Group.{Numbered, group-fine, joins-fine}
 use Rattle.plan_core.specs.Plan.{planRefusal}
 use Rattle.plan_core.specs.Promise.{Ready}

@@ -23,7 +23,7 @@ use Rattle.theory_steiner.specs.Laws.Partition.{label-below, winner-below}
 use Rattle.theory_steiner.specs.Laws.Weighed.{load-pick}
 use Rattle.survey_core.specs.Survey.{Survey, groupsAlone, vertexCount, edgeCount, sameGroup, member, problemOf}
 use Rattle.survey_components.specs.Labels.{relabelled}
-use Rattle.survey_core.specs.Laws.Refusal.{SurveySound, survey-sound}
+use Rattle.survey_core.specs.Laws.Refusal.{survey-sound}
 use Rattle.base_buffer.specs.Laws.Store.{tabulate-cong, set-table, remade-table, remade-part}
 use Rattle.survey_components.specs.Laws.Labels.{relabelled-table}
 use Rattle.plan_delay.specs.Between.{delayIn, winnerIn, delayBetween}

@@ -11,7 +11,7 @@ use lib.ListN.{length, getD, replicate, List·getD-eq-default}
 use lib.Dec.{ltb}
 use borrow.Author.Tests.{lt-ltb, le-ltb}
 use Rattle.base_finite.specs.Below.{counted, sumBelow, tabulate}
-use Rattle.base_finite.specs.Laws.Below.{sum-cong, sum-zero, length-tabulate, getD-tabulate, counted-true, counted-false, lt-or-ge}
+use Rattle.base_finite.specs.Laws.Below.{sum-cong, sum-zero, length-tabulate, getD-tabulate, counted-false, lt-or-ge}
 use Rattle.base_limits.specs.Limits.{maxVertices, maxEdges, maxWeight, maxDuals}
 use Rattle.theory_steiner.specs.Problem.{Problem}
 use Rattle.theory_steiner.specs.Growth.{Winner, nobody, edge, never, winner, numbers, start, stateAt}
