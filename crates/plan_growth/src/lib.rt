@@ -271,11 +271,8 @@ pub fn grow(groups: &[u8], firsts: &[u32], seconds: &[u32], weights: &[u32]) -> 
         ⌜ GrownAfter (problemOf s) (written (surveyRefusal s) (length (old groups)) 0) r ⌝ }
 {
     let found = survey_core::survey_refusal(groups, firsts, seconds, weights);
-    if let Verdict::Refused {
-        number: _,
-        place: _,
-    } = found {
+    let Verdict::Fine = found else {
         return no_rounds();
-    }
+    };
     grow_rounds(groups, firsts, seconds, weights)
 }

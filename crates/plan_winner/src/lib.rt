@@ -109,12 +109,12 @@ fn scan_block(
         let t = tablesIn firsts seconds weights labels loads flags in
         ⌜ new keys ≡ onBy t time (scanFrom (winnerIn best) (old keys)) from (to - from) .keys ⌝ }
 {
-    let mut champion = best;
+    let mut winner = best;
     let mut limit = limit_of(time, best);
     let mut e = from;
     while e < to {
         if at64(keys, e) < limit {
-            champion = look(
+            winner = look(
                 firsts,
                 seconds,
                 weights,
@@ -124,13 +124,13 @@ fn scan_block(
                 time,
                 keys,
                 e,
-                champion,
+                winner,
             );
-            limit = limit_of(time, champion);
+            limit = limit_of(time, winner);
         }
         e += 1;
     }
-    champion
+    winner
 }
 
 // The lowest of some keys.
@@ -191,7 +191,7 @@ fn pass_block(
 {
     let from = BLOCK_EDGES * b;
     let to = from + block_size(firsts.len(), b);
-    let champion = scan_block(
+    let winner = scan_block(
         firsts,
         seconds,
         weights,
@@ -205,7 +205,7 @@ fn pass_block(
         best,
     );
     put64(floors, b, lowest_key(keys, from, to));
-    champion
+    winner
 }
 
 // The time that the search goes by: a later one is taken for the last whose sums fit.

@@ -38,17 +38,19 @@ wide-requires c κs = search needs
 wide-requires-2 : tie.Need-wide-requires-2
 wide-requires-2 c κs = search needs
 
+-- marks
 same-length : tie.Need-same-length
 same-length c = search needs
 
+-- records
 same-length-2 : tie.Need-same-length-2
 same-length-2 c = search needs
 
 returns : tie.Need-returns
 returns c =
-    let to-grow = c .before .before .before .before .before .before .before .before .before .before .before .before .before .before .before .before .before .before .before in
-    let entry = to-grow .before .before .before .before .before .before .before in
-    finish-plan (entry .pre) (to-grow .grow .ensures) _ _ refl (c .before .before .before .before .before .before .before .before .before .before .before .before .before .prune .ensures) (c .before .before .before .before .before .before .before .draw .ensures .0)
+    let growth = c .before .before .before .before .before .before .before .before .before .before .before .before .before .before .before .before .before .before .before in
+    let entry = growth .before .before .before .before .before .before .before in
+    finish-plan (entry .pre) (growth .grow .ensures) _ _ refl (c .before .before .before .before .before .before .before .before .before .before .before .before .before .prune .ensures) (c .before .before .before .before .before .before .before .draw .ensures .0)
     (c .before .before .before .before .before .before .before .draw .ensures .1) (c .before .before .before .before .terminals .ensures) (kept-cost-all _ _ _ (entry .pre .survey .edges-few) (c .before .before .kept-cost .ensures)) (c .before .wide .ensures) (c .wide2 .ensures)
 
 pub finish-spec : {M : Type 1} → statement M

@@ -5,6 +5,7 @@ use borrow.Author.Needs.{needs}
 use Rattle.plan_duals.proofs.arise.Statement.{statement}
 use Rattle.plan_duals.proofs.arise.Tie as tie
 
+-- a single vertex
 returns : tie.Need-returns
 unfolding arisen
 returns c = rw (lt-ltb (c .before .before .before .before .args .c) (c .before .before .before .before .args .n) (c .if1 .taken))
@@ -27,6 +28,7 @@ cast-merge c = search needs
 merge-requires : tie.Need-merge-requires
 merge-requires c κs = search needs
 
+-- a merged component
 returns-2 : tie.Need-returns-2
 unfolding arisen endOf
 returns-2 c = rw (le-ltb (c .before .before .before .before .before .before .before .before .before .before .args .c) (c .before .before .before .before .before .before .before .before .before .before .args .n) (c .before .before .before .before .before .before .if1 .left), ← c .before .before .before .before .before .at32 .ensures, ← c .before .before .before .before .index32 .ensures, ← c .before .before .at322 .ensures, ← c .before .at323 .ensures) (c .merge .ensures)

@@ -7,6 +7,7 @@ use borrow.Author.Needs.{needs}
 use Rattle.plan_duals.proofs.write_dual.Statement.{statement}
 use Rattle.plan_duals.proofs.write_dual.Tie as tie
 
+-- value 0: no record
 returns : tie.Need-returns
 returns c =
     let a = c .before .before .args in
@@ -37,6 +38,7 @@ add-result c = search needs
 same-length : tie.Need-same-length
 same-length c = search needs
 
+-- one record more
 returns-2 : tie.Need-returns-2
 returns-2 c =
     let a = c .before .before .before .before .before .before .args in

@@ -13,13 +13,14 @@ index32-requires c κs = search needs
 put8-requires : tie.Need-put8-requires
 put8-requires c κs = search needs
 
+-- split
 returns : tie.Need-returns
 unfolding flagged
 returns c =
-    -- split
     let entry = c .before .before .before .before in
     rw (eq-eqb (entry .args .summary) 1 (c .before .before .before .if1 .taken)) (c .put8 .ensures ∙ ap (λ i. set (entry .args .flags .now) i 1) (c .before .index32 .ensures))
 
+-- not split
 returns-2 : tie.Need-returns-2
 unfolding flagged
 returns-2 c = rw (ne-eqb (c .before .args .summary) 1 (c .if1 .left))

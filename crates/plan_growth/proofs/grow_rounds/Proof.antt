@@ -44,12 +44,12 @@ finished-requires c κs =
     let after = rw (c .enum-told .given .1) at (call .round .ensures .1) in
     sum-fits after
 
+-- a round without a winner
 returns : tie.Need-returns Inv-loop μ-loop
 unfolding delayIn roundsAfter timeAfter
 returns c =
     let call = c .before .before .before in
     let after = rw (c .before .enum-told .given .1) at (call .round .ensures .1) in
-    -- no winner
     grown-end after (call .round .ensures .0) (c .before .enum-told .given .1) (c .finished .ensures)
 
 add-time : tie.Need-add-time Inv-loop μ-loop
@@ -75,9 +75,9 @@ loop-again c =
 finished-requires-2 : tie.Need-finished-requires-2 Inv-loop μ-loop
 finished-requires-2 c κs = sum-fits (c .before .loop .inv)
 
+-- as many rounds as vertices, which cannot be
 returns-2 : tie.Need-returns-2 Inv-loop μ-loop
 returns-2 c =
-    -- as many rounds as vertices: never
     absurd (omega (arith, going (c .before .before .loop .inv)))
 
 pub grow-rounds-spec : {M : Type 1} → statement M

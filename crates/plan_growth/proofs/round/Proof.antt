@@ -19,12 +19,12 @@ enum-known-found c = search needs
 enum-told : tie.Need-enum-told
 enum-told c = search needs
 
+-- no winner
 returns : tie.Need-returns
 returns c =
     let search = c .before .before in
     let flags = search .before .before .before .before .before .before .before .before in
     let entry = flags .before .before .before .before .before .before in
-    -- no winner
     round-over (entry .pre) (flags .active-flags .ensures) (search .find-winner .ensures .0) (search .find-winner .ensures .1 .0) (search .find-winner .ensures .1 .1) (c .enum-told .given .1)
 
 raise-values-requires : tie.Need-raise-values-requires
@@ -63,12 +63,12 @@ note-pick-requires c κs =
     let entry = flags .before .before .before .before .before .before in
     won-edge (entry .pre) (flags .active-flags .ensures) (search .find-winner .ensures .0) (c .before .before .before .before .before .before .before .before .before .before .before .before .before .before .found .given .1)
 
+-- an edge is picked
 returns-2 : tie.Need-returns-2
 returns-2 c =
     let search = c .before .before .before .before .before .before .before .before .before .before .before .before .before .before .before .before .before in
     let flags = search .before .before .before .before .before .before .before .before in
     let entry = flags .before .before .before .before .before .before in
-    -- an edge is picked
     round-won
     (entry .pre) (flags .active-flags .ensures) (search .find-winner .ensures .0)
     (search .find-winner .ensures .1 .0)

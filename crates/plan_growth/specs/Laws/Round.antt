@@ -52,9 +52,9 @@ unfolding active separates problemOf vertexCount sameGroup member
 active-groups s label c = refl
 
 -- A choice and its reverse.
-turned {ℓ} : {A : Type ℓ} (t : Bool) (x y : A) → cond t x y ≡ cond (not t) y x
-turned true x y = refl
-turned false x y = refl
+cond-not {ℓ} : {A : Type ℓ} (t : Bool) (x y : A) → cond t x y ≡ cond (not t) y x
+cond-not true x y = refl
+cond-not false x y = refl
 
 below-more : (k r : ℕ) → (k ≡ r → ⊥) → ltb k r ≡ ltb k (r + 1)
 below-more k r d = by (lt-or-ge k r)
@@ -168,7 +168,7 @@ module _ {s : Survey} {r time : ℕ} {a : Arrays} (h : Represents s r time a) wh
           load-at u u-below,
           load-at v v-below,
         )
-        (turned (eqb (S .label u) (S .label v)) _ _)
+        (cond-not (eqb (S .label u) (S .label v)) _ _)
 
     key-at : (e : ℕ) → e < length (s .firsts) → keyBy tables time e ≡ key p S time e
     unfolding keyBy keyBetween key slack problemOf

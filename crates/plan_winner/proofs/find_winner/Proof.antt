@@ -52,9 +52,11 @@ loop-again c =
     (λ w. passing-over (c .before .before .before .before .loop .inv) (c .before .before .before .loop-test .taken) (c .before .at64 .ensures) (w .0 .left) (ap winnerIn (w .3)) (w .4) (w .1) (w .2))
     (c .if1 .came)
 
+-- keys
 same-length : tie.Need-same-length Inv-loop μ-loop
 same-length c = passing-keys (c .before .loop .inv)
 
+-- floors
 same-length-2 : tie.Need-same-length-2 Inv-loop μ-loop
 same-length-2 c = passing-floors (c .before .loop .inv)
 

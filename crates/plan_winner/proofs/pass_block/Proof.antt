@@ -29,9 +29,11 @@ lowest-key-requires c κs = search needs
 put64-requires : tie.Need-put64-requires
 put64-requires c κs = search needs
 
+-- keys
 same-length : tie.Need-same-length
 same-length c = c .before .before .before .before .before .before .before .keys .given
 
+-- floors
 same-length-2 : tie.Need-same-length-2
 same-length-2 c = c .before .floors .given
 
