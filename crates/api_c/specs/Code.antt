@@ -5,10 +5,18 @@ use lib.ListN.{set}
 use Rattle.base_limits.specs.Verdict.{Outcome, refusal, answer}
 use Rattle.plan_core.specs.Plan.{Counts}
 
--- 0, or the refusal's number plus 256 times its place. Numbers are below 256 and places below 65,536 in planning.
+-- In an answer of one number a refusal's place counts this much, and its number lies below it.
+abbrev pub placeUnit : ℕ
+placeUnit = 256
+
+-- Places of planning lie below this.
+abbrev pub placeLimit : ℕ
+placeLimit = 65536
+
+-- 0, or the refusal's number plus its place in units.
 unfoldable pub codeOf : Outcome Counts → ℕ
 codeOf (answer c) = 0
-codeOf (refusal number place) = number % 256 + 256 * (place % 65536)
+codeOf (refusal number place) = number % placeUnit + placeUnit * (place % placeLimit)
 
 -- The counts in document 01's order; a refusal writes nothing.
 unfoldable pub countsAfter : Outcome Counts → List ℕ → List ℕ

@@ -8,7 +8,7 @@ use Rattle.plan_core.specs.Plan.{Counts}
 use Rattle.plan_core.specs.Answer.{outcomeOf}
 use Rattle.plan_core.specs.declared.Planned.{Planned}
 use Rattle.plan_core.specs.declared.Planned.the-variants.{Finished, Refused}
-use Rattle.api_c.specs.Code.{codeOf, countsAfter}
+use Rattle.api_c.specs.Code.{placeUnit, placeLimit, codeOf, countsAfter}
 
 module _ (o : Outcome Counts) (r : Planned) (same : outcomeOf r ≡ o) where
   pub finished-code : (k c b n d : ℕ) → r ≡ Finished k c b n d → 0 ≡ codeOf o
@@ -20,7 +20,7 @@ module _ (o : Outcome Counts) (r : Planned) (same : outcomeOf r ≡ o) where
   unfolding countsAfter outcomeOf
   finished-counts k c b n d h old = sym (ap (λ x. countsAfter x old) (sym same ∙ ap outcomeOf h))
 
-  pub refused-code : (number place : ℕ) → r ≡ Refused number place → number % 256 + 256 * (place % 65536) ≡ codeOf o
+  pub refused-code : (number place : ℕ) → r ≡ Refused number place → number % placeUnit + placeUnit * (place % placeLimit) ≡ codeOf o
   unfolding codeOf outcomeOf
   refused-code number place h = sym (ap codeOf (sym same ∙ ap outcomeOf h))
 

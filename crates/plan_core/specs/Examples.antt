@@ -17,7 +17,7 @@ use Rattle.survey_core.specs.Refusal.{edgeRefusal, surveyRefusal, groupRefusal}
 use Rattle.plan_core.specs.Plan.{Plan, planOf, planRefusal, planning}
 
 -- A dual as document 01 writes it: its value and its members, rising.
-pub record Drawn : Type 0 where
+pub record DualFigures : Type 0 where
   pub value : ℕ
   pub members : List ℕ
 
@@ -28,10 +28,10 @@ pub record Figures : Type 0 where
   pub bound : ℕ
   pub rounds : ℕ
   pub marks : List ℕ
-  pub duals : List Drawn
+  pub duals : List DualFigures
 
-unfoldable pub drawn : ℕ → Dual → Drawn
-drawn n d = record { value = d .value; members = thoseBelow n (d .holds) }
+unfoldable pub dualFigures : ℕ → Dual → DualFigures
+dualFigures n d = record { value = d .value; members = thoseBelow n (d .holds) }
 
 unfoldable pub figures : ℕ → Outcome Plan → Outcome Figures
 figures n (refusal number place) = refusal number place
@@ -43,44 +43,44 @@ figures n (answer p) =
       bound = p .bound;
       rounds = p .rounds;
       marks = p .marks;
-      duals = map (drawn n) (p .duals);
+      duals = map (dualFigures n) (p .duals);
     })
 
 -- Planning with buffers just long enough.
 unfoldable pub planned : Survey → Outcome Figures
 planned s = figures (vertexCount s) (planning s (edgeCount s) (recordBytes * dualsOf (vertexCount s)))
 
--- One track, u-v:price.
-pub record Track : Type 0 where
-  pub u : ℕ
-  pub v : ℕ
-  pub price : ℕ
+-- One track, which document 01 writes u-v:price.
+pub record ExampleEdge : Type 0 where
+  pub first-end : ℕ
+  pub second-end : ℕ
+  pub edge-weight : ℕ
 
-abbrev track : ℕ → ℕ → ℕ → Track
-track u v price = record { u = u; v = v; price = price }
+abbrev edge : ℕ → ℕ → ℕ → ExampleEdge
+edge u v w = record { first-end = u; second-end = v; edge-weight = w }
 
-abbrev dual : ℕ → List ℕ → Drawn
+abbrev dual : ℕ → List ℕ → DualFigures
 dual value members = record { value = value; members = members }
 
 pub record Example : Type 0 where
   pub groups : List ℕ
-  pub tracks : List Track
+  pub example-edges : List ExampleEdge
   pub expected : Outcome Figures
 
-abbrev example : List ℕ → List Track → Outcome Figures → Example
-example groups tracks expected = record { groups = groups; tracks = tracks; expected = expected }
+abbrev example : List ℕ → List ExampleEdge → Outcome Figures → Example
+example groups edges expected = record { groups = groups; example-edges = edges; expected = expected }
 
 -- k, cost, bound, rounds, marks, moats
-abbrev finished : ℕ → ℕ → ℕ → ℕ → List ℕ → List Drawn → Outcome Figures
+abbrev finished : ℕ → ℕ → ℕ → ℕ → List ℕ → List DualFigures → Outcome Figures
 finished k c b r marks duals = answer (record { terminals = k; cost = c; bound = b; rounds = r; marks = marks; duals = duals })
 
-unfoldable pub surveyOf : Example → Survey
-surveyOf x =
+unfoldable pub exampleSurvey : Example → Survey
+exampleSurvey x =
     record {
       groups = x .groups;
-      firsts = map (λ t. t .u) (x .tracks);
-      seconds = map (λ t. t .v) (x .tracks);
-      weights = map (λ t. t .price) (x .tracks);
+      firsts = map (λ e. e .first-end) (x .example-edges);
+      seconds = map (λ e. e .second-end) (x .example-edges);
+      weights = map (λ e. e .edge-weight) (x .example-edges);
     }
 
 unfoldable pub examples : List Example
@@ -88,40 +88,40 @@ examples =
     -- P1
     example (0 ∷ []) [] (finished 0 0 0 0 [] [])
     -- P2
-    ∷ example (1 ∷ 1 ∷ []) (track 0 1 5 ∷ []) (finished 2 5 10 1 (2 ∷ []) (dual 5 (0 ∷ []) ∷ dual 5 (1 ∷ []) ∷ []))
+    ∷ example (1 ∷ 1 ∷ []) (edge 0 1 5 ∷ []) (finished 2 5 10 1 (2 ∷ []) (dual 5 (0 ∷ []) ∷ dual 5 (1 ∷ []) ∷ []))
     -- P3
     ∷ example
     (1 ∷ 0 ∷ 1 ∷ [])
-    (track 0 1 3 ∷ track 1 2 4 ∷ [])
+    (edge 0 1 3 ∷ edge 1 2 4 ∷ [])
     (finished 2 7 14 2 (2 ∷ 2 ∷ []) (dual 6 (0 ∷ []) ∷ dual 7 (2 ∷ []) ∷ dual 1 (0 ∷ 1 ∷ []) ∷ []))
     -- P4
     ∷ example
     (1 ∷ 1 ∷ 1 ∷ [])
-    (track 0 1 1 ∷ track 1 2 1 ∷ track 0 2 1 ∷ [])
+    (edge 0 1 1 ∷ edge 1 2 1 ∷ edge 0 2 1 ∷ [])
     (finished 3 2 3 2 (2 ∷ 2 ∷ 0 ∷ []) (dual 1 (0 ∷ []) ∷ dual 1 (1 ∷ []) ∷ dual 1 (2 ∷ []) ∷ []))
     -- P5
     ∷ example
     (1 ∷ 1 ∷ 0 ∷ 0 ∷ [])
-    (track 0 1 3 ∷ track 0 2 1 ∷ track 0 3 1 ∷ [])
+    (edge 0 1 3 ∷ edge 0 2 1 ∷ edge 0 3 1 ∷ [])
     (finished 2 3 6 3 (2 ∷ 1 ∷ 1 ∷ []) (dual 2 (0 ∷ []) ∷ dual 3 (1 ∷ []) ∷ dual 1 (0 ∷ 2 ∷ 3 ∷ []) ∷ []))
     -- P6
     ∷ example
     (1 ∷ 1 ∷ [])
-    (track 0 1 5 ∷ track 0 1 5 ∷ [])
+    (edge 0 1 5 ∷ edge 0 1 5 ∷ [])
     (finished 2 5 10 1 (2 ∷ 0 ∷ []) (dual 5 (0 ∷ []) ∷ dual 5 (1 ∷ []) ∷ []))
     -- P7
-    ∷ example (1 ∷ 2 ∷ []) (track 0 1 4 ∷ []) (finished 0 0 0 0 (0 ∷ []) [])
+    ∷ example (1 ∷ 2 ∷ []) (edge 0 1 4 ∷ []) (finished 0 0 0 0 (0 ∷ []) [])
     -- P8
-    ∷ example (1 ∷ 1 ∷ []) (track 0 1 0 ∷ []) (finished 2 0 0 1 (2 ∷ []) [])
+    ∷ example (1 ∷ 1 ∷ []) (edge 0 1 0 ∷ []) (finished 2 0 0 1 (2 ∷ []) [])
     -- P9
     ∷ example
     (0 ∷ 1 ∷ 1 ∷ 1 ∷ [])
-    (track 0 1 3 ∷ track 0 2 3 ∷ track 0 3 3 ∷ track 1 2 5 ∷ track 1 3 5 ∷ track 2 3 5 ∷ [])
+    (edge 0 1 3 ∷ edge 0 2 3 ∷ edge 0 3 3 ∷ edge 1 2 5 ∷ edge 1 3 5 ∷ edge 2 3 5 ∷ [])
     (finished 3 10 15 2 (0 ∷ 0 ∷ 0 ∷ 2 ∷ 2 ∷ 0 ∷ []) (dual 5 (1 ∷ []) ∷ dual 5 (2 ∷ []) ∷ dual 5 (3 ∷ []) ∷ []))
     -- P10
     ∷ example
     (1 ∷ 2 ∷ 1 ∷ 2 ∷ [])
-    (track 0 1 4 ∷ track 1 2 2 ∷ track 2 3 4 ∷ [])
+    (edge 0 1 4 ∷ edge 1 2 2 ∷ edge 2 3 4 ∷ [])
     (finished
     4
     10
@@ -132,7 +132,7 @@ examples =
     -- P11
     ∷ example
     (1 ∷ 1 ∷ 2 ∷ 2 ∷ [])
-    (track 0 1 1 ∷ track 0 2 3 ∷ track 1 3 3 ∷ [])
+    (edge 0 1 1 ∷ edge 0 2 3 ∷ edge 1 3 3 ∷ [])
     (finished
     4
     7
@@ -145,9 +145,9 @@ examples =
     ∷ []
 
 -- Each survey of the list gets what stands beside it.
-pub examples-hold : map (λ x. planned (surveyOf x)) examples ≡ map (λ x. x .expected) examples
+pub examples-hold : map (λ x. planned (exampleSurvey x)) examples ≡ map (λ x. x .expected) examples
 unfolding counted sumBelow countBelow anyBelow allBelow thoseBelow tabulate lookup memo without merged components refuseIf _before_ lowestBelow outcome
     allUsable joined cost separates terminal terminals start active numbers load slack delayOf delay better winnerBelow winner pick advance stateAt grown grownDuals
     needed picked kept markOf mark dualBound vertexCount edgeCount member sameGroup problemOf groupJoined componentsOf edgeRefusal surveyRefusal
-    groupRefusal planOf planRefusal planning drawn figures planned surveyOf examples
+    groupRefusal planOf planRefusal planning dualFigures figures planned exampleSurvey examples
 examples-hold = refl

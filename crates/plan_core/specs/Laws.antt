@@ -1,4 +1,4 @@
 pub mod Ready
 pub mod Passes
 pub mod Promise
-pub mod Code
+pub mod Finish

@@ -12,8 +12,7 @@ ghost use Rattle.survey_core.specs.Survey.{surveyFrom, lentSurvey, problemOf};
 ghost use Rattle.plan_duals.specs.Drawing.{recordsOver};
 ghost use Rattle.plan_core.specs.Plan.{planRefusal, planOf, countsOf, counting, marksAfter, recordsAfter};
 ghost use Rattle.plan_core.specs.Answer.{outcomeOf};
-ghost use Rattle.plan_core.specs.Laws.Ready.{Ready};
-ghost use Rattle.plan_core.specs.Laws.Promise.{Promises};
+ghost use Rattle.plan_core.specs.Promise.{Ready, Promises};
 use base_limits::RECORD_BYTES;
 use base_limits::Verdict;
 use survey_components::Chosen;
@@ -68,13 +67,13 @@ fn plan_refusal(
     ensures { λ r. ⌜ r ≡ planRefusal (lentSurvey groups firsts seconds weights) marks records ⌝ }
 {
     let unsound = survey_core::survey_refusal(groups, firsts, seconds, weights);
-    if let Verdict::Refused { number, place } = unsound {
-        return Verdict::Refused { number, place };
-    }
+    let Verdict::Fine = unsound else {
+        return unsound;
+    };
     let short = room_refusal(groups.len(), firsts.len(), marks, records);
-    if let Verdict::Refused { number, place } = short {
-        return Verdict::Refused { number, place };
-    }
+    let Verdict::Fine = short else {
+        return short;
+    };
     survey_components::group_refusal(groups, firsts, seconds, weights, Chosen::All, &[], 8)
 }
 
@@ -87,10 +86,17 @@ fn finish(
     marks: &mut [u8],
     records: &mut [u8],
 ) -> Planned
-    requires { ⌜ Ready (surveyFrom (now groups) (now firsts) (now seconds) (now weights)) (length (now marks)) (length (now records)) ⌝ }
-    ensures { λ r. ⌜ outcomeOf r ≡ answer (countsOf (planOf (problemOf (lentSurvey groups firsts seconds weights)))) ⌝ }
-    ensures { λ _. ⌜ new marks ≡ planOf (problemOf (lentSurvey groups firsts seconds weights)) .marks ++ drop (length (old firsts)) (old marks) ⌝ }
-    ensures { λ _. ⌜ new records ≡ recordsOver (planOf (problemOf (lentSurvey groups firsts seconds weights)) .duals) (old records) ⌝ }
+    requires { ⌜ Ready (surveyFrom (now groups) (now firsts) (now seconds) (now weights))
+        (length (now marks)) (length (now records)) ⌝ }
+    ensures { λ r.
+        let p = planOf (problemOf (lentSurvey groups firsts seconds weights)) in
+        ⌜ outcomeOf r ≡ answer (countsOf p) ⌝ }
+    ensures { λ _.
+        let p = planOf (problemOf (lentSurvey groups firsts seconds weights)) in
+        ⌜ new marks ≡ p .marks ++ drop (length (old firsts)) (old marks) ⌝ }
+    ensures { λ _.
+        let p = planOf (problemOf (lentSurvey groups firsts seconds weights)) in
+        ⌜ new records ≡ recordsOver (p .duals) (old records) ⌝ }
 {
     let grown = plan_growth::grow(groups, firsts, seconds, weights);
     let picked = grown.picked;
@@ -119,8 +125,9 @@ fn finish(
     }
 }
 
-// Plans a survey into lent buffers for marks and moat records. Finished exactly if none of 1 to 8 applies; 8 exactly if some group cannot be joined by any set of tracks,
-// and then the lowest; a finished plan passes the checker and is within the accuracy rule.
+// Plans a survey into lent buffers for marks and moat records. Finished exactly if none of 1 to 8 applies; 8 exactly if
+// no set of tracks joins some group, and then the lowest; a finished plan passes the checker and is within the accuracy
+// rule.
 pub fn plan(
     groups: &[u8],
     firsts: &[u32],
@@ -129,10 +136,14 @@ pub fn plan(
     marks: &mut [u8],
     records: &mut [u8],
 ) -> Planned
-    ensures { λ r. ⌜ outcomeOf r ≡ counting (lentSurvey groups firsts seconds weights) (length (old marks)) (length (old records)) ⌝ }
+    ensures { λ r.
+        let s = lentSurvey groups firsts seconds weights in
+        ⌜ outcomeOf r ≡ counting s (length (old marks)) (length (old records)) ⌝ }
     ensures { λ _. ⌜ new marks ≡ marksAfter (lentSurvey groups firsts seconds weights) (old marks) (old records) ⌝ }
     ensures { λ _. ⌜ new records ≡ recordsAfter (lentSurvey groups firsts seconds weights) (old marks) (old records) ⌝ }
-    ensures promises { λ r. ⌜ Promises (lentSurvey groups firsts seconds weights) (old marks) (old records) (outcomeOf r) ⌝ }
+    ensures promises { λ r.
+        let s = lentSurvey groups firsts seconds weights in
+        ⌜ Promises s (old marks) (old records) (outcomeOf r) ⌝ }
 {
     let found = plan_refusal(groups, firsts, seconds, weights, marks.len(), records.len());
     if let Verdict::Refused { number, place } = found {

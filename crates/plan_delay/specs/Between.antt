@@ -1,4 +1,4 @@
--- The delay of an edge between two vertices, by the tables of a round (laws of `growth` say that it is the definition's).
+-- The delay of an edge between two vertices, by the tables of a round (laws of `plan_growth` say that it is the definition's).
 use Prim.Native.Nat.{ℕ, _+_, _*_, _-_}
 use mathlib.Core.Bool.{cond}
 use mathlib.Core.List.{List}

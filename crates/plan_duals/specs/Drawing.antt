@@ -23,9 +23,9 @@ unfoldable pub recordsFrom : ℕ → List Dual → List ℕ → List ℕ
 recordsFrom k ds old = take (recordBytes * k) old ++ recordsOver ds (drop (recordBytes * k) old)
 
 -- The records of these duals, and nothing else, are new in the buffer, and `count` says how many there are.
-pub record Drawn (ds : List Dual) (old new : List ℕ) (count : ℕ) : Type 0 where
-  pub counted : count ≡ length ds
-  pub written : new ≡ recordsOver ds old
+pub record DualsWritten (ds : List Dual) (old new : List ℕ) (count : ℕ) : Type 0 where
+  pub count-is : count ≡ length ds
+  pub records-are : new ≡ recordsOver ds old
 
 -- 'Moats with amount 0 are left out': the dual with this value and these members, or none.
 unfoldable pub dualIf : ℕ → (ℕ → Bool) → List Dual
@@ -37,15 +37,15 @@ dualsBelow value holds zero = []
 dualsBelow value holds (suc c) = dualsBelow value holds c ++ dualIf (value c) (holds c)
 
 -- The vertices below n that have label c.
-unfoldable pub labelled : (labels : List ℕ) → (n c : ℕ) → ℕ → Bool
-labelled labels n c v = ltb v n && eqb (getD labels v 0) c
+unfoldable pub withLabel : (labels : List ℕ) → (n c : ℕ) → ℕ → Bool
+withLabel labels n c v = ltb v n && eqb (getD labels v 0) c
 
 -- There is room for one record, and for every vertex in it.
-pub record PartFits (n : ℕ) (part : List ℕ) : Type 0 where
+pub record RecordFits (n : ℕ) (part : List ℕ) : Type 0 where
   pub few : n ≤ maxVertices
   pub long : length part ≡ recordBytes
 
 -- There is room for k records, and for every vertex in each.
-pub record Fits (n k : ℕ) (records : List ℕ) : Type 0 where
+pub record RecordsFit (n k : ℕ) (records : List ℕ) : Type 0 where
   pub few : n ≤ maxVertices
   pub room : recordBytes * k ≤ length records

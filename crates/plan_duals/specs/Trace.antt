@@ -6,6 +6,7 @@ use mathlib.Core.List.{List}
 use lib.ListN.{length, getD}
 use lib.Dec.{eqb, ltb}
 use Rattle.theory_graph.specs.Component.{merged}
+use Rattle.base_buffer.specs.Lent.{Buffer, old}
 use Rattle.base_limits.specs.Limits.{maxVertices, recordBytes}
 use Rattle.theory_steiner.specs.Problem.{Problem}
 use Rattle.theory_steiner.specs.Growth.{winner, edge, stateAt, grown}
@@ -36,6 +37,10 @@ traceFrom n firsts seconds values order rounds =
       value = λ c. getD values c 0;
     }
 
+-- The trace that four lent buffers held when the call began.
+abbrev pub lentTrace : (n : ℕ) → (firsts seconds values order : Buffer) → (rounds : ℕ) → Trace
+lentTrace n firsts seconds values order rounds = traceFrom n (old firsts) (old seconds) (old values) (old order) rounds
+
 -- The component number of a vertex after r rounds: round r makes component n + r of those of its edge's ends.
 unfoldable pub labelAfter : Trace → ℕ → ℕ → ℕ
 labelAfter t zero v = v
@@ -50,8 +55,8 @@ unfoldable pub memberOf : Trace → (c v : ℕ) → Bool
 memberOf t c v = ltb v (t .vertices) && eqb (labelAfter t (c + 1 - t .vertices) v) c
 
 -- 'Single junctions come first, rising; then merged components as they arose.'
-unfoldable pub dualsIn : Trace → List Dual
-dualsIn t = dualsBelow (t .value) (memberOf t) (t .vertices + t .rounds)
+unfoldable pub traceDuals : Trace → List Dual
+traceDuals t = dualsBelow (t .value) (memberOf t) (t .vertices + t .rounds)
 
 -- What the replay needs: room for the records, and a label for every end.
 pub record Drawable (t : Trace) (records : List ℕ) : Type 0 where
@@ -62,7 +67,7 @@ pub record Drawable (t : Trace) (records : List ℕ) : Type 0 where
   pub second-below : (r : ℕ) → r < t .rounds → t .second r < maxVertices
 
 -- The trace of a problem's growth.
-pub record Traces (p : Problem) (t : Trace) : Type 0 where
+pub record TraceOf (p : Problem) (t : Trace) : Type 0 where
   pub vertices-are : t .vertices ≡ p .vertices
   pub rounds-are : t .rounds ≡ grown p .rounds
   pub firsts-are : (r e d : ℕ) → r < t .rounds → winner p (stateAt p r) ≡ edge e d → t .first r ≡ p .first e

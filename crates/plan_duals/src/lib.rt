@@ -1,4 +1,5 @@
-// Drawing: the duals of a finished growth as records, single vertices first, then merged components as they arose. Definitions in specs/.
+// Drawing: the duals of a finished growth as records, single vertices first, then merged components as they arose.
+// Definitions in specs/.
 ghost use Rattle.base_buffer.specs.Lent.{old, new};
 ghost use mathlib.Core.Path.{_≡_};
 ghost use Prim.Native.Nat.{_+_, _-_, _<_, _^_};
@@ -6,8 +7,8 @@ ghost use mathlib.Core.Bool.{cond};
 ghost use lib.ListN.{length};
 ghost use lib.Dec.{eqb};
 ghost use Rattle.format_record.specs.Record.{recordOf, withMemberIn};
-ghost use Rattle.plan_duals.specs.Drawing.{recordsOver, recordsFrom, dualIf, labelled, PartFits, Fits};
-ghost use Rattle.plan_duals.specs.Trace.{endOf, arisen, traceFrom, dualsIn, Drawable};
+ghost use Rattle.plan_duals.specs.Drawing.{recordsOver, recordsFrom, dualIf, withLabel, RecordFits, RecordsFit};
+ghost use Rattle.plan_duals.specs.Trace.{endOf, arisen, traceFrom, lentTrace, traceDuals, Drawable};
 use base_buffer::at64;
 use base_limits::MAX_VERTICES;
 use base_limits::RECORD_BYTES;
@@ -24,9 +25,9 @@ fn add_labelled(part: &mut [u8], v: usize, label: u32, c: u32)
 }
 
 // Writes a record of value x whose members are the vertices with label c.
-fn write_record(part: &mut [u8], x: u64, labels: &[u32], n: usize, c: u32)
-    requires { ⌜ PartFits n (now part) ⌝ }
-    ensures { λ r. ⌜ new part ≡ recordOf x (labelled (old labels) n c) ⌝ }
+fn write_record(part: &mut [u8], x: u64, labels: &[u32; MAX_VERTICES], n: usize, c: u32)
+    requires { ⌜ RecordFits n (now part) ⌝ }
+    ensures { λ r. ⌜ new part ≡ recordOf x (withLabel (old labels) n c) ⌝ }
 {
     format_record::start_record(part, x);
     let mut v = 0;
@@ -36,11 +37,19 @@ fn write_record(part: &mut [u8], x: u64, labels: &[u32], n: usize, c: u32)
     }
 }
 
-// Writes the dual of component c after the first `count` records, unless its value x is 0; answers how many records there are then.
-fn write_dual(records: &mut [u8], count: usize, x: u64, labels: &[u32], n: usize, c: u32) -> usize
-    requires { ⌜ Fits n (count + 1) (now records) ⌝ }
-    ensures count { λ r. ⌜ r ≡ count + length (dualIf x (labelled (old labels) n c)) ⌝ }
-    ensures written { λ r. ⌜ new records ≡ recordsFrom count (dualIf x (labelled (old labels) n c)) (old records) ⌝ }
+// Writes the dual of component c after the first `count` records, unless its value x is 0; answers how many records
+// there are then.
+fn write_dual(
+    records: &mut [u8],
+    count: usize,
+    x: u64,
+    labels: &[u32; MAX_VERTICES],
+    n: usize,
+    c: u32,
+) -> usize
+    requires { ⌜ RecordsFit n (count + 1) (now records) ⌝ }
+    ensures count { λ r. ⌜ r ≡ count + length (dualIf x (withLabel (old labels) n c)) ⌝ }
+    ensures written { λ r. ⌜ new records ≡ recordsFrom count (dualIf x (withLabel (old labels) n c)) (old records) ⌝ }
 {
     if x == 0 {
         return count;
@@ -51,10 +60,21 @@ fn write_dual(records: &mut [u8], count: usize, x: u64, labels: &[u32], n: usize
     count + 1
 }
 
-// Component c arises: a single vertex is one from the start, and component n + r is made of those of the ends of round r's edge.
-fn arise(labels: &mut [u32], firsts: &[u32], seconds: &[u32], order: &[u32], n: usize, c: usize)
+// Component c arises: a single vertex is one from the start, and component n + r is made of those of the ends of round
+// r's edge.
+fn arise(
+    labels: &mut [u32; MAX_VERTICES],
+    firsts: &[u32],
+    seconds: &[u32],
+    order: &[u32],
+    n: usize,
+    c: usize,
+)
     requires { ⌜ c < 2 ^ 32 ⌝ }
-    ensures { λ r. ⌜ new labels ≡ arisen (endOf (old firsts) (old order) (c - n)) (endOf (old seconds) (old order) (c - n)) n c (old labels) ⌝ }
+    ensures { λ r.
+        let a = endOf (old firsts) (old order) (c - n) in
+        let b = endOf (old seconds) (old order) (c - n) in
+        ⌜ new labels ≡ arisen a b n c (old labels) ⌝ }
 {
     if c < n {
         return;
@@ -68,7 +88,8 @@ fn arise(labels: &mut [u32], firsts: &[u32], seconds: &[u32], order: &[u32], n: 
     );
 }
 
-// The duals of a finished growth, from the values of the component numbers and the edges that the rounds picked in order; answers how many there are.
+// The duals of a finished growth, from the values of the component numbers and the edges that the rounds picked in
+// order; answers how many there are.
 pub fn draw(
     n: usize,
     firsts: &[u32],
@@ -79,8 +100,10 @@ pub fn draw(
     records: &mut [u8],
 ) -> usize
     requires { ⌜ Drawable (traceFrom n (now firsts) (now seconds) (now values) (now order) rounds) (now records) ⌝ }
-    ensures count { λ r. ⌜ r ≡ length (dualsIn (traceFrom n (old firsts) (old seconds) (old values) (old order) rounds)) ⌝ }
-    ensures written { λ r. ⌜ new records ≡ recordsOver (dualsIn (traceFrom n (old firsts) (old seconds) (old values) (old order) rounds)) (old records) ⌝ }
+    ensures count { λ r. ⌜ r ≡ length (traceDuals (lentTrace n firsts seconds values order rounds)) ⌝ }
+    ensures written { λ r.
+        let ds = traceDuals (lentTrace n firsts seconds values order rounds) in
+        ⌜ new records ≡ recordsOver ds (old records) ⌝ }
 {
     let mut labels = [0u32; MAX_VERTICES];
     own_labels(&mut labels);

@@ -1,4 +1,4 @@
 pub mod Flags
 pub mod Raise
-pub mod View
+pub mod Round
 pub mod Rounds

@@ -1,3 +1,4 @@
 pub mod Tables
-pub mod View
+pub mod Represents
+pub mod Grown
 pub mod Laws

@@ -4,17 +4,16 @@ ghost use mathlib.Core.Path.{_≡_};
 ghost use Prim.Native.Nat.{_+_, _<_, _^_};
 ghost use lib.ListN.{getD, set, length};
 ghost use lib.Dec.{eqb};
-ghost use Rattle.base_finite.specs.Below.{counted, sumBelow, tabulate};
+ghost use Rattle.base_finite.specs.Below.{counted, sumBelow};
 ghost use Rattle.base_limits.specs.Verdict.{written};
-ghost use Rattle.base_limits.specs.Limits.{maxDuals};
 ghost use Rattle.theory_steiner.specs.Problem.{Problem};
 ghost use Rattle.survey_core.specs.Refusal.{surveyRefusal};
-ghost use Rattle.theory_steiner.specs.Growth.{active, winner, stateAt};
-ghost use Rattle.survey_core.specs.Survey.{surveyFrom, lentSurvey, groupsAlone, problemOf};
-ghost use Rattle.plan_winner.specs.Scan.{passOf};
+ghost use Rattle.theory_steiner.specs.Growth.{winner, stateAt};
+ghost use Rattle.survey_core.specs.Survey.{surveyFrom, lentSurvey, problemOf};
 ghost use Rattle.plan_delay.specs.Between.{delayIn};
-ghost use Rattle.plan_growth.specs.Tables.{flagged, raisedValues, raisedLoads, Room};
-ghost use Rattle.plan_growth.specs.View.{waitOf, View, Growing, Shows, growthFrom, Small};
+ghost use Rattle.plan_growth.specs.Tables.{flagged, activeFlags, raisedValues, raisedLoads, RaiseFits, SumFits};
+ghost use Rattle.plan_growth.specs.Represents.{arraysFrom, newArrays, winnerDelay, roundsAfter, timeAfter, Represents};
+ghost use Rattle.plan_growth.specs.Grown.{growthFrom, GrownAfter};
 ghost use Rattle.survey_core.specs.Sound.{SurveySound};
 use base_buffer::at64;
 use base_buffer::put8;
@@ -26,9 +25,10 @@ use base_limits::MAX_VERTICES;
 use base_limits::Verdict;
 use plan_delay::Delay;
 use plan_delay::Winner;
+use plan_winner::MAX_BLOCKS;
 
-// What growing leaves: how many rounds there were, the sum of all duals, the component numbers of the vertices, the values of the component numbers, 1 for each
-// picked edge, and the edges in the order of the rounds.
+// What growing leaves: how many rounds there were, the sum of all duals, the component numbers of the vertices, the
+// values of the component numbers, 1 for each picked edge, and the edges in the order of the rounds.
 pub struct Growth {
     pub rounds: usize,
     pub bound: u64,
@@ -39,7 +39,7 @@ pub struct Growth {
 }
 
 // The component of a vertex of a split group is active.
-fn flag_label(flags: &mut [u8], summary: u64, label: u32)
+fn flag_label(flags: &mut [u8; MAX_DUALS], summary: u64, label: u32)
     ensures { λ r. ⌜ new flags ≡ flagged (old flags) summary label ⌝ }
 {
     if summary == 1 {
@@ -48,8 +48,8 @@ fn flag_label(flags: &mut [u8], summary: u64, label: u32)
 }
 
 // 1 for each active component number, 0 for the others.
-fn active_flags(groups: &[u8], labels: &[u32]) -> [u8; MAX_DUALS]
-    ensures { λ r. ⌜ r ≡ tabulate maxDuals (λ c. counted (active (problemOf (groupsAlone (old groups))) (λ v. getD (old labels) v 0) c) 1) ⌝ }
+fn active_flags(groups: &[u8], labels: &[u32; MAX_VERTICES]) -> [u8; MAX_DUALS]
+    ensures { λ r. ⌜ r ≡ activeFlags (old groups) (old labels) ⌝ }
 {
     let table = survey_groups::spreads(groups, labels);
     let mut flags = [0u8; MAX_DUALS];
@@ -74,12 +74,12 @@ fn raised(x: u64, flag: u8, d: u64) -> u64
 }
 
 // Every active component is raised.
-fn raise_values(values: &mut [u64], flags: &[u8], d: u64)
-    requires { ⌜ Room (now values) d ⌝ }
+fn raise_values(values: &mut [u64; MAX_DUALS], flags: &[u8; MAX_DUALS], d: u64)
+    requires { ⌜ RaiseFits (now values) d ⌝ }
     ensures { λ r. ⌜ new values ≡ raisedValues (old flags) d (old values) ⌝ }
 {
     let mut c = 0;
-    while c < values.len() {
+    while c < MAX_DUALS {
         let x = raised(at64(values, c), base_buffer::at8(flags, c), d);
         put64(values, c, x);
         c += 1;
@@ -87,8 +87,14 @@ fn raise_values(values: &mut [u64], flags: &[u8], d: u64)
 }
 
 // Every vertex of an active component is loaded more.
-fn raise_loads(loads: &mut [u64], labels: &[u32], flags: &[u8], n: usize, d: u64)
-    requires { ⌜ Room (now loads) d ⌝ }
+fn raise_loads(
+    loads: &mut [u64; MAX_VERTICES],
+    labels: &[u32; MAX_VERTICES],
+    flags: &[u8; MAX_DUALS],
+    n: usize,
+    d: u64,
+)
+    requires { ⌜ RaiseFits (now loads) d ⌝ }
     ensures { λ r. ⌜ new loads ≡ raisedLoads (old labels) (old flags) n d (old loads) ⌝ }
 {
     let mut v = 0;
@@ -101,7 +107,7 @@ fn raise_loads(loads: &mut [u64], labels: &[u32], flags: &[u8], n: usize, d: u64
 }
 
 // Edge e is the pick of round r.
-fn note_pick(picked: &mut [u8], order: &mut [u32], e: usize, r: usize)
+fn note_pick(picked: &mut [u8; MAX_EDGES], order: &mut [u32; MAX_VERTICES], e: usize, r: usize)
     requires { ⌜ e < 2 ^ 32 ⌝ }
     ensures { λ x. ⌜ new picked ≡ set (old picked) e 1 ⌝ }
     ensures { λ x. ⌜ new order ≡ set (old order) r e ⌝ }
@@ -116,21 +122,25 @@ fn round(
     firsts: &[u32],
     seconds: &[u32],
     weights: &[u32],
-    labels: &mut [u32],
-    loads: &mut [u64],
-    values: &mut [u64],
-    picked: &mut [u8],
-    order: &mut [u32],
-    keys: &mut [u64],
-    floors: &mut [u64],
+    labels: &mut [u32; MAX_VERTICES],
+    loads: &mut [u64; MAX_VERTICES],
+    values: &mut [u64; MAX_DUALS],
+    picked: &mut [u8; MAX_EDGES],
+    order: &mut [u32; MAX_VERTICES],
+    keys: &mut [u64; MAX_EDGES],
+    floors: &mut [u64; MAX_BLOCKS],
     r: usize,
     time: u64,
 ) -> Delay
-    requires { ⌜ Growing (surveyFrom (now groups) (now firsts) (now seconds) (now weights)) r time (now keys) (now floors) (now labels) (now loads) (now values) (now picked) (now order) ⌝ }
-    ensures { λ x. ⌜ delayIn x ≡ waitOf (winner (problemOf (lentSurvey groups firsts seconds weights)) (stateAt (problemOf (lentSurvey groups firsts seconds weights)) r)) ⌝ }
-    ensures { λ x. ⌜ View (problemOf (lentSurvey groups firsts seconds weights)) (r + 1) (new labels) (new loads) (new values) (new picked) (new order) ⌝ }
-    ensures { λ x. ⌜ new keys ≡ passOf (problemOf (lentSurvey groups firsts seconds weights)) (stateAt (problemOf (lentSurvey groups firsts seconds weights)) r) time (old keys) (old floors) .scanned .keys ⌝ }
-    ensures { λ x. ⌜ new floors ≡ passOf (problemOf (lentSurvey groups firsts seconds weights)) (stateAt (problemOf (lentSurvey groups firsts seconds weights)) r) time (old keys) (old floors) .floors ⌝ }
+    requires { ⌜ Represents (surveyFrom (now groups) (now firsts) (now seconds) (now weights)) r time
+        (arraysFrom (now labels) (now loads) (now values) (now picked) (now order) (now keys) (now floors)) ⌝ }
+    ensures { λ x.
+        let p = problemOf (lentSurvey groups firsts seconds weights) in
+        ⌜ delayIn x ≡ winnerDelay (winner p (stateAt p r)) ⌝ }
+    ensures { λ x.
+        let s = lentSurvey groups firsts seconds weights in
+        let a = newArrays labels loads values picked order keys floors in
+        ⌜ Represents s (roundsAfter r (delayIn x)) (timeAfter time (delayIn x)) a ⌝ }
 {
     let flags = active_flags(groups, labels);
     let found = plan_winner::find_winner(
@@ -161,8 +171,8 @@ fn round(
 }
 
 // The sum of the first `count` values.
-fn sum_values(values: &[u64], count: usize) -> u64
-    requires { ⌜ Small (now values) count ⌝ }
+fn sum_values(values: &[u64; MAX_DUALS], count: usize) -> u64
+    requires { ⌜ SumFits (now values) count ⌝ }
     ensures { λ r. ⌜ r ≡ sumBelow count (λ c. getD (old values) c 0) ⌝ }
 {
     let mut sum = 0;
@@ -183,7 +193,7 @@ fn finished(
     picked: [u8; MAX_EDGES],
     order: [u32; MAX_VERTICES],
 ) -> Growth
-    requires { ⌜ Small values (n + rounds) ⌝ }
+    requires { ⌜ SumFits values (n + rounds) ⌝ }
     ensures { λ r. ⌜ r ≡ growthFrom rounds (sumBelow (n + rounds) (λ c. getD values c 0)) labels values picked order ⌝ }
 {
     let bound = sum_values(&values, n + rounds);
@@ -200,7 +210,7 @@ fn finished(
 // Rounds until no candidate is left.
 fn grow_rounds(groups: &[u8], firsts: &[u32], seconds: &[u32], weights: &[u32]) -> Growth
     requires { ⌜ SurveySound (surveyFrom (now groups) (now firsts) (now seconds) (now weights)) ⌝ }
-    ensures { λ r. ⌜ Shows (problemOf (lentSurvey groups firsts seconds weights)) (length (old groups)) r ⌝ }
+    ensures { λ r. ⌜ GrownAfter (problemOf (lentSurvey groups firsts seconds weights)) (length (old groups)) r ⌝ }
 {
     let mut labels = [0u32; MAX_VERTICES];
     let mut loads = [0u64; MAX_VERTICES];
@@ -208,7 +218,7 @@ fn grow_rounds(groups: &[u8], firsts: &[u32], seconds: &[u32], weights: &[u32]) 
     let mut picked = [0u8; MAX_EDGES];
     let mut order = [0u32; MAX_VERTICES];
     let mut keys = [0u64; MAX_EDGES];
-    let mut floors = [0u64; 129];
+    let mut floors = [0u64; MAX_BLOCKS];
     survey_components::own_labels(&mut labels);
     let mut time = 0;
     let mut r = 0;
@@ -239,7 +249,7 @@ fn grow_rounds(groups: &[u8], firsts: &[u32], seconds: &[u32], weights: &[u32]) 
 
 // No round at all.
 fn no_rounds() -> Growth
-    ensures { λ r. ⌜ ((p : Problem) → Shows p 0 r) ⌝ }
+    ensures { λ r. ⌜ ((p : Problem) → GrownAfter p 0 r) ⌝ }
 {
     let mut labels = [0u32; MAX_VERTICES];
     survey_components::own_labels(&mut labels);
@@ -255,14 +265,13 @@ fn no_rounds() -> Growth
 
 // Growth to its end; a refused survey has no round.
 pub fn grow(groups: &[u8], firsts: &[u32], seconds: &[u32], weights: &[u32]) -> Growth
-    ensures { λ r. ⌜ Shows (problemOf (lentSurvey groups firsts seconds weights)) (written (surveyRefusal (lentSurvey groups firsts seconds weights)) (length (old groups)) 0) r ⌝ }
+    ensures { λ r.
+        let s = lentSurvey groups firsts seconds weights in
+        ⌜ GrownAfter (problemOf s) (written (surveyRefusal s) (length (old groups)) 0) r ⌝ }
 {
     let found = survey_core::survey_refusal(groups, firsts, seconds, weights);
-    if let Verdict::Refused {
-        number: _,
-        place: _,
-    } = found {
+    let Verdict::Fine = found else {
         return no_rounds();
-    }
+    };
     grow_rounds(groups, firsts, seconds, weights)
 }

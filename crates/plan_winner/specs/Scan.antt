@@ -1,32 +1,36 @@
 -- A scan for the winner that passes over edges which cannot win yet. An edge's key is twice the time at which it is reached if both its ends are active from now
 -- on; time is the sum of the delays so far. Keys that were noted in earlier rounds still bound that time from below (law `keyed-next`), so that an edge whose key is
 -- not below twice the time of the best so far needs no look, and the winner is the winner among all edges (law `scan-wins`). This is how the code looks for it; what
--- `grow` answers is said without it, by the rounds of `steiner: Growth`.
+-- `grow` answers is said without it, by the rounds of `theory_steiner: Growth`.
 use Prim.Native.Nat.{ℕ, zero, suc, _+_, _*_, _-_, _/_, _<_, _≤_, _^_}
 use mathlib.Core.Path.{_≡_}
 use mathlib.Core.Bool.{cond}
 use mathlib.Core.List.{List}
 use lib.ListN.{getD, set}
 use lib.Dec.{eqb, ltb}
-use Rattle.base_limits.specs.Limits.{maxWeight}
+use Rattle.base_limits.specs.Limits.{maxEdges, maxWeight}
 use Rattle.theory_steiner.specs.Problem.{Problem}
 use Rattle.theory_steiner.specs.Growth.{State, slack, Delay, Winner, nobody, edge, better, delay}
 
--- The key of an edge inside a component, which is never reached.
+-- The key of an edge inside a component, which is never reached: no sum of the search comes to it.
 abbrev pub noKey : ℕ
-noKey = 18446744073709551615
+noKey = 2 ^ 64 - 1
+
+-- The search goes by times below this; twice the sum of two of them is below `noKey`.
+abbrev pub timeLimit : ℕ
+timeLimit = 2 ^ 62
 
 unfoldable pub key : Problem → State → (time e : ℕ) → ℕ
 key p s time e = cond (eqb (s .label (p .first e)) (s .label (p .second e))) noKey (2 * time + slack p s e)
 
--- The time that the search goes by: no growth comes to 2^62 (law `capped-is`), and a later time is taken for the last before it.
+-- The time that the search goes by: no growth comes to the limit (law `capped-is`), and a later time is taken for the last before it.
 unfoldable pub cappedTime : (time : ℕ) → ℕ
-cappedTime time = cond (ltb time (2 ^ 62)) time (2 ^ 62 - 1)
+cappedTime time = cond (ltb time timeLimit) time (timeLimit - 1)
 
 -- Twice the time of the best so far.
 unfoldable pub limitOf : (time : ℕ) → Winner → ℕ
 limitOf time nobody = noKey
-limitOf time (edge e d) = cond (ltb d (2 ^ 62)) (2 * (time + d)) noKey
+limitOf time (edge e d) = cond (ltb d timeLimit) (2 * (time + d)) noKey
 
 -- The best of the edges so far, and the keys as noted.
 pub record Scan : Type 0 where
@@ -56,11 +60,6 @@ pub record Keyed (p : Problem) (s : State) (time : ℕ) (keys : List ℕ) : Type
   pub early : time ≤ s .rounds * (2 * maxWeight)
   pub low : (e : ℕ) → e < p .edges → (s .label (p .first e) ≡ s .label (p .second e) → ⊥) → getD keys e 0 ≤ 2 * time + slack p s e
 
--- The time after a round.
-unfoldable pub timeAfter : (time : ℕ) → Winner → ℕ
-timeAfter time nobody = time
-timeAfter time (edge e d) = time + d
-
 -- ---- blocks
 
 -- Edges come in blocks, and a block's floor is not above any of its keys (law `passes-scan`: blocks whose floors say so are passed over whole).
@@ -75,10 +74,14 @@ blockSize m b = cond (ltb (m - blockEdges * b) blockEdges) (m - blockEdges * b) 
 unfoldable pub blocksOf : (m : ℕ) → ℕ
 blocksOf m = m / blockEdges + 1
 
+-- Blocks, at most.
+abbrev pub maxBlocks : ℕ
+maxBlocks = maxEdges / blockEdges + 1
+
 -- The lowest of so many keys.
-unfoldable pub lowest : (keys : List ℕ) (from count : ℕ) → ℕ
-lowest keys from zero = noKey
-lowest keys from (suc k) = let x = lowest keys from k in let y = getD keys (from + k) 0 in cond (ltb y x) y x
+unfoldable pub lowestKey : (keys : List ℕ) (from count : ℕ) → ℕ
+lowestKey keys from zero = noKey
+lowestKey keys from (suc k) = let x = lowestKey keys from k in let y = getD keys (from + k) 0 in cond (ltb y x) y x
 
 -- What the blocks so far leave.
 pub record Pass : Type 0 where
@@ -89,16 +92,16 @@ unfoldable pub blockPass : (delays : ℕ → Delay) (fresh : ℕ → ℕ) (time 
 blockPass delays fresh time m s b =
     let t = scanOn delays fresh time (s .scanned) (blockEdges * b) (blockSize m b) in
     cond (ltb (getD (s .floors) b 0) (limitOf time (s .scanned .best)))
-    (record { scanned = t; floors = set (s .floors) b (lowest (t .keys) (blockEdges * b) (blockSize m b)) })
+    (record { scanned = t; floors = set (s .floors) b (lowestKey (t .keys) (blockEdges * b) (blockSize m b)) })
     s
 
-unfoldable pub passes : (delays : ℕ → Delay) (fresh : ℕ → ℕ) (time m : ℕ) (keys floors : List ℕ) → ℕ → Pass
-passes delays fresh time m keys floors zero = record { scanned = record { best = nobody; keys = keys }; floors = floors }
-passes delays fresh time m keys floors (suc b) = blockPass delays fresh time m (passes delays fresh time m keys floors b) b
+unfoldable pub passesBelow : (delays : ℕ → Delay) (fresh : ℕ → ℕ) (time m : ℕ) (keys floors : List ℕ) → ℕ → Pass
+passesBelow delays fresh time m keys floors zero = record { scanned = record { best = nobody; keys = keys }; floors = floors }
+passesBelow delays fresh time m keys floors (suc b) = blockPass delays fresh time m (passesBelow delays fresh time m keys floors b) b
 
 -- All blocks of a round.
 unfoldable pub passOf : Problem → State → (time : ℕ) → (keys floors : List ℕ) → Pass
-passOf p s time keys floors = passes (delay p s) (key p s time) time (p .edges) keys floors (blocksOf (p .edges))
+passOf p s time keys floors = passesBelow (delay p s) (key p s time) time (p .edges) keys floors (blocksOf (p .edges))
 
 -- No floor of a block is above its keys.
 pub record Floored (m : ℕ) (keys floors : List ℕ) : Type 0 where

@@ -1,12 +1,13 @@
--- The search over tables: what it reads from arrays (laws of `growth` say that it is what the definition reads).
+-- The search over tables: what it reads from arrays (laws of `plan_growth` say that it is what the definition reads).
 use Prim.Native.Nat.{ℕ, _+_, _*_, _-_}
 use mathlib.Core.Bool.{cond}
 use mathlib.Core.List.{List}
 use lib.ListN.{getD, length}
 use lib.Dec.{eqb}
+use Rattle.base_buffer.specs.Lent.{Buffer, old}
 use Rattle.theory_steiner.specs.Growth.{Delay, Winner}
 use Rattle.plan_delay.specs.Between.{delayBetween}
-use Rattle.plan_winner.specs.Scan.{noKey, Scan, scanOn, Pass, passes}
+use Rattle.plan_winner.specs.Scan.{noKey, Scan, scanOn, Pass, passesBelow}
 
 pub record Tables : Type 0 where
   pub firsts : List ℕ
@@ -21,6 +22,11 @@ pub record Tables : Type 0 where
 abbrev pub tablesFrom : (firsts seconds weights labels loads flags : List ℕ) → Tables
 tablesFrom firsts seconds weights labels loads flags =
     record { firsts = firsts; seconds = seconds; weights = weights; labels = labels; loads = loads; flags = flags }
+
+-- The tables that six lent buffers held when the call began.
+abbrev pub tablesIn : (firsts seconds weights labels loads flags : Buffer) → Tables
+tablesIn firsts seconds weights labels loads flags =
+    tablesFrom (old firsts) (old seconds) (old weights) (old labels) (old loads) (old flags)
 
 unfoldable pub delayBy : Tables → ℕ → Delay
 delayBy t e = delayBetween (t .labels) (t .loads) (t .flags) (getD (t .firsts) e 0) (getD (t .seconds) e 0) (getD (t .weights) e 0)
@@ -37,7 +43,7 @@ unfoldable pub onBy : Tables → (time : ℕ) → Scan → (from count : ℕ) �
 onBy t time s from count = scanOn (delayBy t) (keyBy t time) time s from count
 
 unfoldable pub passBy : Tables → (time : ℕ) → (keys floors : List ℕ) → ℕ → Pass
-passBy t time keys floors b = passes (delayBy t) (keyBy t time) time (length (t .firsts)) keys floors b
+passBy t time keys floors b = passesBelow (delayBy t) (keyBy t time) time (length (t .firsts)) keys floors b
 
 -- A best and keys to go on from.
 abbrev pub scanFrom : Winner → (keys : List ℕ) → Scan

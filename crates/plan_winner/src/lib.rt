@@ -1,30 +1,45 @@
-// The search for a round's winner over arrays: edges that cannot win yet are passed over by their keys, and blocks by their floors. Definitions in specs/.
+// The search for a round's winner over arrays: edges that cannot win yet are passed over by their keys, and blocks by
+// their floors. Definitions in specs/.
 ghost use Rattle.base_buffer.specs.Lent.{old, new};
 ghost use mathlib.Core.Path.{_≡_};
-ghost use Prim.Native.Nat.{_+_, _-_, _*_, _<_, _≤_, _^_};
+ghost use Prim.Native.Nat.{_+_, _-_, _*_, _<_, _≤_};
 ghost use lib.ListN.{set, length};
-ghost use lib.Dec.{eqb};
-ghost use Rattle.theory_steiner.specs.Growth.{delayOf, better};
-ghost use Rattle.plan_winner.specs.Scan.{limitOf, cappedTime, blockEdges, blockSize, blocksOf, lowest};
-ghost use Rattle.plan_winner.specs.Tables.{tablesFrom, delayBy, keyBetween, keyBy, onBy, passBy, scanFrom};
-ghost use Rattle.plan_delay.specs.Between.{delayIn, winnerIn, delayBetween};
+ghost use Rattle.theory_steiner.specs.Growth.{better};
+ghost use Rattle.plan_winner.specs.Scan.{timeLimit, limitOf, cappedTime};
+ghost use Rattle.plan_winner.specs.Scan.{blockEdges, blockSize, blocksOf, lowestKey};
+ghost use Rattle.plan_winner.specs.Tables.{tablesIn, delayBy, keyBetween, keyBy, onBy, passBy, scanFrom};
+ghost use Rattle.plan_delay.specs.Between.{winnerIn};
 use base_buffer::at64;
 use base_buffer::put64;
-use plan_delay::Delay;
+use base_limits::MAX_EDGES;
 use plan_delay::Winner;
 use plan_delay::better_of;
 use plan_delay::delay_between;
 use plan_delay::edge_slack;
 
+// The key of an edge inside a component (`noKey`).
+const NO_KEY: u64 = 18446744073709551615;
+
+// The search goes by times below 2^62, whose sums fit (`timeLimit`).
+const TIME_LIMIT: u64 = 4611686018427387904;
+
+const LAST_TIME: u64 = TIME_LIMIT - 1;
+
+// Edges of a whole block (`blockEdges`).
+const BLOCK_EDGES: usize = 16;
+
+// Blocks, at most (`maxBlocks`).
+pub const MAX_BLOCKS: usize = MAX_EDGES / BLOCK_EDGES + 1;
+
 // The key of an edge between two vertices.
 fn key_between(labels: &[u32], loads: &[u64], time: u64, a: usize, b: usize, weight: u32) -> u64
-    requires { ⌜ time < 2 ^ 62 ⌝ }
+    requires { ⌜ time < timeLimit ⌝ }
     ensures { λ r. ⌜ r ≡ keyBetween (old labels) (old loads) time a b weight ⌝ }
 {
     let x = base_buffer::at32(labels, a);
     let y = base_buffer::at32(labels, b);
     if x == y {
-        return 18446744073709551615;
+        return NO_KEY;
     }
     let left = edge_slack(weight, at64(loads, a), at64(loads, b));
     2 * time + left
@@ -32,16 +47,16 @@ fn key_between(labels: &[u32], loads: &[u64], time: u64, a: usize, b: usize, wei
 
 // Twice the time of the best so far.
 fn limit_of(time: u64, best: Winner) -> u64
-    requires { ⌜ time < 2 ^ 62 ⌝ }
+    requires { ⌜ time < timeLimit ⌝ }
     ensures { λ r. ⌜ r ≡ limitOf time (winnerIn best) ⌝ }
 {
     let Winner::Edge { e: _, d } = best else {
-        return 18446744073709551615;
+        return NO_KEY;
     };
-    if d < 4611686018427387904 {
+    if d < TIME_LIMIT {
         return 2 * (time + d);
     }
-    18446744073709551615
+    NO_KEY
 }
 
 // Looks at edge e: the best with it, and its key noted.
@@ -57,9 +72,13 @@ fn look(
     e: usize,
     best: Winner,
 ) -> Winner
-    requires { ⌜ time < 2 ^ 62 ⌝ }
-    ensures { λ r. ⌜ winnerIn r ≡ better (winnerIn best) e (delayBy (tablesFrom (old firsts) (old seconds) (old weights) (old labels) (old loads) (old flags)) e) ⌝ }
-    ensures { λ r. ⌜ new keys ≡ set (old keys) e (keyBy (tablesFrom (old firsts) (old seconds) (old weights) (old labels) (old loads) (old flags)) time e) ⌝ }
+    requires { ⌜ time < timeLimit ⌝ }
+    ensures { λ r.
+        let t = tablesIn firsts seconds weights labels loads flags in
+        ⌜ winnerIn r ≡ better (winnerIn best) e (delayBy t e) ⌝ }
+    ensures { λ r.
+        let t = tablesIn firsts seconds weights labels loads flags in
+        ⌜ new keys ≡ set (old keys) e (keyBy t time e) ⌝ }
 {
     let a = base_buffer::index32(base_buffer::at32(firsts, e));
     let b = base_buffer::index32(base_buffer::at32(seconds, e));
@@ -82,16 +101,20 @@ fn scan_block(
     to: usize,
     best: Winner,
 ) -> Winner
-    requires { ⌜ time < 2 ^ 62 ⌝ }
-    ensures { λ r. ⌜ winnerIn r ≡ onBy (tablesFrom (old firsts) (old seconds) (old weights) (old labels) (old loads) (old flags)) time (scanFrom (winnerIn best) (old keys)) from (to - from) .best ⌝ }
-    ensures { λ r. ⌜ new keys ≡ onBy (tablesFrom (old firsts) (old seconds) (old weights) (old labels) (old loads) (old flags)) time (scanFrom (winnerIn best) (old keys)) from (to - from) .keys ⌝ }
+    requires { ⌜ time < timeLimit ⌝ }
+    ensures { λ r.
+        let t = tablesIn firsts seconds weights labels loads flags in
+        ⌜ winnerIn r ≡ onBy t time (scanFrom (winnerIn best) (old keys)) from (to - from) .best ⌝ }
+    ensures { λ r.
+        let t = tablesIn firsts seconds weights labels loads flags in
+        ⌜ new keys ≡ onBy t time (scanFrom (winnerIn best) (old keys)) from (to - from) .keys ⌝ }
 {
-    let mut champion = best;
+    let mut winner = best;
     let mut limit = limit_of(time, best);
     let mut e = from;
     while e < to {
         if at64(keys, e) < limit {
-            champion = look(
+            winner = look(
                 firsts,
                 seconds,
                 weights,
@@ -101,20 +124,20 @@ fn scan_block(
                 time,
                 keys,
                 e,
-                champion,
+                winner,
             );
-            limit = limit_of(time, champion);
+            limit = limit_of(time, winner);
         }
         e += 1;
     }
-    champion
+    winner
 }
 
 // The lowest of some keys.
 fn lowest_key(keys: &[u64], from: usize, to: usize) -> u64
-    ensures { λ r. ⌜ r ≡ lowest (old keys) from (to - from) ⌝ }
+    ensures { λ r. ⌜ r ≡ lowestKey (old keys) from (to - from) ⌝ }
 {
-    let mut low = 18446744073709551615;
+    let mut low = NO_KEY;
     let mut e = from;
     while e < to {
         let key = at64(keys, e);
@@ -131,11 +154,11 @@ fn block_size(m: usize, b: usize) -> usize
     requires { ⌜ blockEdges * b ≤ m ⌝ }
     ensures { λ r. ⌜ r ≡ blockSize m b ⌝ }
 {
-    let left = m - 16 * b;
-    if left < 16 {
+    let left = m - BLOCK_EDGES * b;
+    if left < BLOCK_EDGES {
         return left;
     }
-    16
+    BLOCK_EDGES
 }
 
 // Looks through block b, and notes its floor.
@@ -152,15 +175,23 @@ fn pass_block(
     b: usize,
     best: Winner,
 ) -> Winner
-    requires { ⌜ time < 2 ^ 62 ⌝ }
+    requires { ⌜ time < timeLimit ⌝ }
     requires { ⌜ blockEdges * b ≤ length (now firsts) ⌝ }
-    ensures { λ r. ⌜ winnerIn r ≡ onBy (tablesFrom (old firsts) (old seconds) (old weights) (old labels) (old loads) (old flags)) time (scanFrom (winnerIn best) (old keys)) (blockEdges * b) (blockSize (length (old firsts)) b) .best ⌝ }
-    ensures { λ r. ⌜ new keys ≡ onBy (tablesFrom (old firsts) (old seconds) (old weights) (old labels) (old loads) (old flags)) time (scanFrom (winnerIn best) (old keys)) (blockEdges * b) (blockSize (length (old firsts)) b) .keys ⌝ }
-    ensures { λ r. ⌜ new floors ≡ set (old floors) b (lowest (new keys) (blockEdges * b) (blockSize (length (old firsts)) b)) ⌝ }
+    ensures { λ r.
+        let t = tablesIn firsts seconds weights labels loads flags in
+        let size = blockSize (length (old firsts)) b in
+        ⌜ winnerIn r ≡ onBy t time (scanFrom (winnerIn best) (old keys)) (blockEdges * b) size .best ⌝ }
+    ensures { λ r.
+        let t = tablesIn firsts seconds weights labels loads flags in
+        let size = blockSize (length (old firsts)) b in
+        ⌜ new keys ≡ onBy t time (scanFrom (winnerIn best) (old keys)) (blockEdges * b) size .keys ⌝ }
+    ensures { λ r.
+        let size = blockSize (length (old firsts)) b in
+        ⌜ new floors ≡ set (old floors) b (lowestKey (new keys) (blockEdges * b) size) ⌝ }
 {
-    let from = 16 * b;
+    let from = BLOCK_EDGES * b;
     let to = from + block_size(firsts.len(), b);
-    let champion = scan_block(
+    let winner = scan_block(
         firsts,
         seconds,
         weights,
@@ -174,20 +205,21 @@ fn pass_block(
         best,
     );
     put64(floors, b, lowest_key(keys, from, to));
-    champion
+    winner
 }
 
 // The time that the search goes by: a later one is taken for the last whose sums fit.
 fn capped_time(time: u64) -> u64
     ensures { λ r. ⌜ r ≡ cappedTime time ⌝ }
 {
-    if time < 4611686018427387904 {
+    if time < TIME_LIMIT {
         return time;
     }
-    4611686018427387903
+    LAST_TIME
 }
 
-// The smallest delay, and among equals the lowest edge. Blocks whose floors say that all their edges come later are passed over.
+// The smallest delay, and among equals the lowest edge. Blocks whose floors say that all their edges come later are
+// passed over.
 pub fn find_winner(
     firsts: &[u32],
     seconds: &[u32],
@@ -199,14 +231,23 @@ pub fn find_winner(
     keys: &mut [u64],
     floors: &mut [u64],
 ) -> Winner
-    ensures { λ r. ⌜ winnerIn r ≡ passBy (tablesFrom (old firsts) (old seconds) (old weights) (old labels) (old loads) (old flags)) (cappedTime time) (old keys) (old floors) (blocksOf (length (old firsts))) .scanned .best ⌝ }
-    ensures { λ r. ⌜ new keys ≡ passBy (tablesFrom (old firsts) (old seconds) (old weights) (old labels) (old loads) (old flags)) (cappedTime time) (old keys) (old floors) (blocksOf (length (old firsts))) .scanned .keys ⌝ }
-    ensures { λ r. ⌜ new floors ≡ passBy (tablesFrom (old firsts) (old seconds) (old weights) (old labels) (old loads) (old flags)) (cappedTime time) (old keys) (old floors) (blocksOf (length (old firsts))) .floors ⌝ }
+    ensures { λ r.
+        let t = tablesIn firsts seconds weights labels loads flags in
+        let blocks = blocksOf (length (old firsts)) in
+        ⌜ winnerIn r ≡ passBy t (cappedTime time) (old keys) (old floors) blocks .scanned .best ⌝ }
+    ensures { λ r.
+        let t = tablesIn firsts seconds weights labels loads flags in
+        let blocks = blocksOf (length (old firsts)) in
+        ⌜ new keys ≡ passBy t (cappedTime time) (old keys) (old floors) blocks .scanned .keys ⌝ }
+    ensures { λ r.
+        let t = tablesIn firsts seconds weights labels loads flags in
+        let blocks = blocksOf (length (old firsts)) in
+        ⌜ new floors ≡ passBy t (cappedTime time) (old keys) (old floors) blocks .floors ⌝ }
 {
     let capped = capped_time(time);
     let mut best = Winner::Nobody;
-    let mut limit = 18446744073709551615;
-    let blocks = firsts.len() / 16 + 1;
+    let mut limit = NO_KEY;
+    let blocks = firsts.len() / BLOCK_EDGES + 1;
     let mut b = 0;
     while b < blocks {
         if at64(floors, b) < limit {

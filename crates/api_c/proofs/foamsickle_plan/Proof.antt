@@ -32,17 +32,17 @@ same-length-2 c = search needs
 same-length-3 : tie.Need-same-length-3
 same-length-3 c = search needs
 
+-- finished
 returns : tie.Need-returns
-returns c = (
-  finished-code _ _ (c .before .before .before .before .before .before .before .before .before .before .before .plan .ensures .0) _ _ _ _ _ (c .before .before .before .before .before .answer .given .1),
-  (
-    c .before .before .before .before .before .before .before .before .before .before .before .plan .ensures .1 .0,
-    (
-      c .before .before .before .before .before .before .before .before .before .before .before .plan .ensures .1 .1 .0,
-      c .before .before .store-counts .ensures ∙ finished-counts _ _ (c .before .before .before .before .before .before .before .before .before .before .before .plan .ensures .0) _ _ _ _ _ (c .before .before .before .before .before .answer .given .1) _,
-    ),
-  ),
-)
+returns c =
+    let call = c .before .before .before .before .before .before .before .before .before .before .before in
+    let told = c .before .before .before .before .before .answer .given .1 in (
+      finished-code _ _ (call .plan .ensures .0) _ _ _ _ _ told,
+      (
+        call .plan .ensures .1 .0,
+        (call .plan .ensures .1 .1 .0, c .before .before .store-counts .ensures ∙ finished-counts _ _ (call .plan .ensures .0) _ _ _ _ _ told _),
+      ),
+    )
 
 same-length-4 : tie.Need-same-length-4
 same-length-4 c = search needs
@@ -50,17 +50,14 @@ same-length-4 c = search needs
 same-length-5 : tie.Need-same-length-5
 same-length-5 c = search needs
 
+-- refused
 returns-2 : tie.Need-returns-2
-returns-2 c = (
-  refused-code _ _ (c .before .before .before .before .before .before .before .plan .ensures .0) _ _ (c .before .answer2 .given .1),
-  (
-    c .before .before .before .before .before .before .before .plan .ensures .1 .0,
-    (
-      c .before .before .before .before .before .before .before .plan .ensures .1 .1 .0,
-      refused-counts _ _ (c .before .before .before .before .before .before .before .plan .ensures .0) _ _ (c .before .answer2 .given .1) _,
-    ),
-  ),
-)
+returns-2 c =
+    let call = c .before .before .before .before .before .before .before in
+    let told = c .before .answer2 .given .1 in (
+      refused-code _ _ (call .plan .ensures .0) _ _ told,
+      (call .plan .ensures .1 .0, (call .plan .ensures .1 .1 .0, refused-counts _ _ (call .plan .ensures .0) _ _ told _)),
+    )
 
 pub foamsickle-plan-spec : {M : Type 1} → statement M
 foamsickle-plan-spec =

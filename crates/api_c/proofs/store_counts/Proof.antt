@@ -24,7 +24,9 @@ same-length c = search needs
 
 returns : tie.Need-returns
 returns c =
-    five-stores (c .before .before .before .before .before .before .before .before .before .before .before .before .before .before .before .before .before .before .before .before .before .args .counts .now) (c .before .before .before .before .before .before .before .before .before .before .before .before .before .before .before .before .before .before .before .before .before .args .terminals) (c .before .before .before .before .before .before .before .before .before .before .before .before .before .before .before .before .before .before .before .before .before .args .cost) (c .before .before .before .before .before .before .before .before .before .before .before .before .before .before .before .before .before .before .before .before .before .args .bound) (c .before .before .before .before .before .before .before .before .before .before .before .before .before .before .before .before .before .before .before .before .before .args .rounds) (c .before .before .before .before .before .before .before .before .before .before .before .before .before .before .before .before .before .before .before .before .before .args .duals) (c .before .before .before .before .before .before .before .before .before .before .before .before .before .before .before .before .before .before .put64 .ensures) (c .before .before .before .before .before .before .before .before .before .before .before .before .before .before .put642 .ensures) (c .before .before .before .before .before .before .before .before .before .before .put643 .ensures) (c .before .before .before .before .before .before .put644 .ensures)
+    let first = c .before .before .before .before .before .before .before .before .before .before .before .before .before .before .before .before .before .before in
+    let entry = first .before .before .before in
+    five-stores (entry .args .counts .now) (entry .args .terminals) (entry .args .cost) (entry .args .bound) (entry .args .rounds) (entry .args .duals) (first .put64 .ensures) (c .before .before .before .before .before .before .before .before .before .before .before .before .before .before .put642 .ensures) (c .before .before .before .before .before .before .before .before .before .before .put643 .ensures) (c .before .before .before .before .before .before .put644 .ensures)
     (c .before .before .put645 .ensures)
 
 pub store-counts-spec : {M : Type 1} → statement M

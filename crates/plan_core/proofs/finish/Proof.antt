@@ -1,6 +1,6 @@
 -- `finish` meets its contract: what growing, dropping and drawing leave is the plan (`finish-plan`).
 use mathlib.Core.Path.{refl}
-use Rattle.plan_core.specs.Laws.Code.{prunable, drawable, finish-plan}
+use Rattle.plan_core.specs.Laws.Finish.{prunable, drawable, finish-plan}
 use Rattle.check_marks.specs.Cost.{kept-cost-all}
 use borrow.Author.Needs.{needs}
 use Rattle.plan_core.proofs.finish.Statement.{statement}
@@ -13,7 +13,7 @@ slice-aggregate-prune : tie.Need-slice-aggregate-prune
 slice-aggregate-prune c = search needs
 
 prune-requires : tie.Need-prune-requires
-prune-requires c κs = prunable _ _ _ _ _ _ (c .before .before .before .before .before .before .before .before .before .before .before .before .pre) _ (c .before .before .before .before .before .grow .ensures)
+prune-requires c κs = prunable (c .before .before .before .before .before .before .before .before .before .before .before .before .pre) (c .before .before .before .before .before .grow .ensures)
 
 slice-aggregate-draw : tie.Need-slice-aggregate-draw
 slice-aggregate-draw c = search needs
@@ -22,7 +22,9 @@ slice-aggregate-draw-2 : tie.Need-slice-aggregate-draw-2
 slice-aggregate-draw-2 c = search needs
 
 draw-requires : tie.Need-draw-requires
-draw-requires c κs = drawable _ _ _ _ _ _ (c .before .before .before .before .before .before .before .before .before .before .before .before .before .before .before .before .before .before .pre) _ (c .before .before .before .before .before .before .before .before .before .before .before .grow .ensures) _ refl
+draw-requires c κs =
+    let entry = c .before .before .before .before .before .before .before .before .before .before .before .before .before .before .before .before .before .before in
+    drawable (entry .pre) (c .before .before .before .before .before .before .before .before .before .before .before .grow .ensures) _ refl
 
 terminals-requires : tie.Need-terminals-requires
 terminals-requires c κs = search needs
@@ -36,16 +38,20 @@ wide-requires c κs = search needs
 wide-requires-2 : tie.Need-wide-requires-2
 wide-requires-2 c κs = search needs
 
+-- marks
 same-length : tie.Need-same-length
 same-length c = search needs
 
+-- records
 same-length-2 : tie.Need-same-length-2
 same-length-2 c = search needs
 
 returns : tie.Need-returns
 returns c =
-    finish-plan _ _ _ _ _ _ (c .before .before .before .before .before .before .before .before .before .before .before .before .before .before .before .before .before .before .before .before .before .before .before .before .before .before .pre) _ (c .before .before .before .before .before .before .before .before .before .before .before .before .before .before .before .before .before .before .before .grow .ensures) _ _ _ _ _ _ _ (c .before .before .before .before .before .before .before .before .before .before .before .before .before .prune .ensures) (c .before .before .before .before .before .before .before .draw .ensures .0)
-    (c .before .before .before .before .before .before .before .draw .ensures .1) (c .before .before .before .before .terminals .ensures) (kept-cost-all _ _ _ (c .before .before .before .before .before .before .before .before .before .before .before .before .before .before .before .before .before .before .before .before .before .before .before .before .before .before .pre .survey .edges-few) (c .before .before .kept-cost .ensures)) (c .before .wide .ensures) (c .wide2 .ensures)
+    let growth = c .before .before .before .before .before .before .before .before .before .before .before .before .before .before .before .before .before .before .before in
+    let entry = growth .before .before .before .before .before .before .before in
+    finish-plan (entry .pre) (growth .grow .ensures) _ _ refl (c .before .before .before .before .before .before .before .before .before .before .before .before .before .prune .ensures) (c .before .before .before .before .before .before .before .draw .ensures .0)
+    (c .before .before .before .before .before .before .before .draw .ensures .1) (c .before .before .before .before .terminals .ensures) (kept-cost-all _ _ _ (entry .pre .survey .edges-few) (c .before .before .kept-cost .ensures)) (c .before .wide .ensures) (c .wide2 .ensures)
 
 pub finish-spec : {M : Type 1} → statement M
 finish-spec =

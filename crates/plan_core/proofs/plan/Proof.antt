@@ -15,6 +15,7 @@ plan-refusal-requires c κs = search needs
 enum-known-found : tie.Need-enum-known-found
 enum-known-found c = search needs
 
+-- refused
 returns : tie.Need-returns
 unfolding outcomeOf
 returns c =
@@ -27,16 +28,20 @@ finish-requires : tie.Need-finish-requires
 finish-requires c κs =
     fine-ready _ (λ v. omega (arith, c .before .before .before .before .before .before .before .before .before .before .shared-slice-known .given v)) _ _ (sym (c .before .before .before .before .plan-refusal .ensures) ∙ c .before .before .enum-told .given .1)
 
+-- marks
 same-length : tie.Need-same-length
 same-length c = search needs
 
+-- records
 same-length-2 : tie.Need-same-length-2
 same-length-2 c = search needs
 
+-- finished
 returns-2 : tie.Need-returns-2
 unfolding edgeCount
 returns-2 c =
-    finished-call _ (λ v. omega (arith, c .before .before .before .before .before .before .before .before .before .before .before .before .before .before .before .shared-slice-known .given v)) _ _ _ _ _ (sym (c .before .before .before .before .before .before .before .before .before .plan-refusal .ensures) ∙ c .before .before .before .before .before .before .before .enum-told .given .1)
+    let bytes = c .before .before .before .before .before .before .before .before .before .before .before .before .before .before .before in
+    finished-call _ (λ v. omega (arith, bytes .shared-slice-known .given v)) _ _ _ _ _ (sym (c .before .before .before .before .before .before .before .before .before .plan-refusal .ensures) ∙ c .before .before .before .before .before .before .before .enum-told .given .1)
     (c .before .before .before .before .finish .ensures .0) (c .before .before .before .before .finish .ensures .1 .0) (c .before .before .before .before .finish .ensures .1 .1)
 
 pub plan-spec : {M : Type 1} → statement M

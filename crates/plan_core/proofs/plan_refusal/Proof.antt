@@ -6,36 +6,35 @@ use Rattle.plan_core.specs.Laws.Ready.{survey-stops, room-stops, groups-
 use borrow.Author.Needs.{needs}
 use Rattle.plan_core.proofs.plan_refusal.Statement.{statement}
 use Rattle.plan_core.proofs.plan_refusal.Tie as tie
-use Rattle.plan_core.proofs.room_refusal.Reads as room-refusal-reads
-use Rattle.survey_components.proofs.group_refusal.Reads as group-refusal-reads
-use Rattle.survey_core.proofs.survey_refusal.Reads as survey-refusal-reads
 
 survey-refusal-requires : tie.Need-survey-refusal-requires
 survey-refusal-requires c κs = search needs
 
-enum-known-unsound : tie.Need-enum-known-unsound
-enum-known-unsound c = search needs
-
-returns : tie.Need-returns
-returns c = sym (survey-stops _ _ _ (sym (c .before .before .before .survey-refusal .ensures) ∙ c .before .unsound .given .1))
-
 enum-told : tie.Need-enum-told
 enum-told c = search needs
+
+enum-told-2 : tie.Need-enum-told-2
+enum-told-2 c = search needs
+
+-- 1 to 6
+returns : tie.Need-returns
+returns c = survey-stops _ _ _ (c .before .before .survey-refusal .ensures) (c .enum-told2 .given .1)
 
 room-refusal-requires : tie.Need-room-refusal-requires
 room-refusal-requires c κs = fine-survey _ (sym (c .before .before .survey-refusal .ensures) ∙ c .enum-told .given .1) .few
 
-enum-known-short : tie.Need-enum-known-short
-enum-known-short c = search needs
+enum-told-3 : tie.Need-enum-told-3
+enum-told-3 c = search needs
 
+enum-told-4 : tie.Need-enum-told-4
+enum-told-4 c = search needs
+
+-- 7
 returns-2 : tie.Need-returns-2
 unfolding edgeCount vertexCount
 returns-2 c =
-    sym (room-stops _ _ _ (sym (c .before .before .before .before .before .before .survey-refusal .ensures) ∙ c .before .before .before .before .enum-told .given .1)
-    (sym (c .before .before .before .room-refusal .ensures) ∙ c .before .short .given .1))
-
-enum-told-2 : tie.Need-enum-told-2
-enum-told-2 c = search needs
+    let sound = c .before .before .before in
+    room-stops _ _ _ (sound .before .before .survey-refusal .ensures) (sound .enum-told .given .1) (c .before .before .room-refusal .ensures) (c .enum-told4 .given .1)
 
 slice-aggregate-group-refusal : tie.Need-slice-aggregate-group-refusal
 slice-aggregate-group-refusal c = search needs
@@ -43,25 +42,26 @@ slice-aggregate-group-refusal c = search needs
 group-refusal-requires : tie.Need-group-refusal-requires
 group-refusal-requires c κs = search needs
 
+-- 8
 returns-3 : tie.Need-returns-3
 unfolding edgeCount vertexCount
 returns-3 c =
-    c .group-refusal .ensures
-    ∙ sym (groups-decide _ _ _ _ (sym (c .before .before .before .before .before .before .before .survey-refusal .ensures) ∙ c .before .before .before .before .before .enum-told .given .1)
-    (sym (c .before .before .before .before .room-refusal .ensures) ∙ c .before .before .enum-told2 .given .1))
+    let long = c .before .before in
+    let sound = long .before .before .before in
+    groups-decide _ _ _ (sound .before .before .survey-refusal .ensures) (sound .enum-told .given .1) (long .before .before .room-refusal .ensures) _ (long .enum-told3 .given .1) (c .group-refusal .ensures)
 
 pub plan-refusal-spec : {M : Type 1} → statement M
 plan-refusal-spec =
     tie.close
     (tie.spec
     survey-refusal-requires
-    enum-known-unsound
-    returns
     enum-told
-    room-refusal-requires
-    enum-known-short
-    returns-2
     enum-told-2
+    returns
+    room-refusal-requires
+    enum-told-3
+    enum-told-4
+    returns-2
     slice-aggregate-group-refusal
     group-refusal-requires
     returns-3)

@@ -2,15 +2,17 @@
 use mathlib.Core.Path.{sym}
 use native.Mathlib.Omega.{arith}
 use borrow.Author.Needs.{needs}
-use Rattle.plan_core.specs.Laws.Ready.{marks-short, records-short, room-enough}
+use Rattle.plan_core.specs.Laws.Ready.{marks-short, records-short, buffers-fit}
 use Rattle.plan_core.proofs.room_refusal.Statement.{statement}
 use Rattle.plan_core.proofs.room_refusal.Tie as tie
 
+-- 7: the buffer for marks is short
 returns : tie.Need-returns
 returns c = sym (marks-short (c .before .args .n) (c .before .args .m) (c .before .args .marks) (c .before .args .records) (c .if1 .taken))
 
+-- no vertex needs no record
 returns-2 : tie.Need-returns-2
-returns-2 c = sym (room-enough (c .before .before .args .n) (c .before .before .args .m) (c .before .before .args .marks) (c .before .before .args .records) (omega arith) (omega arith))
+returns-2 c = sym (buffers-fit (c .before .before .args .n) (c .before .before .args .m) (c .before .before .args .marks) (c .before .before .args .records) (omega arith) (omega arith))
 
 mul-if3 : tie.Need-mul-if3
 mul-if3 c = search needs
@@ -21,11 +23,13 @@ sub-if3 c = search needs
 mul-if3-2 : tie.Need-mul-if3-2
 mul-if3-2 c = search needs
 
+-- 7: the buffer for records is short
 returns-3 : tie.Need-returns-3
 returns-3 c = sym (records-short (c .before .before .before .args .n) (c .before .before .before .args .m) (c .before .before .before .args .marks) (c .before .before .before .args .records) (c .if3 .taken))
 
+-- both are long enough
 returns-4 : tie.Need-returns-4
-returns-4 c = sym (room-enough (c .before .before .before .args .n) (c .before .before .before .args .m) (c .before .before .before .args .marks) (c .before .before .before .args .records) (omega arith) (omega arith))
+returns-4 c = sym (buffers-fit (c .before .before .before .args .n) (c .before .before .before .args .m) (c .before .before .before .args .marks) (c .before .before .before .args .records) (omega arith) (omega arith))
 
 pub room-refusal-spec : {M : Type 1} → statement M
 room-refusal-spec =

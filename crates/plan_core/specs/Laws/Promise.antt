@@ -18,23 +18,22 @@ use Rattle.base_limits.specs.Verdict.{Outcome, refusal, refuseIf, _before_, low
 use Rattle.base_limits.specs.declared.Verdict.{Verdict}
 use Rattle.base_limits.specs.declared.Verdict.the-variants.{Fine, Refused}
 use Rattle.base_limits.specs.Laws.Verdict.{before-fine, refuse-true, refuse-false, lowest-none, lowest-found, lowest-elim, Lowest, refused-refuse, fine-refuse}
-use Rattle.theory_steiner.specs.Problem.{Sound, EdgeSet, allUsable}
+use Rattle.theory_steiner.specs.Problem.{Sound, allUsable}
 use Rattle.theory_steiner.specs.Pruning.{picked}
 use Rattle.theory_steiner.specs.Laws.Rounds.{grown-reached, picked-count}
-use Rattle.survey_core.specs.Survey.{Survey, vertexCount, edgeCount, problemOf, groupJoined, componentsOf, JoinsGroup}
+use Rattle.survey_core.specs.Survey.{Survey, vertexCount, edgeCount, problemOf, groupJoined, componentsOf}
 use Rattle.survey_core.specs.Refusal.{edgeRefusal, surveyRefusal, groupRefusal, LowestUnjoined}
-use Rattle.survey_core.specs.Accuracy.{Accurate}
-use Rattle.survey_core.specs.Sound.{SurveySound, Numbered}
 use Rattle.survey_core.specs.Laws.Refusal.{survey-fine, fine-survey, survey-sound}
+use Rattle.survey_core.specs.Sound.{Numbered}
 use Rattle.survey_core.specs.Laws.Group.{group-joined-elim, group-joined-intro, group-refused, unjoinable-iff}
 use Rattle.survey_core.specs.Laws.Member.{member-elim}
 use Rattle.theory_steiner.specs.Laws.Finish.{allUsable-edges}
-use Rattle.check_rule.specs.Check.{checking}
 use Rattle.check_rule.specs.Laws.Accuracy.{answered}
 use Rattle.plan_duals.specs.Drawing.{recordsOf, recordsOver}
 use Rattle.plan_duals.specs.Laws.Drawing.{length-records}
 use Rattle.plan_core.specs.Plan.{planOf, planRefusal, Counts, countsOf, counting, marksAfter, recordsAfter}
-use Rattle.plan_core.specs.Laws.Ready.{Ready, fine-ready, ready-fine, all-bounded, room-enough}
+use Rattle.plan_core.specs.Promise.{Ready, Unjoinable, FinishedPlan, Promises}
+use Rattle.plan_core.specs.Laws.Ready.{fine-ready, ready-fine, all-bounded, buffers-fit}
 use Rattle.plan_core.specs.Laws.Passes.{finished-passes, finished-accurate}
 
 -- ---- which test a number comes from
@@ -71,14 +70,6 @@ survey-at-most s =
     (before-at-most 6 _ _ (refuse-at-most _ 6 5 e (lit≤ tt)) (refuse-at-most _ 6 6 e (lit≤ tt)))))))
 
 -- ---- 8
-
--- The survey is sound and the buffers long enough, and g is the lowest group that no set of tracks joins.
-pub record Unjoinable (s : Survey) (marksLength recordsLength g : ℕ) : Type 0 where
-  pub survey : SurveySound s
-  pub marks-fit : edgeCount s ≤ marksLength
-  pub records-fit : recordBytes * dualsOf (vertexCount s) ≤ recordsLength
-  pub none-joins : (F : ℕ → Bool) → EdgeSet (problemOf s) F → JoinsGroup s F g → ⊥
-  pub lower-joined : (i : ℕ) → i < g → JoinsGroup s (allUsable (problemOf s)) i
 
 module _ (s : Survey) (marksLength recordsLength : ℕ) where
   short : Bool
@@ -122,7 +113,7 @@ module _ (s : Survey) (marksLength recordsLength : ℕ) where
   unfolding planRefusal groupRefusal
   unjoinable-eight numbered g u =
       before-fine (survey-fine s (u .survey)) _
-      ∙ before-fine (room-enough (vertexCount s) (edgeCount s) marksLength recordsLength (u .marks-fit) (u .records-fit)) _
+      ∙ before-fine (buffers-fit (vertexCount s) (edgeCount s) marksLength recordsLength (u .marks-fit) (u .records-fit)) _
       ∙ lowest-found groupNumbers g _ below
       (lowest-none g _ (λ i b. refuse-false (rw (group-joined-intro s (allUsable (problemOf s)) (all-bounded s) i (u .lower-joined i b))) 8 i))
       (refuse-true (not-of-false (groupJoined s (componentsOf s (allUsable (problemOf s))) g) apart) 8 g)
@@ -150,15 +141,6 @@ rounds-of : (s : Survey) → Sound (problemOf s) → planOf (problemOf s) .round
 unfolding planOf picked problemOf
 rounds-of s ok = sym (picked-count (problemOf s) ok (grown-reached (problemOf s)))
 
--- What the counts of a finished plan say, and what the two buffers then hold.
-pub record FinishedPlan (s : Survey) (marks records : List ℕ) (c : Counts) : Type 0 where
-  pub ready : Ready s (length marks) (length records)
-  pub rounds-picked : c .rounds ≡ countBelow (edgeCount s) (picked (problemOf s))
-  pub passes :
-      checking s (take (edgeCount s) (marksAfter s marks records)) (take (recordBytes * c .duals) (recordsAfter s marks records))
-      ≡ answer (record { terminals = c .terminals; cost = c .cost; bound = c .bound })
-  pub accurate : Accurate s (c .terminals) (c .cost)
-
 module _ (s : Survey) (numbered : Numbered s) (marks records : List ℕ) (fine : planRefusal s (length marks) (length records) ≡ Fine) where
   -- The marks and the records of a finished plan, cut from the buffers.
   pub cut-marks : take (edgeCount s) (marksAfter s marks records) ≡ planOf (problemOf s) .marks
@@ -182,8 +164,8 @@ module _ (s : Survey) (numbered : Numbered s) (marks records : List ℕ) (fine :
       record {
         ready = r;
         rounds-picked = rounds-are r;
-        passes = rw (cut-marks, cut-records) (finished-passes s (r .survey) (r .joinable) numbered);
-        accurate = finished-accurate s (r .survey) (r .joinable);
+        passes-checker = rw (cut-marks, cut-records) (finished-passes s (r .survey) (r .joinable) numbered);
+        accuracy = finished-accurate s (r .survey) (r .joinable);
       }
     where
       rounds-are : Ready s (length marks) (length records) → planOf (problemOf s) .rounds ≡ countBelow (edgeCount s) (picked (problemOf s))
@@ -212,15 +194,6 @@ unfolding outcome
 refusal-verdict Fine a number place h = absurd (let z : _≡_ {A = ℕ} 0 1 = cc in omega arith)
 refusal-verdict (Refused x y) a number place h = cc
 
--- What the call promises beside its answer and its buffers.
-pub record Promises (s : Survey) (marks records : List ℕ) (o : Outcome Counts) : Type 0 where
-  -- finished exactly if none of 1 to 8 applies
-  pub finished : (c : Counts) → o ≡ answer c → FinishedPlan s marks records c
-  pub finishes : Ready s (length marks) (length records) → o ≡ answer (countsOf (planOf (problemOf s)))
-  -- 8 exactly if some group cannot be joined by any set of tracks, and then the lowest
-  pub unjoinable : (g : ℕ) → o ≡ refusal 8 g → Unjoinable s (length marks) (length records) g
-  pub unjoined : (g : ℕ) → Unjoinable s (length marks) (length records) g → o ≡ refusal 8 g
-
 pub planning-promises : (s : Survey) → Numbered s → (marks records : List ℕ) (o : Outcome Counts) → o ≡ counting s (length marks) (length records) →
     Promises s marks records o
 unfolding counting outcome
@@ -231,7 +204,7 @@ planning-promises s numbered marks records o h =
       unjoinable = λ g k.
           eight-unjoinable s (length marks) (length records) g
           (refusal-verdict (planRefusal s (length marks) (length records)) (countsOf (planOf (problemOf s))) 8 g (sym h ∙ k));
-      unjoined = λ g u.
+      unjoinable-refused = λ g u.
           h ∙ ap (λ v. outcome v (countsOf (planOf (problemOf s)))) (unjoinable-eight s (length marks) (length records) numbered g u);
     }
 

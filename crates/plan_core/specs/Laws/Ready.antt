@@ -10,26 +10,21 @@ use borrow.Author.Tests.{lt-ltb, ltb-false, le-ltb}
 use Rattle.base_finite.specs.Laws.Test.{or-left, or-right, or-false-left, or-false-right}
 use Rattle.base_limits.specs.Limits.{recordBytes, dualsOf, groupNumbers}
 use Rattle.base_limits.specs.Verdict.{refuseIf, _before_, lowestBelow}
+use Rattle.base_limits.specs.declared.Verdict.{Verdict}
 use Rattle.base_limits.specs.declared.Verdict.the-variants.{Fine, Refused}
 use Rattle.base_limits.specs.Laws.Verdict.{before-fine, before-refused, fine-left, fine-right, refuse-true, refuse-false, fine-refuse}
-use Rattle.theory_steiner.specs.Problem.{Joins, allUsable}
+use Rattle.theory_steiner.specs.Problem.{allUsable}
 use Rattle.theory_steiner.specs.Laws.Finish.{allUsable-edges}
 use Rattle.theory_graph.specs.Laws.Component.{components-cong}
 use Rattle.survey_core.specs.Survey.{Survey, vertexCount, edgeCount, problemOf, groupJoined, componentsOf}
 use Rattle.survey_components.specs.Labels.{chosenMark, chosen}
 use Rattle.survey_components.specs.declared.Chosen.the-variants.{All}
 use Rattle.survey_core.specs.Refusal.{surveyRefusal, groupRefusal}
-use Rattle.survey_core.specs.Sound.{SurveySound, Numbered}
 use Rattle.survey_core.specs.Laws.Refusal.{survey-fine, fine-survey}
+use Rattle.survey_core.specs.Sound.{Numbered}
 use Rattle.survey_core.specs.Laws.Group.{group-fine, joins-fine}
 use Rattle.plan_core.specs.Plan.{planRefusal}
-
--- None of 1 to 8 applies.
-pub record Ready (s : Survey) (marksLength recordsLength : ℕ) : Type 0 where
-  pub survey : SurveySound s
-  pub marks-fit : edgeCount s ≤ marksLength
-  pub records-fit : recordBytes * dualsOf (vertexCount s) ≤ recordsLength
-  pub joinable : Joins (problemOf s) (allUsable (problemOf s))
+use Rattle.plan_core.specs.Promise.{Ready}
 
 pub all-bounded : (s : Survey) (e : ℕ) → allUsable (problemOf s) e ≡ true → e < problemOf s .edges
 all-bounded s e h = allUsable-edges (problemOf s) e h .0
@@ -71,8 +66,8 @@ module _ (n m marks records : ℕ) where
   pub records-short : records < recordBytes * dualsOf n → refuseIf (ltb marks m || ltb records (recordBytes * dualsOf n)) 7 0 ≡ Refused 7 0
   records-short h = refuse-true (or-right (ltb marks m) (ltb records (recordBytes * dualsOf n)) (lt-ltb records (recordBytes * dualsOf n) h)) 7 0
 
-  pub room-enough : m ≤ marks → recordBytes * dualsOf n ≤ records → refuseIf (ltb marks m || ltb records (recordBytes * dualsOf n)) 7 0 ≡ Fine
-  room-enough h k = refuse-false (rw (le-ltb marks m h, le-ltb records (recordBytes * dualsOf n) k)) 7 0
+  pub buffers-fit : m ≤ marks → recordBytes * dualsOf n ≤ records → refuseIf (ltb marks m || ltb records (recordBytes * dualsOf n)) 7 0 ≡ Fine
+  buffers-fit h k = refuse-false (rw (le-ltb marks m h, le-ltb records (recordBytes * dualsOf n) k)) 7 0
 
 -- All tracks are all usable ones, as far as components go.
 groups-of-all : (s : Survey) (number : ℕ) (marks : List ℕ) → groupRefusal s number (allUsable (problemOf s)) ≡ groupRefusal s number (chosen All marks)
@@ -82,24 +77,21 @@ groups-of-all s number marks =
     (components-cong (vertexCount s) (problemOf s .first) (problemOf s .second) (allUsable (problemOf s)) (chosen All marks) (edgeCount s)
     (λ e b. rw (lt-ltb e (edgeCount s) b)))
 
--- ---- the refusals as the code finds them
+-- ---- the refusals as the code finds them: v is the survey's, w that of 7
 
-module _ (s : Survey) (marksLength recordsLength : ℕ) where
-  pub survey-stops : {number place : ℕ} → surveyRefusal s ≡ Refused number place → planRefusal s marksLength recordsLength ≡ Refused number place
+module _ (s : Survey) (marksLength recordsLength : ℕ) {v : Verdict} (v-is : v ≡ surveyRefusal s) where
+  pub survey-stops : {number place : ℕ} → v ≡ Refused number place → v ≡ planRefusal s marksLength recordsLength
   unfolding planRefusal
-  survey-stops h = before-refused h _
+  survey-stops h = h ∙ sym (before-refused (sym v-is ∙ h) _)
 
-  pub room-stops : {number place : ℕ} → surveyRefusal s ≡ Fine →
-      refuseIf (ltb marksLength (edgeCount s) || ltb recordsLength (recordBytes * dualsOf (vertexCount s))) 7 0 ≡ Refused number place →
-      planRefusal s marksLength recordsLength ≡ Refused number place
-  unfolding planRefusal
-  room-stops h k = before-fine h _ ∙ before-refused k _
+  module _ {w : Verdict} (h : v ≡ Fine)
+      (w-is : w ≡ refuseIf (ltb marksLength (edgeCount s) || ltb recordsLength (recordBytes * dualsOf (vertexCount s))) 7 0) where
+    pub room-stops : {number place : ℕ} → w ≡ Refused number place → w ≡ planRefusal s marksLength recordsLength
+    unfolding planRefusal
+    room-stops k = k ∙ sym (before-fine (sym v-is ∙ h) _ ∙ before-refused (sym w-is ∙ k) _)
 
-  pub groups-decide : (marks : List ℕ) → surveyRefusal s ≡ Fine →
-      refuseIf (ltb marksLength (edgeCount s) || ltb recordsLength (recordBytes * dualsOf (vertexCount s))) 7 0 ≡ Fine →
-      planRefusal s marksLength recordsLength ≡ (surveyRefusal s before groupRefusal s 8 (chosen All marks))
-  unfolding planRefusal
-  groups-decide marks h k = before-fine h _ ∙ before-fine k _ ∙ all-tracks ∙ sym (before-fine h _)
-    where
-      all-tracks : groupRefusal s 8 (allUsable (problemOf s)) ≡ groupRefusal s 8 (chosen All marks)
-      all-tracks = groups-of-all s 8 marks
+    pub groups-decide : (marks : List ℕ) {x : Verdict} → w ≡ Fine → x ≡ (surveyRefusal s before groupRefusal s 8 (chosen All marks)) → x ≡ planRefusal s marksLength recordsLength
+    unfolding planRefusal
+    groups-decide marks k e =
+        let sound = sym v-is ∙ h in
+        e ∙ before-fine sound _ ∙ sym (before-fine sound _ ∙ before-fine (sym w-is ∙ k) _ ∙ groups-of-all s 8 marks)

@@ -12,6 +12,7 @@ enum-known-delay c = search needs
 enum-told : tie.Need-enum-told
 enum-told c = search needs
 
+-- no candidate
 returns : tie.Need-returns
 unfolding better delayIn winnerIn
 returns c = rw (c .enum-told .given .1)
@@ -22,14 +23,17 @@ enum-known-best c = search needs
 enum-told-2 : tie.Need-enum-told-2
 enum-told-2 c = search needs
 
+-- the first candidate
 returns-2 : tie.Need-returns-2
 unfolding better delayIn winnerIn
 returns-2 c = rw (c .before .before .before .delay .given .1, c .enum-told2 .given .1)
 
+-- a smaller delay
 returns-3 : tie.Need-returns-3
 unfolding better delayIn winnerIn
 returns-3 c = rw (c .before .before .before .before .before .delay .given .1, c .before .before .best .given .1, lt-ltb _ _ (c .if1 .taken))
 
+-- no smaller delay
 returns-4 : tie.Need-returns-4
 unfolding better delayIn winnerIn
 returns-4 c = rw (c .before .before .before .before .before .delay .given .1, c .before .before .best .given .1, le-ltb _ _ (c .if1 .left))

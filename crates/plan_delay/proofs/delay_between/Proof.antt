@@ -11,6 +11,7 @@ at32-requires c κs = search needs
 at32-requires-2 : tie.Need-at32-requires-2
 at32-requires-2 c κs = search needs
 
+-- inside a component
 returns : tie.Need-returns
 unfolding delayIn
 returns c = delay-inside _ _ _ _ (c .before .before .at32 .ensures) (c .before .at322 .ensures) _ _ (c .if1 .taken)
@@ -39,6 +40,7 @@ at8-requires-2 c κs = search needs
 delay-of-requires : tie.Need-delay-of-requires
 delay-of-requires c κs = search needs
 
+-- between two
 returns-2 : tie.Need-returns-2
 returns-2 c =
     delay-apart

@@ -5,18 +5,22 @@ use Rattle.plan_delay.specs.Between.{delayIn}
 use Rattle.plan_delay.proofs.delay_of.Statement.{statement}
 use Rattle.plan_delay.proofs.delay_of.Tie as tie
 
+-- both ends active
 returns : tie.Need-returns
 unfolding delayOf delayIn
 returns c = rw (eq-eqb (c .before .before .args .first) 1 (c .before .if1 .taken), eq-eqb (c .before .before .args .second) 1 (c .if2 .taken))
 
+-- the first alone
 returns-2 : tie.Need-returns-2
 unfolding delayOf delayIn
 returns-2 c = rw (eq-eqb (c .before .before .args .first) 1 (c .before .if1 .taken), ne-eqb (c .before .before .args .second) 1 (c .if2 .left))
 
+-- the second alone
 returns-3 : tie.Need-returns-3
 unfolding delayOf delayIn
 returns-3 c = rw (ne-eqb (c .before .before .args .first) 1 (c .before .if1 .left), eq-eqb (c .before .before .args .second) 1 (c .if3 .taken))
 
+-- neither
 returns-4 : tie.Need-returns-4
 unfolding delayOf delayIn
 returns-4 c = rw (ne-eqb (c .before .before .args .first) 1 (c .before .if1 .left), ne-eqb (c .before .before .args .second) 1 (c .if3 .left))

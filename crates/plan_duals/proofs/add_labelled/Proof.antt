@@ -10,9 +10,11 @@ add-member-requires c κs = search needs
 same-length : tie.Need-same-length
 same-length c = search needs
 
+-- a member
 returns : tie.Need-returns
 returns c = rw (eq-eqb _ _ (c .before .before .before .before .if1 .taken)) (c .before .before .add-member .ensures)
 
+-- no member
 returns-2 : tie.Need-returns-2
 returns-2 c = rw (ne-eqb (c .before .before .args .label) (c .before .before .args .c) (c .if1 .left))
 

@@ -5,9 +5,10 @@ use borrow.Author.Needs.{needs}
 use Rattle.plan_duals.proofs.arise.Statement.{statement}
 use Rattle.plan_duals.proofs.arise.Tie as tie
 
+-- a single vertex
 returns : tie.Need-returns
 unfolding arisen
-returns c = rw (lt-ltb (c .before .before .before .before .before .args .c) (c .before .before .before .before .before .args .n) (c .if1 .taken))
+returns c = rw (lt-ltb (c .before .before .before .before .args .c) (c .before .before .before .before .args .n) (c .if1 .taken))
 
 at32-requires : tie.Need-at32-requires
 at32-requires c κs = search needs
@@ -27,12 +28,10 @@ cast-merge c = search needs
 merge-requires : tie.Need-merge-requires
 merge-requires c κs = search needs
 
-same-length : tie.Need-same-length
-same-length c = search needs
-
+-- a merged component
 returns-2 : tie.Need-returns-2
 unfolding arisen endOf
-returns-2 c = rw (le-ltb (c .before .before .before .before .before .before .before .before .before .before .before .before .before .args .c) (c .before .before .before .before .before .before .before .before .before .before .before .before .before .args .n) (c .before .before .before .before .before .before .before .before .if1 .left), ← c .before .before .before .before .before .before .before .at32 .ensures, ← c .before .before .before .before .before .before .index32 .ensures, ← c .before .before .before .before .at322 .ensures, ← c .before .before .before .at323 .ensures) (c .before .before .merge .ensures)
+returns-2 c = rw (le-ltb (c .before .before .before .before .before .before .before .before .before .before .args .c) (c .before .before .before .before .before .before .before .before .before .before .args .n) (c .before .before .before .before .before .before .if1 .left), ← c .before .before .before .before .before .at32 .ensures, ← c .before .before .before .before .index32 .ensures, ← c .before .before .at322 .ensures, ← c .before .at323 .ensures) (c .merge .ensures)
 
 pub arise-spec : {M : Type 1} → statement M
 arise-spec =
@@ -45,5 +44,4 @@ arise-spec =
     at32-requires-3
     cast-merge
     merge-requires
-    same-length
     returns-2)

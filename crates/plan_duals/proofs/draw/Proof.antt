@@ -1,13 +1,11 @@
 -- `draw` meets its contract: up to component number c, the labels are the trace's and the duals stand in the buffer.
 use borrow.Author.Needs.{needs}
 use Prim.Native.Nat.{_+_, _≤_, _-_}
-use mathlib.Core.Path.{refl, ap, sym, _∙_}
-use lib.ListN.{length}
-use Rattle.base_finite.specs.Laws.Below.{length-tabulate}
+use mathlib.Core.Path.{refl, _∙_}
 use Rattle.base_limits.specs.Limits.{maxVertices}
 use Rattle.base_buffer.specs.Laws.Store.{remade-table}
 use Rattle.plan_duals.specs.Trace.{traceFrom}
-use Rattle.plan_duals.specs.Laws.Drawing.{drawn-fits, drawn-length}
+use Rattle.plan_duals.specs.Laws.Drawing.{written-fits, written-length}
 use Rattle.plan_duals.specs.Laws.Trace.{Replayed, replayed-none, replayed-more, replayed-end}
 use native.Mathlib.Omega.{arith}
 use Rattle.plan_duals.proofs.draw.Statement.{statement}
@@ -34,26 +32,23 @@ loop-holds : tie.Need-loop-holds Inv-loop μ-loop
 loop-holds c =
     (omega arith, replayed-none _ _ (c .before .own-labels .ensures ∙ remade-table (λ v x. v) maxVertices _ (λ v. v) refl (λ v b. refl)))
 
-slice-aggregate-arise : tie.Need-slice-aggregate-arise Inv-loop μ-loop
-slice-aggregate-arise c = sym (ap length (c .before .before .loop .inv .1 .labels-are) ∙ length-tabulate maxVertices _)
-
 arise-requires : tie.Need-arise-requires Inv-loop μ-loop
 arise-requires c κs = let pre = c .before .before .before .before .before .before .before .before .before .before .before .pre in omega arith
 
 at64-requires : tie.Need-at64-requires Inv-loop μ-loop
 at64-requires c κs = search needs
 
-slice-aggregate-write-dual : tie.Need-slice-aggregate-write-dual Inv-loop μ-loop
-slice-aggregate-write-dual c = sym (c .before .before .before .before .arise .kept .0 ∙ ap length (c .before .before .before .before .before .before .before .loop .inv .1 .labels-are) ∙ length-tabulate maxVertices _)
-
 cast-write-dual : tie.Need-cast-write-dual Inv-loop μ-loop
-cast-write-dual c = let pre = c .before .before .before .before .before .before .before .before .before .before .before .before .before .before .before .before .pre in omega arith
+cast-write-dual c =
+    let entry = c .before .before .before .before .before .before .before .before .before .before .before .before .before .before .before in
+    let pre = entry .pre in omega arith
 
 write-dual-requires : tie.Need-write-dual-requires Inv-loop μ-loop
 write-dual-requires c κs =
-    let a = c .before .before .before .before .before .before .before .before .before .before .before .before .before .before .before .before .args in
-    let pre = c .before .before .before .before .before .before .before .before .before .before .before .before .before .before .before .before .pre in
-    drawn-fits _ _ (a .n) (a .n + a .rounds) (c .before .before .before .before .before .before .before .loop .c) (pre .few) (pre .room) (c .before .before .before .before .before .before .loop-test .taken) (c .before .before .before .before .before .before .before .loop .inv .1 .drawn)
+    let entry = c .before .before .before .before .before .before .before .before .before .before .before .before .before .before .before in
+    let a = entry .args in
+    let pre = entry .pre in
+    written-fits _ _ (a .n) (a .n + a .rounds) (c .before .before .before .before .before .before .loop .c) (pre .few) (pre .room) (c .before .before .before .before .before .loop-test .taken) (c .before .before .before .before .before .before .loop .inv .1 .duals-written)
 
 add-c : tie.Need-add-c Inv-loop μ-loop
 add-c c = search needs
@@ -63,10 +58,11 @@ loop-less c = search needs
 
 loop-again : tie.Need-loop-again Inv-loop μ-loop
 loop-again c =
-    let a = c .before .before .before .before .before .before .before .before .before .before .before .before .before .before .before .before .before .before .before .args in
+    let entry = c .before .before .before .before .before .before .before .before .before .before .before .before .before .before .before .before .before .before in
+    let a = entry .args in
     let w = c .before .before .write-dual .ensures in (
       omega arith,
-      replayed-more (traceFrom (a .n) (a .firsts .now) (a .seconds .now) (a .values .now) (a .order .now) (a .rounds)) (c .before .before .before .before .before .before .before .before .before .before .loop .c) (c .before .before .before .before .before .before .before .before .before .before .before .before .before .before .before .before .before .before .before .pre) (c .before .before .before .before .before .before .before .before .before .loop-test .taken) (c .before .before .before .before .before .before .before .before .before .before .loop .inv .1) (c .before .before .before .before .before .before .before .arise .ensures) (c .before .before .before .before .at64 .ensures)
+      replayed-more (traceFrom (a .n) (a .firsts .now) (a .seconds .now) (a .values .now) (a .order .now) (a .rounds)) (c .before .before .before .before .before .before .before .before .before .loop .c) (entry .pre) (c .before .before .before .before .before .before .before .before .loop-test .taken) (c .before .before .before .before .before .before .before .before .before .loop .inv .1) (c .before .before .before .before .before .before .arise .ensures) (c .before .before .before .before .at64 .ensures)
           (w .0)
           (w .1),
     )
@@ -74,12 +70,12 @@ loop-again c =
 same-length : tie.Need-same-length Inv-loop μ-loop
 same-length c =
     let pre = c .before .before .before .before .before .before .before .before .before .before .pre in
-    drawn-length _ _ _ (omega arith) (c .before .loop .inv .1 .drawn)
+    written-length _ _ _ (omega arith) (c .before .loop .inv .1 .duals-written)
 
 returns : tie.Need-returns Inv-loop μ-loop
 returns c =
     let d = replayed-end _ (c .before .loop .c) (omega arith) (omega arith) (c .before .loop .inv .1) in
-    (d .counted, d .written)
+    (d .count-is, d .records-are)
 
 pub draw-spec : {M : Type 1} → statement M
 draw-spec =
@@ -91,10 +87,8 @@ draw-spec =
     own-labels-requires
     add-end
     loop-holds
-    slice-aggregate-arise
     arise-requires
     at64-requires
-    slice-aggregate-write-dual
     cast-write-dual
     write-dual-requires
     add-c

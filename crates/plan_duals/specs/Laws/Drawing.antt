@@ -19,7 +19,7 @@ use Rattle.format_record.specs.Record.{recordOf, recordAt, withMemberIn, starte
 use Rattle.format_record.specs.Laws.Amount.{bytes-append}
 use Rattle.format_record.specs.Laws.Record.{length-record, bytes-record, record-at-first, record-at-right, started-whole, member-added-record}
 use Rattle.theory_steiner.specs.Dual.{Dual}
-use Rattle.plan_duals.specs.Drawing.{recordsOf, recordsOver, recordsFrom, dualIf, dualsBelow, labelled, Drawn, Fits}
+use Rattle.plan_duals.specs.Drawing.{recordsOf, recordsOver, recordsFrom, dualIf, dualsBelow, withLabel, DualsWritten, RecordsFit}
 
 -- ---- records of a list of duals
 
@@ -112,98 +112,98 @@ length-duals value holds (suc c) = simp length-append (omega (arith, length-dual
 
 -- ---- drawing
 
-pub drawn-none : (value : ℕ → ℕ) (holds : ℕ → ℕ → Bool) (old : List ℕ) → Drawn (dualsBelow value holds 0) old old 0
+pub written-none : (value : ℕ → ℕ) (holds : ℕ → ℕ → Bool) (old : List ℕ) → DualsWritten (dualsBelow value holds 0) old old 0
 unfolding dualsBelow recordsOver recordsOf
-drawn-none value holds old = record { counted = refl; written = refl }
+written-none value holds old = record { count-is = refl; records-are = refl }
 
 -- The dual of the next component number, whatever the code calls its value and its members.
-pub drawn-more : (value : ℕ → ℕ) (holds : ℕ → ℕ → Bool) (c : ℕ) {x : ℕ} {S : ℕ → Bool} {old mid new : List ℕ} {k count : ℕ} → x ≡ value c → S ≡ holds c →
-    Drawn (dualsBelow value holds c) old mid k → count ≡ k + length (dualIf x S) → new ≡ recordsFrom k (dualIf x S) mid →
-    Drawn (dualsBelow value holds (c + 1)) old new count
+pub written-more : (value : ℕ → ℕ) (holds : ℕ → ℕ → Bool) (c : ℕ) {x : ℕ} {S : ℕ → Bool} {old mid new : List ℕ} {k count : ℕ} → x ≡ value c → S ≡ holds c →
+    DualsWritten (dualsBelow value holds c) old mid k → count ≡ k + length (dualIf x S) → new ≡ recordsFrom k (dualIf x S) mid →
+    DualsWritten (dualsBelow value holds (c + 1)) old new count
 unfolding dualsBelow
-drawn-more value holds c {x} {S} {old} {mid} {new} {k} e f d a b =
+written-more value holds c {x} {S} {old} {mid} {new} {k} e f d a b =
     let ds = dualsBelow value holds c in
     let es = dualIf (value c) (holds c) in
     let same : dualIf x S ≡ es = ap₂ dualIf e f in
     rw (add-one c)
     (record {
-      counted = simp length-append (omega (arith, d .counted, ap length same));
-      written = b ∙ ap (λ l. recordsFrom k l mid) same ∙ rw (d .counted, d .written) (over-more ds es old);
+      count-is = simp length-append (omega (arith, d .count-is, ap length same));
+      records-are = b ∙ ap (λ l. recordsFrom k l mid) same ∙ rw (d .count-is, d .records-are) (over-more ds es old);
     })
 
 -- The loop has come to the end.
-pub drawn-end : (value : ℕ → ℕ) (holds : ℕ → ℕ → Bool) {i n : ℕ} {old new : List ℕ} {count : ℕ} → i ≤ n → n ≤ i → Drawn (dualsBelow value holds i) old new count →
-    Drawn (dualsBelow value holds n) old new count
-drawn-end value holds {i} {n} b c d = let e : i ≡ n = omega arith in rw e at d
+pub written-end : (value : ℕ → ℕ) (holds : ℕ → ℕ → Bool) {i n : ℕ} {old new : List ℕ} {count : ℕ} → i ≤ n → n ≤ i → DualsWritten (dualsBelow value holds i) old new count →
+    DualsWritten (dualsBelow value holds n) old new count
+written-end value holds {i} {n} b c d = let e : i ≡ n = omega arith in rw e at d
 
-pub drawn-length : (value : ℕ → ℕ) (holds : ℕ → ℕ → Bool) (c : ℕ) {old new : List ℕ} {count : ℕ} → recordBytes * c ≤ length old →
-    Drawn (dualsBelow value holds c) old new count → length new ≡ length old
-drawn-length value holds c {old} room d =
-    ap length (d .written) ∙ length-over (dualsBelow value holds c) old (omega (arith, length-duals value holds c))
+pub written-length : (value : ℕ → ℕ) (holds : ℕ → ℕ → Bool) (c : ℕ) {old new : List ℕ} {count : ℕ} → recordBytes * c ≤ length old →
+    DualsWritten (dualsBelow value holds c) old new count → length new ≡ length old
+written-length value holds c {old} room d =
+    ap length (d .records-are) ∙ length-over (dualsBelow value holds c) old (omega (arith, length-duals value holds c))
 
 -- There is room for one dual more.
-pub drawn-fits : (value : ℕ → ℕ) (holds : ℕ → ℕ → Bool) (n m c : ℕ) {old new : List ℕ} {count : ℕ} → n ≤ maxVertices → recordBytes * m ≤ length old → c < m →
-    Drawn (dualsBelow value holds c) old new count → Fits n (count + 1) new
-drawn-fits value holds n m c {old} few room b d =
+pub written-fits : (value : ℕ → ℕ) (holds : ℕ → ℕ → Bool) (n m c : ℕ) {old new : List ℕ} {count : ℕ} → n ≤ maxVertices → recordBytes * m ≤ length old → c < m →
+    DualsWritten (dualsBelow value holds c) old new count → RecordsFit n (count + 1) new
+written-fits value holds n m c {old} few room b d =
     record {
       few = few;
-      room = omega (arith, drawn-length value holds c (omega arith) d, d .counted, length-duals value holds c);
+      room = omega (arith, written-length value holds c (omega arith) d, d .count-is, length-duals value holds c);
     }
 
 -- ---- members by label
 
-labelled-none : (labels : List ℕ) (c : ℕ) → labelled labels 0 c ≡ (λ v. false)
-unfolding labelled
-labelled-none labels c = fun-ext (λ v. rw (le-ltb v 0 (omega arith)))
+with-label-none : (labels : List ℕ) (c : ℕ) → withLabel labels 0 c ≡ (λ v. false)
+unfolding withLabel
+with-label-none labels c = fun-ext (λ v. rw (le-ltb v 0 (omega arith)))
 
 -- A record with no member yet.
-pub started-none : (part : List ℕ) (x : ℕ) (labels : List ℕ) (c : ℕ) → length part ≡ recordBytes → startedAs part x ≡ recordOf x (labelled labels 0 c)
-started-none part x labels c h = started-whole part x h ∙ ap (recordOf x) (sym (labelled-none labels c))
+pub started-none : (part : List ℕ) (x : ℕ) (labels : List ℕ) (c : ℕ) → length part ≡ recordBytes → startedAs part x ≡ recordOf x (withLabel labels 0 c)
+started-none part x labels c h = started-whole part x h ∙ ap (recordOf x) (sym (with-label-none labels c))
 
-labelled-intro : (labels : List ℕ) (n c v : ℕ) → v < n → getD labels v 0 ≡ c → labelled labels n c v ≡ true
-unfolding labelled
+labelled-intro : (labels : List ℕ) (n c v : ℕ) → v < n → getD labels v 0 ≡ c → withLabel labels n c v ≡ true
+unfolding withLabel
 labelled-intro labels n c v b h = and-both (ltb v n) (eqb (getD labels v 0) c) (lt-ltb v n b) (eq-eqb (getD labels v 0) c h)
 
-labelled-elim : (labels : List ℕ) (n c v : ℕ) → labelled labels n c v ≡ true → (v < n) × (getD labels v 0 ≡ c)
-unfolding labelled
+labelled-elim : (labels : List ℕ) (n c v : ℕ) → withLabel labels n c v ≡ true → (v < n) × (getD labels v 0 ≡ c)
+unfolding withLabel
 labelled-elim labels n c v h =
     (ltb-true v n (and-left (ltb v n) (eqb (getD labels v 0) c) h), eqb-true (getD labels v 0) c (and-right (ltb v n) (eqb (getD labels v 0) c) h))
 
 -- Vertex n joins the members.
-labelled-in : (labels : List ℕ) (n c : ℕ) → getD labels n 0 ≡ c → (λ v. labelled labels n c v || eqb v n) ≡ labelled labels (n + 1) c
-labelled-in labels n c h = fun-ext (λ v. same-test (labelled labels n c v || eqb v n) (labelled labels (n + 1) c v) (to v) (from v (ℕ-discrete v n)))
+with-label-in : (labels : List ℕ) (n c : ℕ) → getD labels n 0 ≡ c → (λ v. withLabel labels n c v || eqb v n) ≡ withLabel labels (n + 1) c
+with-label-in labels n c h = fun-ext (λ v. same-test (withLabel labels n c v || eqb v n) (withLabel labels (n + 1) c v) (to v) (from v (ℕ-discrete v n)))
   where
-    to : (v : ℕ) → (labelled labels n c v || eqb v n) ≡ true → labelled labels (n + 1) c v ≡ true
+    to : (v : ℕ) → (withLabel labels n c v || eqb v n) ≡ true → withLabel labels (n + 1) c v ≡ true
     to v k =
         ⊎-elim
         (λ old. let f = labelled-elim labels n c v old in labelled-intro labels (n + 1) c v (omega arith) (f .1))
         (λ new. let e : v ≡ n = eqb-true v n new in labelled-intro labels (n + 1) c v (omega arith) (ap (λ i. getD labels i 0) e ∙ h))
-        (or-cases (labelled labels n c v) (eqb v n) k)
+        (or-cases (withLabel labels n c v) (eqb v n) k)
 
-    from : (v : ℕ) → Dec (v ≡ n) → labelled labels (n + 1) c v ≡ true → (labelled labels n c v || eqb v n) ≡ true
-    from v (yes e) k = or-right (labelled labels n c v) (eqb v n) (eq-eqb v n e)
+    from : (v : ℕ) → Dec (v ≡ n) → withLabel labels (n + 1) c v ≡ true → (withLabel labels n c v || eqb v n) ≡ true
+    from v (yes e) k = or-right (withLabel labels n c v) (eqb v n) (eq-eqb v n e)
     from v (no d) k =
         let f = labelled-elim labels (n + 1) c v k in
-        or-left (labelled labels n c v) (eqb v n) (labelled-intro labels n c v (omega arith) (f .1))
+        or-left (withLabel labels n c v) (eqb v n) (labelled-intro labels n c v (omega arith) (f .1))
 
 -- Vertex n does not.
-labelled-out : (labels : List ℕ) (n c : ℕ) → (getD labels n 0 ≡ c → ⊥) → labelled labels n c ≡ labelled labels (n + 1) c
-labelled-out labels n c h = fun-ext (λ v. same-test (labelled labels n c v) (labelled labels (n + 1) c v) (to v) (from v (ℕ-discrete v n)))
+with-label-out : (labels : List ℕ) (n c : ℕ) → (getD labels n 0 ≡ c → ⊥) → withLabel labels n c ≡ withLabel labels (n + 1) c
+with-label-out labels n c h = fun-ext (λ v. same-test (withLabel labels n c v) (withLabel labels (n + 1) c v) (to v) (from v (ℕ-discrete v n)))
   where
-    to : (v : ℕ) → labelled labels n c v ≡ true → labelled labels (n + 1) c v ≡ true
+    to : (v : ℕ) → withLabel labels n c v ≡ true → withLabel labels (n + 1) c v ≡ true
     to v k = let f = labelled-elim labels n c v k in labelled-intro labels (n + 1) c v (omega arith) (f .1)
 
-    from : (v : ℕ) → Dec (v ≡ n) → labelled labels (n + 1) c v ≡ true → labelled labels n c v ≡ true
+    from : (v : ℕ) → Dec (v ≡ n) → withLabel labels (n + 1) c v ≡ true → withLabel labels n c v ≡ true
     from v (yes e) k = absurd (h (ap (λ i. getD labels i 0) (sym e) ∙ labelled-elim labels (n + 1) c v k .1))
     from v (no d) k = let f = labelled-elim labels (n + 1) c v k in labelled-intro labels n c v (omega arith) (f .1)
 
 -- One vertex more in a record.
-pub record-more : (x : ℕ) (labels : List ℕ) (n c : ℕ) {part : List ℕ} → n < maxVertices → part ≡ recordOf x (labelled labels n c) →
-    cond (eqb (getD labels n 0) c) (withMemberIn part n) part ≡ recordOf x (labelled labels (n + 1) c)
+pub record-more : (x : ℕ) (labels : List ℕ) (n c : ℕ) {part : List ℕ} → n < maxVertices → part ≡ recordOf x (withLabel labels n c) →
+    cond (eqb (getD labels n 0) c) (withMemberIn part n) part ≡ recordOf x (withLabel labels (n + 1) c)
 record-more x labels n c {part} b h = by (ℕ-discrete (getD labels n 0) c)
   where
-    by : Dec (getD labels n 0 ≡ c) → cond (eqb (getD labels n 0) c) (withMemberIn part n) part ≡ recordOf x (labelled labels (n + 1) c)
+    by : Dec (getD labels n 0 ≡ c) → cond (eqb (getD labels n 0) c) (withMemberIn part n) part ≡ recordOf x (withLabel labels (n + 1) c)
     by (yes e) =
         rw (eq-eqb (getD labels n 0) c e, h)
-        (member-added-record x (labelled labels n c) n (omega arith) ∙ ap (recordOf x) (labelled-in labels n c e))
-    by (no d) = rw (ne-eqb (getD labels n 0) c d) (h ∙ ap (recordOf x) (labelled-out labels n c d))
+        (member-added-record x (withLabel labels n c) n (omega arith) ∙ ap (recordOf x) (with-label-in labels n c e))
+    by (no d) = rw (ne-eqb (getD labels n 0) c d) (h ∙ ap (recordOf x) (with-label-out labels n c d))

@@ -23,7 +23,7 @@ use Rattle.theory_steiner.specs.Laws.Round.{stateAt-reached, pick-rounds, pick-
 use Rattle.theory_steiner.specs.Laws.Partition.{winner-below, members, members-below}
 use Rattle.theory_steiner.specs.Laws.Rounds.{stateAt-pick, stateAt-still, steps-or-still, rounds-lt, grown-reached}
 use Rattle.plan_duals.specs.Drawing.{dualIf, dualsBelow}
-use Rattle.plan_duals.specs.Trace.{Trace, endOf, traceFrom, labelAfter, memberOf, dualsIn, Drawable, Traces}
+use Rattle.plan_duals.specs.Trace.{Trace, endOf, traceFrom, labelAfter, memberOf, traceDuals, Drawable, TraceOf}
 
 -- ---- rounds
 
@@ -75,7 +75,7 @@ picks p r b = by (winner p (stateAt p r)) refl
 merged-same : (f g : ℕ → ℕ) (a a' b b' z z' v : ℕ) → f ≡ g → a ≡ a' → b ≡ b' → z ≡ z' → merged (f a) (f b) z f v ≡ merged (g a') (g b') z' g v
 merged-same f g a a' b b' z z' v h i j k = cc
 
-module _ (p : Problem) (t : Trace) (is : Traces p t) where
+module _ (p : Problem) (t : Trace) (is : TraceOf p t) where
   trace-labels : (r : ℕ) → r ≤ t .rounds → (v : ℕ) → labelAfter t r v ≡ stateAt p r .label v
   unfolding labelAfter stateAt start numbers
   trace-labels zero b v = refl
@@ -173,7 +173,7 @@ duals-map s (suc n) =
     by true = refl
     by false = refl
 
-module _ (p : Problem) (ok : Sound p) (t : Trace) (is : Traces p t) where
+module _ (p : Problem) (ok : Sound p) (t : Trace) (is : TraceOf p t) where
   trace-members : (c : ℕ) → c < t .vertices + t .rounds → memberOf t c ≡ grown p .holds c
   unfolding memberOf labelAfter numbers
   trace-members c b = fun-ext (λ v. ⊎-elim (inside v) (outside v) (lt-or-ge v (t .vertices)))
@@ -206,8 +206,8 @@ module _ (p : Problem) (ok : Sound p) (t : Trace) (is : Traces p t) where
           omega (arith, is .vertices-are, members-below p ok (grown-reached p) c v (omega (arith, is .vertices-are, is .rounds-are)) k))))
 
   -- The duals of the trace are the growth's.
-  pub trace-duals : dualsIn t ≡ dualsOf p (grown p)
-  unfolding dualsIn dualsOf numbers
+  pub trace-duals : traceDuals t ≡ dualsOf p (grown p)
+  unfolding traceDuals dualsOf numbers
   trace-duals =
       let n : ℕ = t .vertices + t .rounds in
       let all : n ≡ p .vertices + grown p .rounds = omega (arith, is .vertices-are, is .rounds-are) in
@@ -240,7 +240,7 @@ pub traces-from : (p : Problem) (ok : Sound p) (firsts seconds values order : Li
     ((e : ℕ) → e < p .edges → getD firsts e 0 ≡ p .first e) → ((e : ℕ) → e < p .edges → getD seconds e 0 ≡ p .second e) →
     values ≡ tabulate maxDuals (grown p .value) →
     ((r e d : ℕ) → r < rounds → winner p (stateAt p r) ≡ edge e d → getD order r 0 ≡ e) →
-    rounds ≡ grown p .rounds → Traces p (traceFrom (p .vertices) firsts seconds values order rounds)
+    rounds ≡ grown p .rounds → TraceOf p (traceFrom (p .vertices) firsts seconds values order rounds)
 unfolding endOf
 traces-from p ok firsts seconds values order rounds some few f s v o k =
     let below : grown p .rounds < p .vertices = rounds-lt p ok some (grown-reached p) in

@@ -15,9 +15,9 @@ use Rattle.base_finite.specs.Laws.Below.{lt-or-ge, getD-tabulate}
 use Rattle.base_limits.specs.Limits.{maxVertices}
 use Rattle.survey_components.specs.Labels.{relabelled}
 use Rattle.survey_components.specs.Laws.Labels.{relabelled-table}
-use Rattle.plan_duals.specs.Drawing.{recordsFrom, dualIf, dualsBelow, labelled, Drawn}
-use Rattle.plan_duals.specs.Trace.{Trace, labelAfter, arisen, memberOf, dualsIn, Drawable}
-use Rattle.plan_duals.specs.Laws.Drawing.{drawn-none, drawn-more, drawn-end}
+use Rattle.plan_duals.specs.Drawing.{recordsFrom, dualIf, dualsBelow, withLabel, DualsWritten}
+use Rattle.plan_duals.specs.Trace.{Trace, labelAfter, arisen, memberOf, traceDuals, Drawable}
+use Rattle.plan_duals.specs.Laws.Drawing.{written-none, written-more, written-end}
 
 -- ---- labels in a buffer
 
@@ -38,8 +38,8 @@ labels-more t r {labels} a b h =
 
 -- The members of the component that arose last, by the labels.
 members-now : (t : Trace) (r c : ℕ) {labels : List ℕ} → t .vertices ≤ maxVertices → c + 1 - t .vertices ≡ r → labels ≡ tabulate maxVertices (labelAfter t r) →
-    labelled labels (t .vertices) c ≡ memberOf t c
-unfolding labelled memberOf
+    withLabel labels (t .vertices) c ≡ memberOf t c
+unfolding withLabel memberOf
 members-now t r c {labels} few at h = fun-ext (λ v. ⊎-elim (inside v) (outside v) (lt-or-ge v (t .vertices)))
   where
     inside : (v : ℕ) → v < t .vertices →
@@ -85,31 +85,31 @@ arisen-labels t c {labels} below a b h = ⊎-elim single made (lt-or-ge c (t .ve
 
 pub record Replayed (t : Trace) (c : ℕ) (labels old new : List ℕ) (count : ℕ) : Type 0 where
   pub labels-are : labels ≡ tabulate maxVertices (labelAfter t (c - t .vertices))
-  pub drawn : Drawn (dualsBelow (t .value) (memberOf t) c) old new count
+  pub duals-written : DualsWritten (dualsBelow (t .value) (memberOf t) c) old new count
 
 pub replayed-none : (t : Trace) {labels : List ℕ} (old : List ℕ) → labels ≡ tabulate maxVertices (λ v. v) → Replayed t 0 labels old old 0
 replayed-none t old h =
     let start : 0 - t .vertices ≡ 0 = omega arith in
-    record { labels-are = rw start (labels-none t h); drawn = drawn-none (t .value) (memberOf t) old }
+    record { labels-are = rw start (labels-none t h); duals-written = written-none (t .value) (memberOf t) old }
 
 -- One component more.
 pub replayed-more : (t : Trace) (c : ℕ) {labels labels' old mid new records : List ℕ} {k x count : ℕ} → Drawable t records → c < t .vertices + t .rounds →
     Replayed t c labels old mid k →
     labels' ≡ arisen (t .first (c - t .vertices)) (t .second (c - t .vertices)) (t .vertices) c labels →
     x ≡ t .value c →
-    count ≡ k + length (dualIf x (labelled labels' (t .vertices) c)) →
-    new ≡ recordsFrom k (dualIf x (labelled labels' (t .vertices) c)) mid →
+    count ≡ k + length (dualIf x (withLabel labels' (t .vertices) c)) →
+    new ≡ recordsFrom k (dualIf x (withLabel labels' (t .vertices) c)) mid →
     Replayed t (c + 1) labels' old new count
 replayed-more t c {labels' = labels'} ok below s h v i j =
     let l : labels' ≡ tabulate maxVertices (labelAfter t (c + 1 - t .vertices)) =
     h ∙ arisen-labels t c below (ok .first-below) (ok .second-below) (s .labels-are) in
     record {
       labels-are = l;
-      drawn = drawn-more (t .value) (memberOf t) c v (members-now t (c + 1 - t .vertices) c (ok .few) refl l) (s .drawn) i j;
+      duals-written = written-more (t .value) (memberOf t) c v (members-now t (c + 1 - t .vertices) c (ok .few) refl l) (s .duals-written) i j;
     }
 
 -- All components.
 pub replayed-end : (t : Trace) (c : ℕ) {labels old new : List ℕ} {count : ℕ} → c ≤ t .vertices + t .rounds → t .vertices + t .rounds ≤ c →
-    Replayed t c labels old new count → Drawn (dualsIn t) old new count
-unfolding dualsIn
-replayed-end t c a b s = drawn-end (t .value) (memberOf t) a b (s .drawn)
+    Replayed t c labels old new count → DualsWritten (traceDuals t) old new count
+unfolding traceDuals
+replayed-end t c a b s = written-end (t .value) (memberOf t) a b (s .duals-written)

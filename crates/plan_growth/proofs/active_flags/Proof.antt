@@ -9,6 +9,7 @@ use Rattle.base_limits.specs.Limits.{maxDuals, groupNumbers}
 use Rattle.survey_core.specs.Survey.{groupsAlone, vertexCount}
 use Rattle.survey_groups.specs.Laws.Spread.{split-read}
 use Rattle.base_buffer.specs.Laws.Store.{replicate-table}
+use Rattle.plan_growth.specs.Tables.{activeFlags}
 use Rattle.plan_growth.specs.Laws.Flags.{activeBelow, flags-none, flags-step, flags-end, flags-active}
 use native.Mathlib.Omega.{arith}
 use borrow.Author.Needs.{needs}
@@ -40,9 +41,6 @@ index8-requires c κs = search needs
 at64-requires : tie.Need-at64-requires Inv-loop μ-loop
 at64-requires c κs = search needs
 
-slice-aggregate-flag-label : tie.Need-slice-aggregate-flag-label Inv-loop μ-loop
-slice-aggregate-flag-label c = sym (ap length (c .before .before .before .before .before .before .loop .inv .1) ∙ length-tabulate maxDuals _)
-
 at32-requires : tie.Need-at32-requires Inv-loop μ-loop
 at32-requires c κs = search needs
 
@@ -57,23 +55,25 @@ loop-less c = omega arith
 
 loop-again : tie.Need-loop-again Inv-loop μ-loop
 unfolding vertexCount
-loop-again c = (
-  omega arith,
-  flags-step
-      _
-      _
-      _
-      _
-      _
-      (c .before .before .before .before .before .before .before .before .before .loop .inv .1)
-      (c .before .flag-label .ensures)
-      (ap (λ x. eqb x 1) (c .before .before .before .before .at64 .ensures ∙ ap (λ g. getD (c .before .before .before .before .before .before .before .before .before .before .spreads .result) g 0) (c .before .before .before .before .before .index8 .ensures ∙ c .before .before .before .before .before .before .at8 .ensures))
-      ∙ split-read _ _ (c .before .before .before .before .before .before .before .before .before .before .spreads .ensures) _ (omega (arith, c .before .before .before .before .before .before .before .before .before .before .before .before .shared-slice-known .given (c .before .before .before .before .before .before .before .before .before .loop .v))))
-      (c .before .before .at32 .ensures),
-)
+loop-again c =
+    let turn = c .before .before .before .before .before .before .before .before .before in
+    let spread = c .before .before .before .before .before .before .before .before .before .before in (
+      omega arith,
+      flags-step
+          _
+          _
+          _
+          _
+          _
+          (turn .loop .inv .1)
+          (c .flag-label .ensures)
+          (ap (λ x. eqb x 1) (c .before .before .before .before .at64 .ensures ∙ ap (λ g. getD (spread .spreads .result) g 0) (c .before .before .before .before .before .index8 .ensures ∙ c .before .before .before .before .before .before .at8 .ensures))
+          ∙ split-read _ _ (spread .spreads .ensures) _ (omega (arith, c .before .before .before .before .before .before .before .before .before .before .before .before .shared-slice-known .given (turn .loop .v))))
+          (c .before .at32 .ensures),
+    )
 
 returns : tie.Need-returns Inv-loop μ-loop
-unfolding vertexCount
+unfolding vertexCount activeFlags
 returns c = c .before .loop .inv .1 ∙ flags-end _ _ _ _ (omega arith) (omega arith) ∙ flags-active _ _
 
 pub active-flags-spec : {M : Type 1} → statement M
@@ -88,7 +88,6 @@ active-flags-spec =
     at8-requires
     index8-requires
     at64-requires
-    slice-aggregate-flag-label
     at32-requires
     flag-label-requires
     add-v

@@ -4,9 +4,6 @@ use borrow.Author.Needs.{needs}
 use Rattle.plan_growth.proofs.finished.Statement.{statement}
 use Rattle.plan_growth.proofs.finished.Tie as tie
 
-slice-aggregate-sum-values : tie.Need-slice-aggregate-sum-values
-slice-aggregate-sum-values c = search needs
-
 add-sum-values : tie.Need-add-sum-values
 add-sum-values c = let few = c .before .pre .few in omega arith
 
@@ -18,4 +15,4 @@ returns c = rw (c .sum-values .ensures)
 
 pub finished-spec : {M : Type 1} → statement M
 finished-spec =
-    tie.close (tie.spec slice-aggregate-sum-values add-sum-values sum-values-requires returns)
+    tie.close (tie.spec add-sum-values sum-values-requires returns)

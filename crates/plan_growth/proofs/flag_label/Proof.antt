@@ -13,17 +13,23 @@ index32-requires c κs = search needs
 put8-requires : tie.Need-put8-requires
 put8-requires c κs = search needs
 
-same-length : tie.Need-same-length
-same-length c = search needs
-
+-- split
 returns : tie.Need-returns
 unfolding flagged
 returns c =
-    rw (eq-eqb (c .before .before .before .before .before .before .before .args .summary) 1 (c .before .before .before .before .before .if1 .taken)) (c .before .before .put8 .ensures ∙ ap (λ i. set (c .before .before .before .before .before .before .before .args .flags .now) i 1) (c .before .before .before .index32 .ensures))
+    let entry = c .before .before .before .before in
+    rw (eq-eqb (entry .args .summary) 1 (c .before .before .before .if1 .taken)) (c .put8 .ensures ∙ ap (λ i. set (entry .args .flags .now) i 1) (c .before .index32 .ensures))
 
+-- not split
 returns-2 : tie.Need-returns-2
 unfolding flagged
-returns-2 c = rw (ne-eqb (c .before .before .args .summary) 1 (c .if1 .left))
+returns-2 c = rw (ne-eqb (c .before .args .summary) 1 (c .if1 .left))
 
 pub flag-label-spec : {M : Type 1} → statement M
-flag-label-spec = tie.close (tie.spec index32-requires put8-requires same-length returns returns-2)
+flag-label-spec =
+    tie.close
+    (tie.spec
+    index32-requires
+    put8-requires
+    returns
+    returns-2)

@@ -12,22 +12,24 @@ survey-refusal-requires c κs = search needs
 enum-told : tie.Need-enum-told
 enum-told c = search needs
 
-no-rounds-requires : tie.Need-no-rounds-requires
-no-rounds-requires c κs = search needs
-
-returns : tie.Need-returns
-unfolding written
-returns c = rw (sym (c .before .before .before .survey-refusal .ensures) ∙ c .before .enum-told .given .1) (c .no-rounds .ensures _)
-
 enum-told-2 : tie.Need-enum-told-2
 enum-told-2 c = search needs
 
-grow-rounds-requires : tie.Need-grow-rounds-requires
-grow-rounds-requires c κs = fine-survey _ (sym (c .before .before .survey-refusal .ensures) ∙ c .enum-told2 .given .1)
+no-rounds-requires : tie.Need-no-rounds-requires
+no-rounds-requires c κs = search needs
 
+-- refused
+returns : tie.Need-returns
+unfolding written
+returns c = rw (sym (c .before .before .before .survey-refusal .ensures) ∙ c .before .enum-told2 .given .1) (c .no-rounds .ensures _)
+
+grow-rounds-requires : tie.Need-grow-rounds-requires
+grow-rounds-requires c κs = fine-survey _ (sym (c .before .before .survey-refusal .ensures) ∙ c .enum-told .given .1)
+
+-- sound
 returns-2 : tie.Need-returns-2
 unfolding written
-returns-2 c = rw (sym (c .before .before .before .survey-refusal .ensures) ∙ c .before .enum-told2 .given .1) (c .grow-rounds .ensures)
+returns-2 c = rw (sym (c .before .before .before .survey-refusal .ensures) ∙ c .before .enum-told .given .1) (c .grow-rounds .ensures)
 
 pub grow-spec : {M : Type 1} → statement M
 grow-spec =
@@ -35,8 +37,8 @@ grow-spec =
     (tie.spec
     survey-refusal-requires
     enum-told
+    enum-told-2
     no-rounds-requires
     returns
-    enum-told-2
     grow-rounds-requires
     returns-2)

@@ -1,17 +1,19 @@
--- `grow_rounds` meets its contract: after r turns the arrays are those of r steps of the definition, and the keys are good.
+-- `grow_rounds` meets its contract: before each turn the arrays represent the state of the definition.
 use Prim.Native.Nat.{_-_}
+use native.Mathlib.Omega.{arith}
 use lib.ListN.{length}
 use Rattle.survey_core.specs.Survey.{surveyFrom}
-use Rattle.plan_growth.specs.View.{Rounds}
-use Rattle.plan_growth.specs.Laws.Rounds.{rounds-start, rounds-growing, rounds-next, next-time, stop-small, stop-shown, end-small, end-shown}
+use Rattle.plan_delay.specs.Between.{delayIn}
+use Rattle.plan_growth.specs.Represents.{arraysFrom, roundsAfter, timeAfter, Represents}
+use Rattle.plan_growth.specs.Laws.Round.{going}
+use Rattle.plan_growth.specs.Laws.Rounds.{represents-start, time-fits, sum-fits, grown-end}
 use borrow.Author.Needs.{needs}
-use native.Mathlib.Omega.{arith}
 use Rattle.plan_growth.proofs.grow_rounds.Statement.{statement}
 use Rattle.plan_growth.proofs.grow_rounds.Tie as tie
 
 abbrev Inv-loop : tie.InvT-loop
 Inv-loop groups firsts seconds weights labels₀ loads₀ values₀ picked₀ order₀ keys₀ floors₀ time₀ r₀ labels loads values picked order keys floors time r =
-    Rounds (surveyFrom groups firsts seconds weights) r time keys floors labels loads values picked order
+    Represents (surveyFrom groups firsts seconds weights) r time (arraysFrom labels loads values picked order keys floors)
 
 abbrev μ-loop : tie.MeasureT-loop
 μ-loop groups firsts seconds weights labels₀ loads₀ values₀ picked₀ order₀ keys₀ floors₀ time₀ r₀ labels loads values picked order keys floors time r =
@@ -24,31 +26,10 @@ own-labels-requires : tie.Need-own-labels-requires Inv-loop μ-loop
 own-labels-requires c κs = search needs
 
 loop-holds : tie.Need-loop-holds Inv-loop μ-loop
-loop-holds c = rounds-start _ (c .before .own-labels .ensures)
-
-slice-aggregate-round : tie.Need-slice-aggregate-round Inv-loop μ-loop
-slice-aggregate-round c = c .before .before .loop .inv .labels-long
-
-slice-aggregate-round-2 : tie.Need-slice-aggregate-round-2 Inv-loop μ-loop
-slice-aggregate-round-2 c = c .before .before .before .loop .inv .loads-long
-
-slice-aggregate-round-3 : tie.Need-slice-aggregate-round-3 Inv-loop μ-loop
-slice-aggregate-round-3 c = c .before .before .before .before .loop .inv .values-long
-
-slice-aggregate-round-4 : tie.Need-slice-aggregate-round-4 Inv-loop μ-loop
-slice-aggregate-round-4 c = c .before .before .before .before .before .loop .inv .picked-long
-
-slice-aggregate-round-5 : tie.Need-slice-aggregate-round-5 Inv-loop μ-loop
-slice-aggregate-round-5 c = c .before .before .before .before .before .before .loop .inv .order-long
-
-slice-aggregate-round-6 : tie.Need-slice-aggregate-round-6 Inv-loop μ-loop
-slice-aggregate-round-6 c = c .before .before .before .before .before .before .before .loop .inv .keys-long
-
-slice-aggregate-round-7 : tie.Need-slice-aggregate-round-7 Inv-loop μ-loop
-slice-aggregate-round-7 c = c .before .before .before .before .before .before .before .before .loop .inv .floors-long
+loop-holds c = represents-start (c .before .before .before .before .before .before .before .pre) (c .before .own-labels .ensures)
 
 round-requires : tie.Need-round-requires Inv-loop μ-loop
-round-requires c κs = rounds-growing (c .before .before .before .before .before .before .before .before .before .before .before .before .before .before .before .before .pre) (c .before .before .before .before .before .before .before .before .loop .inv) (c .before .before .before .before .before .before .before .loop-test .taken)
+round-requires c κs = c .before .before .before .before .before .before .before .before .loop .inv
 
 enum-known-wait : tie.Need-enum-known-wait Inv-loop μ-loop
 enum-known-wait c = search needs
@@ -57,15 +38,26 @@ enum-told : tie.Need-enum-told Inv-loop μ-loop
 enum-told c = search needs
 
 finished-requires : tie.Need-finished-requires Inv-loop μ-loop
+unfolding delayIn roundsAfter timeAfter
 finished-requires c κs =
-    stop-small (c .before .before .before .before .before .before .before .before .before .before .before .before .before .before .before .before .before .before .before .before .before .before .before .before .before .before .pre) (c .before .before .before .before .before .before .before .before .before .before .before .before .before .before .before .before .before .before .loop .inv) (c .before .before .before .before .before .before .before .before .before .before .before .before .before .before .before .before .before .loop-test .taken) (c .before .before .before .before .before .before .before .before .before .round .ensures .0) (c .before .before .before .before .before .before .before .before .before .round .ensures .1 .0) (c .enum-told .given .1)
+    let call = c .before .before in
+    let after = rw (c .enum-told .given .1) at (call .round .ensures .1) in
+    sum-fits after
 
+-- a round without a winner
 returns : tie.Need-returns Inv-loop μ-loop
+unfolding delayIn roundsAfter timeAfter
 returns c =
-    stop-shown (c .before .before .before .before .before .before .before .before .before .before .before .before .before .before .before .before .before .before .before .before .before .before .before .before .before .before .before .pre) (c .before .before .before .before .before .before .before .before .before .before .before .before .before .before .before .before .before .before .before .loop .inv) (c .before .before .before .before .before .before .before .before .before .before .before .before .before .before .before .before .before .before .loop-test .taken) (c .before .before .before .before .before .before .before .before .before .before .round .ensures .0) (c .before .before .before .before .before .before .before .before .before .before .round .ensures .1 .0) (c .before .enum-told .given .1) (c .finished .ensures)
+    let call = c .before .before .before in
+    let after = rw (c .before .enum-told .given .1) at (call .round .ensures .1) in
+    grown-end after (call .round .ensures .0) (c .before .enum-told .given .1) (c .finished .ensures)
 
 add-time : tie.Need-add-time Inv-loop μ-loop
-add-time c = record { fits = next-time (c .before .before .before .before .before .before .before .before .before .before .before .before .before .before .before .before .before .before .before .before .before .before .before .before .before .before .before .pre) (c .before .before .before .before .before .before .before .before .before .before .before .before .before .before .before .before .before .before .before .loop .inv) (c .before .before .before .before .before .before .before .before .before .before .before .before .before .before .before .before .before .before .loop-test .taken) (c .before .before .before .before .before .before .before .before .before .before .round .ensures .0) (c .before .wait .given .1) }
+unfolding delayIn roundsAfter timeAfter
+add-time c =
+    let call = c .before .before .before in
+    let after = rw (c .before .wait .given .1) at (call .round .ensures .1) in
+    record { fits = time-fits after }
 
 add-r : tie.Need-add-r Inv-loop μ-loop
 add-r c = search needs
@@ -74,14 +66,19 @@ loop-less : tie.Need-loop-less Inv-loop μ-loop
 loop-less c = omega arith
 
 loop-again : tie.Need-loop-again Inv-loop μ-loop
+unfolding delayIn roundsAfter timeAfter
 loop-again c =
-    rounds-next (c .before .before .before .before .before .before .before .before .before .before .before .before .before .before .before .before .before .before .before .before .before .before .before .before .before .before .before .pre) (c .before .before .before .before .before .before .before .before .before .before .before .before .before .before .before .before .before .before .before .loop .inv) (c .before .before .before .before .before .before .before .before .before .before .before .before .before .before .before .before .before .before .loop-test .taken) (c .before .before .before .before .before .before .before .before .before .before .round .ensures .0) (c .before .before .before .before .before .before .before .before .before .before .round .ensures .1 .0) (c .before .wait .given .1) (c .before .before .before .before .before .before .before .before .before .before .round .ensures .1 .1 .0) (c .before .before .before .before .before .before .before .before .before .before .round .ensures .1 .1 .1)
+    let call = c .before .before .before in
+    let after = rw (c .before .wait .given .1) at (call .round .ensures .1) in
+    after
 
 finished-requires-2 : tie.Need-finished-requires-2 Inv-loop μ-loop
-finished-requires-2 c κs = end-small (c .before .before .before .before .before .before .before .before .before .pre) (c .before .loop .inv) (c .loop-test .left)
+finished-requires-2 c κs = sum-fits (c .before .loop .inv)
 
+-- as many rounds as vertices, which cannot be
 returns-2 : tie.Need-returns-2 Inv-loop μ-loop
-returns-2 c = end-shown (c .before .before .before .before .before .before .before .before .before .before .pre) (c .before .before .loop .inv) (c .before .loop-test .left) (c .finished2 .ensures)
+returns-2 c =
+    absurd (omega (arith, going (c .before .before .loop .inv)))
 
 pub grow-rounds-spec : {M : Type 1} → statement M
 grow-rounds-spec =
@@ -92,13 +89,6 @@ grow-rounds-spec =
     slice-aggregate-own-labels
     own-labels-requires
     loop-holds
-    slice-aggregate-round
-    slice-aggregate-round-2
-    slice-aggregate-round-3
-    slice-aggregate-round-4
-    slice-aggregate-round-5
-    slice-aggregate-round-6
-    slice-aggregate-round-7
     round-requires
     enum-known-wait
     enum-told

@@ -1,13 +1,13 @@
 -- `raise_loads` meets its contract: it stores at rising places.
 use Prim.Native.Nat.{_+_, _≤_, _-_}
-use mathlib.Core.Path.{_≡_, refl, ap, _∙_}
-use lib.ListN.{length, getD}
+use mathlib.Core.Path.{_≡_, refl, _∙_}
+use lib.ListN.{getD}
 use lib.Dec.{eqb}
 use Rattle.base_finite.specs.Below.{counted}
 use Rattle.base_buffer.specs.Store.{remade}
-use Rattle.base_buffer.specs.Laws.Store.{length-remade, remade-end}
+use Rattle.base_buffer.specs.Laws.Store.{remade-end}
 use Rattle.plan_growth.specs.Tables.{raisedLoads}
-use Rattle.plan_growth.specs.Laws.Raise.{room-ahead, load-raised}
+use Rattle.plan_growth.specs.Laws.Raise.{raise-fits, load-raised}
 use native.Mathlib.Omega.{arith}
 use borrow.Author.Needs.{needs}
 use Rattle.plan_growth.proofs.raise_loads.Statement.{statement}
@@ -36,7 +36,7 @@ at64-requires : tie.Need-at64-requires Inv-loop μ-loop
 at64-requires c κs = search needs
 
 raised-requires : tie.Need-raised-requires Inv-loop μ-loop
-raised-requires c κs = room-ahead _ _ (c .before .before .before .before .before .before .before .before .before .before .pre) (c .before .before .before .before .before .before .loop .inv .1) (c .at64 .ensures)
+raised-requires c κs = raise-fits _ _ (c .before .before .before .before .before .before .before .before .before .before .pre) (c .before .before .before .before .before .before .before .before .before .loop .inv .1) (c .at64 .ensures)
 
 put64-requires : tie.Need-put64-requires Inv-loop μ-loop
 put64-requires c κs = search needs
@@ -49,10 +49,8 @@ loop-less c = omega arith
 
 loop-again : tie.Need-loop-again Inv-loop μ-loop
 loop-again c =
-    (omega arith, load-raised (c .before .before .before .before .before .before .before .before .before .before .before .before .before .before .before .args .flags .now) _ _ (c .before .before .before .before .before .before .before .before .before .before .before .before .before .before .before .args .loads .now) _ (c .before .before .before .before .before .at64 .ensures) (c .before .before .before .before .raised .ensures) (c .before .before .put64 .ensures) (c .before .before .before .before .before .before .before .before .before .before .before .before .before .before .before .args .labels .now) (c .before .before .before .before .before .before .before .before .before .before .before .loop .inv .1) (c .before .before .before .before .before .before .before .before .before .at32 .ensures) (c .before .before .before .before .before .before .before .before .index32 .ensures) (c .before .before .before .before .before .before .before .at8 .ensures))
-
-same-length : tie.Need-same-length Inv-loop μ-loop
-same-length c = ap length (c .before .loop .inv .1) ∙ length-remade _ _ _
+    let entry = c .before .before .before .before .before .before .before .before .before .before .before .before .before in
+    (omega arith, load-raised (entry .args .flags .now) _ _ (entry .args .loads .now) _ (c .before .before .before .at64 .ensures) (c .before .before .raised .ensures) (c .put64 .ensures) (entry .args .labels .now) (c .before .before .before .before .before .before .before .before .before .before .before .before .loop .inv .1) (c .before .before .before .before .before .before .before .before .at32 .ensures) (c .before .before .before .before .before .before .before .index32 .ensures) (c .before .before .before .before .before .before .at8 .ensures))
 
 returns : tie.Need-returns Inv-loop μ-loop
 unfolding raisedLoads
@@ -74,5 +72,4 @@ raise-loads-spec =
     add-v
     loop-less
     loop-again
-    same-length
     returns)

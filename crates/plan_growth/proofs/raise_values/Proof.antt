@@ -1,28 +1,28 @@
 -- `raise_values` meets its contract: it stores at rising places.
 use Prim.Native.Nat.{_+_, _≤_, _-_}
-use mathlib.Core.Path.{_≡_, refl, ap, _∙_}
-use lib.ListN.{length, getD}
+use mathlib.Core.Path.{_≡_, refl, _∙_}
+use lib.ListN.{getD}
 use lib.Dec.{eqb}
 use Rattle.base_finite.specs.Below.{counted}
+use Rattle.base_limits.specs.Limits.{maxDuals}
 use Rattle.base_buffer.specs.Store.{remade}
-use Rattle.base_buffer.specs.Laws.Store.{length-remade, remade-end}
+use Rattle.base_buffer.specs.Laws.Store.{remade-end}
 use Rattle.plan_growth.specs.Tables.{raisedValues}
-use Rattle.plan_growth.specs.Laws.Raise.{room-ahead, value-raised}
+use Rattle.plan_growth.specs.Laws.Raise.{raise-fits, value-raised}
 use native.Mathlib.Omega.{arith}
 use borrow.Author.Needs.{needs}
 use Rattle.plan_growth.proofs.raise_values.Statement.{statement}
 use Rattle.plan_growth.proofs.raise_values.Tie as tie
 
 abbrev Inv-loop : tie.InvT-loop
-Inv-loop values₀ flags d c₀ values c =
-    (c ≤ length values₀) × (length values ≡ length values₀) × (values ≡ remade (λ c x. x + counted (eqb (getD flags c 0) 1) d) c values₀)
+Inv-loop values₀ flags d c₀ values c = (c ≤ maxDuals) × (values ≡ remade (λ c x. x + counted (eqb (getD flags c 0) 1) d) c values₀)
 
 abbrev μ-loop : tie.MeasureT-loop
-μ-loop values₀ flags d c₀ values c = length values₀ - c
+μ-loop values₀ flags d c₀ values c = maxDuals - c
 
 loop-holds : tie.Need-loop-holds Inv-loop μ-loop
 unfolding remade
-loop-holds c = (omega arith, refl, refl)
+loop-holds c = (omega arith, refl)
 
 at64-requires : tie.Need-at64-requires Inv-loop μ-loop
 at64-requires c κs = search needs
@@ -31,7 +31,7 @@ at8-requires : tie.Need-at8-requires Inv-loop μ-loop
 at8-requires c κs = search needs
 
 raised-requires : tie.Need-raised-requires Inv-loop μ-loop
-raised-requires c κs = room-ahead _ _ (c .before .before .before .before .before .before .before .pre) (c .before .before .before .before .loop .inv .2) (c .before .at64 .ensures)
+raised-requires c κs = raise-fits _ _ (c .before .before .before .before .before .before .before .pre) (c .before .before .before .before .before .before .loop .inv .1) (c .before .before .at64 .ensures)
 
 put64-requires : tie.Need-put64-requires Inv-loop μ-loop
 put64-requires c κs = search needs
@@ -44,15 +44,12 @@ loop-less c = omega arith
 
 loop-again : tie.Need-loop-again Inv-loop μ-loop
 loop-again c =
-    let e = value-raised (c .before .before .before .before .before .before .before .before .before .before .before .before .args .flags .now) _ _ (c .before .before .before .before .before .before .before .before .before .before .before .before .args .values .now) _ (c .before .before .before .before .before .before .at64 .ensures) (c .before .before .before .before .raised .ensures) (c .before .before .put64 .ensures) (c .before .before .before .before .before .before .before .before .before .loop .inv .2) (c .before .before .before .before .before .at8 .ensures) in
-    (omega arith, ap length e ∙ length-remade _ _ _, e)
-
-same-length : tie.Need-same-length Inv-loop μ-loop
-same-length c = c .before .loop .inv .1
+    let entry = c .before .before .before .before .before .before .before .before .before .before in
+    (omega arith, value-raised (entry .args .flags .now) _ _ (entry .args .values .now) _ (c .before .before .before .before .before .at64 .ensures) (c .before .before .raised .ensures) (c .put64 .ensures) (c .before .before .before .before .before .before .before .before .before .loop .inv .1) (c .before .before .before .at8 .ensures))
 
 returns : tie.Need-returns Inv-loop μ-loop
 unfolding raisedValues
-returns c = c .before .loop .inv .2 ∙ remade-end _ _ _ _ (omega arith) (omega arith)
+returns c = c .before .loop .inv .1 ∙ remade-end _ _ _ _ (omega arith) (omega arith)
 
 pub raise-values-spec : {M : Type 1} → statement M
 raise-values-spec =
@@ -68,5 +65,4 @@ raise-values-spec =
     add-c
     loop-less
     loop-again
-    same-length
     returns)

@@ -11,9 +11,11 @@ use Rattle.plan_growth.proofs.raised.Tie as tie
 add-result : tie.Need-add-result
 add-result c = search needs
 
+-- active
 returns : tie.Need-returns
 returns c = sym (ap (λ t. c .before .args .x + t) (counted-true (eq-eqb (c .before .args .flag) 1 (c .if1 .taken)) _))
 
+-- not active
 returns-2 : tie.Need-returns-2
 returns-2 c = let e = counted-false (ne-eqb (c .before .args .flag) 1 (c .if1 .left)) (c .before .args .d) in omega arith
 

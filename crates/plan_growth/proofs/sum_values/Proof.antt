@@ -3,8 +3,8 @@ use Prim.Native.Nat.{_≤_, _-_, _^_}
 use mathlib.Core.Path.{_≡_, refl}
 use lib.ListN.{getD}
 use Rattle.base_finite.specs.Below.{sumBelow}
+use Rattle.base_finite.specs.Laws.Below.{sum-limit}
 use Rattle.base_finite.specs.Laws.Count.{sum-more, sum-end}
-use Rattle.plan_growth.specs.Laws.View.{sum-bounded}
 use native.Mathlib.Omega.{arith}
 use borrow.Author.Needs.{needs}
 use Rattle.plan_growth.proofs.sum_values.Statement.{statement}
@@ -25,11 +25,13 @@ at64-requires c κs = search needs
 
 add-sum : tie.Need-add-sum Inv-loop μ-loop
 add-sum c =
-    let few = c .before .before .before .before .pre .few in
-    let low = c .before .before .before .before .pre .low (c .before .before .loop .c) in
-    let b = sum-bounded (c .before .before .loop .c) (λ i. getD (c .before .before .before .before .args .values .now) i 0) (2 ^ 32) (c .before .before .before .before .pre .low) in
-    let e = c .before .before .loop .inv .1 in
-    let f = c .at64 .ensures in
+    let turn = c .before .before .before in
+    let fits = c .before .before .before .before .pre in
+    let few = fits .few in
+    let low = fits .low (turn .loop .c) in
+    let b = sum-limit (turn .loop .c) (2 ^ 32) (λ i. getD (c .before .before .before .before .args .values .now) i 0) (λ i _. fits .low i) in
+    let e = turn .loop .inv .1 in
+    let g = c .at64 .ensures in
     omega arith
 
 add-c : tie.Need-add-c Inv-loop μ-loop
@@ -39,7 +41,7 @@ loop-less : tie.Need-loop-less Inv-loop μ-loop
 loop-less c = omega arith
 
 loop-again : tie.Need-loop-again Inv-loop μ-loop
-loop-again c = (omega arith, sum-more _ _ (c .before .before .loop .inv .1) (c .at64 .ensures))
+loop-again c = (omega arith, sum-more _ _ (c .before .before .before .loop .inv .1) (c .at64 .ensures))
 
 returns : tie.Need-returns Inv-loop μ-loop
 returns c = sum-end _ _ _ (omega arith) (omega arith) (c .before .loop .inv .1)
@@ -47,4 +49,13 @@ returns c = sum-end _ _ _ (omega arith) (omega arith) (c .before .loop .inv .1)
 pub sum-values-spec : {M : Type 1} → statement M
 sum-values-spec =
     tie.close
-    (tie.spec Inv-loop μ-loop loop-holds at64-requires add-sum add-c loop-less loop-again returns)
+    (tie.spec
+    Inv-loop
+    μ-loop
+    loop-holds
+    at64-requires
+    add-sum
+    add-c
+    loop-less
+    loop-again
+    returns)

@@ -1,4 +1,4 @@
--- Raising one value after another: what has not been raised yet still has room, and the loops raise what the definitions raise.
+-- Raising one value after another: what has not been raised yet can still be raised, and the loops raise what the definitions raise.
 use Prim.Native.Nat.{ℕ, _+_, _<_, _^_}
 use native.Mathlib.Omega.{arith}
 use mathlib.Core.Path.{_≡_, ap, _∙_}
@@ -8,10 +8,10 @@ use lib.Dec.{eqb}
 use Rattle.base_finite.specs.Below.{counted}
 use Rattle.base_buffer.specs.Store.{remade}
 use Rattle.base_buffer.specs.Laws.Store.{remade-ahead, remade-more}
-use Rattle.plan_growth.specs.Tables.{Room}
+use Rattle.plan_growth.specs.Tables.{RaiseFits}
 
-pub room-ahead : (f : ℕ → ℕ → ℕ) (i : ℕ) {l now : List ℕ} {d x : ℕ} → Room l d → now ≡ remade f i l → x ≡ getD now i 0 → x + d < 2 ^ 64
-room-ahead f i {l} {now} {d} {x} r h k =
+pub raise-fits : (f : ℕ → ℕ → ℕ) (i : ℕ) {l now : List ℕ} {d x : ℕ} → RaiseFits l d → now ≡ remade f i l → x ≡ getD now i 0 → x + d < 2 ^ 64
+raise-fits f i {l} {now} {d} {x} r h k =
     let e : x ≡ getD l i 0 = k ∙ ap (λ t. getD t i 0) h ∙ remade-ahead f i l i (omega arith) in
     omega (arith, r .fits i)
 

@@ -1,221 +1,159 @@
--- One round, and one round after another: what a round requires and leaves, and what holds before the first, after each and at the end.
-use Prim.Native.Nat.{ℕ, _+_, _/_, _<_, _≤_, _^_}
+-- One round after another: what the arrays represent before the first and after each, and the growth that they are when no candidate is left (001, Algorithm 22.3).
+-- `grow_rounds` and `no_rounds` cite it.
+use Prim.Native.Nat.{ℕ, zero, suc, _+_, _-_, _<_, _≤_, _^_}
 use native.Mathlib.Omega.{arith}
-use mathlib.Core.Path.{_≡_, refl, ap, sym, _∙_, subst}
+use native.Mathlib.Nat.{add-zero, add-suc}
+use mathlib.Core.Path.{_≡_, refl, ap, sym, _∙_}
+use mathlib.Core.Logic.{_⊎_, inl, inr}
+use mathlib.Core.Bool.{Bool, true, false}
 use mathlib.Core.List.{List}
-use lib.ListN.{length, getD, set, replicate}
+use lib.ListN.{length, getD, replicate, List·getD-eq-default}
+use lib.Dec.{ltb}
+use borrow.Author.Tests.{lt-ltb, le-ltb}
 use Rattle.base_finite.specs.Below.{counted, sumBelow, tabulate}
-use Rattle.base_finite.specs.Laws.Below.{length-tabulate}
-use Rattle.base_limits.specs.Limits.{maxVertices, maxEdges, maxDuals}
-use Rattle.theory_steiner.specs.Growth.{active, nobody, edge, winner, start, stateAt}
+use Rattle.base_finite.specs.Laws.Below.{sum-cong, sum-zero, length-tabulate, getD-tabulate, counted-false, lt-or-ge}
+use Rattle.base_limits.specs.Limits.{maxVertices, maxEdges, maxWeight, maxDuals}
+use Rattle.theory_steiner.specs.Problem.{Problem}
+use Rattle.theory_steiner.specs.Growth.{Winner, nobody, edge, never, winner, numbers, start, stateAt}
+use Rattle.theory_steiner.specs.Pruning.{dualBound}
+use Rattle.theory_steiner.specs.Laws.Round.{stateAt-reached}
+use Rattle.theory_steiner.specs.Laws.Rounds.{stateAt-still, value-bounded}
+use Rattle.theory_steiner.specs.Laws.Feasible.{load-start}
 use Rattle.base_buffer.specs.Store.{remade}
-use Rattle.survey_core.specs.Survey.{Survey, groupsAlone, problemOf}
-use Rattle.survey_components.specs.Labels.{relabelled}
+use Rattle.base_buffer.specs.Laws.Store.{tabulate-cong, remade-table, replicate-table}
+use Rattle.survey_core.specs.Survey.{Survey, vertexCount, problemOf}
 use Rattle.survey_core.specs.Sound.{SurveySound}
-use Rattle.base_buffer.specs.Laws.Store.{remade-table, replicate-table}
-use Rattle.plan_winner.specs.Scan.{cappedTime, Keyed, timeAfter, blockEdges, blocksOf, passOf, Floored}
-use Rattle.plan_delay.specs.Between.{delayIn, winnerIn}
-use Rattle.plan_winner.specs.Tables.{tablesFrom, passBy}
+use Rattle.survey_core.specs.Laws.Refusal.{survey-sound}
+use Rattle.plan_winner.specs.Scan.{maxBlocks}
 use Rattle.plan_winner.specs.Laws.Scan.{keyed-start, floored-start}
-use Rattle.plan_winner.specs.Laws.Blocks.{length-passes}
+use Rattle.plan_delay.specs.Between.{delayIn}
 use Rattle.plan_delay.specs.declared.Delay.{Delay}
-use Rattle.plan_delay.specs.declared.Delay.the-variants.{Never, After}
-use Rattle.plan_delay.specs.declared.Winner.{Winner}
-use Rattle.plan_delay.specs.declared.Winner.the-variants.{Nobody, Edge}
+use Rattle.plan_delay.specs.declared.Delay.the-variants.{Never}
 use Rattle.plan_growth.specs.declared.Growth.{Growth}
-use Rattle.plan_growth.specs.Tables.{raisedValues, raisedLoads, Room}
-use Rattle.plan_growth.specs.View.{waitOf, View, Growing, Rounds, growthFrom, Small, Shows}
-use Rattle.plan_growth.specs.Laws.View.{pass-is, winner-is, winner-edge, values-room, loads-room, view-next, view-still, view-start, view-over, view-end, still-winner, next-winner, rounds-more, rounds-still, rounds-end, keyed-on, floored-on, values-small, shown}
+use Rattle.plan_growth.specs.Tables.{SumFits}
+use Rattle.plan_growth.specs.Represents.{winnerEdge, pickAt, Arrays, arraysFrom, winnerDelay, Represents}
+use Rattle.plan_growth.specs.Grown.{growthFrom, GrownAfter}
+use Rattle.plan_growth.specs.Laws.Round.{going, weights-light}
 
--- ---- one round
+-- ---- before the first round
 
--- The number of the merged component fits.
-pub merged-small : {s : Survey} {r time : ℕ} {keys floors labels loads values picked order : List ℕ} → Growing s r time keys floors labels loads values picked order
-    → (length (s .groups) + r < 2 ^ 64) × (length (s .groups) + r < 2 ^ 32)
-merged-small h = let few = h .sound .few in let going = h .going in (omega arith, omega arith)
+none : (x : Bool) {y : ℕ} → y ≡ 0 → counted x y ≡ 0
+unfolding counted
+none true h = h
+none false h = refl
 
--- The search has found x.
-module _ {s : Survey} {r time : ℕ} {keys floors labels loads values picked order flags : List ℕ} (h : Growing s r time keys floors labels loads values picked order)
-    (f : flags ≡ tabulate maxDuals (λ c. counted (active (problemOf (groupsAlone (s .groups))) (λ v. getD labels v 0) c) 1)) {x : Winner}
-    (found : winnerIn x ≡ passBy (tablesFrom (s .firsts) (s .seconds) (s .weights) labels loads flags) (cappedTime time) keys floors (blocksOf (length (s .firsts))) .scanned .best)
-  where
-    over : x ≡ Nobody → winner (problemOf s) (stateAt (problemOf s) r) ≡ nobody
-    unfolding winnerIn
-    over t = sym (winner-is s r h f) ∙ sym found ∙ ap winnerIn t
-
-    won : {e d : ℕ} → x ≡ Edge e d → winner (problemOf s) (stateAt (problemOf s) r) ≡ edge e d
-    unfolding winnerIn
-    won t = sym (winner-is s r h f) ∙ sym found ∙ ap winnerIn t
-
-    -- What the calls that pick edge e require.
-    module _ {e d : ℕ} (t : x ≡ Edge e d) where
-      pub won-values : Room values d
-      won-values = values-room s r h e d (won t)
-
-      pub won-loads : Room loads d
-      won-loads = loads-room s r h e d (won t)
-
-      pub won-edge : e < 2 ^ 32
-      won-edge = let few = h .sound .edges-few in let below = winner-edge s r h e d (won t) in omega arith
-
-    module _ {keys' floors' : List ℕ}
-        (k : keys' ≡ passBy (tablesFrom (s .firsts) (s .seconds) (s .weights) labels loads flags) (cappedTime time) keys floors (blocksOf (length (s .firsts))) .scanned .keys)
-        (l : floors' ≡ passBy (tablesFrom (s .firsts) (s .seconds) (s .weights) labels loads flags) (cappedTime time) keys floors (blocksOf (length (s .firsts))) .floors) where
-      pub round-over : x ≡ Nobody
-          → (delayIn Never ≡ waitOf (winner (problemOf s) (stateAt (problemOf s) r)))
-          × (View (problemOf s) (r + 1) labels loads values picked order
-          × ((keys' ≡ passOf (problemOf s) (stateAt (problemOf s) r) time keys floors .scanned .keys) × (floors' ≡ passOf (problemOf s) (stateAt (problemOf s) r) time keys floors .floors)))
-      unfolding delayIn waitOf
-      round-over t = (
-        sym (ap waitOf (over t)),
-        (view-still (problemOf s) r (over t) (r + 1) (omega arith) (h .view), (k ∙ ap (λ y. y .scanned .keys) (pass-is s r h f), l ∙ ap (λ y. y .floors) (pass-is s r h f))),
-      )
-
-      pub round-won : {e d : ℕ} {labels' loads' values' picked' order' : List ℕ} (a b : ℕ) → x ≡ Edge e d
-          → values' ≡ raisedValues flags d values
-          → loads' ≡ raisedLoads labels flags (length (s .groups)) d loads
-          → a ≡ getD (s .firsts) e 0
-          → b ≡ getD (s .seconds) e 0
-          → labels' ≡ relabelled (getD labels a 0) (getD labels b 0) (length (s .groups) + r) labels
-          → (picked' ≡ set picked e 1) × (order' ≡ set order r e)
-          → (delayIn (After d) ≡ waitOf (winner (problemOf s) (stateAt (problemOf s) r)))
-          × (View (problemOf s) (r + 1) labels' loads' values' picked' order'
-          × ((keys' ≡ passOf (problemOf s) (stateAt (problemOf s) r) time keys floors .scanned .keys) × (floors' ≡ passOf (problemOf s) (stateAt (problemOf s) r) time keys floors .floors)))
-      unfolding delayIn waitOf
-      round-won {e} {d} a b t v m a-is b-is n p = (
-        sym (ap waitOf (won t)),
-        (
-          view-next s r h e d (won t) f a b a-is b-is n m v (p .0) (p .1),
-          (k ∙ ap (λ y. y .scanned .keys) (pass-is s r h f), l ∙ ap (λ y. y .floors) (pass-is s r h f)),
-        ),
-      )
-
--- ---- one round after another
-
-rounds-with : {s : Survey} {r time : ℕ} {keys floors labels loads values picked order : List ℕ}
-    → r ≤ length (s .groups)
-    → stateAt (problemOf s) r .rounds ≡ r
-    → Keyed (problemOf s) (stateAt (problemOf s) r) time keys
-    → Floored (length (s .firsts)) keys floors
-    → View (problemOf s) r labels loads values picked order
-    → maxEdges ≡ length keys
-    → maxEdges / blockEdges + 1 ≡ length floors
-    → Rounds s r time keys floors labels loads values picked order
-rounds-with b n k f v l m =
+-- No step at all.
+pub grown-start : (p : Problem) {labels : List ℕ} → labels ≡ remade (λ v x. v) maxVertices (replicate maxVertices 0)
+    → GrownAfter p 0 (growthFrom 0 0 labels (replicate maxDuals 0) (replicate maxEdges 0) (replicate maxVertices 0))
+unfolding stateAt start counted dualBound
+grown-start p h =
     record {
-      upto = b;
-      rounds-are = n;
-      keyed = k;
-      floored = f;
-      view = v;
-      keys-long = l;
-      floors-long = m;
-      labels-long = sym (ap length (v .labels-are) ∙ length-tabulate maxVertices _);
-      loads-long = sym (ap length (v .loads-are) ∙ length-tabulate maxVertices _);
-      values-long = sym (ap length (v .values-are) ∙ length-tabulate maxDuals _);
-      picked-long = sym (ap length (v .picked-are) ∙ length-tabulate maxEdges _);
-      order-long = sym (ap length (v .order-is) ∙ length-tabulate maxVertices _);
+      rounds-are = refl;
+      bound-is = sym (sum-zero (numbers p start) (λ c. 0) (λ c b. refl));
+      labels-are = h ∙ remade-table (λ v x. v) maxVertices _ (λ v. v) refl (λ v b. refl);
+      values-are = replicate-table maxDuals 0;
+      picked-are = replicate-table maxEdges 0;
+      order-is = replicate-table maxVertices 0 ∙ tabulate-cong maxVertices _ _ (λ k _. sym (counted-false (le-ltb k 0 (omega arith)) (pickAt p k)));
     }
 
--- Before the first round.
-pub rounds-start : (s : Survey) {labels : List ℕ} → labels ≡ remade (λ v x. v) maxVertices (replicate maxVertices 0)
-    → Rounds s 0 0 (replicate maxEdges 0) (replicate (maxEdges / blockEdges + 1) 0) labels (replicate maxVertices 0) (replicate maxDuals 0) (replicate maxEdges 0) (replicate maxVertices 0)
+pub represents-start : {s : Survey} {labels : List ℕ} → SurveySound s → labels ≡ remade (λ v x. v) maxVertices (replicate maxVertices 0)
+    → Represents s 0 0 (arraysFrom labels (replicate maxVertices 0) (replicate maxDuals 0) (replicate maxEdges 0) (replicate maxVertices 0) (replicate maxEdges 0) (replicate maxBlocks 0))
 unfolding stateAt start
-rounds-start s h =
-    rounds-with
-    (omega arith)
-    refl
-    (keyed-start (problemOf s) maxEdges (replicate-table maxEdges 0))
-    (floored-start (length (s .firsts)) (maxEdges / blockEdges + 1) _ (replicate-table (maxEdges / blockEdges + 1) 0))
-    (view-start
-    (problemOf s)
-    (h ∙ remade-table (λ v x. v) maxVertices _ (λ v. v) refl (λ v b. refl))
-    (replicate-table maxVertices 0)
-    (replicate-table maxDuals 0)
-    (replicate-table maxEdges 0)
-    (replicate-table maxVertices 0))
-    (sym (ap length (replicate-table maxEdges 0) ∙ length-tabulate maxEdges _))
-    (sym (ap length (replicate-table (maxEdges / blockEdges + 1) 0) ∙ length-tabulate (maxEdges / blockEdges + 1) _))
+represents-start {s} sound h =
+    let g = grown-start (problemOf s) h in
+    record {
+      sound = sound;
+      rounds-are = refl;
+      labels-are = g .labels-are;
+      loads-are =
+          replicate-table maxVertices 0 ∙ tabulate-cong maxVertices _ _ (λ v _. sym (none (ltb v (problemOf s .vertices)) (load-start (problemOf s) v)));
+      values-are = g .values-are;
+      picked-are = g .picked-are;
+      order-is = g .order-is;
+      keyed = keyed-start (problemOf s) maxEdges (replicate-table maxEdges 0);
+      floored = floored-start (length (s .firsts)) maxBlocks _ (replicate-table maxBlocks 0);
+    }
 
-module _ {s : Survey} {r time : ℕ} {keys floors labels loads values picked order : List ℕ} (sound : SurveySound s)
-    (h : Rounds s r time keys floors labels loads values picked order) where
-  -- No vertex is left for a round.
-  module _ (done : length (s .groups) ≤ r) where
-    pub end-small : Small values (length (s .groups) + r)
-    end-small =
-        values-small
-        s
-        sound
-        r
-        (view-end (problemOf s) r (length (s .groups)) (h .upto) done (h .view))
-        (rounds-end (problemOf s) r (length (s .groups)) (h .upto) done (h .rounds-are))
+-- ---- when no candidate is left
 
-    pub end-shown : {g : Growth} → g ≡ growthFrom r (sumBelow (length (s .groups) + r) (λ c. getD values c 0)) labels values picked order
-        → Shows (problemOf s) (length (s .groups)) g
-    end-shown =
-        shown
-        s
-        sound
-        r
-        (view-end (problemOf s) r (length (s .groups)) (h .upto) done (h .view))
-        (rounds-end (problemOf s) r (length (s .groups)) (h .upto) done (h .rounds-are))
+-- Steps after the last round change nothing.
+module _ (p : Problem) (r : ℕ) (w : winner p (stateAt p r) ≡ nobody) where
+  still-at : (k : ℕ) → stateAt p (r + k) ≡ stateAt p r
+  still-at zero = ap (stateAt p) (add-zero r)
+  still-at (suc k) =
+      let ih : stateAt p (r + k) ≡ stateAt p r = still-at k in
+      ap (stateAt p) (add-suc r k) ∙ stateAt-still p (r + k) (ap (winner p) ih ∙ w) ∙ ih
 
-  module _ (going : r < length (s .groups)) where
-    pub rounds-growing : Growing s r time keys floors labels loads values picked order
-    rounds-growing =
-        record { sound = sound; going = going; rounds-are = h .rounds-are; keyed = h .keyed; floored = h .floored; view = h .view }
+  still-state : (k : ℕ) → r ≤ k → stateAt p k ≡ stateAt p r
+  still-state k b = let e : k ≡ r + (k - r) = omega arith in ap (stateAt p) e ∙ still-at (k - r)
 
-    -- After a round that waits as x says.
-    module _ {x : Delay} (waits : delayIn x ≡ waitOf (winner (problemOf s) (stateAt (problemOf s) r))) where
-      still : x ≡ Never → winner (problemOf s) (stateAt (problemOf s) r) ≡ nobody
-      unfolding delayIn
-      still t = still-winner (problemOf s) r (sym (ap delayIn t) ∙ waits)
+  still-picks : (k : ℕ) → r ≤ k → (i : ℕ) → counted (ltb i r) (pickAt p i) ≡ counted (ltb i k) (pickAt p i)
+  unfolding pickAt winnerEdge
+  still-picks k b i = by (lt-or-ge i r)
+    where
+      by : (i < r) ⊎ (r ≤ i) → counted (ltb i r) (pickAt p i) ≡ counted (ltb i k) (pickAt p i)
+      by (inl h) = ap (λ x. counted x (pickAt p i)) (lt-ltb i r h ∙ sym (lt-ltb i k (omega arith)))
+      by (inr h) =
+          let z : pickAt p i ≡ 0 = ap winnerEdge (ap (winner p) (still-state i h) ∙ w) in
+          none (ltb i r) z ∙ sym (none (ltb i k) z)
 
-      next : {d : ℕ} → x ≡ After d → (e : ℕ) × (winner (problemOf s) (stateAt (problemOf s) r) ≡ edge e d)
-      unfolding delayIn
-      next {d} t = next-winner (problemOf s) r d (sym (ap delayIn t) ∙ waits)
+no-win : (w : Winner) → never ≡ winnerDelay w → w ≡ nobody
+unfolding winnerDelay
+no-win nobody h = refl
+no-win (edge e d) h = let z : _≡_ {A = ℕ} 0 1 = cc in absurd (omega arith)
 
-      pub next-time : {d : ℕ} → x ≡ After d → time + d < 2 ^ 64
-      unfolding timeAfter
-      next-time t =
-          let w = next t in
-          let k = keyed-on s r rounds-growing _ (w .1) .early in
-          let q = rounds-more (problemOf s) r _ _ (w .1) (h .rounds-are) in
-          let few = sound .few in
+module _ {s : Survey} {r time : ℕ} {a : Arrays} (h : Represents s r time a) where
+  -- The time so far fits.
+  pub time-fits : time < 2 ^ 64
+  time-fits = let q = h .rounds-are in let g = going h in let t = h .keyed .early in let few = h .sound .few in omega arith
+
+  value-at : (c : ℕ) → c < maxDuals → getD (a .values) c 0 ≡ stateAt (problemOf s) r .value c
+  value-at c b = ap (λ t. getD t c 0) (h .values-are) ∙ getD-tabulate maxDuals _ c 0 b
+
+  pub sum-fits : SumFits (a .values) (length (s .groups) + r)
+  sum-fits =
+      let few = h .sound .few in
+      let g = going h in
+      record { few = omega arith; low = λ c. by c (lt-or-ge c maxDuals) }
+    where
+      by : (c : ℕ) → (c < maxDuals) ⊎ (maxDuals ≤ c) → getD (a .values) c 0 ≤ 2 ^ 32
+      by c (inl b) =
+          let k = value-at c b in
+          let q = value-bounded (problemOf s) (survey-sound s (h .sound)) maxWeight (weights-light h) (stateAt-reached (problemOf s) r) c in
+          let few = h .sound .few in
+          let g = going h in
+          let n = h .rounds-are in
+          omega arith
+      by c (inr b) =
+          let long : length (a .values) ≡ maxDuals = ap length (h .values-are) ∙ length-tabulate maxDuals _ in
+          let k : getD (a .values) c 0 ≡ 0 = List·getD-eq-default (a .values) 0 (omega arith) in
           omega arith
 
-      module _ {labels' loads' values' picked' order' : List ℕ} (v : View (problemOf s) (r + 1) labels' loads' values' picked' order') where
-        pub stop-small : x ≡ Never → Small values' (length (s .groups) + r)
-        stop-small t =
-            values-small
-            s
-            sound
-            r
-            (view-over (problemOf s) r (length (s .groups)) (still t) going v)
-            (rounds-still (problemOf s) r (length (s .groups)) (still t) going (h .rounds-are))
+  bound-at : sumBelow (length (s .groups) + r) (λ c. getD (a .values) c 0) ≡ dualBound (problemOf s) (stateAt (problemOf s) r)
+  unfolding dualBound numbers problemOf vertexCount
+  bound-at =
+      let few = h .sound .few in
+      let g = going h in
+      rw
+      (h .rounds-are)
+      (sum-cong (length (s .groups) + r) (λ c. getD (a .values) c 0) (stateAt (problemOf s) r .value) (λ c k. value-at c (omega arith)))
 
-        pub stop-shown : {g : Growth} → x ≡ Never → g ≡ growthFrom r (sumBelow (length (s .groups) + r) (λ c. getD values' c 0)) labels' values' picked' order'
-            → Shows (problemOf s) (length (s .groups)) g
-        stop-shown t =
-            shown
-            s
-            sound
-            r
-            (view-over (problemOf s) r (length (s .groups)) (still t) going v)
-            (rounds-still (problemOf s) r (length (s .groups)) (still t) going (h .rounds-are))
-
-        pub rounds-next : {d : ℕ} {keys' floors' : List ℕ} → x ≡ After d
-            → keys' ≡ passOf (problemOf s) (stateAt (problemOf s) r) time keys floors .scanned .keys
-            → floors' ≡ passOf (problemOf s) (stateAt (problemOf s) r) time keys floors .floors
-            → Rounds s (r + 1) (time + d) keys' floors' labels' loads' values' picked' order'
-        unfolding timeAfter passOf
-        rounds-next t k f =
-            let w = next t in
-            rounds-with
-            (omega arith)
-            (rounds-more (problemOf s) r _ _ (w .1) (h .rounds-are))
-            (subst (Keyed _ _ _) (sym k) (keyed-on s r rounds-growing _ (w .1)))
-            (rw (k, f) (floored-on s r rounds-growing))
-            v
-            (h .keys-long ∙ sym (ap length k ∙ length-passes _ _ _ _ _ _ _ .0))
-            (h .floors-long ∙ sym (ap length f ∙ length-passes _ _ _ _ _ _ _ .1))
+  -- A round without a winner was the last: this is the growth.
+  pub grown-end : {x : Delay} {g : Growth} → delayIn x ≡ winnerDelay (winner (problemOf s) (stateAt (problemOf s) r)) → x ≡ Never
+      → g ≡ growthFrom r (sumBelow (length (s .groups) + r) (λ c. getD (a .values) c 0)) (a .labels) (a .values) (a .picked) (a .order)
+      → GrownAfter (problemOf s) (length (s .groups)) g
+  unfolding delayIn
+  grown-end delays t e =
+      let p = problemOf s in
+      let w = no-win (winner p (stateAt p r)) (sym (ap delayIn t) ∙ delays) in
+      let still = sym (still-state p r w (length (s .groups)) (omega (arith, going h))) in
+      rw
+      e
+      (record {
+        rounds-are = sym (h .rounds-are) ∙ ap (λ t. t .rounds) still;
+        bound-is = bound-at ∙ ap (dualBound p) still;
+        labels-are = h .labels-are ∙ ap (λ t. tabulate maxVertices (t .label)) still;
+        values-are = h .values-are ∙ ap (λ t. tabulate maxDuals (t .value)) still;
+        picked-are = h .picked-are ∙ ap (λ t. tabulate maxEdges (λ i. counted (t .picked i) 1)) still;
+        order-is = h .order-is ∙ tabulate-cong maxVertices _ _ (λ i _. still-picks p r w (length (s .groups)) (omega (arith, going h)) i);
+      })

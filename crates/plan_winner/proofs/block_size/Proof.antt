@@ -11,10 +11,12 @@ mul-left c = search needs
 sub-left : tie.Need-sub-left
 sub-left c = search needs
 
+-- the last block
 returns : tie.Need-returns
 unfolding blockSize
 returns c = rw (lt-ltb _ _ (c .if1 .taken))
 
+-- a whole block
 returns-2 : tie.Need-returns-2
 unfolding blockSize
 returns-2 c = rw (le-ltb _ _ (c .if1 .left))

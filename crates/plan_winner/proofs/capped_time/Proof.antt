@@ -4,10 +4,12 @@ use Rattle.plan_winner.specs.Scan.{cappedTime}
 use Rattle.plan_winner.proofs.capped_time.Statement.{statement}
 use Rattle.plan_winner.proofs.capped_time.Tie as tie
 
+-- below the limit
 returns : tie.Need-returns
 unfolding cappedTime
 returns c = rw (lt-ltb _ _ (c .if1 .taken))
 
+-- past it
 returns-2 : tie.Need-returns-2
 unfolding cappedTime
 returns-2 c = rw (le-ltb _ _ (c .if1 .left))

@@ -6,7 +6,7 @@ use Rattle.plan_winner.specs.Scan.{blocksOf}
 use Rattle.plan_winner.specs.Tables.{tablesFrom}
 use Rattle.plan_delay.specs.Between.{winnerIn}
 use Rattle.plan_winner.specs.Laws.Scan.{capped-small}
-use Rattle.plan_winner.specs.Laws.Loops.{Passing, passing-start, block-starts, passing-look, passing-over, passing-keys, passing-floors, passing-end}
+use Rattle.plan_winner.specs.Laws.Loops.{PassingBlocks, passing-start, block-starts, passing-look, passing-over, passing-keys, passing-floors, passing-end}
 use borrow.Author.Needs.{needs}
 use native.Mathlib.Omega.{arith}
 use Rattle.plan_winner.proofs.find_winner.Statement.{statement}
@@ -14,7 +14,7 @@ use Rattle.plan_winner.proofs.find_winner.Tie as tie
 
 abbrev Inv-loop : tie.InvT-loop
 Inv-loop firsts seconds weights labels loads flags time keys₀ floors₀ capped best₀ limit₀ blocks b₀ keys floors best limit b =
-    Passing (tablesFrom firsts seconds weights labels loads flags) capped keys₀ floors₀ blocks b limit (winnerIn best) keys floors
+    PassingBlocks (tablesFrom firsts seconds weights labels loads flags) capped keys₀ floors₀ blocks b limit (winnerIn best) keys floors
 
 abbrev μ-loop : tie.MeasureT-loop
 μ-loop firsts seconds weights labels loads flags time keys₀ floors₀ capped best₀ limit₀ blocks b₀ keys floors best limit b =
@@ -52,9 +52,11 @@ loop-again c =
     (λ w. passing-over (c .before .before .before .before .loop .inv) (c .before .before .before .loop-test .taken) (c .before .at64 .ensures) (w .0 .left) (ap winnerIn (w .3)) (w .4) (w .1) (w .2))
     (c .if1 .came)
 
+-- keys
 same-length : tie.Need-same-length Inv-loop μ-loop
 same-length c = passing-keys (c .before .loop .inv)
 
+-- floors
 same-length-2 : tie.Need-same-length-2 Inv-loop μ-loop
 same-length-2 c = passing-floors (c .before .loop .inv)
 

@@ -10,6 +10,7 @@ at32-requires c κs = search needs
 at32-requires-2 : tie.Need-at32-requires-2
 at32-requires-2 c κs = search needs
 
+-- inside a component
 returns : tie.Need-returns
 returns c = key-inside _ _ _ _ (c .before .before .at32 .ensures) (c .before .at322 .ensures) _ _ (c .if1 .taken)
 
@@ -28,6 +29,7 @@ mul-result c = search needs
 add-result : tie.Need-add-result
 add-result c = search needs
 
+-- between two
 returns-2 : tie.Need-returns-2
 returns-2 c =
     key-apart _ _ _ _ (c .before .before .before .before .before .at32 .ensures) (c .before .before .before .before .at322 .ensures) _ (c .before .before .before .if1 .left) (c .before .before .at64 .ensures) (c .before .at642 .ensures) (c .edge-slack .ensures) _

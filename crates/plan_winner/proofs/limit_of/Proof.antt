@@ -12,6 +12,7 @@ enum-known-best c = search needs
 enum-told : tie.Need-enum-told
 enum-told c = search needs
 
+-- no candidate so far
 returns : tie.Need-returns
 unfolding limitOf winnerIn
 returns c = rw (c .enum-told .given .1)
@@ -22,10 +23,12 @@ add-result c = search needs
 mul-result : tie.Need-mul-result
 mul-result c = search needs
 
+-- the sum fits
 returns-2 : tie.Need-returns-2
 unfolding limitOf winnerIn
 returns-2 c = rw (c .before .before .best .given .1, lt-ltb _ _ (c .if1 .taken))
 
+-- a delay past every time
 returns-3 : tie.Need-returns-3
 unfolding limitOf winnerIn
 returns-3 c = rw (c .before .before .best .given .1, le-ltb _ _ (c .if1 .left))

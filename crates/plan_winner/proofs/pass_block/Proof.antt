@@ -29,19 +29,22 @@ lowest-key-requires c κs = search needs
 put64-requires : tie.Need-put64-requires
 put64-requires c κs = search needs
 
+-- keys
 same-length : tie.Need-same-length
 same-length c = c .before .before .before .before .before .before .before .keys .given
 
+-- floors
 same-length-2 : tie.Need-same-length-2
 same-length-2 c = c .before .floors .given
 
 returns : tie.Need-returns
 unfolding onBy
 returns c =
-    let z = size-is (c .before .before .before .before .before .before .before .before .before .before .before .before .before .before .before .before .before .before .before .args .b) (c .before .before .before .before .before .before .before .before .before .before .block-size .ensures) in
+    let entry = c .before .before .before .before .before .before .before .before .before .before .before .before .before .before .before .before .before .before .before in
+    let z = size-is (entry .args .b) (c .before .before .before .before .before .before .before .before .before .before .block-size .ensures) in
     let best = c .before .before .before .before .before .before .before .before .scan-block .ensures .0 in
     let keys = c .before .before .before .before .before .before .before .before .scan-block .ensures .1 in
-    let floors = c .before .before .put64 .ensures ∙ ap (λ x. set (c .before .before .before .before .before .before .before .before .before .before .before .before .before .before .before .before .before .before .before .args .floors .now) (c .before .before .before .before .before .before .before .before .before .before .before .before .before .before .before .before .before .before .before .args .b) x) (c .before .before .before .lowest-key .ensures) in
+    let floors = c .before .before .put64 .ensures ∙ ap (λ x. set (entry .args .floors .now) (entry .args .b) x) (c .before .before .before .lowest-key .ensures) in
     (rw z at best, (rw z at keys, rw z at floors))
 
 pub pass-block-spec : {M : Type 1} → statement M

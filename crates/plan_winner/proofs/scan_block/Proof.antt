@@ -11,11 +11,11 @@ use Rattle.plan_winner.proofs.scan_block.Statement.{statement}
 use Rattle.plan_winner.proofs.scan_block.Tie as tie
 
 abbrev Inv-loop : tie.InvT-loop
-Inv-loop firsts seconds weights labels loads flags time keys₀ from to champion₀ limit₀ e₀ keys champion limit e =
-    Scanning (tablesFrom firsts seconds weights labels loads flags) time (winnerIn champion₀) keys₀ from to e limit (winnerIn champion) keys
+Inv-loop firsts seconds weights labels loads flags time keys₀ from to winner₀ limit₀ e₀ keys winner limit e =
+    Scanning (tablesFrom firsts seconds weights labels loads flags) time (winnerIn winner₀) keys₀ from to e limit (winnerIn winner) keys
 
 abbrev μ-loop : tie.MeasureT-loop
-μ-loop firsts seconds weights labels loads flags time keys₀ from to champion₀ limit₀ e₀ keys champion limit e =
+μ-loop firsts seconds weights labels loads flags time keys₀ from to winner₀ limit₀ e₀ keys winner limit e =
     to - e
 
 limit-of-requires : tie.Need-limit-of-requires Inv-loop μ-loop

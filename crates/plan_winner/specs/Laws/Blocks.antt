@@ -13,7 +13,7 @@ use lib.Dec.{ltb}
 use borrow.Author.Tests.{ltb-true, ltb-false, le-ltb, lt-ltb}
 use Rattle.base_finite.specs.Laws.Below.{lt-or-ge}
 use Rattle.theory_steiner.specs.Growth.{Delay, Winner, better}
-use Rattle.plan_winner.specs.Scan.{noKey, limitOf, Scan, looked, scan, scanOn, blockEdges, blockSize, blocksOf, lowest, Pass, blockPass, passes, Floored}
+use Rattle.plan_winner.specs.Scan.{noKey, limitOf, Scan, looked, scan, scanOn, blockEdges, blockSize, blocksOf, lowestKey, Pass, blockPass, passesBelow, Floored}
 use Rattle.plan_winner.specs.Laws.Scan.{set-low}
 
 module _ (delays : ℕ → Delay) (fresh : ℕ → ℕ) (time : ℕ) where
@@ -113,38 +113,38 @@ cond-low x y = by (ltb y x) refl
     by true h = let l = ltb-true y x h in (omega arith, omega arith)
     by false h = let l = ltb-false y x h in (omega arith, omega arith)
 
-lowest-le : (keys : List ℕ) (from n k : ℕ) → k < n → lowest keys from n ≤ getD keys (from + k) 0
-unfolding lowest
+lowest-le : (keys : List ℕ) (from n k : ℕ) → k < n → lowestKey keys from n ≤ getD keys (from + k) 0
+unfolding lowestKey
 lowest-le keys from zero k b = absurd (omega arith)
 lowest-le keys from (suc n) k b = by (lt-or-ge k n) (λ h. lowest-le keys from n k h)
   where
-    by : (k < n) ⊎ (n ≤ k) → (k < n → lowest keys from n ≤ getD keys (from + k) 0)
-        → cond (ltb (getD keys (from + n) 0) (lowest keys from n)) (getD keys (from + n) 0) (lowest keys from n) ≤ getD keys (from + k) 0
-    by (inl h) ih = let l = cond-low (lowest keys from n) (getD keys (from + n) 0) .0 in let i = ih h in omega arith
-    by (inr h) ih = let q : k ≡ n = omega arith in rw q (cond-low (lowest keys from n) (getD keys (from + n) 0) .1)
+    by : (k < n) ⊎ (n ≤ k) → (k < n → lowestKey keys from n ≤ getD keys (from + k) 0)
+        → cond (ltb (getD keys (from + n) 0) (lowestKey keys from n)) (getD keys (from + n) 0) (lowestKey keys from n) ≤ getD keys (from + k) 0
+    by (inl h) ih = let l = cond-low (lowestKey keys from n) (getD keys (from + n) 0) .0 in let i = ih h in omega arith
+    by (inr h) ih = let q : k ≡ n = omega arith in rw q (cond-low (lowestKey keys from n) (getD keys (from + n) 0) .1)
 
 -- One key more, as the code goes.
 module _ (keys : List ℕ) (from : ℕ) where
-  pub lowest-none : noKey ≡ lowest keys from (from - from)
-  unfolding lowest
-  lowest-none = let z : from - from ≡ 0 = omega arith in rw z refl
+  pub lowest-key-none : noKey ≡ lowestKey keys from (from - from)
+  unfolding lowestKey
+  lowest-key-none = let z : from - from ≡ 0 = omega arith in rw z refl
 
-  module _ (e y : ℕ) {x : ℕ} (b : from ≤ e) (y-is : y ≡ getD keys e 0) (p : x ≡ lowest keys from (e - from)) where
-    lowest-more : cond (ltb y x) y x ≡ lowest keys from (e + 1 - from)
-    unfolding lowest
+  module _ (e y : ℕ) {x : ℕ} (b : from ≤ e) (y-is : y ≡ getD keys e 0) (p : x ≡ lowestKey keys from (e - from)) where
+    lowest-more : cond (ltb y x) y x ≡ lowestKey keys from (e + 1 - from)
+    unfolding lowestKey
     lowest-more =
         let q : e + 1 - from ≡ suc (e - from) = omega arith in
         let h : from + (e - from) ≡ e = omega arith in
         rw (q, h, sym p, sym y-is) refl
 
-    pub lowest-falls : y < x → y ≡ lowest keys from (e + 1 - from)
-    lowest-falls h = rw (lt-ltb y x h) at lowest-more
+    pub lowest-key-falls : y < x → y ≡ lowestKey keys from (e + 1 - from)
+    lowest-key-falls h = rw (lt-ltb y x h) at lowest-more
 
-    pub lowest-stays : x ≤ y → x ≡ lowest keys from (e + 1 - from)
-    lowest-stays h = rw (le-ltb y x h) at lowest-more
+    pub lowest-key-stays : x ≤ y → x ≡ lowestKey keys from (e + 1 - from)
+    lowest-key-stays h = rw (le-ltb y x h) at lowest-more
 
-  pub lowest-end : (to e : ℕ) {x : ℕ} → from ≤ e → e - from ≤ to - from → to ≤ e → x ≡ lowest keys from (e - from) → x ≡ lowest keys from (to - from)
-  lowest-end to e a b c p = let z : to - from ≡ e - from = omega arith in rw z p
+  pub lowest-key-end : (to e : ℕ) {x : ℕ} → from ≤ e → e - from ≤ to - from → to ≤ e → x ≡ lowestKey keys from (e - from) → x ≡ lowestKey keys from (to - from)
+  lowest-key-end to e a b c p = let z : to - from ≡ e - from = omega arith in rw z p
 
 -- ---- blocks
 
@@ -193,7 +193,7 @@ module _ (delays : ℕ → Delay) (fresh : ℕ → ℕ) (time m : ℕ) where
           omega arith
 
       by : (t : Bool) → ltb (getD (S .floors) b 0) (limitOf time (S .scanned .best)) ≡ t
-          → cond t (record { scanned = through S b; floors = set (S .floors) b (lowest (through S b .keys) (blockEdges * b) (blockSize m b)) }) S .scanned ≡ through S b
+          → cond t (record { scanned = through S b; floors = set (S .floors) b (lowestKey (through S b .keys) (blockEdges * b) (blockSize m b)) }) S .scanned ≡ through S b
       by true t = refl
       by false t = sym (on-skip delays fresh time (S .scanned) (blockEdges * b) (blockSize m b) (λ k h. high k (ltb-false _ _ t) h))
 
@@ -205,7 +205,7 @@ module _ (delays : ℕ → Delay) (fresh : ℕ → ℕ) (time m : ℕ) where
       T : Scan
       T = through S b
 
-      inside : (e : ℕ) → e < m → e / blockEdges ≡ b → lowest (T .keys) (blockEdges * b) (blockSize m b) ≤ getD (T .keys) e 0
+      inside : (e : ℕ) → e < m → e / blockEdges ≡ b → lowestKey (T .keys) (blockEdges * b) (blockSize m b) ≤ getD (T .keys) e 0
       inside e h q =
           let k : blockEdges * b + (e - blockEdges * b) ≡ e = omega arith in
           rw k at (lowest-le (T .keys) (blockEdges * b) (blockSize m b) (e - blockEdges * b) (size-above m b e h q))
@@ -218,9 +218,9 @@ module _ (delays : ℕ → Delay) (fresh : ℕ → ℕ) (time m : ℕ) where
           omega arith
 
       by : (t : Bool) →
-          let P = cond t (record { scanned = T; floors = set (S .floors) b (lowest (T .keys) (blockEdges * b) (blockSize m b)) }) S in
+          let P = cond t (record { scanned = T; floors = set (S .floors) b (lowestKey (T .keys) (blockEdges * b) (blockSize m b)) }) S in
           Floored m (P .scanned .keys) (P .floors)
-      by true = record { low = λ e h. set-low (S .floors) b (lowest (T .keys) (blockEdges * b) (blockSize m b)) (e / blockEdges) (getD (T .keys) e 0) (inside e h) (outside e h) }
+      by true = record { low = λ e h. set-low (S .floors) b (lowestKey (T .keys) (blockEdges * b) (blockSize m b)) (e / blockEdges) (getD (T .keys) e 0) (inside e h) (outside e h) }
       by false = f
 
   -- The edges of the blocks below b.
@@ -252,10 +252,10 @@ module _ (delays : ℕ → Delay) (fresh : ℕ → ℕ) (time m : ℕ) where
 
   module _ (keys floors : List ℕ) (f : Floored m keys floors) where
     abbrev after : ℕ → Pass
-    after b = passes delays fresh time m keys floors b
+    after b = passesBelow delays fresh time m keys floors b
 
     passes-to : (b : ℕ) → b ≤ blocksOf m → (after b .scanned ≡ scan delays fresh time keys (covered b)) × Floored m (after b .scanned .keys) (after b .floors)
-    unfolding passes scan
+    unfolding passesBelow scan
     passes-to zero h = (ap (scan delays fresh time keys) (sym covered-none), f)
     passes-to (suc b) h =
         let ih = passes-to b (omega arith) in (
@@ -273,17 +273,17 @@ module _ (delays : ℕ → Delay) (fresh : ℕ → ℕ) (time m : ℕ) where
 -- ---- one block after another, as the code goes
 
 module _ (delays : ℕ → Delay) (fresh : ℕ → ℕ) (time m : ℕ) (keys floors : List ℕ) (b x l : ℕ) {best : Winner} {now low : List ℕ} (x-is : x ≡ getD low b 0)
-    (l-is : l ≡ limitOf time best) (p : best ≡ passes delays fresh time m keys floors b .scanned .best) (q : now ≡ passes delays fresh time m keys floors b .scanned .keys)
-    (r : low ≡ passes delays fresh time m keys floors b .floors) where
+    (l-is : l ≡ limitOf time best) (p : best ≡ passesBelow delays fresh time m keys floors b .scanned .best) (q : now ≡ passesBelow delays fresh time m keys floors b .scanned .keys)
+    (r : low ≡ passesBelow delays fresh time m keys floors b .floors) where
   abbrev then : Pass
-  then = passes delays fresh time m keys floors (b + 1)
+  then = passesBelow delays fresh time m keys floors (b + 1)
 
-  scanned-is : passes delays fresh time m keys floors b ≡ record { scanned = record { best = best; keys = now }; floors = low }
+  scanned-is : passesBelow delays fresh time m keys floors b ≡ record { scanned = record { best = best; keys = now }; floors = low }
   scanned-is i = record { scanned = record { best = sym p i; keys = sym q i }; floors = sym r i }
 
   then-is : then ≡ blockPass delays fresh time m (record { scanned = record { best = best; keys = now }; floors = low }) b
-  unfolding passes
-  then-is = ap (passes delays fresh time m keys floors) (add-one b) ∙ ap (λ S. blockPass delays fresh time m S b) scanned-is
+  unfolding passesBelow
+  then-is = ap (passesBelow delays fresh time m keys floors) (add-one b) ∙ ap (λ S. blockPass delays fresh time m S b) scanned-is
 
   floor-is : ltb (getD low b 0) (limitOf time best) ≡ ltb x l
   floor-is = ap (λ z. ltb z (limitOf time best)) (sym x-is) ∙ ap (ltb x) (sym l-is)
@@ -293,7 +293,7 @@ module _ (delays : ℕ → Delay) (fresh : ℕ → ℕ) (time m : ℕ) (keys flo
       → after ≡ scanOn delays fresh time (record { best = best; keys = now }) (blockEdges * b) (blockSize m b) .best
       → new ≡ left
       → left ≡ scanOn delays fresh time (record { best = best; keys = now }) (blockEdges * b) (blockSize m b) .keys
-      → high ≡ set low b (lowest left (blockEdges * b) (blockSize m b))
+      → high ≡ set low b (lowestKey left (blockEdges * b) (blockSize m b))
       → (after ≡ then .scanned .best) × (new ≡ then .scanned .keys) × (high ≡ then .floors)
   unfolding blockPass
   block-look h c i d e =
@@ -308,9 +308,9 @@ module _ (delays : ℕ → Delay) (fresh : ℕ → ℕ) (time m : ℕ) (keys flo
       (rw (then-is, t) refl, rw (then-is, t) refl, rw (then-is, t) refl)
 
 pub passes-end : (delays : ℕ → Delay) (fresh : ℕ → ℕ) (time m : ℕ) (keys floors : List ℕ) (n b : ℕ) {best : Winner} {now low : List ℕ} → b ≤ n → n ≤ b
-    → best ≡ passes delays fresh time m keys floors b .scanned .best → now ≡ passes delays fresh time m keys floors b .scanned .keys
-    → low ≡ passes delays fresh time m keys floors b .floors
-    → (best ≡ passes delays fresh time m keys floors n .scanned .best) × ((now ≡ passes delays fresh time m keys floors n .scanned .keys) × (low ≡ passes delays fresh time m keys floors n .floors))
+    → best ≡ passesBelow delays fresh time m keys floors b .scanned .best → now ≡ passesBelow delays fresh time m keys floors b .scanned .keys
+    → low ≡ passesBelow delays fresh time m keys floors b .floors
+    → (best ≡ passesBelow delays fresh time m keys floors n .scanned .best) × ((now ≡ passesBelow delays fresh time m keys floors n .scanned .keys) × (low ≡ passesBelow delays fresh time m keys floors n .floors))
 passes-end delays fresh time m keys floors n b h k p q r = let z : n ≡ b = omega arith in (rw z p, (rw z q, rw z r))
 
 -- ---- passes that see the same
@@ -321,11 +321,11 @@ module _ (f g : ℕ → Delay) (h i : ℕ → ℕ) (time m : ℕ) (a : (e : ℕ)
   on-cong S from zero b = refl
   on-cong S from (suc n) b = rw (on-cong S from n (λ k l. b k (omega arith)), a (from + n) (b n (omega arith)), c (from + n) (b n (omega arith)))
 
-  pub passes-cong : (keys floors : List ℕ) (b : ℕ) → passes f h time m keys floors b ≡ passes g i time m keys floors b
-  unfolding passes blockPass
+  pub passes-cong : (keys floors : List ℕ) (b : ℕ) → passesBelow f h time m keys floors b ≡ passesBelow g i time m keys floors b
+  unfolding passesBelow blockPass
   passes-cong keys floors zero = refl
   passes-cong keys floors (suc b) =
-      rw (passes-cong keys floors b, on-cong (passes g i time m keys floors b .scanned) (blockEdges * b) (blockSize m b) (λ k l. size-cases m b k l .1))
+      rw (passes-cong keys floors b, on-cong (passesBelow g i time m keys floors b .scanned) (blockEdges * b) (blockSize m b) (λ k l. size-cases m b k l .1))
 
 length-block : (delays : ℕ → Delay) (fresh : ℕ → ℕ) (time m : ℕ) (S : Pass) (b : ℕ)
     → (length (blockPass delays fresh time m S b .scanned .keys) ≡ length (S .scanned .keys)) × (length (blockPass delays fresh time m S b .floors) ≡ length (S .floors))
@@ -336,17 +336,17 @@ length-block delays fresh time m S b = by (ltb (getD (S .floors) b 0) (limitOf t
     T = scanOn delays fresh time (S .scanned) (blockEdges * b) (blockSize m b)
 
     by : (t : Bool) →
-        let P = cond t (record { scanned = T; floors = set (S .floors) b (lowest (T .keys) (blockEdges * b) (blockSize m b)) }) S in
+        let P = cond t (record { scanned = T; floors = set (S .floors) b (lowestKey (T .keys) (blockEdges * b) (blockSize m b)) }) S in
         (length (P .scanned .keys) ≡ length (S .scanned .keys)) × (length (P .floors) ≡ length (S .floors))
     by true = (length-on delays fresh time (S .scanned) (blockEdges * b) (blockSize m b), length-set (S .floors) b _)
     by false = (refl, refl)
 
 -- As many keys and floors as before.
 pub length-passes : (delays : ℕ → Delay) (fresh : ℕ → ℕ) (time m : ℕ) (keys floors : List ℕ) (b : ℕ)
-    → (length (passes delays fresh time m keys floors b .scanned .keys) ≡ length keys) × (length (passes delays fresh time m keys floors b .floors) ≡ length floors)
-unfolding passes
+    → (length (passesBelow delays fresh time m keys floors b .scanned .keys) ≡ length keys) × (length (passesBelow delays fresh time m keys floors b .floors) ≡ length floors)
+unfolding passesBelow
 length-passes delays fresh time m keys floors zero = (refl, refl)
 length-passes delays fresh time m keys floors (suc b) =
-    let l = length-block delays fresh time m (passes delays fresh time m keys floors b) b in
+    let l = length-block delays fresh time m (passesBelow delays fresh time m keys floors b) b in
     let ih = length-passes delays fresh time m keys floors b in
     (l .0 ∙ ih .0, l .1 ∙ ih .1)

@@ -5,13 +5,13 @@ use mathlib.Core.Path.{_≡_, refl, ap, sym, _∙_}
 use mathlib.Core.List.{List}
 use lib.ListN.{length, getD, set}
 use Rattle.theory_steiner.specs.Growth.{Winner, nobody, better}
-use Rattle.plan_winner.specs.Scan.{noKey, limitOf, cappedTime, blockEdges, blockSize, lowest, passes}
+use Rattle.plan_winner.specs.Scan.{noKey, limitOf, cappedTime, blockEdges, blockSize, lowestKey, passesBelow}
 use Rattle.plan_winner.specs.Tables.{Tables, delayBy, keyBy, onBy, passBy, scanFrom}
 use Rattle.plan_winner.specs.Laws.Blocks.{on-none, on-look, on-pass, on-end, length-on, block-look, block-pass, passes-end, length-passes}
 
 -- Before edge e of a block, from the best and the keys at its start.
 pub record Scanning (t : Tables) (time : ℕ) (start : Winner) (keys : List ℕ) (from to e limit : ℕ) (best : Winner) (now : List ℕ) : Type 0 where
-  pub after : from ≤ e
+  pub from-le : from ≤ e
   pub upto : e - from ≤ to - from
   pub limit-is : limit ≡ limitOf time best
   pub best-is : best ≡ onBy t time (scanFrom start keys) from (e - from) .best
@@ -22,7 +22,7 @@ pub scanning-start : (t : Tables) (time : ℕ) (start : Winner) (keys : List ℕ
 unfolding onBy
 scanning-start t time start keys from to h =
     let z = on-none (delayBy t) (keyBy t time) time (scanFrom start keys) from in
-    record { after = omega arith; upto = omega arith; limit-is = h; best-is = z .0; keys-are = z .1 }
+    record { from-le = omega arith; upto = omega arith; limit-is = h; best-is = z .0; keys-are = z .1 }
 
 module _ {t : Tables} {time : ℕ} {start : Winner} {keys : List ℕ} {from to e limit : ℕ} {best : Winner} {now : List ℕ}
     (h : Scanning t time start keys from to e limit best now) where
@@ -31,18 +31,18 @@ module _ {t : Tables} {time : ℕ} {start : Winner} {keys : List ℕ} {from to e
       → left ≡ set now e (keyBy t time e) → best' ≡ found → limit' ≡ limitOf time found → now' ≡ left → Scanning t time start keys from to (e + 1) limit' best' now'
   unfolding onBy
   scanning-look {x} b x-is u f l g m n =
-      let k = on-look (delayBy t) (keyBy t time) time (scanFrom start keys) from e x limit (h .after) x-is (h .limit-is) (h .best-is) (h .keys-are) u (g ∙ f) (n ∙ l) in
-      let a = h .after in
-      record { after = omega arith; upto = omega arith; limit-is = m ∙ ap (limitOf time) (sym g); best-is = k .0; keys-are = k .1 }
+      let k = on-look (delayBy t) (keyBy t time) time (scanFrom start keys) from e x limit (h .from-le) x-is (h .limit-is) (h .best-is) (h .keys-are) u (g ∙ f) (n ∙ l) in
+      let a = h .from-le in
+      record { from-le = omega arith; upto = omega arith; limit-is = m ∙ ap (limitOf time) (sym g); best-is = k .0; keys-are = k .1 }
 
   -- An edge that is passed over.
   pub scanning-pass : {x limit' : ℕ} {best' : Winner} {now' : List ℕ} → e < to → x ≡ getD now e 0 → limit ≤ x → best' ≡ best → limit' ≡ limit → now' ≡ now
       → Scanning t time start keys from to (e + 1) limit' best' now'
   unfolding onBy
   scanning-pass {x} b x-is u g m n =
-      let k = on-pass (delayBy t) (keyBy t time) time (scanFrom start keys) from e x limit (h .after) x-is (h .limit-is) (h .best-is) (h .keys-are) u in
-      let a = h .after in
-      record { after = omega arith; upto = omega arith; limit-is = m ∙ h .limit-is ∙ ap (limitOf time) (sym g); best-is = g ∙ k .0; keys-are = n ∙ k .1 }
+      let k = on-pass (delayBy t) (keyBy t time) time (scanFrom start keys) from e x limit (h .from-le) x-is (h .limit-is) (h .best-is) (h .keys-are) u in
+      let a = h .from-le in
+      record { from-le = omega arith; upto = omega arith; limit-is = m ∙ h .limit-is ∙ ap (limitOf time) (sym g); best-is = g ∙ k .0; keys-are = n ∙ k .1 }
 
   pub scanning-long : length now ≡ length keys
   unfolding onBy
@@ -50,34 +50,34 @@ module _ {t : Tables} {time : ℕ} {start : Winner} {keys : List ℕ} {from to e
 
   pub scanning-end : to ≤ e → (best ≡ onBy t time (scanFrom start keys) from (to - from) .best) × (now ≡ onBy t time (scanFrom start keys) from (to - from) .keys)
   unfolding onBy
-  scanning-end b = on-end (delayBy t) (keyBy t time) time (scanFrom start keys) from to e (h .after) (h .upto) b (h .best-is) (h .keys-are)
+  scanning-end b = on-end (delayBy t) (keyBy t time) time (scanFrom start keys) from to e (h .from-le) (h .upto) b (h .best-is) (h .keys-are)
 
 -- Before block b of n.
-pub record Passing (t : Tables) (time : ℕ) (keys floors : List ℕ) (n b limit : ℕ) (best : Winner) (now low : List ℕ) : Type 0 where
+pub record PassingBlocks (t : Tables) (time : ℕ) (keys floors : List ℕ) (n b limit : ℕ) (best : Winner) (now low : List ℕ) : Type 0 where
   pub upto : b ≤ n
   pub limit-is : limit ≡ limitOf time best
   pub best-is : best ≡ passBy t time keys floors b .scanned .best
   pub keys-are : now ≡ passBy t time keys floors b .scanned .keys
   pub floors-are : low ≡ passBy t time keys floors b .floors
 
-pub passing-start : (t : Tables) (time : ℕ) (keys floors : List ℕ) (n : ℕ) → Passing t time keys floors n 0 noKey nobody keys floors
-unfolding limitOf passBy passes
+pub passing-start : (t : Tables) (time : ℕ) (keys floors : List ℕ) (n : ℕ) → PassingBlocks t time keys floors n 0 noKey nobody keys floors
+unfolding limitOf passBy passesBelow
 passing-start t time keys floors n = record { upto = omega arith; limit-is = refl; best-is = refl; keys-are = refl; floors-are = refl }
 
 -- A block starts among the edges.
 pub block-starts : (m b : ℕ) → b < m / blockEdges + 1 → blockEdges * b ≤ m
 block-starts m b h = omega arith
 
-module _ {t : Tables} {time : ℕ} {keys floors : List ℕ} {n b limit : ℕ} {best : Winner} {now low : List ℕ} (h : Passing t time keys floors n b limit best now low) where
+module _ {t : Tables} {time : ℕ} {keys floors : List ℕ} {n b limit : ℕ} {best : Winner} {now low : List ℕ} (h : PassingBlocks t time keys floors n b limit best now low) where
   -- A block that is looked through.
   pub passing-look : {x limit' : ℕ} {found best' : Winner} {left now' low' : List ℕ} → b < n → x ≡ getD low b 0 → x < limit
       → (found ≡ onBy t time (scanFrom best now) (blockEdges * b) (blockSize (length (t .firsts)) b) .best)
       → left ≡ onBy t time (scanFrom best now) (blockEdges * b) (blockSize (length (t .firsts)) b) .keys
-      → low' ≡ set low b (lowest left (blockEdges * b) (blockSize (length (t .firsts)) b))
+      → low' ≡ set low b (lowestKey left (blockEdges * b) (blockSize (length (t .firsts)) b))
       → best' ≡ found
       → limit' ≡ limitOf time found
       → now' ≡ left
-      → Passing t time keys floors n (b + 1) limit' best' now' low'
+      → PassingBlocks t time keys floors n (b + 1) limit' best' now' low'
   unfolding passBy onBy
   passing-look {x} c x-is u f l o g m k =
       let z =
@@ -86,7 +86,7 @@ module _ {t : Tables} {time : ℕ} {keys floors : List ℕ} {n b limit : ℕ} {b
 
   -- A block that is passed over.
   pub passing-over : {x limit' : ℕ} {best' : Winner} {now' low' : List ℕ} → b < n → x ≡ getD low b 0 → limit ≤ x → best' ≡ best → limit' ≡ limit → now' ≡ now → low' ≡ low
-      → Passing t time keys floors n (b + 1) limit' best' now' low'
+      → PassingBlocks t time keys floors n (b + 1) limit' best' now' low'
   unfolding passBy
   passing-over {x} c x-is u g m k o =
       let z = block-pass (delayBy t) (keyBy t time) time (length (t .firsts)) keys floors b x limit x-is (h .limit-is) (h .best-is) (h .keys-are) (h .floors-are) u in

@@ -1,5 +1,5 @@
 -- A scan by keys finds the winner, and its keys serve the next round.
-use Prim.Native.Nat.{ℕ, zero, suc, _+_, _*_, _-_, _/_, _<_, _≤_, _^_}
+use Prim.Native.Nat.{ℕ, zero, suc, _+_, _*_, _-_, _/_, _<_, _≤_}
 use native.Mathlib.Omega.{arith}
 use native.Mathlib.Numerals.{add-one}
 use mathlib.Core.Path.{_≡_, refl, ap, sym, _∙_, subst}
@@ -11,30 +11,30 @@ use lib.Dec.{eqb, ltb}
 use borrow.Author.Tests.{eqb-true, eqb-false, ne-eqb, ltb-true, ltb-false, lt-ltb, le-ltb}
 use Rattle.base_finite.specs.Below.{counted, tabulate}
 use Rattle.base_finite.specs.Laws.Below.{counted-le, lt-or-ge, length-tabulate, getD-tabulate}
-use Rattle.base_limits.specs.Limits.{maxWeight}
+use Rattle.base_limits.specs.Limits.{maxVertices, maxWeight}
 use mathlib.Core.Logic.{_⊎_, inl, inr}
 use Rattle.theory_steiner.specs.Problem.{Problem, Sound}
 use Rattle.theory_steiner.specs.Growth.{State, active, load, slack, Delay, never, after, delay, Winner, nobody, edge, better, winnerBelow, winner, pick, stateAt}
 use Rattle.theory_steiner.specs.Laws.Winner.{Waits, one-first, one-second, both, delay-elim}
 use Rattle.theory_steiner.specs.Laws.Round.{stateAt-reached, pick-rounds}
-use Rattle.theory_steiner.specs.Laws.Rounds.{stateAt-pick, stateAt-still, delay-le}
+use Rattle.theory_steiner.specs.Laws.Rounds.{stateAt-pick, delay-le}
 use Rattle.theory_steiner.specs.Laws.Partition.{winner-below}
 use Rattle.theory_steiner.specs.Laws.Weighed.{load-pick}
 use Rattle.theory_steiner.specs.Laws.Degree.{label-later}
-use Rattle.plan_winner.specs.Scan.{noKey, key, cappedTime, limitOf, Scan, looked, scan, scanOf, Keyed, timeAfter, blockEdges, Floored}
+use Rattle.plan_winner.specs.Scan.{noKey, timeLimit, key, cappedTime, limitOf, Scan, looked, scan, scanOf, Keyed, blockEdges, Floored}
 
 -- ---- the time
 
-pub capped-is : (time : ℕ) → time < 2 ^ 62 → cappedTime time ≡ time
+pub capped-is : (time : ℕ) → time < timeLimit → cappedTime time ≡ time
 unfolding cappedTime
-capped-is time h = rw (lt-ltb time (2 ^ 62) h)
+capped-is time h = rw (lt-ltb time timeLimit h)
 
-pub capped-small : (time : ℕ) {capped : ℕ} → capped ≡ cappedTime time → capped < 2 ^ 62
+pub capped-small : (time : ℕ) {capped : ℕ} → capped ≡ cappedTime time → capped < timeLimit
 unfolding cappedTime
-capped-small time h = by (ltb time (2 ^ 62)) refl h
+capped-small time h = by (ltb time timeLimit) refl h
   where
-    by : {capped : ℕ} (t : Bool) → ltb time (2 ^ 62) ≡ t → capped ≡ cond t time (2 ^ 62 - 1) → capped < 2 ^ 62
-    by true t h = let l = ltb-true time (2 ^ 62) t in omega arith
+    by : {capped : ℕ} (t : Bool) → ltb time timeLimit ≡ t → capped ≡ cond t time (timeLimit - 1) → capped < timeLimit
+    by true t h = let l = ltb-true time timeLimit t in omega arith
     by false t h = omega arith
 
 -- ---- the winner
@@ -57,13 +57,13 @@ waits-half c (one-first a b e) h = omega arith
 waits-half c (one-second a b e) h = omega arith
 waits-half c (both a b e) h = omega arith
 
-module _ (p : Problem) (s : State) (light : (e : ℕ) → e < p .edges → p .weight e ≤ maxWeight) (few : s .rounds < 256) (time : ℕ) where
+module _ (p : Problem) (s : State) (light : (e : ℕ) → e < p .edges → p .weight e ≤ maxWeight) (few : s .rounds < maxVertices) (time : ℕ) where
   -- An edge whose key is not below the limit changes nothing.
   pass-keeps : {keys : List ℕ} (k : ℕ) (best : Winner) → Keyed p s time keys → k < p .edges → limitOf time best ≤ getD keys k 0 → better best k (delay p s k) ≡ best
   unfolding better limitOf slack
   pass-keeps {keys} k best h b l = by-delay (delay p s k) refl best l
     where
-      early : time < 2 ^ 62
+      early : time < timeLimit
       early = let t = h .early in omega arith
 
       by-delay : (w : Delay) → delay p s k ≡ w → (best : Winner) → limitOf time best ≤ getD keys k 0 → better best k w ≡ best
@@ -73,9 +73,9 @@ module _ (p : Problem) (s : State) (light : (e : ℕ) → e < p .edges → p .we
           let w = light k b in
           let t = early in
           absurd (omega arith)
-      by-delay (after d) q (edge f c) l = by-size (ltb c (2 ^ 62)) refl
+      by-delay (after d) q (edge f c) l = by-size (ltb c timeLimit) refl
         where
-          by-size : (x : Bool) → ltb c (2 ^ 62) ≡ x → cond (ltb d c) (edge k d) (edge f c) ≡ edge f c
+          by-size : (x : Bool) → ltb c timeLimit ≡ x → cond (ltb d c) (edge k d) (edge f c) ≡ edge f c
           by-size true x =
               let low = h .low k b (delay-elim p s k d q .apart) in
               let m : 2 * (time + c) ≤ getD keys k 0 = rw x at l in
@@ -136,10 +136,10 @@ pub floored-start : (m n : ℕ) (keys : List ℕ) {floors : List ℕ} → floors
 floored-start m n keys h = record { low = λ e b. let z = zero-at n h (e / blockEdges) in omega arith }
 
 module _ (p : Problem) (ok : Sound p) (light : (e : ℕ) → e < p .edges → p .weight e ≤ maxWeight) (r time : ℕ) where
-  -- No edge comes nearer than by the delay at each end, and components never part.
-  keyed-pick : (e d : ℕ) {keys : List ℕ} → winner p (stateAt p r) ≡ edge e d → Keyed p (stateAt p r) time keys → Keyed p (stateAt p (r + 1)) (time + d) keys
+  -- Good keys are good after the round: no edge comes nearer than by the delay at each end, and components never part.
+  pub keyed-next : (e d : ℕ) {keys : List ℕ} → winner p (stateAt p r) ≡ edge e d → Keyed p (stateAt p r) time keys → Keyed p (stateAt p (r + 1)) (time + d) keys
   unfolding slack
-  keyed-pick e d {keys} w h =
+  keyed-next e d {keys} w h =
       record {
         early =
             let l = delay-le p s e d w in
@@ -166,9 +166,3 @@ module _ (p : Problem) (ok : Sound p) (light : (e : ℕ) → e < p .edges → p 
           ap (λ x. load p x v) next ∙ load-pick p ok (stateAt-reached p r) e d v b in
           let c = counted-le (active p (s .label) (s .label v)) d in
           omega arith
-
-  -- Good keys are good after the round.
-  pub keyed-next : {keys : List ℕ} (x : Winner) → winner p (stateAt p r) ≡ x → Keyed p (stateAt p r) time keys → Keyed p (stateAt p (r + 1)) (timeAfter time x) keys
-  unfolding timeAfter
-  keyed-next {keys} nobody w h = subst (λ (x : State). Keyed p x time keys) (sym (ap (stateAt p) (add-one r) ∙ stateAt-still p r w)) h
-  keyed-next (edge e d) w h = keyed-pick e d w h

@@ -19,7 +19,8 @@ use Rattle.check_rule.specs.Laws.Accuracy.{answered}
 use Rattle.plan_duals.specs.Drawing.{recordsOf}
 use Rattle.plan_duals.specs.Laws.Drawing.{bytes-records}
 use Rattle.plan_core.specs.Plan.{Plan, planOf, planRefusal, Counts, countsOf, counting, marksAfter, recordsAfter}
-use Rattle.plan_core.specs.Laws.Ready.{Ready, fine-ready}
+use Rattle.plan_core.specs.Promise.{Ready}
+use Rattle.plan_core.specs.Laws.Ready.{fine-ready}
 use Rattle.plan_core.specs.Laws.Passes.{finished-passes}
 use Rattle.plan_core.specs.Laws.Promise.{cut-marks, cut-records}
 use Rattle.format_plan_lines.specs.Lines.{countDigits}

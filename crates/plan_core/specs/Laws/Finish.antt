@@ -1,0 +1,241 @@
+-- From what growing, dropping and drawing leave to the plan: picked marks become the plan's marks, and the trace's duals are the plan's duals. `finish` cites it.
+use Prim.Native.Nat.{ℕ, _+_, _*_, _-_, _≤_, _<_}
+use mathlib.Core.Path.{_≡_, refl, ap, sym, _∙_, subst, fun-ext}
+use mathlib.Core.Logic.{_⊎_, ⊎-elim}
+use mathlib.Core.Bool.{Bool, true, false, not}
+use mathlib.Core.List.{List, [], _++_}
+use native.Mathlib.Omega.{arith}
+use lib.ListN.{length, getD, drop, length-append, length-drop, List·getD-append, List·getD-eq-default}
+use lib.Seq.{ext-getD, getD-append-add, getD-drop}
+use lib.Dec.{eqb, ltb}
+use borrow.Author.Tests.{lt-ltb}
+use Rattle.base_finite.specs.Below.{counted, tabulate}
+use Rattle.base_finite.specs.Laws.Test.{not-true-false}
+use Rattle.base_finite.specs.Laws.Below.{sum-cong, length-tabulate, getD-tabulate, lt-or-ge, counted-true}
+use Rattle.base_limits.specs.Limits.{maxVertices, maxEdges, recordBytes, dualsOf}
+use Rattle.base_limits.specs.Verdict.{answer, written}
+use Rattle.theory_graph.specs.Path.{Forest}
+use Rattle.theory_steiner.specs.Problem.{Problem, Sound, Joins, joined, terminal, terminals, cost, Bounded}
+use Rattle.theory_steiner.specs.Growth.{edge, winner, stateAt, grown}
+use Rattle.theory_steiner.specs.Laws.Finish.{picked-joins}
+use Rattle.theory_steiner.specs.Pruning.{needed, picked, kept, markOf, mark}
+use Rattle.theory_steiner.specs.Laws.Rounds.{rounds-lt, grown-reached}
+use Rattle.theory_steiner.specs.Laws.Partition.{picked-usable, picked-forest}
+use Rattle.survey_core.specs.Survey.{Survey, surveyFrom, groupsAlone, vertexCount, edgeCount, member, sameGroup, problemOf}
+use Rattle.survey_core.specs.Refusal.{surveyRefusal}
+use Rattle.survey_core.specs.Laws.Refusal.{survey-fine, survey-sound}
+use Rattle.base_buffer.specs.Store.{remade}
+use Rattle.base_buffer.specs.Laws.Store.{tabulate-cong, length-remade, remade-passed, remade-ahead}
+use Rattle.plan_cuts.specs.Word.{pickedIn}
+use Rattle.plan_drop.specs.Prunable.{Prunable, unweighted}
+use Rattle.plan_drop.specs.Judge.{prunedMarks}
+use Rattle.plan_growth.specs.Represents.{pickAt, winnerEdge}
+use Rattle.plan_growth.specs.Grown.{GrownAfter}
+use Rattle.plan_growth.specs.declared.Growth.{Growth}
+use Rattle.plan_duals.specs.Trace.{Trace, traceFrom, traceDuals, Drawable, TraceOf}
+use Rattle.plan_duals.specs.Laws.Growth.{trace-duals, trace-drawable, traces-from}
+use Rattle.check_rule.specs.Check.{keptBy}
+use Rattle.plan_core.specs.Promise.{Ready}
+use Rattle.plan_core.specs.Laws.Passes.{marks-cost}
+use Rattle.plan_duals.specs.Drawing.{recordsOver}
+use Rattle.plan_core.specs.declared.Planned.the-variants.{Finished}
+use Rattle.plan_core.specs.Answer.{outcomeOf}
+use Rattle.plan_core.specs.Plan.{planOf, countsOf}
+
+-- A buffer whose first m places were made anew.
+pub remade-front : (f : ℕ → ℕ → ℕ) (m : ℕ) (l : List ℕ) → m ≤ length l → remade f m l ≡ tabulate m (λ k. f k (getD l k 0)) ++ drop m l
+remade-front f m l b =
+    ext-getD 0 (remade f m l) (tabulate m g ++ drop m l) lengths
+    (λ i bi. ⊎-elim (before i) (after i) (lt-or-ge i m))
+  where
+    g : ℕ → ℕ
+    g k = f k (getD l k 0)
+
+    lengths : length (remade f m l) ≡ length (tabulate m g ++ drop m l)
+    lengths = omega (arith, length-remade f m l, length-append (tabulate m g) (drop m l), length-tabulate m g, length-drop m l)
+
+    before : (i : ℕ) → i < m → getD (remade f m l) i 0 ≡ getD (tabulate m g ++ drop m l) i 0
+    before i bi =
+        remade-passed f m l i bi (omega arith) ∙ sym (getD-tabulate m g i 0 bi)
+        ∙ sym (List·getD-append (tabulate m g) (drop m l) 0 i (omega (arith, length-tabulate m g)))
+
+    after : (i : ℕ) → m ≤ i → getD (remade f m l) i 0 ≡ getD (tabulate m g ++ drop m l) i 0
+    after i bi =
+        let at : i ≡ length (tabulate m g) + (i - m) = omega (arith, length-tabulate m g) in
+        let split : m + (i - m) ≡ i = omega arith in
+        remade-ahead f m l i bi
+        ∙ sym
+        (ap (λ k. getD (tabulate m g ++ drop m l) k 0) at ∙ getD-append-add (tabulate m g) (drop m l) (i - m) 0 ∙ getD-drop m l (i - m) 0
+        ∙ ap (λ k. getD l k 0) split)
+
+one-or-none : (t : Bool) → not (eqb (counted t 1) 0) ≡ t
+unfolding counted
+one-or-none true = refl
+one-or-none false = refl
+
+module _ (s : Survey) where
+  abbrev p : Problem
+  p = problemOf s
+
+  -- Pruning does not read the weights, and nothing that it asks depends on them.
+  abbrev q : Problem
+  q = unweighted (s .groups) (s .firsts) (s .seconds)
+
+  -- The edges that growing marks are the picked ones.
+  picked-marks : length (s .firsts) ≤ maxEdges → (marks : List ℕ) → marks ≡ tabulate maxEdges (λ e. counted (grown p .picked e) 1) → pickedIn marks ≡ picked p
+  unfolding pickedIn picked problemOf edgeCount
+  picked-marks few marks h = fun-ext (λ e. ap (λ l. not (eqb (getD l e 0) 0)) h ∙ ⊎-elim (marked e) (past e) (lt-or-ge e maxEdges))
+    where
+      marked : (e : ℕ) → e < maxEdges → not (eqb (getD (tabulate maxEdges (λ e. counted (grown p .picked e) 1)) e 0) 0) ≡ grown p .picked e
+      marked e b = ap (λ x. not (eqb x 0)) (getD-tabulate maxEdges (λ e. counted (grown p .picked e) 1) e 0 b) ∙ one-or-none (grown p .picked e)
+
+      past : (e : ℕ) → maxEdges ≤ e → not (eqb (getD (tabulate maxEdges (λ e. counted (grown p .picked e) 1)) e 0) 0) ≡ grown p .picked e
+      past e b =
+          let long = length-tabulate maxEdges (λ e. counted (grown p .picked e) 1) in
+          ap (λ x. not (eqb x 0)) (List·getD-eq-default (tabulate maxEdges (λ e. counted (grown p .picked e) 1)) 0 (omega arith))
+          ∙ sym (not-true-false (grown p .picked e) (λ k. let l = picked-usable p (grown-reached p) e k .0 in omega arith))
+
+  needed-unweighted : (F : ℕ → Bool) (e : ℕ) → needed q F e ≡ needed p F e
+  unfolding needed joined problemOf sameGroup member vertexCount edgeCount
+  needed-unweighted F e = refl
+
+  sound-unweighted : Sound p → Sound q
+  unfolding problemOf sameGroup member vertexCount edgeCount
+  sound-unweighted ok = record { first-below = ok .first-below; second-below = ok .second-below; ends-differ = ok .ends-differ; symmetric = ok .symmetric }
+
+  joins-unweighted : (F : ℕ → Bool) → Joins p F → Joins q F
+  unfolding problemOf sameGroup member vertexCount edgeCount
+  joins-unweighted F h u v bu bv r = h u v bu bv r
+
+  picks-below : Bounded q (picked p)
+  unfolding picked problemOf edgeCount
+  picks-below e h = picked-usable p (grown-reached p) e h .0
+
+  picks-forest : Sound p → Forest (q .first) (q .second) (picked p)
+  unfolding picked problemOf
+  picks-forest ok = picked-forest p ok (grown-reached p)
+
+  -- Marks made by pruning are the plan's.
+  plan-marks : (picks marks : List ℕ) → pickedIn picks ≡ picked p → edgeCount s ≤ length marks →
+      prunedMarks q (pickedIn picks) (length (s .firsts)) marks ≡ planOf p .marks ++ drop (length (s .firsts)) marks
+  unfolding planOf prunedMarks mark kept problemOf edgeCount
+  plan-marks picks marks same room =
+      remade-front _ (length (s .firsts)) marks room
+      ∙ ap (λ l. l ++ drop (length (s .firsts)) marks)
+      (tabulate-cong
+      (length (s .firsts))
+      _
+      _
+      (λ e b.
+      ap (markOf (pickedIn picks e)) (needed-unweighted (pickedIn picks) e) ∙ ap (λ G. markOf (G e) (needed (problemOf s) G e)) same))
+
+  plan-terminals : terminals (problemOf (groupsAlone (s .groups))) ≡ planOf p .terminals
+  unfolding planOf terminals terminal problemOf sameGroup member vertexCount
+  plan-terminals = refl
+
+  -- The plan's marks in front of other bytes cost what they cost.
+  front-cost : (rest : List ℕ) → cost (problemOf (surveyFrom [] (s .firsts) [] (s .weights))) (keptBy (planOf p .marks ++ rest)) ≡ cost p (keptBy (planOf p .marks))
+  unfolding cost keptBy planOf problemOf edgeCount
+  front-cost rest =
+      let long = length-tabulate (length (s .firsts)) (mark (problemOf s)) in
+      sum-cong
+      (length (s .firsts))
+      _
+      _
+      (λ e b. ap (λ x. counted (eqb x 2) (getD (s .weights) e 0)) (List·getD-append (tabulate (length (s .firsts)) (mark (problemOf s))) rest 0 e (omega arith)))
+
+-- ---- after growing
+
+module _ {s : Survey} {marksLength recordsLength : ℕ} (ready : Ready s marksLength recordsLength) {g : Growth}
+    (grew : GrownAfter (problemOf s) (written (surveyRefusal s) (length (s .groups)) 0) g) where
+  abbrev P : Problem
+  P = problemOf s
+
+  abbrev trace : Trace
+  trace = traceFrom (length (s .groups)) (s .firsts) (s .seconds) (g .values) (g .order) (g .rounds)
+
+  ok : Sound P
+  ok = survey-sound s (ready .survey)
+
+  some : 0 < P .vertices
+  unfolding problemOf vertexCount
+  some = ready .survey .some
+
+  few : P .vertices ≤ maxVertices
+  unfolding problemOf vertexCount
+  few = ready .survey .few
+
+  to-the-end : GrownAfter P (P .vertices) g
+  unfolding written problemOf vertexCount
+  to-the-end = subst (λ v. GrownAfter (problemOf s) (written v (length (s .groups)) 0) g) (survey-fine s (ready .survey)) grew
+
+  picks-same : pickedIn (g .picked) ≡ picked P
+  unfolding grown
+  picks-same = picked-marks s (ready .survey .edges-few) (g .picked) (to-the-end .picked-are)
+
+  -- What pruning asks.
+  pub prunable : Prunable (s .groups) (s .firsts) (s .seconds) (g .picked)
+  prunable =
+      record {
+        few = ready .survey .few;
+        edges-few = ready .survey .edges-few;
+        sound = sound-unweighted s ok;
+        bounded = subst (Bounded (q s)) (sym picks-same) (picks-below s);
+        joins = subst (Joins (q s)) (sym picks-same) (joins-unweighted s (picked P) (picked-joins P ok some (ready .joinable)));
+        forest = subst (Forest (q s .first) (q s .second)) (sym picks-same) (picks-forest s ok);
+      }
+
+  order-at : (r e d : ℕ) → r < g .rounds → winner P (stateAt P r) ≡ edge e d → getD (g .order) r 0 ≡ e
+  unfolding pickAt winnerEdge grown
+  order-at r e d b w =
+      let lt : grown P .rounds < P .vertices = rounds-lt P ok some (grown-reached P) in
+      let r-lt : r < P .vertices = omega (arith, to-the-end .rounds-are) in
+      ap (λ l. getD l r 0) (to-the-end .order-is)
+      ∙ getD-tabulate maxVertices (λ i. counted (ltb i (P .vertices)) (pickAt P i)) r 0 (omega (arith, few))
+      ∙ counted-true (lt-ltb r (P .vertices) r-lt) (pickAt P r)
+      ∙ ap winnerEdge w
+
+  traces : TraceOf P trace
+  unfolding grown problemOf vertexCount edgeCount
+  traces =
+      traces-from (problemOf s) ok (s .firsts) (s .seconds) (g .values) (g .order) (g .rounds) some few (λ e b. refl) (λ e b. refl)
+      (to-the-end .values-are) order-at (to-the-end .rounds-are)
+
+  -- What drawing asks.
+  pub drawable : (records : List ℕ) → length records ≡ recordsLength → Drawable trace records
+  unfolding problemOf vertexCount
+  drawable records long =
+      trace-drawable (problemOf s) ok trace traces records some few (subst (λ x. recordBytes * dualsOf (length (s .groups)) ≤ x) (sym long) (ready .records-fit))
+
+  rounds-plan : g .rounds ≡ planOf P .rounds
+  unfolding grown planOf
+  rounds-plan = to-the-end .rounds-are
+
+  bound-plan : g .bound ≡ planOf P .bound
+  unfolding grown planOf
+  bound-plan = to-the-end .bound-is
+
+  duals-plan : traceDuals trace ≡ planOf P .duals
+  unfolding planOf
+  duals-plan = trace-duals P ok trace traces
+
+  -- All together: what the calls leave is the plan.
+  pub finish-plan : (marks records : List ℕ) {marked drawn : List ℕ} {count k c rounds duals : ℕ} → length marks ≡ marksLength →
+      marked ≡ prunedMarks (unweighted (s .groups) (s .firsts) (s .seconds)) (pickedIn (g .picked)) (length (s .firsts)) marks →
+      count ≡ length (traceDuals trace) → drawn ≡ recordsOver (traceDuals trace) records →
+      k ≡ terminals (problemOf (groupsAlone (s .groups))) → c ≡ cost (problemOf (surveyFrom [] (s .firsts) [] (s .weights))) (keptBy marked) → rounds ≡ g .rounds → duals ≡ count →
+      (outcomeOf (Finished k c (g .bound) rounds duals) ≡ answer (countsOf (planOf P)))
+      × ((marked ≡ planOf P .marks ++ drop (length (s .firsts)) marks) × (drawn ≡ recordsOver (planOf P .duals) records))
+  unfolding outcomeOf countsOf
+  finish-plan marks records {marked} {k = k} {c = c} {rounds = rounds} {duals = duals} long h-marks h-count h-drawn h-k h-c h-rounds h-duals =
+      (rw (h-k ∙ plan-terminals s, c-is, bound-plan, h-rounds ∙ rounds-plan, h-duals ∙ h-count ∙ ap length duals-plan), (marks-are, h-drawn ∙ ap (λ d. recordsOver d records) duals-plan))
+    where
+      marks-are : marked ≡ planOf P .marks ++ drop (length (s .firsts)) marks
+      marks-are = h-marks ∙ plan-marks s (g .picked) marks picks-same (subst (λ x. edgeCount s ≤ x) (sym long) (ready .marks-fit))
+
+      c-is : c ≡ planOf P .cost
+      c-is =
+          h-c
+          ∙ ap (λ l. cost (problemOf (surveyFrom [] (s .firsts) [] (s .weights))) (keptBy l)) marks-are
+          ∙ front-cost s (drop (length (s .firsts)) marks)
+          ∙ marks-cost s (ready .survey) (ready .joinable)

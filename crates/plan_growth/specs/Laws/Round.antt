@@ -1,0 +1,430 @@
+-- A round over the arrays is a round of the definition: the flags are the active components, the winner is the winner, and the arrays after it represent the next state
+-- (001, Algorithm 22.3). `round` cites it.
+use Prim.Native.Nat.{ℕ, suc, _+_, _*_, _<_, _≤_, _^_}
+use native.Mathlib.Omega.{arith}
+use native.Mathlib.Numerals.{add-one}
+use mathlib.Core.Path.{_≡_, refl, ap, sym, _∙_, subst}
+use mathlib.Core.Logic.{_⊎_, inl, inr}
+use mathlib.Core.Bool.{Bool, true, false, _||_, not, cond, or-false}
+use mathlib.Core.List.{List}
+use lib.ListN.{length, getD, set, List·getD-eq-default}
+use lib.Dec.{eqb, ltb}
+use borrow.Author.Tests.{ne-eqb, lt-ltb, le-ltb}
+use Rattle.base_finite.specs.Below.{counted, tabulate}
+use Rattle.base_finite.specs.Laws.Below.{length-tabulate, getD-tabulate, counted-true, counted-false, lt-or-ge}
+use Rattle.theory_graph.specs.Component.{merged}
+use Rattle.base_limits.specs.Limits.{maxVertices, maxEdges, maxWeight, maxDuals}
+use Rattle.theory_steiner.specs.Problem.{Problem, Sound, separates}
+use Rattle.theory_steiner.specs.Growth.{State, active, numbers, load, slack, delay, nobody, edge, winner, pick, stateAt, Reached}
+use Rattle.theory_steiner.specs.Laws.Joined.{separates-cong}
+use Rattle.theory_steiner.specs.Laws.Round.{stateAt-reached, pick-rounds, pick-label, pick-value, pick-picked, pick-new}
+use Rattle.theory_steiner.specs.Laws.Rounds.{rounds-lt, stateAt-pick, delay-le, value-bounded, load-bounded}
+use Rattle.theory_steiner.specs.Laws.Partition.{label-below, winner-below}
+use Rattle.theory_steiner.specs.Laws.Weighed.{load-pick}
+use Rattle.survey_core.specs.Survey.{Survey, groupsAlone, vertexCount, edgeCount, sameGroup, member, problemOf}
+use Rattle.survey_components.specs.Labels.{relabelled}
+use Rattle.survey_core.specs.Laws.Refusal.{survey-sound}
+use Rattle.base_buffer.specs.Laws.Store.{tabulate-cong, set-table, remade-table, remade-part}
+use Rattle.survey_components.specs.Laws.Labels.{relabelled-table}
+use Rattle.plan_delay.specs.Between.{delayIn, winnerIn, delayBetween}
+use Rattle.plan_delay.specs.declared.Delay.the-variants.{Never, After}
+use Rattle.plan_delay.specs.declared.Winner.{Winner}
+use Rattle.plan_delay.specs.declared.Winner.the-variants.{Nobody, Edge}
+use Rattle.plan_winner.specs.Scan.{timeLimit, key, cappedTime, Scan, scanOf, Keyed, Pass, blocksOf, passOf, Floored}
+use Rattle.plan_winner.specs.Tables.{Tables, tablesFrom, delayBy, keyBetween, keyBy, passBy}
+use Rattle.plan_winner.specs.Laws.Scan.{capped-is, scan-wins, keyed-next}
+use Rattle.plan_winner.specs.Laws.Blocks.{passes-scan, passes-cong}
+use Rattle.plan_growth.specs.Tables.{activeFlags, raisedValues, raisedLoads, RaiseFits}
+use Rattle.plan_growth.specs.Represents.{winnerEdge, pickAt, Arrays, arraysFrom, winnerDelay, roundsAfter, timeAfter, Represents}
+
+-- A flag of 1 stands for the test.
+flag-is : (t : Bool) → eqb (counted t 1) 1 ≡ t
+unfolding counted
+flag-is true = refl
+flag-is false = refl
+
+active-cong : (p : Problem) (f g : ℕ → ℕ) (c : ℕ) → ((v : ℕ) → v < p .vertices → f v ≡ g v) → active p f c ≡ active p g c
+unfolding active
+active-cong p f g c h = separates-cong p (λ v. eqb (f v) c) (λ v. eqb (g v) c) (λ v b. ap (λ x. eqb x c) (h v b))
+
+active-groups : (s : Survey) (label : ℕ → ℕ) (c : ℕ) → active (problemOf (groupsAlone (s .groups))) label c ≡ active (problemOf s) label c
+unfolding active separates problemOf vertexCount sameGroup member
+active-groups s label c = refl
+
+-- A choice and its reverse.
+cond-not {ℓ} : {A : Type ℓ} (t : Bool) (x y : A) → cond t x y ≡ cond (not t) y x
+cond-not true x y = refl
+cond-not false x y = refl
+
+below-more : (k r : ℕ) → (k ≡ r → ⊥) → ltb k r ≡ ltb k (r + 1)
+below-more k r d = by (lt-or-ge k r)
+  where
+    by : (k < r) ⊎ (r ≤ k) → ltb k r ≡ ltb k (r + 1)
+    by (inl h) = lt-ltb k r h ∙ sym (lt-ltb k (r + 1) (omega arith))
+    by (inr h) = le-ltb k r h ∙ sym (le-ltb k (r + 1) (omega (arith, d)))
+
+module _ {s : Survey} {r time : ℕ} {a : Arrays} (h : Represents s r time a) where
+  abbrev p : Problem
+  p = problemOf s
+
+  abbrev S : State
+  S = stateAt (problemOf s) r
+
+  abbrev n : ℕ
+  n = length (s .groups)
+
+  vertices-are : p .vertices ≡ n
+  unfolding problemOf vertexCount
+  vertices-are = refl
+
+  edges-are : p .edges ≡ length (s .firsts)
+  unfolding problemOf edgeCount
+  edges-are = refl
+
+  reached : Reached p S
+  reached = stateAt-reached p r
+
+  ok : Sound p
+  ok = survey-sound s (h .sound)
+
+  -- A round is left only while fewer rounds were counted than there are vertices.
+  pub going : r < n
+  going = let some = h .sound .some in let e = vertices-are in let q = h .rounds-are in omega (arith, rounds-lt p ok (omega arith) reached)
+
+  label-at : (v : ℕ) → v < n → getD (a .labels) v 0 ≡ S .label v
+  label-at v b = let few = h .sound .few in ap (λ t. getD t v 0) (h .labels-are) ∙ getD-tabulate maxVertices (S .label) v 0 (omega arith)
+
+  label-small : (v : ℕ) → v < n → S .label v < maxDuals
+  unfolding numbers
+  label-small v b =
+      let few = h .sound .few in
+      let e = vertices-are in
+      let k : S .label v < numbers p S = label-below p reached v (omega arith) in
+      let q = h .rounds-are in
+      let g = going in
+      omega arith
+
+  load-at : (v : ℕ) → v < n → getD (a .loads) v 0 ≡ load p S v
+  load-at v b =
+      let few = h .sound .few in
+      let e = vertices-are in
+      ap (λ t. getD t v 0) (h .loads-are) ∙ getD-tabulate maxVertices _ v 0 (omega arith) ∙ counted-true (lt-ltb v (p .vertices) (omega arith)) (load p S v)
+
+  pub weights-light : (e : ℕ) → e < p .edges → p .weight e ≤ maxWeight
+  unfolding problemOf edgeCount
+  weights-light e b = h .sound .edges e b .weight-le
+
+  rounds-few : S .rounds < maxVertices
+  rounds-few = let q = h .rounds-are in let g = going in let few = h .sound .few in omega arith
+
+  in-time : time < timeLimit
+  in-time = let q = rounds-few in let t = h .keyed .early in omega arith
+
+  -- The blocks of the round scan all its edges.
+  abbrev pass : Pass
+  pass = passOf (problemOf s) (stateAt (problemOf s) r) time (a .keys) (a .floors)
+
+  passed : (pass .scanned ≡ scanOf p S time (a .keys)) × Floored (length (s .firsts)) (pass .scanned .keys) (pass .floors)
+  unfolding passOf scanOf problemOf edgeCount
+  passed = passes-scan _ _ time (length (s .firsts)) (a .keys) (a .floors) (h .floored)
+
+  scan-is : (scanOf p S time (a .keys) .best ≡ winner p S) × Keyed p S time (scanOf p S time (a .keys) .keys)
+  scan-is = scan-wins p S weights-light rounds-few time (a .keys) (h .keyed)
+
+  -- The keys that the search leaves are good for this state.
+  pass-keyed : Keyed p S time (pass .scanned .keys)
+  pass-keyed = subst (λ (k : Scan). Keyed p S time (k .keys)) (sym (passed .0)) (scan-is .1)
+
+  -- The number of the merged component fits.
+  pub merged-small : (n + r < 2 ^ 64) × (n + r < 2 ^ 32)
+  merged-small = let few = h .sound .few in let g = going in (omega arith, omega arith)
+
+  module _ {flags : List ℕ} (f : flags ≡ activeFlags (s .groups) (a .labels)) where
+    abbrev tables : Tables
+    tables = tablesFrom (s .firsts) (s .seconds) (s .weights) (a .labels) (a .loads) flags
+
+    flag-at : (c : ℕ) → c < maxDuals → eqb (getD flags c 0) 1 ≡ active p (S .label) c
+    unfolding activeFlags
+    flag-at c b =
+        let e = vertices-are in
+        ap (λ t. eqb (getD t c 0) 1) f
+        ∙ ap (λ x. eqb x 1) (getD-tabulate maxDuals _ c 0 b)
+        ∙ flag-is (active (problemOf (groupsAlone (s .groups))) (λ v. getD (a .labels) v 0) c)
+        ∙ active-groups s (λ v. getD (a .labels) v 0) c
+        ∙ active-cong p (λ v. getD (a .labels) v 0) (S .label) c (λ v q. label-at v (omega arith))
+
+    delay-at : (e : ℕ) → e < length (s .firsts) → delayBy tables e ≡ delay p S e
+    unfolding delayBy delayBetween delay slack problemOf
+    delay-at e b =
+        let u = getD (s .firsts) e 0 in
+        let v = getD (s .seconds) e 0 in
+        let u-below = h .sound .edges e b .first-below in
+        let v-below = h .sound .edges e b .second-below in
+        rw (
+          label-at u u-below,
+          label-at v v-below,
+          flag-at (S .label u) (label-small u u-below),
+          flag-at (S .label v) (label-small v v-below),
+          load-at u u-below,
+          load-at v v-below,
+        )
+        (cond-not (eqb (S .label u) (S .label v)) _ _)
+
+    key-at : (e : ℕ) → e < length (s .firsts) → keyBy tables time e ≡ key p S time e
+    unfolding keyBy keyBetween key slack problemOf
+    key-at e b =
+        let u-below = h .sound .edges e b .first-below in
+        let v-below = h .sound .edges e b .second-below in
+        rw (
+          label-at (getD (s .firsts) e 0) u-below,
+          label-at (getD (s .seconds) e 0) v-below,
+          load-at (getD (s .firsts) e 0) u-below,
+          load-at (getD (s .seconds) e 0) v-below,
+        )
+
+    -- The passes over the tables are those of the definition.
+    pass-is : passBy tables (cappedTime time) (a .keys) (a .floors) (blocksOf (length (s .firsts))) ≡ pass
+    unfolding passBy passOf problemOf edgeCount
+    pass-is = rw (capped-is time in-time) (passes-cong _ _ _ _ time (length (s .firsts)) delay-at key-at (a .keys) (a .floors) (blocksOf (length (s .firsts))))
+
+    -- Their winner is the round's.
+    winner-is : passBy tables (cappedTime time) (a .keys) (a .floors) (blocksOf (length (s .firsts))) .scanned .best ≡ winner p S
+    winner-is = ap (λ x. x .scanned .best) pass-is ∙ ap (λ x. x .best) (passed .0) ∙ scan-is .0
+
+    -- The keys and floors that the search leaves.
+    module _ {keys floors : List ℕ}
+        (k : keys ≡ passBy tables (cappedTime time) (a .keys) (a .floors) (blocksOf (length (s .firsts))) .scanned .keys)
+        (l : floors ≡ passBy tables (cappedTime time) (a .keys) (a .floors) (blocksOf (length (s .firsts))) .floors) where
+      keys-are : keys ≡ pass .scanned .keys
+      keys-are = k ∙ ap (λ y. y .scanned .keys) pass-is
+
+      floors-are : floors ≡ pass .floors
+      floors-are = l ∙ ap (λ y. y .floors) pass-is
+
+      search-keyed : Keyed p S time keys
+      search-keyed = subst (Keyed p S time) (sym keys-are) pass-keyed
+
+      search-floored : Floored (length (s .firsts)) keys floors
+      search-floored = rw (keys-are, floors-are) (passed .1)
+
+  -- ---- edge e is picked, after a delay of d
+
+  module _ {e d : ℕ} (w : winner p S ≡ edge e d) where
+    winner-edge : e < length (s .firsts)
+    winner-edge = let q = edges-are in let b = winner-below p S e d w in omega arith
+
+    delay-small : d ≤ 2 * maxWeight
+    delay-small = omega (arith, delay-le p S e d w, weights-light e (winner-below p S e d w))
+
+    values-fit : RaiseFits (a .values) d
+    values-fit = record { fits = λ c. by c (lt-or-ge c maxDuals) }
+      where
+        by : (c : ℕ) → (c < maxDuals) ⊎ (maxDuals ≤ c) → getD (a .values) c 0 + d < 2 ^ 64
+        by c (inl b) =
+            let k : getD (a .values) c 0 ≡ S .value c = ap (λ t. getD t c 0) (h .values-are) ∙ getD-tabulate maxDuals _ c 0 b in
+            let v = value-bounded p ok maxWeight weights-light reached c in
+            let q = rounds-few in
+            let l = delay-small in
+            omega arith
+        by c (inr b) =
+            let long : length (a .values) ≡ maxDuals = ap length (h .values-are) ∙ length-tabulate maxDuals _ in
+            let k : getD (a .values) c 0 ≡ 0 = List·getD-eq-default (a .values) 0 (omega arith) in
+            let l = delay-small in
+            omega arith
+
+    loads-fit : RaiseFits (a .loads) d
+    loads-fit = record { fits = λ v. by v (lt-or-ge v n) (lt-or-ge v maxVertices) }
+      where
+        by : (v : ℕ) → (v < n) ⊎ (n ≤ v) → (v < maxVertices) ⊎ (maxVertices ≤ v) → getD (a .loads) v 0 + d < 2 ^ 64
+        by v (inl b) x =
+            let k = load-at v b in
+            let q = vertices-are in
+            let m = load-bounded p ok maxWeight weights-light reached v (omega arith) in
+            let few = rounds-few in
+            let l = delay-small in
+            omega arith
+        by v (inr b) (inl x) =
+            let q = vertices-are in
+            let k : getD (a .loads) v 0 ≡ 0 = ap (λ t. getD t v 0) (h .loads-are) ∙ getD-tabulate maxVertices _ v 0 x ∙ counted-false (le-ltb v (p .vertices) (omega arith)) _ in
+            let l = delay-small in
+            omega arith
+        by v (inr b) (inr x) =
+            let long : length (a .loads) ≡ maxVertices = ap length (h .loads-are) ∙ length-tabulate maxVertices _ in
+            let k : getD (a .loads) v 0 ≡ 0 = List·getD-eq-default (a .loads) 0 (omega arith) in
+            let l = delay-small in
+            omega arith
+
+    state-next : stateAt p (r + 1) ≡ pick p S e d
+    state-next = ap (stateAt p) (add-one r) ∙ stateAt-pick p r e d w
+
+    numbers-are : numbers p S ≡ n + r
+    unfolding numbers
+    numbers-are = let q = vertices-are in let k = h .rounds-are in omega arith
+
+    labels-next : relabelled (getD (a .labels) (getD (s .firsts) e 0) 0) (getD (a .labels) (getD (s .seconds) e 0) 0) (n + r) (a .labels) ≡ tabulate maxVertices (stateAt p (r + 1) .label)
+    unfolding problemOf
+    labels-next =
+        let u = getD (s .firsts) e 0 in
+        let v = getD (s .seconds) e 0 in
+        rw (
+          label-at u (h .sound .edges e winner-edge .first-below),
+          label-at v (h .sound .edges e winner-edge .second-below),
+        )
+        (relabelled-table (S .label u) (S .label v) (n + r) maxVertices (S .label) (h .labels-are)
+        ∙ tabulate-cong
+        maxVertices
+        _
+        _
+        (λ x _.
+        sym
+        (ap (λ t. t .label x) state-next
+        ∙ pick-label p S e d x
+        ∙ ap (λ z. merged (S .label u) (S .label v) z (S .label) x) numbers-are)))
+
+    picked-next : set (a .picked) e 1 ≡ tabulate maxEdges (λ f. counted (stateAt p (r + 1) .picked f) 1)
+    picked-next =
+        rw
+        (h .picked-are, state-next)
+        (set-table
+        maxEdges
+        (λ f. counted (S .picked f) 1)
+        (λ f. counted (pick p S e d .picked f) 1)
+        e
+        1
+        (sym (counted-true (pick-new p S e d) 1))
+        (λ f other.
+        ap (λ x. counted x 1) (sym (pick-picked p S e d f ∙ ap (λ x. S .picked f || x) (ne-eqb f e other) ∙ or-false (S .picked f)))))
+
+    order-next : set (a .order) r e ≡ tabulate maxVertices (λ k. counted (ltb k (r + 1)) (pickAt p k))
+    unfolding pickAt winnerEdge
+    order-next =
+        rw
+        (h .order-is)
+        (set-table
+        maxVertices
+        (λ k. counted (ltb k r) (pickAt p k))
+        (λ k. counted (ltb k (r + 1)) (pickAt p k))
+        r
+        e
+        (sym (counted-true (lt-ltb r (r + 1) (omega arith)) (pickAt p r) ∙ ap winnerEdge w))
+        (λ k other. ap (λ x. counted x (pickAt p k)) (below-more k r other)))
+
+    rounds-next : stateAt p (r + 1) .rounds ≡ r + 1
+    rounds-next = ap (λ t. t .rounds) state-next ∙ pick-rounds p S e d ∙ ap suc (h .rounds-are) ∙ sym (add-one r)
+
+    module _ {flags : List ℕ} (f : flags ≡ activeFlags (s .groups) (a .labels)) where
+      values-next : raisedValues flags d (a .values) ≡ tabulate maxDuals (stateAt p (r + 1) .value)
+      unfolding raisedValues
+      values-next =
+          rw
+          state-next
+          (remade-table
+          (λ c x. x + counted (eqb (getD flags c 0) 1) d)
+          maxDuals
+          (a .values)
+          (pick p S e d .value)
+          (ap length (h .values-are) ∙ length-tabulate maxDuals _)
+          (λ c b.
+          rw
+          (ap (λ t. getD t c 0) (h .values-are) ∙ getD-tabulate maxDuals (S .value) c 0 b, flag-at f c b)
+          (sym (pick-value p S e d c))))
+
+      loads-next : raisedLoads (a .labels) flags n d (a .loads) ≡ tabulate maxVertices (λ v. counted (ltb v (p .vertices)) (load p (stateAt p (r + 1)) v))
+      unfolding raisedLoads
+      loads-next =
+          remade-part
+          (λ v x. x + counted (eqb (getD flags (getD (a .labels) v 0) 0) 1) d)
+          n
+          maxVertices
+          (a .loads)
+          (λ v. counted (ltb v (p .vertices)) (load p (stateAt p (r + 1)) v))
+          (ap length (h .loads-are) ∙ length-tabulate maxVertices _)
+          (h .sound .few)
+          (λ v b.
+          let q = vertices-are in
+          rw
+          (load-at v b, label-at v b, flag-at f (S .label v) (label-small v b))
+          (sym
+          (counted-true (lt-ltb v (p .vertices) (omega arith)) (load p (stateAt p (r + 1)) v)
+          ∙ ap (λ t. load p t v) state-next
+          ∙ load-pick p ok reached e d v (omega arith))))
+          (λ v b c.
+          let q = vertices-are in
+          let out : ltb v (p .vertices) ≡ false = le-ltb v (p .vertices) (omega arith) in
+          ap (λ t. getD t v 0) (h .loads-are)
+          ∙ getD-tabulate maxVertices _ v 0 c
+          ∙ counted-false out (load p S v)
+          ∙ sym (counted-false out (load p (stateAt p (r + 1)) v)))
+
+  -- ---- what `round` cites: the search has found x
+
+  module _ {flags : List ℕ} (f : flags ≡ activeFlags (s .groups) (a .labels)) {x : Winner}
+      (found : winnerIn x ≡ passBy (tables f) (cappedTime time) (a .keys) (a .floors) (blocksOf (length (s .firsts))) .scanned .best) where
+    over : x ≡ Nobody → winner p S ≡ nobody
+    unfolding winnerIn
+    over t = sym (winner-is f) ∙ sym found ∙ ap winnerIn t
+
+    won : {e d : ℕ} → x ≡ Edge e d → winner p S ≡ edge e d
+    unfolding winnerIn
+    won t = sym (winner-is f) ∙ sym found ∙ ap winnerIn t
+
+    -- What the calls that pick edge e require.
+    module _ {e d : ℕ} (t : x ≡ Edge e d) where
+      pub won-values : RaiseFits (a .values) d
+      won-values = values-fit (won t)
+
+      pub won-loads : RaiseFits (a .loads) d
+      won-loads = loads-fit (won t)
+
+      pub won-edge : e < 2 ^ 32
+      won-edge = let few = h .sound .edges-few in let below = winner-edge (won t) in omega arith
+
+    module _ {keys floors : List ℕ}
+        (k : keys ≡ passBy (tables f) (cappedTime time) (a .keys) (a .floors) (blocksOf (length (s .firsts))) .scanned .keys)
+        (l : floors ≡ passBy (tables f) (cappedTime time) (a .keys) (a .floors) (blocksOf (length (s .firsts))) .floors) where
+      -- No winner: the arrays stay, and the keys are better.
+      pub round-over : x ≡ Nobody
+          → (delayIn Never ≡ winnerDelay (winner p S))
+          × Represents s (roundsAfter r (delayIn Never)) (timeAfter time (delayIn Never)) (arraysFrom (a .labels) (a .loads) (a .values) (a .picked) (a .order) keys floors)
+      unfolding delayIn winnerDelay roundsAfter timeAfter
+      round-over t = (
+        sym (ap winnerDelay (over t)),
+        record {
+          sound = h .sound;
+          rounds-are = h .rounds-are;
+          labels-are = h .labels-are;
+          loads-are = h .loads-are;
+          values-are = h .values-are;
+          picked-are = h .picked-are;
+          order-is = h .order-is;
+          keyed = search-keyed f k l;
+          floored = search-floored f k l;
+        },
+      )
+
+      -- Edge e is picked: the arrays represent the next state.
+      pub round-won : {e d : ℕ} {labels loads values picked order : List ℕ} (u v : ℕ) → x ≡ Edge e d
+          → values ≡ raisedValues flags d (a .values)
+          → loads ≡ raisedLoads (a .labels) flags n d (a .loads)
+          → u ≡ getD (s .firsts) e 0
+          → v ≡ getD (s .seconds) e 0
+          → labels ≡ relabelled (getD (a .labels) u 0) (getD (a .labels) v 0) (n + r) (a .labels)
+          → (picked ≡ set (a .picked) e 1) × (order ≡ set (a .order) r e)
+          → (delayIn (After d) ≡ winnerDelay (winner p S))
+          × Represents s (roundsAfter r (delayIn (After d))) (timeAfter time (delayIn (After d))) (arraysFrom labels loads values picked order keys floors)
+      unfolding delayIn winnerDelay roundsAfter timeAfter
+      round-won {e} {d} u v t values-made loads-made u-is v-is labels-made noted =
+          let w = won t in (
+            sym (ap winnerDelay w),
+            record {
+              sound = h .sound;
+              rounds-are = rounds-next w;
+              labels-are = labels-made ∙ rw (u-is, v-is) (labels-next w);
+              loads-are = loads-made ∙ loads-next w f;
+              values-are = values-made ∙ values-next w f;
+              picked-are = noted .0 ∙ picked-next w;
+              order-is = noted .1 ∙ order-next w;
+              keyed = keyed-next p ok weights-light r time e d w (search-keyed f k l);
+              floored = search-floored f k l;
+            },
+          )

@@ -1,0 +1,67 @@
+-- The arrays of a growth, and the state of the definition that they represent between rounds.
+use Prim.Native.Nat.{ℕ, _+_}
+use mathlib.Core.Path.{_≡_}
+use mathlib.Core.List.{List}
+use lib.ListN.{length}
+use lib.Dec.{ltb}
+use Rattle.base_finite.specs.Below.{counted, tabulate}
+use Rattle.base_limits.specs.Limits.{maxVertices, maxEdges, maxDuals}
+use Rattle.base_buffer.specs.Lent.{Buffer, new}
+use Rattle.theory_steiner.specs.Problem.{Problem}
+use Rattle.theory_steiner.specs.Growth.{Delay, never, after, Winner, nobody, edge, winner, load, stateAt}
+use Rattle.survey_core.specs.Survey.{Survey, problemOf}
+use Rattle.survey_core.specs.Sound.{SurveySound}
+use Rattle.plan_winner.specs.Scan.{Keyed, Floored}
+
+-- The edge picked in round r, counted from 0; 0 where there is none.
+unfoldable pub winnerEdge : Winner → ℕ
+winnerEdge nobody = 0
+winnerEdge (edge e d) = e
+
+unfoldable pub pickAt : Problem → ℕ → ℕ
+pickAt p r = winnerEdge (winner p (stateAt p r))
+
+-- The component number and the load of each vertex, the value of each component number, 1 for each picked edge, the picks in their order, and
+-- the keys and floors that the search goes by.
+pub record Arrays : Type 0 where
+  pub labels : List ℕ
+  pub loads : List ℕ
+  pub values : List ℕ
+  pub picked : List ℕ
+  pub order : List ℕ
+  pub keys : List ℕ
+  pub floors : List ℕ
+
+abbrev pub arraysFrom : (labels loads values picked order keys floors : List ℕ) → Arrays
+arraysFrom labels loads values picked order keys floors =
+    record { labels = labels; loads = loads; values = values; picked = picked; order = order; keys = keys; floors = floors }
+
+-- The arrays that seven lent buffers hold when the call ends.
+abbrev pub newArrays : (labels loads values picked order keys floors : Buffer) → Arrays
+newArrays labels loads values picked order keys floors =
+    arraysFrom (new labels) (new loads) (new values) (new picked) (new order) (new keys) (new floors)
+
+-- The delay of the winner, if there is one, and the rounds and the time after a round with this delay; a round without a winner is not counted.
+unfoldable pub winnerDelay : Winner → Delay
+winnerDelay nobody = never
+winnerDelay (edge e d) = after d
+
+unfoldable pub roundsAfter : (r : ℕ) → Delay → ℕ
+roundsAfter r never = r
+roundsAfter r (after d) = r + 1
+
+unfoldable pub timeAfter : (time : ℕ) → Delay → ℕ
+timeAfter time never = time
+timeAfter time (after d) = time + d
+
+-- What holds before each round: r rounds, each with a winner, took so much time, the arrays are those of the definition after them, and no key or floor is too high.
+pub record Represents (s : Survey) (r time : ℕ) (a : Arrays) : Type 0 where
+  pub sound : SurveySound s
+  pub rounds-are : stateAt (problemOf s) r .rounds ≡ r
+  pub labels-are : a .labels ≡ tabulate maxVertices (stateAt (problemOf s) r .label)
+  pub loads-are : a .loads ≡ tabulate maxVertices (λ v. counted (ltb v (problemOf s .vertices)) (load (problemOf s) (stateAt (problemOf s) r) v))
+  pub values-are : a .values ≡ tabulate maxDuals (stateAt (problemOf s) r .value)
+  pub picked-are : a .picked ≡ tabulate maxEdges (λ e. counted (stateAt (problemOf s) r .picked e) 1)
+  pub order-is : a .order ≡ tabulate maxVertices (λ k. counted (ltb k r) (pickAt (problemOf s) k))
+  pub keyed : Keyed (problemOf s) (stateAt (problemOf s) r) time (a .keys)
+  pub floored : Floored (length (s .firsts)) (a .keys) (a .floors)
