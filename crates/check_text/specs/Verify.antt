@@ -7,8 +7,8 @@ use lib.Dec.{eqb}
 use Rattle.base_limits.specs.Limits.{maxVertices, maxEdges, recordBytes, maxDuals}
 use Rattle.base_limits.specs.Verdict.{refuseIf, _before_, Outcome, refusal, answer, outcome}
 use Rattle.base_limits.specs.declared.Verdict.{Verdict}
-use Rattle.format_number.specs.Step.{Step, found, refused, _then_}
-use Rattle.format_survey_lines.specs.Lines.{linesAfter}
+use Rattle.format_grammar.specs.Step.{Step, found, refused, _then_}
+use Rattle.format_grammar.specs.Lines.{linesAfter}
 use Rattle.format_survey.specs.Reading.{Body, surveyOf, Survey as SurveyText}
 use Rattle.format_survey_lines.specs.Line.{Counts, Tests, testsFor, groupTest, groupLines, edgeLines, countsAt}
 use Rattle.survey_core.specs.Survey.{Survey, surveyFrom, edgeCount}

@@ -5,13 +5,14 @@ use Prim.Native.Nat.{ℕ, zero, suc, _+_, _*_, _-_}
 use mathlib.Core.Bool.{Bool, true, false, _&&_, cond}
 use mathlib.Core.List.{List, [], _∷_, _++_}
 use lib.ListN.{length, getD, take, drop}
-use lib.Dec.{eqb, ltb, leb}
+use lib.Dec.{eqb, leb}
 use Rattle.format_write.specs.Key.{comma, newline}
-use Rattle.format_number.specs.Step.{Step, found, refused, _then_}
 use Rattle.format_number.specs.declared.Class.{Class}
 use Rattle.format_number.specs.declared.Class.the-variants.{Digit, LineEnd, Comma, Other}
 use Rattle.base_limits.specs.Limits.{maxDigits}
 use Rattle.format_write.specs.Decimal.{decimal}
+use Rattle.format_grammar.specs.Bytes.{fixedAt}
+use Rattle.format_grammar.specs.Step.{Step, found, refused, _then_}
 
 -- The digit 0.
 abbrev pub zeroDigit : ℕ
@@ -26,15 +27,6 @@ isDigit Digit = true
 isDigit LineEnd = false
 isDigit Comma = false
 isDigit Other = false
-
--- The byte b stands at an offset.
-unfoldable pub byteIs : List ℕ → (at b : ℕ) → Bool
-byteIs t at b = ltb at (length t) && eqb (getD t at 0) b
-
--- Fixed bytes, whose value is 0.
-unfoldable pub fixedAt : (bytes t : List ℕ) → (at : ℕ) → Step ℕ
-fixedAt [] t at = found 0 at
-fixedAt (b ∷ bytes) t at = cond (byteIs t at b) (fixedAt bytes t (at + 1)) (refused 16 at)
 
 -- Where the digits from offset at on end, of which at most limit are taken.
 unfoldable pub digitsEnd : (limit : ℕ) → List ℕ → (at : ℕ) → ℕ

@@ -5,8 +5,8 @@ use mathlib.Core.List.{List, _++_}
 use lib.ListN.{length, drop}
 use Rattle.base_limits.specs.Limits.{recordBytes}
 use Rattle.base_limits.specs.Verdict.{Outcome, refusal, answer}
-use Rattle.format_number.specs.Step.{Step, found, refused, _then_, checked}
-use Rattle.format_plan_lines.specs.Items.{puts}
+use Rattle.format_grammar.specs.Step.{Step, found, refused, _then_, checked}
+use Rattle.format_grammar.specs.Items.{puts}
 use Rattle.format_plan_lines.specs.Lines.{putMark, putMoat}
 use Rattle.format_plan.specs.Plan.{Claims, Plan, Body, marksOf, moatRecords, roomTest, marksAfter, recordsAfter}
 use Rattle.format_plan.specs.declared.PlanText.{PlanText}

@@ -8,10 +8,11 @@ use Rattle.format_record.specs.Record.{recordOf}
 use Rattle.format_write.specs.Key.{ascii, terminalsKey, costKey, boundKey, roundsKey, keptKey, dualKey}
 use Rattle.format_write.specs.Text.{planText}
 use Rattle.format_print.specs.Examples.{p3-printed}
-use Rattle.format_number.specs.Step.{found, checked, _then_}
-use Rattle.format_survey_lines.specs.Lines.{linesAfter}
-use Rattle.format_number.specs.Number.{classOf, isDigit, byteIs, fixedAt, digitsEnd, numeralEnd, numeralAt, decimalFrom, numberAt, numberTo}
-use Rattle.format_plan_lines.specs.Items.{following, itemsFrom}
+use Rattle.format_grammar.specs.Step.{found, checked, _then_}
+use Rattle.format_grammar.specs.Lines.{linesAfter, following}
+use Rattle.format_number.specs.Number.{classOf, isDigit, digitsEnd, numeralEnd, numeralAt, decimalFrom, numberAt, numberTo}
+use Rattle.format_grammar.specs.Bytes.{byteIs, fixedAt}
+use Rattle.format_grammar.specs.Items.{itemsFrom}
 use Rattle.format_plan_lines.specs.Lines.{valueLine, keptTest, keepLine, keepReader, keptAt, separator, memberAt, risen, memberReader, membersAt, moatTest, moatHead, moatLine, moatReader, moatsAt}
 use Rattle.format_plan.specs.Plan.{Plan, claimsAt, bodyAt, planAt}
 

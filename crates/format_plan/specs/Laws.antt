@@ -4,7 +4,6 @@ pub mod Room
 pub mod Fuel
 pub mod Back
 pub mod Printed
-pub mod Listing
 pub mod Listed
 pub mod Accepted
 pub mod Malformed

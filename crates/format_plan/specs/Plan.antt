@@ -10,8 +10,8 @@ use Rattle.base_limits.specs.Limits.{recordBytes}
 use Rattle.base_limits.specs.Verdict.{refuseIf, Outcome, refusal, answer, outcome}
 use Rattle.base_limits.specs.declared.Verdict.{Verdict}
 use Rattle.format_write.specs.Key.{terminalsKey, costKey, boundKey, roundsKey}
-use Rattle.format_number.specs.Step.{Step, found, refused, _then_}
-use Rattle.format_survey_lines.specs.Lines.{linesAfter}
+use Rattle.format_grammar.specs.Step.{Step, found, refused, _then_}
+use Rattle.format_grammar.specs.Lines.{linesAfter}
 use Rattle.format_plan_lines.specs.Lines.{countDigits, valueLine, keptAt, Moat, moatsAt, isIn, moatRecord}
 
 -- The counts that a plan claims: sites, cost and bound; and its rounds, which nothing decides.

@@ -2,7 +2,8 @@
 // the next cursor, or a refusal.
 ghost use Rattle.base_buffer.specs.Lent.{old, new};
 ghost use mathlib.Core.Path.{_≡_};
-ghost use Rattle.format_number.specs.Answer.{numberStep, stopped};
+ghost use Rattle.format_number.specs.Answer.{numberStep};
+ghost use Rattle.format_grammar.specs.Step.{stopped};
 ghost use Rattle.format_plan.specs.Plan.{bodyAt, claimsAt, cleared, planReading};
 ghost use Rattle.format_plan.specs.Answer.{Stores, Fills, Reads, claimsStep, planOutcome};
 use base_limits::RECORD_BYTES;

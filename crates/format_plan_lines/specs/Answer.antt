@@ -2,8 +2,8 @@
 use Prim.Native.Nat.{ℕ, _<_}
 use mathlib.Core.Path.{_≡_}
 use mathlib.Core.List.{List}
-use Rattle.format_number.specs.Step.{Step, found, refused}
-use Rattle.format_plan_lines.specs.Items.{Each}
+use Rattle.format_grammar.specs.Step.{Step, found, refused}
+use Rattle.format_grammar.specs.Language.{Each}
 use Rattle.format_plan_lines.specs.Lines.{Moat, putMoat, memberNumbers}
 
 -- A step without its value.

@@ -13,10 +13,11 @@ use Rattle.base_limits.specs.Verdict.{refuseIf, _before_}
 use Rattle.base_limits.specs.declared.Verdict.{Verdict}
 use Rattle.format_record.specs.Record.{recordOf, withMemberIn}
 use Rattle.format_write.specs.Key.{keptKey, dualKey, colon, comma, newline}
-use Rattle.format_number.specs.Step.{Step, found, _then_, checked}
-use Rattle.format_survey_lines.specs.Lines.{Lines}
-use Rattle.format_number.specs.Number.{byteIs, fixedAt, numberAt, numberTo}
-use Rattle.format_plan_lines.specs.Items.{Reader, itemsFrom}
+use Rattle.format_grammar.specs.Step.{Step, found, _then_, checked}
+use Rattle.format_grammar.specs.Lines.{Lines}
+use Rattle.format_grammar.specs.Bytes.{byteIs, fixedAt}
+use Rattle.format_number.specs.Number.{numberAt, numberTo}
+use Rattle.format_grammar.specs.Items.{ItemReader, itemsFrom}
 
 -- digits of a count of the plan, at most
 abbrev pub countDigits : ℕ
@@ -38,10 +39,10 @@ unfoldable pub keepLine : List ℕ → (m low i at : ℕ) → Step ℕ
 keepLine t m low i at = valueLine keptKey maxDigits t at then λ e p. checked (keptTest m low i e) e p
 
 -- Keep lines stand as long as a line begins like one.
-unfoldable pub keepReader : List ℕ → (m : ℕ) → Reader ℕ
+unfoldable pub keepReader : List ℕ → (m : ℕ) → ItemReader ℕ ℕ
 keepReader t m = record { stop = λ at. not (byteIs t at (code "k")); item = keepLine t m; after = λ low e. e + 1 }
 
-unfoldable pub keptAt : List ℕ → (m at : ℕ) → Lines ℕ
+unfoldable pub keptAt : List ℕ → (m at : ℕ) → Lines ℕ ℕ
 keptAt t m at = itemsFrom (keepReader t m) (length t) 0 0 at
 
 -- The comma before a member that is not the first.
@@ -57,10 +58,10 @@ unfoldable pub risen : (low v : ℕ) → ℕ
 risen low v = cond (leb low v && ltb v memberNumbers) (v + 1) (memberNumbers + 1)
 
 -- Members end where their line does.
-unfoldable pub memberReader : List ℕ → Reader ℕ
+unfoldable pub memberReader : List ℕ → ItemReader ℕ ℕ
 memberReader t = record { stop = λ at. byteIs t at newline; item = memberAt t; after = risen }
 
-unfoldable pub membersAt : List ℕ → (at : ℕ) → Lines ℕ
+unfoldable pub membersAt : List ℕ → (at : ℕ) → Lines ℕ ℕ
 membersAt t at = itemsFrom (memberReader t) (length t) 0 0 at
 
 -- A moat as it is printed: the amount and the members.
@@ -91,10 +92,10 @@ moatLine t i at =
     checked (moatTest i low) (moatOf t amount c) (d + 1)
 
 -- Moat lines stand to the end of the text; the number after them is how many there are.
-unfoldable pub moatReader : List ℕ → Reader Moat
+unfoldable pub moatReader : List ℕ → ItemReader ℕ Moat
 moatReader t = record { stop = λ at. leb (length t) at; item = λ low i at. moatLine t i at; after = λ low d. low + 1 }
 
-unfoldable pub moatsAt : List ℕ → (at : ℕ) → Lines Moat
+unfoldable pub moatsAt : List ℕ → (at : ℕ) → Lines ℕ Moat
 moatsAt t at = itemsFrom (moatReader t) (length t) 0 0 at
 
 -- ---- records

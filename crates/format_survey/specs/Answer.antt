@@ -4,7 +4,7 @@ use mathlib.Core.Path.{_≡_}
 use mathlib.Core.List.{List}
 use lib.Seq.{sets}
 use Rattle.base_limits.specs.Verdict.{Outcome, refusal, answer}
-use Rattle.format_number.specs.Step.{Step, found, refused}
+use Rattle.format_grammar.specs.Step.{Step, found, refused}
 use Rattle.format_survey_lines.specs.Line.{Counts, firstsOf, secondsOf, weightsOf}
 use Rattle.format_survey.specs.Reading.{Body, Survey, reading, filled}
 use Rattle.format_survey.specs.declared.Reading.{Reading}

@@ -1,18 +1,13 @@
 -- Reading a whole survey text (document 01, 'Survey text and printed plan'): the counts, the lines after them, and the end.
 use Prim.Native.Nat.{ℕ}
-use mathlib.Core.Bool.{cond}
 use mathlib.Core.List.{List, _++_}
 use lib.ListN.{length, drop}
-use lib.Dec.{leb}
 use Rattle.base_limits.specs.Verdict.{Outcome, refusal, answer}
 use Rattle.base_limits.specs.declared.Verdict.{Verdict}
-use Rattle.format_number.specs.Step.{Step, found, refused, _then_}
-use Rattle.format_survey_lines.specs.Lines.{linesAfter}
 use Rattle.format_survey_lines.specs.Line.{Tests, groupTest, testsFor, Edge, firstsOf, secondsOf, weightsOf, Counts, countsAt, groupLines, edgeLines}
-
--- The text ends here.
-unfoldable pub endAt : List ℕ → (at : ℕ) → Step ℕ
-endAt t at = cond (leb (length t) at) (found 0 at) (refused 16 at)
+use Rattle.format_grammar.specs.Bytes.{endAt}
+use Rattle.format_grammar.specs.Lines.{linesAfter}
+use Rattle.format_grammar.specs.Step.{Step, found, refused, _then_}
 
 -- The lines after the counts: what they say up to the first refusal, and where they end.
 pub record Body : Type 0 where

@@ -4,7 +4,8 @@ use mathlib.Core.List.{List, _++_}
 use lib.ListN.{length}
 use Rattle.format_write.specs.Text.{lineOf}
 use Rattle.format_survey_lines.specs.Line.{nodesKey, linksKey, nodeKey, Edge}
-use Rattle.format_survey_lines.specs.Render.{edgeText, textOf}
+use Rattle.format_survey_lines.specs.Render.{edgeText}
+use Rattle.format_grammar.specs.Lines.{textOf}
 
 unfoldable pub render : (groups : List ℕ) (edges : List Edge) → List ℕ
 render groups edges =

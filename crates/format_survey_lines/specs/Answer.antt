@@ -1,5 +1,5 @@
 -- What the answers of the code say in the terms of the definitions: an edge's line and the two counts.
-use Rattle.format_number.specs.Step.{Step, found, refused}
+use Rattle.format_grammar.specs.Step.{Step, found, refused}
 use Rattle.format_survey_lines.specs.Line.{Edge, Counts}
 use Rattle.format_survey_lines.specs.declared.EdgeLine.{EdgeLine}
 use Rattle.format_survey_lines.specs.declared.EdgeLine.the-variants.{Edge as EdgeRead, Refused as EdgeRefused}

@@ -7,9 +7,10 @@ use Rattle.base_limits.specs.Limits.{maxVertices, maxEdges, groupNumbers, maxDi
 use Rattle.base_limits.specs.Verdict.{refuseIf, _before_}
 use Rattle.base_limits.specs.declared.Verdict.{Verdict}
 use Rattle.format_write.specs.Key.{ascii, comma, newline}
-use Rattle.format_number.specs.Step.{Step, found, _then_, checked}
-use Rattle.format_survey_lines.specs.Lines.{Lines, linesFrom}
-use Rattle.format_number.specs.Number.{fixedAt, numberTo, numberLine}
+use Rattle.format_grammar.specs.Step.{Step, found, _then_, checked}
+use Rattle.format_grammar.specs.Lines.{Lines, linesFrom}
+use Rattle.format_grammar.specs.Bytes.{fixedAt}
+use Rattle.format_number.specs.Number.{numberTo, numberLine}
 
 -- The keys.
 abbrev pub nodesKey : List ℕ
@@ -86,8 +87,8 @@ countsAt tests t =
     countLine linksKey (tests .edges) t p then λ m q.
     found (record { vertices = n; edges = m }) q
 
-unfoldable pub groupLines : (ℕ → ℕ → Verdict) → List ℕ → (count at : ℕ) → Lines ℕ
+unfoldable pub groupLines : (ℕ → ℕ → Verdict) → List ℕ → (count at : ℕ) → Lines ℕ ℕ
 groupLines test t count at = linesFrom (groupLine test t) count 0 at
 
-unfoldable pub edgeLines : List ℕ → (count at : ℕ) → Lines Edge
+unfoldable pub edgeLines : List ℕ → (count at : ℕ) → Lines ℕ Edge
 edgeLines t count at = linesFrom (edgeLine t) count 0 at

@@ -11,11 +11,11 @@ use Rattle.base_limits.specs.Limits.{maxVertices, maxEdges, groupNumbers}
 use Rattle.base_limits.specs.Verdict.{refuseIf, _before_, Outcome, refusal, answer, outcome}
 use Rattle.base_limits.specs.declared.Verdict.{Verdict}
 use Rattle.base_limits.specs.declared.Verdict.the-variants.{Fine, Refused}
-use Rattle.format_number.specs.Step.{Step, found, refused}
-use Rattle.format_survey_lines.specs.Lines.{more, linesFrom}
+use Rattle.format_grammar.specs.Step.{Step, found, refused}
+use Rattle.format_grammar.specs.Lines.{following, linesFrom}
 use Rattle.format_survey_lines.specs.Line.{testsFor, groupTest, groupLine, groupLines, countsAt}
 use Rattle.format_survey.specs.Reading.{surveyOf, Survey as SurveyText}
-use Rattle.format_number.specs.Laws.Step.{then-value}
+use Rattle.format_grammar.specs.Laws.Step.{then-value}
 use Rattle.format_survey_lines.specs.Laws.Tests.{group-below}
 use Rattle.survey_core.specs.Survey.{Survey, surveyFrom, edgeCount}
 use Rattle.survey_core.specs.Accuracy.{Accurate}
@@ -30,12 +30,12 @@ abbrev pub surveyIn : SurveyText → Survey
 surveyIn s = surveyFrom (s .groups) (s .firsts) (s .seconds) (s .weights)
 
 groups-below : (t : List ℕ) (count i at v : ℕ) → getD (linesFrom (groupLine groupTest t) count i at .values) v 0 < groupNumbers
-unfolding linesFrom more
+unfolding linesFrom following
 groups-below t zero i at v = omega arith
 groups-below t (suc count) i at v = by-line (groupLine groupTest t i at) v refl (λ next w. groups-below t count (i + 1) next w)
   where
     by-line : (s : Step ℕ) (v : ℕ) → groupLine groupTest t i at ≡ s → ((next w : ℕ) → getD (linesFrom (groupLine groupTest t) count (i + 1) next .values) w 0 < groupNumbers)
-        → getD (more s (λ next. linesFrom (groupLine groupTest t) count (i + 1) next) .values) v 0 < groupNumbers
+        → getD (following s (λ a next. linesFrom (groupLine groupTest t) count (i + 1) next) .values) v 0 < groupNumbers
     by-line (found g next) zero e ih = group-below t i at e
     by-line (found g next) (suc v) e ih = ih next v
     by-line (refused n p) v e ih = omega arith

@@ -16,18 +16,18 @@ use Rattle.format_write.specs.Text.{lineOf, listed, keptLine}
 use Rattle.format_print.specs.Room.{longestDual, planRoom}
 use Rattle.format_write.specs.Laws.Decimal.{length-decimal}
 use Rattle.format_print.specs.Laws.Room.{roomBelow, room-of-members, length-dual, kept-line-le, length-count-lines}
-use Rattle.format_number.specs.Step.{found}
+use Rattle.format_grammar.specs.Step.{found}
 use Rattle.format_survey_lines.specs.Line.{testsFor}
 use Rattle.format_survey.specs.Reading.{Survey as SurveyText}
-use Rattle.format_survey_lines.specs.Render.{textOf}
+use Rattle.format_grammar.specs.Lines.{textOf}
 use Rattle.format_survey.specs.Render.{render}
-use Rattle.format_number.specs.Laws.Step.{then-value}
+use Rattle.format_grammar.specs.Laws.Step.{then-value}
 use Rattle.format_survey.specs.Laws.Said.{saidAt, reads-said}
 use Rattle.format_survey.specs.Laws.WellFormed.{sparing, accepted-within}
 use Rattle.format_survey.specs.Laws.Longest.{longestText, longest-within}
 use Rattle.survey_core.specs.Survey.{edgeCount}
 use Rattle.check_rule.specs.Check.{Checked}
-use Rattle.format_plan_lines.specs.Items.{Each, none, more}
+use Rattle.format_grammar.specs.Language.{Each, none, more}
 use Rattle.format_plan_lines.specs.Lines.{separator, memberNumbers, Moat}
 use Rattle.format_plan.specs.Plan.{Plan, planAt}
 use Rattle.check_text.specs.Verify.{prefixAt, planFrom, verifying}

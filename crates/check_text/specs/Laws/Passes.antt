@@ -10,12 +10,11 @@ use Rattle.format_record.specs.Bits.{Bytes}
 use Rattle.format_print.specs.Room.{planRoom}
 use Rattle.format_write.specs.Text.{planText}
 use Rattle.format_print.specs.Laws.Room.{plan-text-le}
-use Rattle.format_number.specs.Step.{found}
+use Rattle.format_grammar.specs.Step.{found}
 use Rattle.format_survey_lines.specs.Line.{Edge}
 use Rattle.format_survey.specs.Reading.{outcomeOf, reading, Survey as SurveyText}
 use Rattle.format_survey.specs.Render.{render}
-use Rattle.format_survey.specs.Laws.WellFormed.{Within, accepted-render}
-use Rattle.format_survey.specs.Laws.WellFormed.{surveyFrom as surveyOfText}
+use Rattle.format_survey.specs.Laws.WellFormed.{Within, accepted-render, surveyFrom as surveyOfText}
 use Rattle.format_survey.specs.Laws.Longest.{longestText, longest-read}
 use Rattle.survey_core.specs.Survey.{Survey, edgeCount}
 use Rattle.survey_core.specs.Laws.Group.{Numbered}

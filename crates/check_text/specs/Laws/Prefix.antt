@@ -5,12 +5,12 @@ use mathlib.Core.Path.{_≡_, ap, _∙_}
 use mathlib.Core.List.{List, _++_}
 use lib.ListN.{length}
 use Rattle.base_limits.specs.Limits.{maxVertices, maxEdges}
-use Rattle.format_number.specs.Step.{found, _then_}
+use Rattle.format_grammar.specs.Step.{found, _then_}
 use Rattle.format_survey_lines.specs.Line.{testsFor, Edge}
 use Rattle.format_survey.specs.Reading.{surveyOf}
 use Rattle.format_survey.specs.Render.{render}
-use Rattle.format_number.specs.Laws.Step.{then-found}
-use Rattle.format_number.specs.Laws.Stands.{stands-first, stands-whole}
+use Rattle.format_grammar.specs.Laws.Step.{then-found}
+use Rattle.format_grammar.specs.Laws.Stands.{stands-first, stands-whole}
 use Rattle.format_survey.specs.Laws.Said.{saidAt, reads-said, said-then}
 use Rattle.format_survey.specs.Laws.WellFormed.{Within, surveyFrom, saidFrom, sparing, within-accepted}
 use Rattle.check_text.specs.Verify.{linesAt, surveyAt, prefixAt}

@@ -10,12 +10,12 @@ use borrow.Author.Tests.{eq-eqb, ne-eqb}
 use Rattle.base_finite.specs.Laws.Below.{length-tabulate}
 use Rattle.base_limits.specs.Limits.{recordBytes, maxEdges}
 use Rattle.base_limits.specs.Verdict.{refuseIf, Outcome, refusal, answer, outcome, _before_}
-use Rattle.format_number.specs.Step.{Step, found, refused, _then_}
-use Rattle.format_survey_lines.specs.Lines.{linesAfter}
+use Rattle.format_grammar.specs.Step.{Step, found, refused, _then_}
+use Rattle.format_grammar.specs.Lines.{linesAfter}
 use Rattle.format_survey.specs.Reading.{Body, surveyOf, outcomeOf}
 use Rattle.format_survey_lines.specs.Line.{Counts, testsFor, groupTest, groupLines, edgeLines, countsAt, firstsOf, secondsOf, weightsOf}
 use Rattle.format_survey.specs.Answer.{Stores}
-use Rattle.format_survey_lines.specs.Laws.Lines.{lines-length}
+use Rattle.format_grammar.specs.Laws.Lines.{lines-length}
 use Rattle.format_survey_lines.specs.Laws.Tests.{counts-fit}
 use Rattle.format_survey.specs.Laws.Reading.{sets-filled}
 use Rattle.survey_core.specs.Survey.{Survey, surveyFrom, edgeCount}

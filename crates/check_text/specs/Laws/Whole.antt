@@ -7,15 +7,14 @@ use mathlib.Core.List.{List, _++_}
 use lib.ListN.{length, take, length-append, length-map}
 use Rattle.base_limits.specs.Limits.{recordBytes, maxVertices, maxEdges, maxDuals}
 use Rattle.base_limits.specs.Verdict.{answer}
-use Rattle.format_number.specs.Step.{found}
+use Rattle.format_grammar.specs.Step.{found}
 use Rattle.format_survey_lines.specs.Line.{Edge, testsFor, firstsOf}
 use Rattle.format_survey.specs.Reading.{surveyOf, outcomeOf, Survey as SurveyText}
 use Rattle.format_survey.specs.Render.{render}
-use Rattle.format_number.specs.Laws.Step.{then-value}
-use Rattle.format_number.specs.Laws.Stands.{stands-end}
+use Rattle.format_grammar.specs.Laws.Step.{then-value}
+use Rattle.format_grammar.specs.Laws.Stands.{stands-end}
 use Rattle.format_survey.specs.Laws.Said.{saidAt, reads-said}
-use Rattle.format_survey.specs.Laws.WellFormed.{Within, sparing, accepted-within}
-use Rattle.format_survey.specs.Laws.WellFormed.{surveyFrom as surveyOfText}
+use Rattle.format_survey.specs.Laws.WellFormed.{Within, sparing, accepted-within, surveyFrom as surveyOfText}
 use Rattle.survey_core.specs.Survey.{Survey, edgeCount}
 use Rattle.check_rule.specs.Check.{Checked, checking}
 use Rattle.format_plan.specs.Plan.{Plan, planAt, marksOf, moatRecords}

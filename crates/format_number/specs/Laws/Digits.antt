@@ -10,11 +10,13 @@ use lib.ListN.{length, getD, take, drop}
 use lib.Seq.{drop-cons}
 use lib.Dec.{eqb}
 use borrow.Author.Tests.{eqb-true}
-use Rattle.format_number.specs.Step.{found, refused, _then_}
-use Rattle.format_number.specs.Number.{classOf, isDigit, digitsEnd, numeralEnd, numeralAt, decimalFrom, numberAt, numberTo, fixedAt}
-use Rattle.format_number.specs.Laws.Byte.{class-facts, digit-inside, read-inside}
+use Rattle.format_grammar.specs.Step.{found, refused, _then_}
+use Rattle.format_number.specs.Number.{classOf, isDigit, digitsEnd, numeralEnd, numeralAt, decimalFrom, numberAt, numberTo}
+use Rattle.format_grammar.specs.Bytes.{fixedAt}
+use Rattle.format_number.specs.Laws.Byte.{class-facts, digit-inside}
+use Rattle.format_grammar.specs.Laws.Bytes.{read-inside}
 use Rattle.format_number.specs.Laws.Number.{digits-range, numeral-width}
-use Rattle.format_number.specs.Laws.Step.{then-value}
+use Rattle.format_grammar.specs.Laws.Step.{then-value}
 use Rattle.format_number.specs.declared.Class.{Class}
 use Rattle.format_number.specs.declared.Class.the-variants.{Digit, LineEnd, Comma, Other}
 

@@ -1,24 +1,26 @@
 -- The words that a line of a key and a number reads: the text of its number.
-use Prim.Native.Nat.{ℕ, _^_, _≤_, _<_}
+use Prim.Native.Nat.{ℕ, _^_, _≤_, _<_, _+_}
 use native.Mathlib.Omega.{arith}
 use mathlib.Core.Path.{_≡_, refl, ap, sym, _∙_, subst}
 use mathlib.Core.Bool.{false}
 use mathlib.Core.List.{List, [], _∷_, _++_, append-assoc, append-nil}
+use lib.ListN.{length, length-append}
 use Rattle.base_limits.specs.Limits.{maxDigits}
 use Rattle.base_limits.specs.declared.Verdict.{Verdict}
 use Rattle.base_limits.specs.declared.Verdict.the-variants.{Fine, Refused}
 use Rattle.format_write.specs.Key.{comma, newline}
 use Rattle.format_write.specs.Decimal.{decimal}
 use Rattle.format_write.specs.Text.{lineOf}
-use Rattle.format_number.specs.Step.{_then_, checked}
-use Rattle.format_number.specs.Number.{isDigit, classOf, fixedAt, numberTo, numberLine, numberText}
-use Rattle.format_number.specs.Laws.Spells.{Reads, Seq, Empty, reads-then, reads-as, reads-checked}
-use Rattle.format_number.specs.Laws.Words.{Fixed, Numeral, reads-fixed, reads-number}
-
--- The text of a value of which P holds.
-pub record Text {A : Type 0} (P : A → Type 0) (text : A → List ℕ) (a : A) (w : List ℕ) : Type 0 where
-  pub holds : P a
-  pub word : w ≡ text a
+use Rattle.format_number.specs.Number.{isDigit, classOf, numberTo, numberLine, numberText, numberAt}
+use Rattle.format_number.specs.Laws.Words.{Numeral, reads-number}
+use Rattle.format_grammar.specs.Bytes.{fixedAt}
+use Rattle.format_grammar.specs.Language.{Reads, Seq, Empty, Fixed, Text}
+use Rattle.format_grammar.specs.Laws.Bytes.{reads-fixed, fixed-one}
+use Rattle.format_grammar.specs.Laws.Language.{reads-then, reads-as, reads-checked}
+use Rattle.format_grammar.specs.Laws.Stands.{stands-first, stands-second}
+use Rattle.format_grammar.specs.Laws.Step.{then-found, then-value}
+use Rattle.format_grammar.specs.Stands.{Stands}
+use Rattle.format_grammar.specs.Step.{_then_, checked, found}
 
 -- Numbers of at most so many digits.
 abbrev pub Small : ℕ → Type 0
@@ -106,3 +108,28 @@ reads-tested key test h = reads-as (λ t at. refl) to from to′ from′ (reads-
           second = record { value = refl; word = refl };
           whole = m .word ∙ sym (append-nil (lineOf key a));
         }
+
+-- A key and a number with the byte that ends it, where they stand.
+pub keyed-back : (key : List ℕ) (limit b : ℕ) (t : List ℕ) (at x : ℕ) → 1 ≤ limit → x < 10 ^ limit → isDigit (classOf b) ≡ false → Stands t at (key ++ numberText b x)
+    → (fixedAt key t at then λ z p. numberTo limit b t p) ≡ found x (at + length (key ++ numberText b x))
+keyed-back key limit b t at x pos h d s =
+    let f = reads-fixed key .complete t at 0 key (record { value = refl; word = refl }) (stands-first key (numberText b x) s) in
+    let n = reads-number limit b pos d .complete t (at + length key) x (numberText b x) (record { below = h; word = refl }) (stands-second key (numberText b x) s) in
+    let l = length-append key (numberText b x) in
+    let q : at + length key + length (numberText b x) ≡ at + length (key ++ numberText b x) = omega arith in
+    then-found (λ z p. numberTo limit b t p) f ∙ n ∙ ap (λ (r : ℕ). found x r) q
+
+-- A number, where a byte that is no digit stands behind it.
+pub number-back : (limit b : ℕ) (t : List ℕ) (at x : ℕ) → 1 ≤ limit → x < 10 ^ limit → isDigit (classOf b) ≡ false → Stands t at (numberText b x)
+    → numberAt limit t at ≡ found x (at + length (decimal x))
+unfolding numberTo numberText
+number-back limit b t at x pos h d s =
+    let n = reads-number limit b pos d .complete t at x (numberText b x) (record { below = h; word = refl }) s in
+    let f = then-value (numberAt limit t at) _ n in
+    let g = then-value (fixedAt (b ∷ []) t (f .1)) (λ z q. found (f .0) q) (f .3) in
+    let q = fixed-one b t (f .1) (g .2) in
+    let l = length-append (decimal x) (b ∷ []) in
+    let same : f .0 ≡ x = cc (g .3) in
+    let ends : g .1 ≡ at + length (numberText b x) = cc (g .3) in
+    let p : f .1 ≡ at + length (decimal x) = omega arith in
+    f .2 ∙ ap (λ (y : ℕ). found y (f .1)) same ∙ ap (λ (y : ℕ). found x y) p

@@ -1,22 +1,21 @@
 -- Laws of the digits of a number: where they end, and how large the number is.
 use Prim.Native.Nat.{ℕ, zero, suc, _+_, _*_, _-_, _^_, max, _≤_, _<_}
 use native.Mathlib.Omega.{arith}
+use native.Mathlib.Nat.{le-of-lt, pow-le-pow-right, pow-suc}
+use native.Mathlib.Numerals.{add-one}
 use mathlib.Core.Path.{_≡_, refl, ap, _∙_}
 use mathlib.Core.Bool.{Bool, true, false, cond}
 use mathlib.Core.List.{List, []}
 use lib.ListN.{length, getD, take, drop, drop-of-length-le, length-take, length-drop}
 use lib.Dec.{eqb, leb}
 use lib.Seq.{take-nil, drop-cons}
-use native.Mathlib.Nat.{le-of-lt, pow-le-pow-right, pow-suc}
-use native.Mathlib.Numerals.{add-one}
 use borrow.Author.Tests.{eqb-true, leb-true, leb-false}
 use Rattle.format_number.specs.Number.{classOf, isDigit, digitsEnd, numeralEnd, numeralAt, decimalFrom}
-use Rattle.format_number.specs.Laws.Byte.{digit-inside, read-inside}
+use Rattle.format_number.specs.Laws.Byte.{digit-inside}
 use Rattle.format_number.specs.declared.Class.{Class}
 use Rattle.format_number.specs.declared.Class.the-variants.{Digit, LineEnd, Comma, Other}
-
-pub one-less : {i n : ℕ} → i < n → n - i ≡ suc (n - (i + 1))
-one-less h = omega arith
+use Rattle.format_grammar.specs.Laws.Bytes.{read-inside}
+use Rattle.format_grammar.specs.Laws.Lines.{one-less}
 
 -- One turn of a loop over the digits.
 pub digits-more : (t : List ℕ) (limit i at : ℕ) → i < limit → classOf (getD t at 0) ≡ Digit → digitsEnd (limit - i) t at ≡ digitsEnd (limit - (i + 1)) t (at + 1)

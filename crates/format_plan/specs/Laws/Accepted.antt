@@ -13,23 +13,25 @@ use Rattle.base_limits.specs.Limits.{maxDigits, recordBytes, maxDuals}
 use Rattle.base_limits.specs.Verdict.{answer, outcome}
 use Rattle.format_write.specs.Key.{keptKey, terminalsKey, costKey, boundKey, roundsKey, newline}
 use Rattle.format_write.specs.Text.{lineOf, countLines}
-use Rattle.format_number.specs.Step.{Step, found, refused, _then_}
-use Rattle.format_survey_lines.specs.Lines.{linesAfter}
-use Rattle.format_survey_lines.specs.Render.{textOf}
-use Rattle.format_number.specs.Laws.Step.{then-value, then-refused, fixed-short}
-use Rattle.format_number.specs.Laws.Stands.{Stands, stands-append}
-use Rattle.format_number.specs.Laws.Spells.{Reads, Word, Seq, Empty, bound, reads-then, reads-as, reads-value}
-use Rattle.format_number.specs.Laws.Keyed.{Text, newline-no-digit, reads-keyed}
-use Rattle.format_survey_lines.specs.Laws.Content.{joined}
-use Rattle.format_plan_lines.specs.Items.{Reader, Each, none, more}
+use Rattle.format_grammar.specs.Step.{Step, found, refused, _then_}
+use Rattle.format_grammar.specs.Lines.{linesAfter, textOf}
+use Rattle.format_grammar.specs.Laws.Step.{then-value, then-refused}
+use Rattle.format_grammar.specs.Laws.Bytes.{fixed-short}
+use Rattle.format_grammar.specs.Stands.{Stands}
+use Rattle.format_grammar.specs.Laws.Stands.{stands-append}
+use Rattle.format_grammar.specs.Language.{Reads, Word, Seq, Empty, Text, Each, none, more}
+use Rattle.format_grammar.specs.Laws.Language.{bound, reads-then, reads-as, reads-value, joined, text-stands}
+use Rattle.format_number.specs.Laws.Keyed.{newline-no-digit, reads-keyed}
+use Rattle.format_grammar.specs.Items.{ItemReader, Standing, stop, item, Lists}
 use Rattle.format_plan_lines.specs.Lines.{countDigits, valueLine, keepReader, keptAt, memberReader, membersAt, memberNumbers, Moat, moatLine, moatReader, moatsAt}
 use Rattle.format_plan.specs.Plan.{Claims, claimsAt, Plan, bodyAt, planAt, withRoom, planReading}
 use Rattle.format_plan_lines.specs.Laws.Tests.{risen-next}
-use Rattle.format_plan_lines.specs.Laws.Lines.{keep-passed, risen-back, items-stop}
+use Rattle.format_plan_lines.specs.Laws.Lines.{keep-passed, risen-back}
+use Rattle.format_grammar.specs.Laws.Items.{items-stop}
 use Rattle.format_plan.specs.Laws.Reading.{room-fine}
 use Rattle.format_plan.specs.Laws.Room.{room-answer, moat-passed}
-use Rattle.format_plan.specs.Laws.Back.{Standing, stop, item, Rising, ended, rising, SmallMoat, Printed, Few, Printable, moatText, claimsText, planWords, plan-back}
-use Rattle.format_plan.specs.Laws.Listing.{Lists, standing-words, items-standing, text-stands}
+use Rattle.format_plan.specs.Laws.Back.{Rising, ended, rising, SmallMoat, Printed, Few, Printable, moatText, claimsText, planWords, plan-back}
+use Rattle.format_grammar.specs.Laws.Listing.{standing-words, items-standing}
 use Rattle.format_plan.specs.Laws.Listed.{lists-kept, lists-moats, moat-read, text-from}
 
 -- ---- the counts
@@ -182,7 +184,7 @@ plan-read t m at p q e =
     by-kept c from (refused n y) h k e = let z : _≡_ {A = ℕ} 0 1 = cc in absurd (omega arith)
 
 -- Lines that stand one after another, as one text.
-pub lines-words : {A : Type 0} {r : List ℕ → Reader A} {P : A → Type 0} {f : A → List ℕ} → Lists r P (λ i. f) → (t : List ℕ) {low i at last end : ℕ} {l : List A} → at ≤ length t → Standing (r t) low i at l last end
+pub lines-words : {A : Type 0} {r : List ℕ → ItemReader ℕ A} {P : A → Type 0} {f : A → List ℕ} → Lists r P (λ i. f) → (t : List ℕ) {low i at last end : ℕ} {l : List A} → at ≤ length t → Standing (r t) low i at l last end
     → Word (Text (Each P) (textOf f)) t at l end
 lines-words {f = f} x t {i = i} {l = l} h s =
     let w = standing-words x t h s in

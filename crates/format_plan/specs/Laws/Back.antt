@@ -4,40 +4,32 @@ use Prim.Native.Char.{code}
 use native.Mathlib.Omega.{arith}
 use native.Mathlib.Numerals.{add-one}
 use mathlib.Core.Path.{_≡_, refl, ap, sym, _∙_, subst}
-use mathlib.Core.Bool.{Bool, true, false, not, cond}
+use mathlib.Core.Bool.{Bool, true, false, not}
 use mathlib.Core.List.{List, [], _∷_, _++_, append-assoc, append-nil}
-use lib.ListN.{length, getD, length-append}
+use lib.ListN.{length, length-append}
 use borrow.Author.Tests.{lt-leb, le-leb}
 use Rattle.base_limits.specs.Limits.{maxDigits, maxDuals}
 use Rattle.base_limits.specs.declared.Verdict.{Verdict}
 use Rattle.format_write.specs.Key.{newline, comma, colon, dualKey, keptKey, terminalsKey, costKey, boundKey, roundsKey}
 use Rattle.format_write.specs.Decimal.{decimal}
 use Rattle.format_write.specs.Text.{lineOf, listed, countLines}
-use Rattle.format_number.specs.Step.{found, refused, _then_, checked}
-use Rattle.format_survey_lines.specs.Lines.{Lines, linesAfter}
-use Rattle.format_number.specs.Number.{isDigit, classOf, byteIs, fixedAt, numberAt, numberTo, numberText}
-use Rattle.format_survey_lines.specs.Render.{textOf}
-use Rattle.format_number.specs.Laws.Byte.{byte-is, byte-inside}
-use Rattle.format_number.specs.Laws.Step.{then-found, then-value}
-use Rattle.format_number.specs.Laws.Stands.{Stands, stands-append, stands-first, stands-second, stands-head}
+use Rattle.format_number.specs.Number.{isDigit, classOf, numberAt, numberTo, numberText}
 use Rattle.format_number.specs.Laws.Digits.{Digits, one}
 use Rattle.format_number.specs.Laws.Decimal.{decimal-numeral}
-use Rattle.format_number.specs.Laws.Words.{reads-fixed, reads-number}
-use Rattle.format_number.specs.Laws.Keyed.{Small, newline-no-digit, comma-no-digit}
+use Rattle.format_number.specs.Laws.Keyed.{Small, newline-no-digit, comma-no-digit, keyed-back, number-back}
 use Rattle.format_plan_lines.specs.Laws.Tests.{kept-fine, risen-next, moat-fine}
-use Rattle.format_plan_lines.specs.Items.{Reader, following, itemsFrom, Each, none, more}
 use Rattle.format_plan_lines.specs.Lines.{countDigits, valueLine, keptTest, keepLine, keepReader, separator, memberNumbers, memberAt, risen, memberReader, membersAt, Moat, moatTest, moatHead, moatOf, moatLine, moatReader, moatsAt, keptAt}
 use Rattle.format_plan.specs.Plan.{Claims, claimsAt, bodyAt, Plan, planAt}
-
--- A key and a number with the byte that ends it, where they stand.
-keyed-back : (key : List ℕ) (limit b : ℕ) (t : List ℕ) (at x : ℕ) → 1 ≤ limit → x < 10 ^ limit → isDigit (classOf b) ≡ false → Stands t at (key ++ numberText b x)
-    → (fixedAt key t at then λ z p. numberTo limit b t p) ≡ found x (at + length (key ++ numberText b x))
-keyed-back key limit b t at x pos h d s =
-    let f = reads-fixed key .complete t at 0 key (record { value = refl; word = refl }) (stands-first key (numberText b x) s) in
-    let n = reads-number limit b pos d .complete t (at + length key) x (numberText b x) (record { below = h; word = refl }) (stands-second key (numberText b x) s) in
-    let l = length-append key (numberText b x) in
-    let q : at + length key + length (numberText b x) ≡ at + length (key ++ numberText b x) = omega arith in
-    then-found (λ z p. numberTo limit b t p) f ∙ n ∙ ap (λ (r : ℕ). found x r) q
+use Rattle.format_grammar.specs.Bytes.{byteIs}
+use Rattle.format_grammar.specs.Items.{Standing, stop, item}
+use Rattle.format_grammar.specs.Language.{Each, none, more}
+use Rattle.format_grammar.specs.Laws.Bytes.{byte-is, byte-inside, reads-fixed, other-byte}
+use Rattle.format_grammar.specs.Laws.Items.{items-back}
+use Rattle.format_grammar.specs.Laws.Stands.{stands-append, stands-first, stands-second, stands-head}
+use Rattle.format_grammar.specs.Laws.Step.{then-found}
+use Rattle.format_grammar.specs.Lines.{Lines, linesAfter, textOf}
+use Rattle.format_grammar.specs.Stands.{Stands}
+use Rattle.format_grammar.specs.Step.{found, _then_, checked}
 
 -- A line of a key and a number, where it stands.
 pub value-back : (key : List ℕ) (limit : ℕ) (t : List ℕ) (at x : ℕ) → 1 ≤ limit → x < 10 ^ limit → Stands t at (lineOf key x)
@@ -46,21 +38,6 @@ unfolding valueLine lineOf numberText
 value-back key limit t at x pos h s =
     let e : key ++ decimal x ++ (newline ∷ []) ≡ key ++ numberText newline x = append-assoc key (decimal x) (newline ∷ []) in
     keyed-back key limit newline t at x pos h newline-no-digit (subst (Stands t at) e s) ∙ ap (λ (w : List ℕ). found x (at + length w)) (sym e)
-
--- Items that stand one after another from an offset on, and what follows them.
-pub data Standing {A : Type 0} (r : Reader A) : (low i at : ℕ) → List A → (last end : ℕ) → Type 0 where
-  stop : {low i at : ℕ} → r .stop at ≡ true → Standing r low i at [] low at
-  item : {low i at next last end : ℕ} {a : A} {l : List A} → r .stop at ≡ false → r .item low i at ≡ found a next
-      → Standing r (r .after low a) (i + 1) next l last end → Standing r low i at (a ∷ l) last end
-
-pub items-back : {A : Type 0} (r : Reader A) (fuel : ℕ) {low i at last end : ℕ} {l : List A} → length l < fuel → Standing r low i at l last end
-    → itemsFrom r fuel low i at ≡ record { values = l; end = found last end }
-unfolding itemsFrom following
-items-back r zero h s = absurd (omega arith)
-items-back r (suc fuel) h (stop e) = rw e
-items-back {A} r (suc fuel) {low} {i} {at} {last} {end} h (item {next = next} {a = a} {l = l} e f s) =
-    let k = items-back r fuel (omega arith) s in
-    rw (e, f, k)
 
 -- Tracks below m that rise, the first not below low.
 pub data Rising (m : ℕ) : (low : ℕ) → List ℕ → Type 0 where
@@ -91,29 +68,6 @@ keep-back t m few {low} (rising {e = e} {es = es} h k r) i at end s q f =
     let l = length-append line (textOf (lineOf keptKey) es) in
     let rest = keep-back t m few r (i + 1) (at + length line) end b (omega arith) f in
     (rest .0, item (w .0) (w .1 ∙ ap (λ (x : Verdict). checked x e (at + length line)) (kept-fine m low i e h k)) (rest .1))
-
-fixed-one : (b : ℕ) (t : List ℕ) (p : ℕ) {z q : ℕ} → fixedAt (b ∷ []) t p ≡ found z q → q ≡ p + 1
-unfolding fixedAt
-fixed-one b t p {z} {q} e = by-byte (byteIs t p b) e
-  where
-    by-byte : (x : Bool) → cond x (found 0 (p + 1)) (refused 16 p) ≡ found z q → q ≡ p + 1
-    by-byte true e = cc
-    by-byte false e = let w : _≡_ {A = ℕ} 0 1 = cc in absurd (omega arith)
-
--- A number, where a byte that is no digit stands behind it.
-pub number-back : (limit b : ℕ) (t : List ℕ) (at x : ℕ) → 1 ≤ limit → x < 10 ^ limit → isDigit (classOf b) ≡ false → Stands t at (numberText b x)
-    → numberAt limit t at ≡ found x (at + length (decimal x))
-unfolding numberTo numberText
-number-back limit b t at x pos h d s =
-    let n = reads-number limit b pos d .complete t at x (numberText b x) (record { below = h; word = refl }) s in
-    let f = then-value (numberAt limit t at) _ n in
-    let g = then-value (fixedAt (b ∷ []) t (f .1)) (λ z q. found (f .0) q) (f .3) in
-    let q = fixed-one b t (f .1) (g .2) in
-    let l = length-append (decimal x) (b ∷ []) in
-    let same : f .0 ≡ x = cc (g .3) in
-    let ends : g .1 ≡ at + length (numberText b x) = cc (g .3) in
-    let p : f .1 ≡ at + length (decimal x) = omega arith in
-    f .2 ∙ ap (λ (y : ℕ). found y (f .1)) same ∙ ap (λ (y : ℕ). found x y) p
 
 -- Members behind the first, each after a comma.
 unfoldable pub followers : List ℕ → List ℕ
@@ -162,13 +116,6 @@ members-long i (v ∷ vs) =
     let b = length-append (separator i) (decimal v) in
     let l = followers-long vs in
     omega arith
-
-other-byte : (t : List ℕ) (at b c : ℕ) → getD t at 0 ≡ b → (b ≡ c → ⊥) → byteIs t at c ≡ false
-other-byte t at b c e h = by-test (byteIs t at c) refl
-  where
-    by-test : (x : Bool) → byteIs t at c ≡ x → byteIs t at c ≡ false
-    by-test true q = absurd (h (sym e ∙ byte-inside t at c q .1))
-    by-test false q = q
 
 -- No line ends where a member begins.
 no-end : (i : ℕ) (t : List ℕ) (at v : ℕ) → Stands t at (separator i ++ decimal v) → byteIs t at newline ≡ false
@@ -276,7 +223,7 @@ moat-line-back t i at d p s =
       members = ms .1;
       line =
           then-found (λ amount k. membersAt t k .end then λ low y. checked (moatTest i low) (moatOf t amount k) (y + 1)) (head-back t at (d .value) (p .value) a)
-          ∙ ap (λ (L : Lines ℕ). L .end then λ low y. checked (moatTest i low) (record { value = d .value; members = L .values }) (y + 1)) g
+          ∙ ap (λ (L : Lines ℕ ℕ). L .end then λ low y. checked (moatTest i low) (record { value = d .value; members = L .values }) (y + 1)) g
           ∙ ap (λ (k : ℕ). checked (moatTest i (ms .0)) d k) q;
     }
 
@@ -406,5 +353,5 @@ plan-back t m at p few w s q =
     let g = items-back (keepReader t m) (length t) (omega arith) (ks .1) in
     let h = items-back (moatReader t) (length t) (omega arith) (ds .1) in
     then-found _ c
-    ∙ ap (λ (k : Lines ℕ). let l = linesAfter (k .end) (moatsAt t) in l .end then λ count z. found (record { claims = p .claims; kept = k .values; moats = l .values }) z) g
-    ∙ ap (λ (l : Lines Moat). l .end then λ count z. found (record { claims = p .claims; kept = p .kept; moats = l .values }) z) h
+    ∙ ap (λ (k : Lines ℕ ℕ). let l = linesAfter (k .end) (moatsAt t) in l .end then λ count z. found (record { claims = p .claims; kept = k .values; moats = l .values }) z) g
+    ∙ ap (λ (l : Lines ℕ Moat). l .end then λ count z. found (record { claims = p .claims; kept = p .kept; moats = l .values }) z) h

@@ -12,11 +12,14 @@ use borrow.Author.Tests.{ltb-true, ltb-false, eqb-true, eqb-false, ne-eqb, lt-lt
 use Rattle.base_finite.specs.Below.{tabulate}
 use Rattle.base_finite.specs.Laws.Below.{length-tabulate, getD-tabulate}
 use Rattle.base_limits.specs.Limits.{recordBytes}
-use Rattle.format_number.specs.Step.{Step, found, refused}
-use Rattle.format_plan_lines.specs.Items.{following, itemsFrom, puts, Each, none, more}
+use Rattle.format_grammar.specs.Step.{Step, found, refused}
+use Rattle.format_grammar.specs.Items.{itemsFrom, puts}
+use Rattle.format_grammar.specs.Language.{Each, none, more}
+use Rattle.format_grammar.specs.Lines.{following}
 use Rattle.format_plan_lines.specs.Lines.{keepReader, keptAt, moatReader, moatsAt, Moat, isIn, moatRecord, putMark, putMoat}
 use Rattle.format_plan.specs.Plan.{marksOf, moatRecords, cleared}
-use Rattle.format_plan_lines.specs.Laws.Puts.{puts-length, mark-length}
+use Rattle.format_grammar.specs.Laws.Items.{puts-length}
+use Rattle.format_plan_lines.specs.Laws.Puts.{mark-length}
 use Rattle.format_plan_lines.specs.Laws.Lines.{keep-passed, length-moat, moat-put}
 
 -- ---- what the lines hold

@@ -14,24 +14,25 @@ use Rattle.base_limits.specs.declared.Verdict.the-variants.{Fine, Refused}
 use Rattle.format_write.specs.Key.{keptKey, dualKey, colon, newline}
 use Rattle.format_write.specs.Decimal.{decimal}
 use Rattle.format_write.specs.Text.{lineOf, listed}
-use Rattle.format_number.specs.Step.{Step, found, refused, _then_, checked}
-use Rattle.format_survey_lines.specs.Lines.{Lines}
-use Rattle.format_number.specs.Number.{isDigit, classOf, byteIs, fixedAt, numberAt, numberTo, numberLine}
-use Rattle.format_survey_lines.specs.Render.{textOf}
-use Rattle.format_number.specs.Laws.Byte.{byte-inside}
+use Rattle.format_grammar.specs.Step.{Step, found, refused, _then_, checked}
+use Rattle.format_grammar.specs.Lines.{Lines, textOf}
+use Rattle.format_number.specs.Number.{isDigit, classOf, numberAt, numberTo, numberLine}
+use Rattle.format_grammar.specs.Bytes.{byteIs, fixedAt}
+use Rattle.format_grammar.specs.Laws.Bytes.{byte-inside, read-same, byte-same, reads-fixed}
 use Rattle.format_number.specs.Laws.Decimal.{decimal-numeral}
-use Rattle.format_number.specs.Laws.Step.{then-found, then-refused, then-value, Stops, early, late, then-stops, checked-fine, checked-value}
-use Rattle.format_number.specs.Laws.Stands.{Stands, stands-append, stands-byte, stands-same, take-less}
-use Rattle.format_number.specs.Laws.Spells.{Reads, Word, Extends, bound, read-again}
-use Rattle.format_number.specs.Laws.Words.{Numbered, absent, present, numbered, number-is, no-digit-number, numeral-same, read-same, byte-same, Fixed, reads-fixed}
-use Rattle.format_number.specs.Laws.Keyed.{Text, Small, Passes, reads-keyed, reads-tested}
+use Rattle.format_grammar.specs.Laws.Step.{then-found, then-refused, then-value, Stops, early, late, then-stops, checked-fine, checked-value, checked-next}
+use Rattle.format_grammar.specs.Stands.{Stands}
+use Rattle.format_grammar.specs.Laws.Stands.{stands-append, stands-byte, stands-same, take-less, as-long}
+use Rattle.format_grammar.specs.Language.{Reads, Word, Extends, Fixed, Text, none}
+use Rattle.format_grammar.specs.Laws.Language.{bound, read-again, text-stands}
+use Rattle.format_number.specs.Laws.Words.{Numbered, absent, present, numbered, number-is, no-digit-number, numeral-same}
+use Rattle.format_number.specs.Laws.Keyed.{Small, Passes, reads-keyed, reads-tested}
 use Rattle.format_survey.specs.Laws.WellFormed.{one-spares, two-spare}
-use Rattle.format_plan_lines.specs.Items.{none}
+use Rattle.format_grammar.specs.Items.{Broken, Lists, textFrom}
 use Rattle.format_plan_lines.specs.Lines.{valueLine, keptTest, keepLine, keepReader, separator, memberAt, memberReader, membersAt, Moat, moatTest, moatHead, moatOf, moatLine, moatReader}
-use Rattle.format_plan_lines.specs.Laws.Lines.{items-stop}
-use Rattle.format_plan.specs.Laws.Fuel.{checked-next}
+use Rattle.format_grammar.specs.Laws.Items.{items-stop}
 use Rattle.format_plan.specs.Laws.Back.{SmallMoat, moatText, moat-some, line-some, colon-ends, memberText, later-text, listed-text}
-use Rattle.format_plan.specs.Laws.Listing.{Broken, Lists, textFrom, text-stands, as-long, standing-words, standing-long, items-standing, items-broken, item-goes, broken-place, broken-extends, items-again, items-broken-again}
+use Rattle.format_grammar.specs.Laws.Listing.{standing-words, standing-long, items-standing, items-broken, item-goes, broken-place, broken-extends, items-again, items-broken-again}
 
 -- ---- bytes and ends that texts have in common
 
@@ -441,7 +442,7 @@ module _ (t : List ℕ) (at : ℕ) (h : at ≤ length t) where
       let b = standing-long lists-members t (a .1) s .0 in
       let n = r .next in
       then-found _ (read-again reads-head t u at (r .amount) (r .from) (q + 1) h (omega arith) k (r .head))
-      ∙ ap (λ (L : Lines ℕ). L .end then λ low y. checked (moatTest i low) (record { value = r .amount; members = L .values }) (y + 1)) (items-again lists-members t u 0 0 (r .from) q (omega arith) (a .1) (omega arith) k (r .list))
+      ∙ ap (λ (L : Lines ℕ ℕ). L .end then λ low y. checked (moatTest i low) (record { value = r .amount; members = L .values }) (y + 1)) (items-again lists-members t u 0 0 (r .from) q (omega arith) (a .1) (omega arith) k (r .list))
       ∙ ap (λ (v : Verdict). checked v (moatOf t (r .amount) (r .from)) (r .end + 1)) (r .fine)
       ∙ ap (λ (y : Moat). found y (r .end + 1)) (r .moat)
       ∙ ap (λ (y : ℕ). found d y) n
@@ -458,7 +459,7 @@ module _ (t : List ℕ) (at : ℕ) (h : at ≤ length t) where
           let a0 = a .0 in
           let b = broken-place lists-members t (a .1) (among-broken q r) .0 in
           then-found _ (read-again reads-head t u at x c (p + 1) h (omega arith) k q)
-          ∙ ap (λ (L : Lines ℕ). L .end then λ low y. checked (moatTest i low) (record { value = x; members = L .values }) (y + 1)) (items-broken-again lists-members t u 0 0 c p (omega arith) (a .1) k r)
+          ∙ ap (λ (L : Lines ℕ ℕ). L .end then λ low y. checked (moatTest i low) (record { value = x; members = L .values }) (y + 1)) (items-broken-again lists-members t u 0 0 c p (omega arith) (a .1) k r)
 
 -- Moat lines are the texts of their moats.
 pub lists-moats : Lists moatReader SmallMoat (λ i. moatText)

@@ -13,20 +13,22 @@ use Rattle.base_limits.specs.declared.Verdict.{Verdict}
 use Rattle.base_limits.specs.declared.Verdict.the-variants.{Fine, Refused}
 use Rattle.format_write.specs.Key.{keptKey}
 use Rattle.format_write.specs.Text.{lineOf}
-use Rattle.format_number.specs.Step.{Step, found, refused, _then_, checked}
-use Rattle.format_survey_lines.specs.Lines.{Lines, linesAfter}
-use Rattle.format_number.specs.Number.{byteIs}
-use Rattle.format_survey_lines.specs.Render.{textOf}
-use Rattle.format_number.specs.Laws.Step.{then-found, then-refused}
-use Rattle.format_number.specs.Laws.Stands.{Stands, stands-first, stands-second, stands-end}
-use Rattle.format_number.specs.Laws.Spells.{Lively, read, otherwise, bound, read-again}
+use Rattle.format_grammar.specs.Step.{Step, found, refused, _then_, checked}
+use Rattle.format_grammar.specs.Lines.{Lines, linesAfter, textOf}
+use Rattle.format_grammar.specs.Bytes.{byteIs}
+use Rattle.format_grammar.specs.Laws.Step.{then-found, then-refused}
+use Rattle.format_grammar.specs.Stands.{Stands}
+use Rattle.format_grammar.specs.Laws.Stands.{stands-first, stands-second, stands-end}
+use Rattle.format_grammar.specs.Language.{Lively, read, otherwise, Each, none, more}
+use Rattle.format_grammar.specs.Laws.Language.{bound, read-again, text-stands}
 use Rattle.format_number.specs.Laws.Keyed.{Small}
-use Rattle.format_plan_lines.specs.Items.{Reader, Each, none, more}
+use Rattle.format_grammar.specs.Items.{ItemReader, Standing, stop, item, Broken, here, later}
 use Rattle.format_plan_lines.specs.Lines.{keptTest, keepReader, keptAt, Moat, moatTest, moatReader, moatsAt}
 use Rattle.format_plan.specs.Plan.{Claims, claimsAt, Plan, bodyAt, planAt, withRoom, planReading}
 use Rattle.format_plan.specs.Laws.Room.{room-refusal}
-use Rattle.format_plan.specs.Laws.Back.{Standing, stop, item, items-back, keep-line-back, SmallMoat, moat-line-back, moatText, Few, claimsText, claims-back, claims-some, planWords, lines-long, line-some, moat-some, no-keep}
-use Rattle.format_plan.specs.Laws.Listing.{Broken, here, later, items-standing, items-broken, broken-items, item-goes, standing-long, broken-place, broken-extends, items-again, items-broken-again, text-stands}
+use Rattle.format_grammar.specs.Laws.Items.{items-back}
+use Rattle.format_plan.specs.Laws.Back.{keep-line-back, SmallMoat, moat-line-back, moatText, Few, claimsText, claims-back, claims-some, planWords, lines-long, line-some, moat-some, no-keep}
+use Rattle.format_grammar.specs.Laws.Listing.{items-standing, items-broken, broken-items, item-goes, standing-long, broken-place, broken-extends, items-again, items-broken-again}
 use Rattle.format_plan.specs.Laws.Listed.{kept-spares, moat-spares, lists-kept, lists-moats, text-from}
 use Rattle.format_plan.specs.Laws.Accepted.{reads-claims, lines-words, plan-missing}
 
@@ -39,19 +41,19 @@ pub record WellFormedPlan (p : Plan) : Type 0 where
 -- ---- a well-formed plan is not refused with 16
 
 -- Items that are all read, or of which one is refused for another reason than its form.
-data Met {A : Type 0} (r : Reader A) (low i at : ℕ) (l : List A) (end : ℕ) : Type 0 where
+data Met {A : Type 0} (r : ItemReader ℕ A) (low i at : ℕ) (l : List A) (end : ℕ) : Type 0 where
   all-read : (last : ℕ) → Standing r low i at l last end → Met r low i at l end
   one-refused : {n q : ℕ} {k : List A} → Broken r n q low i at k → length k ≤ length l → (n ≡ 16 → ⊥) → Met r low i at l end
 
 -- A line where it stands: only a test of its value is left.
-record Tested {A : Type 0} (r : Reader A) (low i at : ℕ) (a : A) (next : ℕ) : Type 0 where
+record Tested {A : Type 0} (r : ItemReader ℕ A) (low i at : ℕ) (a : A) (next : ℕ) : Type 0 where
   test : Verdict
   spares : (n p : ℕ) → test ≡ Refused n p → n ≡ 16 → ⊥
   begins : r .stop at ≡ false
   line : r .item low i at ≡ checked test a next
 
 -- Lines of which only tests are left are all read, or one fails its test.
-met-lines : {A : Type 0} (r : Reader A) (t : List ℕ) (P : A → Type 0) (f : A → List ℕ) → ((low i at : ℕ) (a : A) → P a → Stands t at (f a) → Tested r low i at a (at + length (f a)))
+met-lines : {A : Type 0} (r : ItemReader ℕ A) (t : List ℕ) (P : A → Type 0) (f : A → List ℕ) → ((low i at : ℕ) (a : A) → P a → Stands t at (f a) → Tested r low i at a (at + length (f a)))
     → {l : List A} → Each P l → (low i at end : ℕ) → Stands t at (textOf f l) → end ≡ at + length (textOf f l) → r .stop end ≡ true → Met r low i at l end
 unfolding textOf checked
 met-lines r t P f tested none low i at end s q e =
@@ -114,10 +116,10 @@ plan-lively t m at p w s q =
         let l₂ = length-append (claimsText (p .claims) ++ textOf (lineOf keptKey) (p .kept)) (textOf moatText (p .moats)) in
         omega arith
 
-    rest : Lines ℕ → Step Plan
+    rest : Lines ℕ ℕ → Step Plan
     rest k = let l = linesAfter (k .end) (moatsAt t) in l .end then λ count z. found (record { claims = p .claims; kept = k .values; moats = l .values }) z
 
-    last : List ℕ → Lines Moat → Step Plan
+    last : List ℕ → Lines ℕ Moat → Step Plan
     last ks l = l .end then λ count z. found (record { claims = p .claims; kept = ks; moats = l .values }) z
 
     by-moats : {y : ℕ} → planAt t m at ≡ last (p .kept) (moatsAt t y) → Met (moatReader t) 0 0 y (p .moats) (length t) → Lively (planAt t m at) p (length t)
@@ -211,7 +213,7 @@ module _ (t : List ℕ) (m at : ℕ) (h : at ≤ length t) where
   unfolding planAt bodyAt keptAt moatsAt linesAfter _then_
   plan-same u q e k = by-place (plan-stops t m at q e)
     where
-      rest : Claims → Lines ℕ → Step Plan
+      rest : Claims → Lines ℕ ℕ → Step Plan
       rest c ks = let l = linesAfter (ks .end) (moatsAt u) in l .end then λ count z. found (record { claims = c; kept = ks .values; moats = l .values }) z
 
       by-place : PlanStops t m at q → planAt u m at ≡ refused 16 q
@@ -230,7 +232,7 @@ module _ (t : List ℕ) (m at : ℕ) (h : at ≤ length t) where
           let y = broken-place lists-moats t (b .1) (moats-broken (omega arith) (b .1) d) .0 in
           then-found _ (read-again reads-claims t u at c from (q + 1) h (omega arith) k f)
           ∙ ap (rest c) (items-again (lists-kept m) t u 0 0 from q (omega arith) (a .1) (omega arith) k x)
-          ∙ ap (λ (l : Lines Moat). l .end then λ count z. found (record { claims = c; kept = keptAt t m from .values; moats = l .values }) z) (items-broken-again lists-moats t u 0 0 middle q (omega arith) (b .1) k d)
+          ∙ ap (λ (l : Lines ℕ Moat). l .end then λ count z. found (record { claims = c; kept = keptAt t m from .values; moats = l .values }) z) (items-broken-again lists-moats t u 0 0 middle q (omega arith) (b .1) k d)
 
 -- ---- the place of 16
 

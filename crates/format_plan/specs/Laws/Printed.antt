@@ -12,10 +12,11 @@ use Rattle.base_limits.specs.Limits.{maxDigits, recordBytes, maxEdges, maxDuals
 use Rattle.format_record.specs.Record.{valueIn, memberIn, recordAt}
 use Rattle.format_write.specs.Key.{keptKey}
 use Rattle.format_write.specs.Text.{lineOf, membersOf, dualLine, textBelow, keptLine, keptLines, dualLines, countLines, planText}
-use Rattle.format_number.specs.Step.{found}
-use Rattle.format_survey_lines.specs.Render.{textOf}
-use Rattle.format_number.specs.Laws.Stands.{Stands, stands-end}
-use Rattle.format_plan_lines.specs.Items.{Each, none, more}
+use Rattle.format_grammar.specs.Step.{found}
+use Rattle.format_grammar.specs.Lines.{textOf}
+use Rattle.format_grammar.specs.Stands.{Stands}
+use Rattle.format_grammar.specs.Laws.Stands.{stands-end}
+use Rattle.format_grammar.specs.Language.{Each, none, more}
 use Rattle.format_plan_lines.specs.Lines.{memberNumbers, Moat}
 use Rattle.format_plan.specs.Plan.{Claims, Plan, planAt}
 use Rattle.format_plan.specs.Laws.Back.{Rising, ended, rising, Printed, Few, Printable, moatText, claimsText, planWords, plan-back}

@@ -9,12 +9,13 @@ use Rattle.base_limits.specs.Limits.{recordBytes}
 use Rattle.base_limits.specs.Verdict.{refuseIf, refusal, answer, outcome}
 use Rattle.base_limits.specs.declared.Verdict.{Verdict}
 use Rattle.base_limits.specs.declared.Verdict.the-variants.{Fine, Refused}
-use Rattle.format_number.specs.Step.{Step, found, refused, _then_, checked}
-use Rattle.format_survey_lines.specs.Lines.{linesAfter}
-use Rattle.format_plan_lines.specs.Items.{puts, Each}
+use Rattle.format_grammar.specs.Step.{Step, found, refused, _then_, checked}
+use Rattle.format_grammar.specs.Lines.{linesAfter}
+use Rattle.format_grammar.specs.Items.{puts}
+use Rattle.format_grammar.specs.Language.{Each}
 use Rattle.format_plan_lines.specs.Lines.{keptAt, moatsAt, putMark, putMoat}
 use Rattle.format_plan_lines.specs.Laws.Puts.{mark-length, moat-length}
-use Rattle.format_plan_lines.specs.Laws.Lines.{empty-pass}
+use Rattle.format_grammar.specs.Laws.Items.{empty-pass}
 use Rattle.format_plan.specs.Plan.{Claims, Plan, Body, claimsAt, bodyAt, planAt, marksOf, moatRecords, cleared, roomTest, withRoom, planReading, marksAfter, recordsAfter}
 use Rattle.format_plan.specs.Answer.{Stores, Fills, Reads, roomed, storedIf, readOf}
 use Rattle.format_plan.specs.Laws.Fill.{kept-below, moats-count, marks-filled, records-filled}

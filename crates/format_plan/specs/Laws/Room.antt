@@ -11,11 +11,11 @@ use Rattle.base_limits.specs.Limits.{recordBytes, maxDuals, maxEdges}
 use Rattle.base_limits.specs.Verdict.{refuseIf, refusal, answer, outcome}
 use Rattle.base_limits.specs.declared.Verdict.{Verdict}
 use Rattle.base_limits.specs.declared.Verdict.the-variants.{Fine, Refused}
-use Rattle.format_number.specs.Step.{Step, found, refused}
-use Rattle.format_survey_lines.specs.Lines.{linesAfter}
+use Rattle.format_grammar.specs.Step.{Step, found, refused}
+use Rattle.format_grammar.specs.Lines.{linesAfter, following}
 use Rattle.format_survey.specs.Reading.{outcomeOf}
-use Rattle.format_number.specs.Laws.Step.{then-value, checked-fine}
-use Rattle.format_plan_lines.specs.Items.{following, itemsFrom}
+use Rattle.format_grammar.specs.Laws.Step.{then-value, checked-fine}
+use Rattle.format_grammar.specs.Items.{itemsFrom}
 use Rattle.format_plan_lines.specs.Lines.{Moat, moatHead, membersAt, moatTest, moatLine, moatReader, moatsAt, keptAt}
 use Rattle.format_plan.specs.Plan.{Plan, bodyAt, claimsAt, planAt, roomTest, withRoom}
 use Rattle.format_plan_lines.specs.Laws.Tests.{moat-falls, moat-many}

@@ -2,7 +2,7 @@
 use borrow.Author.Needs.{needs}
 use mathlib.Core.Path.{ap, sym, _∙_}
 use lib.ListN.{length}
-use Rattle.format_plan_lines.specs.Items.{puts}
+use Rattle.format_grammar.specs.Items.{puts}
 use Rattle.format_plan_lines.specs.Lines.{putMember, membersAt}
 use Rattle.format_plan_lines.specs.Laws.Lines.{record-filled, length-moat}
 use Rattle.format_plan_lines.proofs.fill_record.Statement.{statement}

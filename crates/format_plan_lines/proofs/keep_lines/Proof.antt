@@ -7,8 +7,8 @@ use mathlib.Core.Bool.{not}
 use lib.ListN.{length}
 use Rattle.format_number.specs.Answer.{numberStep}
 use Rattle.format_plan_lines.specs.Lines.{keepReader, keptAt, putMark}
-use Rattle.format_plan_lines.specs.Laws.Items.{Left, left-start, left-more, left-stop, left-refused, left-out}
-use Rattle.format_plan_lines.specs.Laws.Puts.{left-length, mark-length}
+use Rattle.format_grammar.specs.Laws.Items.{Left, left-start, left-more, left-stop, left-refused, left-out, left-length}
+use Rattle.format_plan_lines.specs.Laws.Puts.{mark-length}
 use Rattle.format_plan_lines.specs.Laws.Lines.{keep-passed}
 use Rattle.format_plan_lines.proofs.keep_lines.Statement.{statement}
 use Rattle.format_plan_lines.proofs.keep_lines.Tie as tie

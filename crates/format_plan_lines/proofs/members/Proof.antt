@@ -5,8 +5,8 @@ use mathlib.Core.Path.{ap, sym, _∙_}
 use lib.ListN.{length}
 use Rattle.format_number.specs.Answer.{numberStep}
 use Rattle.format_plan_lines.specs.Lines.{memberReader, membersAt, putMember}
-use Rattle.format_plan_lines.specs.Laws.Items.{Left, left-start, left-more, left-stop, left-refused, left-out}
-use Rattle.format_plan_lines.specs.Laws.Puts.{left-length, member-length}
+use Rattle.format_grammar.specs.Laws.Items.{Left, left-start, left-more, left-stop, left-refused, left-out, left-length}
+use Rattle.format_plan_lines.specs.Laws.Puts.{member-length}
 use Rattle.format_plan_lines.proofs.members.Statement.{statement}
 use Rattle.format_plan_lines.proofs.members.Tie as tie
 

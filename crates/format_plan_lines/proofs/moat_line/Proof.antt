@@ -6,7 +6,8 @@ use Rattle.format_number.specs.Answer.{numberStep}
 use Rattle.format_plan_lines.specs.Lines.{putMember, putMoat, moatOf}
 use Rattle.format_plan_lines.specs.Laws.Tests.{moat-falls, moat-many, moat-fine}
 use Rattle.format_plan_lines.specs.Laws.Puts.{member-length}
-use Rattle.format_plan_lines.specs.Laws.Lines.{empty-pass, members-below, members-end, moat-stops, moat-unlisted, moat-refused, moat-read}
+use Rattle.format_grammar.specs.Laws.Items.{empty-pass}
+use Rattle.format_plan_lines.specs.Laws.Lines.{members-below, members-end, moat-stops, moat-unlisted, moat-refused, moat-read}
 use Rattle.format_plan_lines.proofs.moat_line.Statement.{statement}
 use Rattle.format_plan_lines.proofs.moat_line.Tie as tie
 

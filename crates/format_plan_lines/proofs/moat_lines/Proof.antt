@@ -6,8 +6,8 @@ use lib.ListN.{length}
 use borrow.Author.Tests.{le-leb}
 use Rattle.format_number.specs.Answer.{numberStep}
 use Rattle.format_plan_lines.specs.Lines.{moatReader, moatsAt, putMoat}
-use Rattle.format_plan_lines.specs.Laws.Items.{Left, left-start, left-stop, left-out}
-use Rattle.format_plan_lines.specs.Laws.Puts.{left-length, moat-length}
+use Rattle.format_grammar.specs.Laws.Items.{Left, left-start, left-stop, left-out, left-length}
+use Rattle.format_plan_lines.specs.Laws.Puts.{moat-length}
 use Rattle.format_plan_lines.specs.Laws.Lines.{moats-more, moats-refused}
 use Rattle.format_plan_lines.proofs.moat_lines.Statement.{statement}
 use Rattle.format_plan_lines.proofs.moat_lines.Tie as tie

@@ -15,17 +15,18 @@ use Rattle.format_record.specs.Bits.{lowBytes}
 use Rattle.format_record.specs.Laws.Bits.{bytes-cong}
 use Rattle.format_record.specs.Record.{recordOf, startedAs}
 use Rattle.format_record.specs.Laws.Record.{started-whole, member-added-record, length-record}
-use Rattle.format_number.specs.Step.{Step, found, refused, checked, _then_}
-use Rattle.format_survey_lines.specs.Lines.{Lines}
 use Rattle.format_write.specs.Key.{newline}
-use Rattle.format_number.specs.Laws.Byte.{byte-inside}
-use Rattle.format_number.specs.Laws.Step.{then-value, checked-fine, checked-value}
-use Rattle.format_plan_lines.specs.Items.{Reader, following, itemsFrom, puts, none, more}
 use Rattle.format_plan_lines.specs.Lines.{keptTest, keepLine, risen, memberReader, membersAt, moatTest, moatLine, moatHead, moatOf, Moat, moatRecord, moatReader, putMember, putMoat, isIn}
 use Rattle.format_plan_lines.specs.Answer.{Members, forgotten, moatStored, MoatRead}
 use Rattle.format_plan_lines.specs.Laws.Tests.{kept-low, kept-high, risen-low, risen-high}
-use Rattle.format_plan_lines.specs.Laws.Puts.{puts-length, left-length, moat-length}
-use Rattle.format_plan_lines.specs.Laws.Items.{Left, Ends, left-more, left-refused}
+use Rattle.format_plan_lines.specs.Laws.Puts.{moat-length}
+use Rattle.format_grammar.specs.Items.{itemsFrom, puts, Ends}
+use Rattle.format_grammar.specs.Language.{none, more}
+use Rattle.format_grammar.specs.Lines.{following, Lines}
+use Rattle.format_grammar.specs.Laws.Bytes.{byte-inside}
+use Rattle.format_grammar.specs.Laws.Items.{left-length, Left, left-more, left-refused, items-stop}
+use Rattle.format_grammar.specs.Laws.Step.{then-value, checked-fine, checked-value}
+use Rattle.format_grammar.specs.Step.{Step, found, refused, checked, _then_}
 
 no-refusal : {n p : ℕ} {w : Verdict} → w ≡ Refused n p → w ≡ Fine → ⊥
 no-refusal e f = let z : _≡_ {A = ℕ} 0 1 = cc in omega arith
@@ -48,18 +49,6 @@ unfolding keepLine
 keep-passed t m low i at {e} {next} q =
     let f = then-value _ (λ x p. checked (keptTest m low i x) x p) q in
     subst (λ x. Kept m low x) (checked-value _ _ _ (f .3)) (kept-passed m low i (f .0) (checked-fine _ _ _ (f .3)))
-
--- Items end where they stop.
-pub items-stop : {A : Type 0} (r : Reader A) (fuel low i at : ℕ) {n p : ℕ} → itemsFrom r fuel low i at .end ≡ found n p → r .stop p ≡ true
-unfolding itemsFrom following
-items-stop r zero low i at e = let z : _≡_ {A = ℕ} 0 1 = cc in absurd (omega arith)
-items-stop {A} r (suc fuel) low i at {n} {p} e = by-stop (r .stop at) (r .item low i at) refl (λ l k q. items-stop r fuel l (i + 1) k) e
-  where
-    by-stop : (b : Bool) (s : Step A) → r .stop at ≡ b → ((l k : ℕ) → A → itemsFrom r fuel l (i + 1) k .end ≡ found n p → r .stop p ≡ true)
-        → cond b (record { values = []; end = found low at }) (following s (λ a next. itemsFrom r fuel (r .after low a) (i + 1) next)) .end ≡ found n p → r .stop p ≡ true
-    by-stop true s h ih e = let same : at ≡ p = cc in subst (λ x. r .stop x ≡ true) same h
-    by-stop false (found a next) h ih e = ih (r .after low a) next a e
-    by-stop false (refused x y) h ih e = let z : _≡_ {A = ℕ} 0 1 = cc in absurd (omega arith)
 
 -- Members that rise to their end are all members.
 record Risen (low : ℕ) (vs : List ℕ) : Type 0 where
@@ -142,14 +131,6 @@ moat-left records i d h = rw (le-ltb i (length records / recordBytes) h)
 
 -- ---- moat lines
 
--- A buffer of no length stays one.
-pub none-stays : {A : Type 0} (put : List ℕ → ℕ → A → List ℕ) → ((l : List ℕ) (i : ℕ) (a : A) → length (put l i a) ≡ length l) → (new : List ℕ) (vs : List A) → new ≡ puts put [] 0 vs → new ≡ []
-none-stays put same new vs e = by-length new (ap length e ∙ puts-length put same [] 0 vs)
-  where
-    by-length : (l : List ℕ) → length l ≡ 0 → l ≡ []
-    by-length [] h = refl
-    by-length (x ∷ l) h = absurd (omega arith)
-
 module _ (t : List ℕ) (i at : ℕ) {records records′ : List ℕ} where
   pub moat-stops : {n p : ℕ} → moatHead t at ≡ refused n p → records′ ≡ records → MoatRead (moatLine t i at) (refused n p) i records records′
   unfolding moatLine _then_ forgotten moatStored
@@ -169,7 +150,7 @@ module _ (t : List ℕ) (i at : ℕ) {records records′ : List ℕ} where
     moat-read e f r = rw (head, e, f) record { end = refl; stored = r }
 
 -- One turn of the loop over the moat lines.
-module _ (t : List ℕ) (whole : Lines Moat) (old : List ℕ) (i at : ℕ) (buffer buffer′ : List ℕ) where
+module _ (t : List ℕ) (whole : Lines ℕ Moat) (old : List ℕ) (i at : ℕ) (buffer buffer′ : List ℕ) where
   pub moats-more : {z next : ℕ} → i < length t → at < length t → found z next ≡ forgotten (moatLine t i at) → buffer′ ≡ moatStored (moatLine t i at) buffer i
       → Left (moatReader t) putMoat whole old (length t) i i at buffer → Left (moatReader t) putMoat whole old (length t) (i + 1) (i + 1) next buffer′
   unfolding forgotten moatStored moatReader
@@ -191,10 +172,6 @@ module _ (t : List ℕ) (whole : Lines Moat) (old : List ℕ) (i at : ℕ) (buff
       by-line (refused x y) q e s =
           let r : moatLine t i at ≡ refused n p = cc in
           rw s (left-refused (moatReader t) putMoat whole old (length t) i i at buffer h (lt-leb (length t) at k) r l, left-length putMoat moat-length l)
-
--- A pass over a part of no length leaves the buffer as it was.
-pub empty-pass : {A : Type 0} (put : List ℕ → ℕ → A → List ℕ) → ((l : List ℕ) (i : ℕ) (a : A) → length (put l i a) ≡ length l) → (old : List ℕ) {new : List ℕ} (vs : List A) → new ≡ puts put [] 0 vs → new ++ old ≡ old
-empty-pass put same old {new} vs e = ap (λ (l : List ℕ). l ++ old) (none-stays put same new vs e)
 
 pub members-end : (t : List ℕ) (at : ℕ) {low p : ℕ} → membersAt t at .end ≡ found low p → p < length t
 unfolding membersAt memberReader

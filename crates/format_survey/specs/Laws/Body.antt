@@ -4,17 +4,18 @@ use mathlib.Core.Path.{_≡_, refl, ap, sym, _∙_}
 use mathlib.Core.List.{List, [], _∷_, _++_}
 use lib.ListN.{length}
 use lib.Seq.{sets}
-use borrow.Author.Tests.{le-leb, lt-leb}
-use Rattle.format_number.specs.Step.{Step, found, refused, _then_}
-use Rattle.format_survey_lines.specs.Lines.{linesAfter}
 use Rattle.format_survey_lines.specs.Line.{groupTest, groupLines, edgeLines, firstsOf, secondsOf, weightsOf}
 use Rattle.format_number.specs.Answer.{numberStep}
-use Rattle.format_number.specs.Laws.Step.{then-found, then-refused}
 use Rattle.format_number.specs.declared.Cursor.{Cursor}
 use Rattle.format_number.specs.declared.Number.{Number}
 use Rattle.format_number.specs.declared.Number.the-variants.{Value, Refused}
-use Rattle.format_survey.specs.Reading.{bodyAt, bodyOf, endAt}
+use Rattle.format_survey.specs.Reading.{bodyAt, bodyOf}
 use Rattle.format_survey.specs.Answer.{Stores, Fills, storedIf}
+use Rattle.format_grammar.specs.Bytes.{endAt}
+use Rattle.format_grammar.specs.Laws.Bytes.{end-here, end-later}
+use Rattle.format_grammar.specs.Laws.Step.{then-found, then-refused}
+use Rattle.format_grammar.specs.Lines.{linesAfter}
+use Rattle.format_grammar.specs.Step.{Step, found, refused, _then_}
 
 -- The lines after the counts, by where the group lines end.
 module _ (t : List ℕ) (n m at : ℕ) where
@@ -25,14 +26,6 @@ module _ (t : List ℕ) (n m at : ℕ) where
   pub body-read : {z p : ℕ} → groupLines groupTest t n at .end ≡ found z p → bodyOf t n m at ≡ record { groups = groupLines groupTest t n at .values; edges = edgeLines t m p .values; end = edgeLines t m p .end then λ x q. endAt t q }
   unfolding bodyOf bodyAt linesAfter
   body-read e = rw e
-
-pub end-here : (t : List ℕ) (at : ℕ) → length t ≤ at → endAt t at ≡ found 0 at
-unfolding endAt
-end-here t at h = rw (le-leb (length t) at h)
-
-pub end-later : (t : List ℕ) (at : ℕ) → at < length t → endAt t at ≡ refused 16 at
-unfolding endAt
-end-later t at h = rw (lt-leb (length t) at h)
 
 stores-read : (t : List ℕ) (n m at : ℕ) {groups groups′ firsts firsts′ seconds seconds′ weights weights′ : List ℕ} {z p : ℕ} {step : Step ℕ}
     → groupLines groupTest t n at .end ≡ found z p → (edgeLines t m p .end then λ x q. endAt t q) ≡ step → groups′ ≡ sets groups 0 (groupLines groupTest t n at .values)

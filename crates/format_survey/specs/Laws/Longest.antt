@@ -13,10 +13,13 @@ use Rattle.format_write.specs.Laws.Decimal.{length-decimal}
 use Rattle.format_survey_lines.specs.Line.{nodesKey, linksKey, nodeKey, linkKey, Edge}
 use Rattle.format_survey.specs.Reading.{Survey, reading}
 use Rattle.format_number.specs.Number.{numberText}
-use Rattle.format_survey_lines.specs.Render.{edgeText, textOf}
+use Rattle.format_survey_lines.specs.Render.{edgeText}
+use Rattle.format_grammar.specs.Lines.{textOf}
 use Rattle.format_survey.specs.Render.{render}
-use Rattle.format_survey_lines.specs.Laws.Content.{SmallEdge, Each, none, next}
-use Rattle.format_survey.specs.Laws.WellFormed.{WellFormed, Within, each-map, accepted-render}
+use Rattle.format_survey_lines.specs.Laws.Content.{SmallEdge}
+use Rattle.format_grammar.specs.Language.{EachFrom, noneFrom, moreFrom}
+use Rattle.format_survey.specs.Laws.WellFormed.{WellFormed, Within, accepted-render}
+use Rattle.format_grammar.specs.Laws.Lines.{each-map}
 
 -- The longest lines: a key and a number of so many digits; an edge's.
 abbrev lineMost : List ℕ → ℕ → ℕ
@@ -58,10 +61,10 @@ edge-most x s =
     let f = number-most newline 6 (x .weight) (s .weight) in
     omega arith
 
-texts-most : {A : Type 0} {P : ℕ → A → Type 0} {i : ℕ} {l : List A} (text : A → List ℕ) (most : ℕ) → ((i : ℕ) (a : A) → P i a → length (text a) ≤ most) → Each P i l → length (textOf text l) ≤ length l * most
+texts-most : {A : Type 0} {P : ℕ → A → Type 0} {i : ℕ} {l : List A} (text : A → List ℕ) (most : ℕ) → ((i : ℕ) (a : A) → P i a → length (text a) ≤ most) → EachFrom P i l → length (textOf text l) ≤ length l * most
 unfolding textOf
-texts-most text most h none = omega arith
-texts-most text most h (next {i = i} {a = a} {l = l} p r) =
+texts-most text most h noneFrom = omega arith
+texts-most text most h (moreFrom {i = i} {a = a} {l = l} p r) =
     let ih = texts-most text most h r in
     let x = h i a p in
     let y = length-append (text a) (textOf text l) in

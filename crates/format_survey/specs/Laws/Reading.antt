@@ -8,8 +8,8 @@ use lib.ListN.{length, drop, length-map}
 use lib.Seq.{sets, sets-eq}
 use Rattle.base_limits.specs.Verdict.{Outcome, refusal, answer}
 use Rattle.base_limits.specs.declared.Verdict.{Verdict}
-use Rattle.format_number.specs.Step.{Step, found, refused, _then_}
-use Rattle.format_survey_lines.specs.Lines.{linesAfter}
+use Rattle.format_grammar.specs.Step.{Step, found, refused, _then_}
+use Rattle.format_grammar.specs.Lines.{linesAfter}
 use Rattle.format_survey_lines.specs.Line.{groupTest, Tests, testsFor, countsAt, groupLines, edgeLines, Counts, firstsOf, secondsOf, weightsOf}
 use Rattle.format_number.specs.Answer.{numberStep}
 use Rattle.format_number.specs.declared.Cursor.{Cursor}
@@ -18,10 +18,11 @@ use Rattle.format_number.specs.declared.Number.the-variants.{Value, Refused}
 use Rattle.format_survey_lines.specs.Answer.{countsStep}
 use Rattle.format_survey_lines.specs.declared.Head.{Head}
 use Rattle.format_survey_lines.specs.declared.Head.the-variants.{Counts as CountsRead, Refused as HeadRefused}
-use Rattle.format_survey.specs.Reading.{bodyAt, bodyOf, Body, Survey, surveyOf, surveyAt, outcomeOf, reading, filled, endAt}
+use Rattle.format_survey.specs.Reading.{bodyAt, bodyOf, Body, Survey, surveyOf, surveyAt, outcomeOf, reading, filled}
+use Rattle.format_grammar.specs.Bytes.{endAt}
 use Rattle.format_survey.specs.Answer.{Reads, Fills, storedIf, countsOf}
-use Rattle.format_number.specs.Laws.Step.{then-value}
-use Rattle.format_survey_lines.specs.Laws.Lines.{lines-length}
+use Rattle.format_grammar.specs.Laws.Step.{then-value}
+use Rattle.format_grammar.specs.Laws.Lines.{lines-length}
 use Rattle.format_survey_lines.specs.Laws.Tests.{counts-fit}
 
 pub record Sizes (counts : Counts) (b : Body) : Type 0 where

@@ -5,16 +5,19 @@ use mathlib.Core.List.{List, [], _++_}
 use lib.ListN.{length}
 use Rattle.base_limits.specs.declared.Verdict.the-variants.{Refused}
 use Rattle.format_write.specs.Text.{lineOf}
-use Rattle.format_number.specs.Step.{Step, found, refused, _then_}
-use Rattle.format_survey_lines.specs.Lines.{linesAfter}
+use Rattle.format_grammar.specs.Step.{Step, found, refused, _then_}
+use Rattle.format_grammar.specs.Lines.{linesAfter, textOf, whole}
 use Rattle.format_survey_lines.specs.Line.{nodesKey, linksKey, nodeKey, Tests, countLine, countsAt, groupLine, groupLines, Edge, edgeLine, edgeLines, Counts}
-use Rattle.format_survey.specs.Reading.{endAt, bodyAt, surveyOf, surveyAt}
-use Rattle.format_survey_lines.specs.Render.{edgeText, textOf}
+use Rattle.format_grammar.specs.Bytes.{endAt}
+use Rattle.format_survey.specs.Reading.{bodyAt, surveyOf, surveyAt}
+use Rattle.format_survey_lines.specs.Render.{edgeText}
 use Rattle.format_survey.specs.Render.{render}
-use Rattle.format_number.specs.Laws.Step.{then-then}
-use Rattle.format_number.specs.Laws.Spells.{Reads, Seq, Empty, reads-then, reads-as, reads-value}
-use Rattle.format_number.specs.Laws.Keyed.{Text, Small, Passes, reads-tested}
-use Rattle.format_survey_lines.specs.Laws.Content.{SmallEdge, Each, Texts, whole, reads-edge, reads-lines, joined}
+use Rattle.format_grammar.specs.Laws.Step.{then-then}
+use Rattle.format_grammar.specs.Language.{Reads, Seq, Empty, Text, EachFrom, Texts}
+use Rattle.format_grammar.specs.Laws.Language.{reads-then, reads-as, reads-value, joined}
+use Rattle.format_number.specs.Laws.Keyed.{Small, Passes, reads-tested}
+use Rattle.format_survey_lines.specs.Laws.Content.{SmallEdge, reads-edge}
+use Rattle.format_grammar.specs.Laws.Lines.{reads-lines}
 
 -- What a text says before its end is looked for.
 pub record Said : Type 0 where
@@ -36,8 +39,8 @@ pub record Rendered (N M : ℕ → Type 0) (P : ℕ → ℕ → Type 0) (x : Sai
   pub edges : x .counts .edges ≡ length (x .edges)
   pub someVertices : N (length (x .groups))
   pub someEdges : M (length (x .edges))
-  pub eachGroup : Each P 0 (x .groups)
-  pub eachEdge : Each (λ i. SmallEdge) 0 (x .edges)
+  pub eachGroup : EachFrom P 0 (x .groups)
+  pub eachEdge : EachFrom (λ i. SmallEdge) 0 (x .edges)
   pub word : w ≡ render (x .groups) (x .edges)
 
 module _ (N M : ℕ → Type 0) (P : ℕ → ℕ → Type 0) where

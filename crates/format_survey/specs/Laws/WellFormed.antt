@@ -12,18 +12,21 @@ use borrow.Author.Tests.{leb-true, leb-false}
 use Rattle.base_limits.specs.Limits.{maxVertices, maxEdges, groupNumbers}
 use Rattle.base_limits.specs.Verdict.{refusal, answer, refuseIf, _before_}
 use Rattle.base_limits.specs.declared.Verdict.the-variants.{Refused}
-use Rattle.format_number.specs.Step.{Step, found, refused, _then_}
 use Rattle.format_survey_lines.specs.Line.{Tests, testsFor, verticesTest, edgesTest, groupTest, Edge}
-use Rattle.format_survey.specs.Reading.{endAt, Survey, surveyOf, surveyAt, outcomeOf, reading}
+use Rattle.format_survey.specs.Reading.{Survey, surveyOf, surveyAt, outcomeOf, reading}
 use Rattle.format_survey.specs.Render.{render}
-use Rattle.format_number.specs.Laws.Step.{then-found, then-value}
 use Rattle.format_survey_lines.specs.Laws.Tests.{vertices-fine, edges-fine, group-fine, vertices-passed, edges-passed, group-passed}
-use Rattle.format_survey.specs.Laws.Body.{end-here, end-later}
-use Rattle.format_number.specs.Laws.Stands.{stands-whole}
-use Rattle.format_number.specs.Laws.Spells.{Reads, Lively, read, otherwise, read-again}
 use Rattle.format_number.specs.Laws.Keyed.{Small}
-use Rattle.format_survey_lines.specs.Laws.Content.{SmallEdge, Each, none, next}
+use Rattle.format_survey_lines.specs.Laws.Content.{SmallEdge}
 use Rattle.format_survey.specs.Laws.Said.{Said, saidAt, Sparing, Accepted, Formed, reads-said, said-survey}
+use Rattle.format_grammar.specs.Bytes.{endAt}
+use Rattle.format_grammar.specs.Language.{Reads, Lively, read, otherwise, EachFrom, moreFrom}
+use Rattle.format_grammar.specs.Laws.Bytes.{end-here, end-later}
+use Rattle.format_grammar.specs.Laws.Language.{read-again}
+use Rattle.format_grammar.specs.Laws.Lines.{each-map}
+use Rattle.format_grammar.specs.Laws.Stands.{stands-whole}
+use Rattle.format_grammar.specs.Laws.Step.{then-found, then-value}
+use Rattle.format_grammar.specs.Step.{Step, found, refused, _then_}
 
 -- A well-formed text: any counts, groups, ends and prices of at most so many digits.
 pub record WellFormed (t : List ℕ) : Type 0 where
@@ -31,8 +34,8 @@ pub record WellFormed (t : List ℕ) : Type 0 where
   pub edges : List Edge
   pub fewGroups : Small (length groups)
   pub fewEdges : Small (length edges)
-  pub eachGroup : Each (λ v. Small) 0 groups
-  pub eachEdge : Each (λ e. SmallEdge) 0 edges
+  pub eachGroup : EachFrom (λ v. Small) 0 groups
+  pub eachEdge : EachFrom (λ e. SmallEdge) 0 edges
   pub word : t ≡ render groups edges
 
 -- A survey within the counts, with groups up to 255.
@@ -40,16 +43,12 @@ pub record Within (groups : List ℕ) (edges : List Edge) : Type 0 where
   pub some : 0 < length groups
   pub fewGroups : length groups ≤ maxVertices
   pub fewEdges : length edges ≤ maxEdges
-  pub eachGroup : Each (λ v g. g < groupNumbers) 0 groups
-  pub eachEdge : Each (λ e. SmallEdge) 0 edges
+  pub eachGroup : EachFrom (λ v g. g < groupNumbers) 0 groups
+  pub eachEdge : EachFrom (λ e. SmallEdge) 0 edges
 
 -- What the text of these groups and edges says.
 unfoldable pub surveyFrom : List ℕ → List Edge → Survey
 surveyFrom groups edges = surveyOf (record { vertices = length groups; edges = length edges }) groups edges
-
-pub each-map : {A : Type 0} {P Q : ℕ → A → Type 0} {i : ℕ} {l : List A} → ((i : ℕ) (a : A) → P i a → Q i a) → Each P i l → Each Q i l
-each-map h none = none
-each-map h (next p r) = next (h _ _ p) (each-map h r)
 
 -- No test gives 16.
 pub one-spares : (x : Bool) (i u n p : ℕ) → (i ≡ 16 → ⊥) → refuseIf x i u ≡ Refused n p → n ≡ 16 → ⊥

@@ -7,7 +7,7 @@ use Rattle.format_survey_lines.specs.Line.{edgeLine, edgeLines, firstsOf
 use Rattle.format_number.specs.Answer.{numberStep}
 use Rattle.format_survey_lines.specs.Answer.{edgeStep}
 use Rattle.format_survey_lines.specs.Laws.Tests.{edge-below, below-word}
-use Rattle.format_survey_lines.specs.Laws.Lines.{Left, Stored, stored-length, left-start, stored-start, left-more, left-stop, left-done, stored-more, stored-stop, stored-done}
+use Rattle.format_grammar.specs.Laws.Lines.{Left, Stored, stored-length, left-start, stored-start, left-more, left-stop, left-done, stored-more, stored-stop, stored-done}
 use Rattle.format_survey_lines.proofs.edge_lines.Statement.{statement}
 use Rattle.format_survey_lines.proofs.edge_lines.Tie as tie
 

@@ -37,7 +37,7 @@ use denote.Triple.Table.{entered, cited}
 use denote.Triple.Walked.{says, Stays, stay-none-slice, walkOf, goes-none-slice, Walks, ends-at, walked, walk-meets}
 use denote.Exit.{yes}
 use denote.Triple.Clauses.{ensured, lasts}
-use Rattle.format_number.specs.Step.{Step}
+use Rattle.format_grammar.specs.Step.{Step}
 use Rattle.format_survey_lines.specs.Line.{nodesKey}
 use Rattle.format_number.specs.Number.{numberLine}
 use Rattle.format_number.specs.Answer.{numberStep}

@@ -11,11 +11,12 @@ use Rattle.base_limits.specs.Verdict.{refuseIf, _before_}
 use Rattle.base_limits.specs.declared.Verdict.{Verdict}
 use Rattle.base_limits.specs.declared.Verdict.the-variants.{Fine, Refused}
 use Rattle.format_write.specs.Key.{comma, newline}
-use Rattle.format_number.specs.Step.{found, checked}
+use Rattle.format_grammar.specs.Step.{found, checked}
 use Rattle.format_survey_lines.specs.Line.{verticesTest, edgesTest, groupTest, nodeKey, linkKey, groupLine, Edge, edgeLine, nodesKey, linksKey, testsFor, countLine, countsAt, Counts}
-use Rattle.format_number.specs.Number.{numberLine, fixedAt, numberTo}
+use Rattle.format_number.specs.Number.{numberLine, numberTo}
+use Rattle.format_grammar.specs.Bytes.{fixedAt}
 use Rattle.format_number.specs.Laws.Digits.{number-to-below}
-use Rattle.format_number.specs.Laws.Step.{then-value, checked-fine, checked-value}
+use Rattle.format_grammar.specs.Laws.Step.{then-value, checked-fine, checked-value}
 
 positive : (n : ℕ) → (n ≡ 0 → ⊥) → 0 < n
 positive n z = omega arith

@@ -1,59 +1,16 @@
--- What it is for a step to read a language: it accepts the words of W and gives their values, refuses with 16 only what begins no word of
--- G, and where it refuses depends on nothing after that place. Steps that follow each other read words that follow each other.
+-- Steps that follow each other read words that follow each other.
 use Prim.Native.Nat.{ℕ, _+_, _≤_}
 use native.Mathlib.Omega.{arith}
+use mathlib.Core.List.{List, [], _++_, append-assoc, append-nil}
 use mathlib.Core.Path.{_≡_, refl, ap, sym, _∙_, subst}
-use mathlib.Core.List.{List, [], _++_, append-assoc}
 use lib.ListN.{length, take, length-append}
 use Rattle.base_limits.specs.declared.Verdict.{Verdict}
 use Rattle.base_limits.specs.declared.Verdict.the-variants.{Fine, Refused}
-use Rattle.format_number.specs.Step.{Step, found, refused, _then_, checked}
-use Rattle.format_number.specs.Laws.Step.{then-found, then-refused, then-value, Stops, early, late, then-stops}
-use Rattle.format_number.specs.Laws.Stands.{Stands, stands-none, stands-append, stands-first, stands-second, stands-same}
-
--- A word of G is read, or refused for another reason than its form.
-pub data Lively {A : Type 0} (s : Step A) (a : A) (p : ℕ) : Type 0 where
-  read : s ≡ found a p → Lively s a p
-  otherwise : {n q : ℕ} → s ≡ refused n q → (n ≡ 16 → ⊥) → Lively s a p
-
--- A word that stands at an offset, and where it ends.
-pub record Word {A : Type 0} (W : A → List ℕ → Type 0) (t : List ℕ) (at : ℕ) (a : A) (p : ℕ) : Type 0 where
-  pub word : List ℕ
-  pub member : W a word
-  pub ends : p ≡ at + length word
-  pub stands : Stands t at word
-
--- The first p bytes go on to a word at an offset.
-pub record Extends {A : Type 0} (G : A → List ℕ → Type 0) (t : List ℕ) (at p : ℕ) : Type 0 where
-  pub value : A
-  pub word : List ℕ
-  pub member : G value word
-  pub rest : List ℕ
-  pub whole : take p t ++ rest ≡ take at t ++ word
-
-pub record Reads {A : Type 0} (f : List ℕ → ℕ → Step A) (W G : A → List ℕ → Type 0) : Type 0 where
-  pub complete : (t : List ℕ) (at : ℕ) (a : A) (w : List ℕ) → W a w → Stands t at w → f t at ≡ found a (at + length w)
-  pub sound : (t : List ℕ) (at : ℕ) (a : A) (p : ℕ) → at ≤ length t → f t at ≡ found a p → Word W t at a p
-  pub lively : (t : List ℕ) (at : ℕ) (a : A) (w : List ℕ) → G a w → Stands t at w → Lively (f t at) a (at + length w)
-  pub same : (t u : List ℕ) (at p : ℕ) → at ≤ length t → f t at ≡ refused 16 p → take (p + 1) t ≡ take (p + 1) u → f u at ≡ refused 16 p
-  pub place : (t : List ℕ) (at p : ℕ) → at ≤ length t → f t at ≡ refused 16 p → (at ≤ p) × (p ≤ length t)
-  pub extends : (t : List ℕ) (at p : ℕ) → at ≤ length t → f t at ≡ refused 16 p → Extends G t at p
-  pub some : (a : A) × (w : List ℕ) × G a w
-  pub well : (a : A) (w : List ℕ) → W a w → G a w
-
--- Words one after the other.
-pub record Seq {A B : Type 0} (W : A → List ℕ → Type 0) (X : A → B → List ℕ → Type 0) (b : B) (w : List ℕ) : Type 0 where
-  pub value : A
-  pub left : List ℕ
-  pub right : List ℕ
-  pub first : W value left
-  pub second : X value b right
-  pub whole : w ≡ left ++ right
-
--- The empty word, for the value b.
-pub record Empty {B : Type 0} (b : B) (c : B) (w : List ℕ) : Type 0 where
-  pub value : c ≡ b
-  pub word : w ≡ []
+use Rattle.format_grammar.specs.Language.{Lively, read, otherwise, Word, Extends, Reads, Seq, Empty, Text}
+use Rattle.format_grammar.specs.Laws.Stands.{stands-none, stands-append, stands-first, stands-second, stands-same}
+use Rattle.format_grammar.specs.Laws.Step.{then-found, then-refused, then-value, Stops, early, late, then-stops}
+use Rattle.format_grammar.specs.Stands.{Stands}
+use Rattle.format_grammar.specs.Step.{Step, found, refused, _then_, checked}
 
 module _ {A : Type 0} where
   pub bound : {t : List ℕ} {at : ℕ} {W : A → List ℕ → Type 0} {a : A} {p : ℕ} → Word W t at a p → (at ≤ p) × (p ≤ length t)
@@ -253,3 +210,10 @@ reads-as {A} {f} {g} {W} {G} {X} {H} e wx xw gh hg r =
       some = (r .some .0, r .some .1, gh (r .some .0) (r .some .1) (r .some .2));
       well = λ a w m. gh a w (r .well a w (xw a w m));
     }
+
+pub joined : (a b c d : List ℕ) → a ++ (b ++ (c ++ (d ++ []))) ≡ a ++ b ++ c ++ d
+joined a b c d = simp (append-assoc, append-nil)
+
+-- Where the text of a value stands, and where it ends.
+pub text-stands : {A : Type 0} {P : A → Type 0} {f : A → List ℕ} {t : List ℕ} {at : ℕ} {a : A} {p : ℕ} → Word (Text P f) t at a p → Stands t at (f a) × (p ≡ at + length (f a))
+text-stands {f = f} {t = t} {at = at} w = (subst (Stands t at) (w .member .word) (w .stands), w .ends ∙ ap (λ (x : List ℕ). at + length x) (w .member .word))

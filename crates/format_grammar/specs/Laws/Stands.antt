@@ -1,16 +1,13 @@
 -- Bytes that stand at an offset of a text, in terms of the text's beginnings.
 use Prim.Native.Nat.{ℕ, suc, _+_, _≤_, _<_}
-use native.Mathlib.Omega.{arith}
-use native.Mathlib.Numerals.{add-one}
 use native.Mathlib.Nat.{add-zero, zero-add}
-use mathlib.Core.Path.{_≡_, ap, sym, _∙_, subst}
+use native.Mathlib.Numerals.{add-one}
+use native.Mathlib.Omega.{arith}
 use mathlib.Core.List.{List, [], _∷_, _++_, append-assoc, append-nil}
-use lib.ListN.{length, getD, take, length-append, length-take}
-use lib.Seq.{take-suc, take-take, take-at, getD-take, getD-append-add, length-take-le, take-all}
-
-pub record Stands (t : List ℕ) (at : ℕ) (w : List ℕ) : Type 0 where
-  pub is : take (at + length w) t ≡ take at t ++ w
-  pub fits : at + length w ≤ length t
+use mathlib.Core.Path.{_≡_, ap, sym, _∙_, subst}
+use lib.ListN.{length, getD, take, length-append, length-take, drop, length-drop}
+use lib.Seq.{take-suc, take-take, take-at, getD-take, getD-append-add, length-take-le, take-all, take-add, drop-at}
+use Rattle.format_grammar.specs.Stands.{Stands}
 
 pub stands-none : (t : List ℕ) (at : ℕ) → at ≤ length t → Stands t at []
 stands-none t at h = record { is = ap (λ (k : ℕ). take k t) (add-zero at) ∙ sym (append-nil (take at t)); fits = omega arith }
@@ -92,3 +89,26 @@ stands-whole w = record { is = ap (λ (k : ℕ). take k w) (zero-plus (length w)
 -- A word at the end of a text.
 pub stands-end : (u w : List ℕ) → Stands (u ++ w) (length u) w
 stands-end u w = subst (λ (k : ℕ). Stands (u ++ w) k w) (zero-add (length u)) (stands-second u w (stands-whole (u ++ w)))
+
+-- The bytes that stand at an offset are the part of the text there.
+pub stands-part : {t : List ℕ} {at : ℕ} (w : List ℕ) → Stands t at w → take (length w) (drop at t) ≡ w
+stands-part {t} {at} w s =
+    let f = s .fits in
+    let n : length (take at t) ≡ at = length-take-le at t (omega arith) in
+    sym (drop-at (take at t) (take (length w) (drop at t)) at n)
+    ∙ ap (drop at) (sym (take-add at (length w) t) ∙ s .is)
+    ∙ drop-at (take at t) w at n
+
+pub part-stands : (t : List ℕ) (at k : ℕ) → at + k ≤ length t → Stands t at (take k (drop at t))
+part-stands t at k h =
+    let d = length-drop at t in
+    let l : length (take k (drop at t)) ≡ k = length-take-le k (drop at t) (omega arith) in
+    record { is = ap (λ (n : ℕ). take (at + n) t) l ∙ take-add at k t; fits = omega arith }
+
+-- A text that agrees with another up to an offset is as long up to there.
+pub as-long : (t u : List ℕ) (q : ℕ) → take (q + 1) t ≡ take (q + 1) u → (k : ℕ) → k ≤ length t → k ≤ q + 1 → k ≤ length u
+as-long t u q e k h m =
+    let l : length (take (q + 1) t) ≡ length (take (q + 1) u) = ap length e in
+    let a = length-take (q + 1) t in
+    let b = length-take (q + 1) u in
+    omega arith

@@ -1,33 +1,28 @@
 -- Items one after another as words: what is read is their texts, and where an item is refused with 16 depends on nothing behind that place.
 use Prim.Native.Nat.{ℕ, zero, suc, _+_, _-_, _≤_, _<_}
 use native.Mathlib.Omega.{arith}
-use mathlib.Core.Path.{_≡_, refl, ap, sym, _∙_, subst}
 use mathlib.Core.Bool.{Bool, true, false, cond}
 use mathlib.Core.List.{List, [], _∷_, _++_, append-assoc, append-nil}
-use lib.ListN.{length, take, length-append, length-take}
-use Rattle.format_number.specs.Step.{Step, found, refused}
-use Rattle.format_survey_lines.specs.Lines.{Lines}
-use Rattle.format_number.specs.Laws.Stands.{Stands, stands-none, stands-append}
-use Rattle.format_number.specs.Laws.Spells.{Word, Extends, bound}
-use Rattle.format_number.specs.Laws.Keyed.{Text}
-use Rattle.format_plan_lines.specs.Items.{Reader, following, itemsFrom, Each, none, more}
-use Rattle.format_plan.specs.Laws.Fuel.{Goes}
-use Rattle.format_plan.specs.Laws.Back.{Standing, stop, item, items-back}
+use mathlib.Core.Path.{_≡_, refl, ap, sym, _∙_, subst}
+use lib.ListN.{length, take, length-append}
+use Rattle.format_grammar.specs.Items.{ItemReader, itemsFrom, Goes, Standing, stop, item, Broken, here, later, textFrom, Lists}
+use Rattle.format_grammar.specs.Language.{Each, none, more, Word, Extends, Text}
+use Rattle.format_grammar.specs.Lines.{following, Lines}
+use Rattle.format_grammar.specs.Laws.Items.{items-back}
+use Rattle.format_grammar.specs.Laws.Language.{bound, text-stands}
+use Rattle.format_grammar.specs.Laws.Stands.{stands-none, stands-append, as-long}
+use Rattle.format_grammar.specs.Stands.{Stands}
+use Rattle.format_grammar.specs.Step.{Step, found, refused}
 
 -- ---- the turns of a loop, from its result
 
--- Items that stand one after another up to one that is refused.
-pub data Broken {A : Type 0} (r : Reader A) (n q : ℕ) : (low i at : ℕ) → List A → Type 0 where
-  here : {low i at : ℕ} → r .stop at ≡ false → r .item low i at ≡ refused n q → Broken r n q low i at []
-  later : {low i at next : ℕ} {a : A} {l : List A} → r .stop at ≡ false → r .item low i at ≡ found a next → Broken r n q (r .after low a) (i + 1) next l → Broken r n q low i at (a ∷ l)
-
 -- Items that were read to their end stand there.
-pub items-standing : {A : Type 0} (r : Reader A) (fuel low i at : ℕ) {last end : ℕ} → itemsFrom r fuel low i at .end ≡ found last end → Standing r low i at (itemsFrom r fuel low i at .values) last end
+pub items-standing : {S A : Type 0} (r : ItemReader S A) (fuel : ℕ) (low : S) (i at : ℕ) {last : S} {end : ℕ} → itemsFrom r fuel low i at .end ≡ found last end → Standing r low i at (itemsFrom r fuel low i at .values) last end
 unfolding itemsFrom following
 items-standing r zero low i at e = let z : _≡_ {A = ℕ} 0 1 = cc in absurd (omega arith)
-items-standing {A} r (suc fuel) low i at {last} {end} e = by-stop (r .stop at) (r .item low i at) refl refl (λ a p. items-standing r fuel (r .after low a) (i + 1) p) e
+items-standing {S} {A} r (suc fuel) low i at {last} {end} e = by-stop (r .stop at) (r .item low i at) refl refl (λ a p. items-standing r fuel (r .after low a) (i + 1) p) e
   where
-    turn : Bool → Step A → Lines A
+    turn : Bool → Step A → Lines S A
     turn b s = cond b (record { values = []; end = found low at }) (following s (λ a next. itemsFrom r fuel (r .after low a) (i + 1) next))
 
     by-stop : (b : Bool) (s : Step A) → r .stop at ≡ b → r .item low i at ≡ s
@@ -36,22 +31,22 @@ items-standing {A} r (suc fuel) low i at {last} {end} e = by-stop (r .stop at) (
     by-stop true s h k ih e =
         let x : low ≡ last = cc in
         let y : at ≡ end = cc in
-        subst (λ (z : ℕ). Standing r low i at [] last z) y (subst (λ (z : ℕ). Standing r low i at [] z at) x (stop h))
+        subst (λ (z : ℕ). Standing r low i at [] last z) y (subst (λ (z : S). Standing r low i at [] z at) x (stop h))
     by-stop false (found a p) h k ih e = item h k (ih a p e)
     by-stop false (refused n p) h k ih e = let z : _≡_ {A = ℕ} 0 1 = cc in absurd (omega arith)
 
 -- Items that were read up to a refusal stand before it, where there is fuel for every byte that is left.
-pub items-broken : {A : Type 0} (r : Reader A) (t : List ℕ) → ((low i at : ℕ) (a : A) (p : ℕ) → at ≤ length t → r .item low i at ≡ found a p → Goes t at p)
-    → (fuel low i at : ℕ) {n q : ℕ} → at ≤ length t → length t - at < fuel → itemsFrom r fuel low i at .end ≡ refused n q → Broken r n q low i at (itemsFrom r fuel low i at .values)
+pub items-broken : {S A : Type 0} (r : ItemReader S A) (t : List ℕ) → ((low : S) (i at : ℕ) (a : A) (p : ℕ) → at ≤ length t → r .item low i at ≡ found a p → Goes t at p)
+    → (fuel : ℕ) (low : S) (i at : ℕ) {n q : ℕ} → at ≤ length t → length t - at < fuel → itemsFrom r fuel low i at .end ≡ refused n q → Broken r n q low i at (itemsFrom r fuel low i at .values)
 unfolding itemsFrom following
 items-broken r t goes zero low i at h k e = absurd (omega arith)
-items-broken {A} r t goes (suc fuel) low i at {n} {q} h k e =
+items-broken {S} {A} r t goes (suc fuel) low i at {n} {q} h k e =
     by-stop (r .stop at) (r .item low i at) refl refl (λ a p g. items-broken r t goes fuel (r .after low a) (i + 1) p (g .inside) (nearer p g)) e
   where
     nearer : (p : ℕ) → Goes t at p → length t - p < fuel
     nearer p g = let a = g .on in let b = g .inside in omega arith
 
-    turn : Bool → Step A → Lines A
+    turn : Bool → Step A → Lines S A
     turn b s = cond b (record { values = []; end = found low at }) (following s (λ a next. itemsFrom r fuel (r .after low a) (i + 1) next))
 
     by-stop : (b : Bool) (s : Step A) → r .stop at ≡ b → r .item low i at ≡ s
@@ -61,11 +56,11 @@ items-broken {A} r t goes (suc fuel) low i at {n} {q} h k e =
     by-stop false (found a p) x y ih e = later x y (ih a p (goes low i at a p h y) e)
     by-stop false (refused i j) x y ih e = here x (y ∙ same-refusal e)
       where
-        same-refusal : _≡_ {A = Step ℕ} (refused i j) (refused n q) → _≡_ {A = Step A} (refused i j) (refused n q)
+        same-refusal : _≡_ {A = Step S} (refused i j) (refused n q) → _≡_ {A = Step A} (refused i j) (refused n q)
         same-refusal e = let a : i ≡ n = cc in let b : j ≡ q = cc in cc
 
 -- Items that stand before a refusal are read up to it.
-pub broken-items : {A : Type 0} (r : Reader A) (fuel : ℕ) {n q low i at : ℕ} {l : List A} → length l < fuel → Broken r n q low i at l → itemsFrom r fuel low i at ≡ record { values = l; end = refused n q }
+pub broken-items : {S A : Type 0} (r : ItemReader S A) (fuel : ℕ) {n q : ℕ} {low : S} {i at : ℕ} {l : List A} → length l < fuel → Broken r n q low i at l → itemsFrom r fuel low i at ≡ record { values = l; end = refused n q }
 unfolding itemsFrom following
 broken-items r zero h b = absurd (omega arith)
 broken-items r (suc fuel) h (here e f) = rw (e, f)
@@ -73,37 +68,9 @@ broken-items r (suc fuel) h (later e f b) = let k = broken-items r fuel (omega a
 
 -- ---- the words of items
 
--- The texts of items of which the first is item i.
-unfoldable pub textFrom : {A : Type 0} → (ℕ → A → List ℕ) → (i : ℕ) → List A → List ℕ
-textFrom text i [] = []
-textFrom text i (a ∷ l) = text i a ++ textFrom text (i + 1) l
-
--- A reader of items: item i is the text of a value with P, or refused with 16 at the first byte that no such text has there, and neither is changed by bytes past the one behind it.
-pub record Lists {A : Type 0} (r : List ℕ → Reader A) (P : A → Type 0) (text : ℕ → A → List ℕ) : Type 0 where
-  pub some : (i : ℕ) (a : A) → 0 < length (text i a)
-  pub sound : (t : List ℕ) (low i at : ℕ) (a : A) (p : ℕ) → at ≤ length t → r t .item low i at ≡ found a p → Word (Text P (text i)) t at a p
-  pub place : (t : List ℕ) (low i at p : ℕ) → at ≤ length t → r t .item low i at ≡ refused 16 p → (at ≤ p) × (p ≤ length t)
-  pub extends : (t : List ℕ) (low i at p : ℕ) → at ≤ length t → r t .item low i at ≡ refused 16 p → Extends (Text P (text i)) t at p
-  pub stops : (t u : List ℕ) (at q : ℕ) → at ≤ q → take (q + 1) t ≡ take (q + 1) u → r t .stop at ≡ r u .stop at
-  pub reads : (t u : List ℕ) (low i at : ℕ) (a : A) (p q : ℕ) → at ≤ length t → p ≤ q → take (q + 1) t ≡ take (q + 1) u → r t .item low i at ≡ found a p → r u .item low i at ≡ found a p
-  pub after : (t u : List ℕ) (low : ℕ) (a : A) → r t .after low a ≡ r u .after low a
-  pub same : (t u : List ℕ) (low i at p : ℕ) → at ≤ length t → r t .item low i at ≡ refused 16 p → take (p + 1) t ≡ take (p + 1) u → r u .item low i at ≡ refused 16 p
-
--- Where the text of a value stands, and where it ends.
-pub text-stands : {A : Type 0} {P : A → Type 0} {f : A → List ℕ} {t : List ℕ} {at : ℕ} {a : A} {p : ℕ} → Word (Text P f) t at a p → Stands t at (f a) × (p ≡ at + length (f a))
-text-stands {f = f} {t = t} {at = at} w = (subst (Stands t at) (w .member .word) (w .stands), w .ends ∙ ap (λ (x : List ℕ). at + length x) (w .member .word))
-
--- A text that agrees with another up to an offset is as long up to there.
-pub as-long : (t u : List ℕ) (q : ℕ) → take (q + 1) t ≡ take (q + 1) u → (k : ℕ) → k ≤ length t → k ≤ q + 1 → k ≤ length u
-as-long t u q e k h m =
-    let l : length (take (q + 1) t) ≡ length (take (q + 1) u) = ap length e in
-    let a = length-take (q + 1) t in
-    let b = length-take (q + 1) u in
-    omega arith
-
-module _ {A : Type 0} {r : List ℕ → Reader A} {P : A → Type 0} {text : ℕ → A → List ℕ} (x : Lists r P text) where
+module _ {S A : Type 0} {r : List ℕ → ItemReader S A} {P : A → Type 0} {text : ℕ → A → List ℕ} (x : Lists r P text) where
   -- An item goes on by a byte at least.
-  pub item-goes : (t : List ℕ) (low i at : ℕ) (a : A) (p : ℕ) → at ≤ length t → r t .item low i at ≡ found a p → Goes t at p
+  pub item-goes : (t : List ℕ) (low : S) (i at : ℕ) (a : A) (p : ℕ) → at ≤ length t → r t .item low i at ≡ found a p → Goes t at p
   item-goes t low i at a p h e =
       let w = x .sound t low i at a p h e in
       let s = text-stands w in
@@ -113,7 +80,7 @@ module _ {A : Type 0} {r : List ℕ → Reader A} {P : A → Type 0} {text : ℕ
       record { on = omega arith; inside = b }
 
   -- Items that stand one after another are the texts of their values.
-  pub standing-words : (t : List ℕ) {low i at last end : ℕ} {l : List A} → at ≤ length t → Standing (r t) low i at l last end → Word (Text (Each P) (textFrom text i)) t at l end
+  pub standing-words : (t : List ℕ) {low : S} {i at : ℕ} {last : S} {end : ℕ} {l : List A} → at ≤ length t → Standing (r t) low i at l last end → Word (Text (Each P) (textFrom text i)) t at l end
   unfolding textFrom
   standing-words t {at = at} h (stop e) = record { word = []; member = record { holds = none; word = refl }; ends = omega arith; stands = stands-none t at h }
   standing-words t {low} {i} {at} {last} {end} h (item {next = next} {a = a} {l = l} e f s) =
@@ -130,17 +97,17 @@ module _ {A : Type 0} {r : List ℕ → Reader A} {P : A → Type 0} {text : ℕ
       }
 
   -- Texts that agree up to the byte behind the items have the same items.
-  pub standing-same : (t u : List ℕ) (q : ℕ) → take (q + 1) t ≡ take (q + 1) u → {low i at last end : ℕ} {l : List A} → at ≤ length t → end ≤ q → Standing (r t) low i at l last end → (at ≤ q) × Standing (r u) low i at l last end
+  pub standing-same : (t u : List ℕ) (q : ℕ) → take (q + 1) t ≡ take (q + 1) u → {low : S} {i at : ℕ} {last : S} {end : ℕ} {l : List A} → at ≤ length t → end ≤ q → Standing (r t) low i at l last end → (at ≤ q) × Standing (r u) low i at l last end
   standing-same t u q k {at = at} h m (stop e) = (m, stop (sym (x .stops t u at q m k) ∙ e))
   standing-same t u q k {low} {i} {at} {last} {end} h m (item {next = next} {a = a} {l = l} e f s) =
       let g = item-goes t low i at a next h f in
       let on = g .on in
       let w = standing-same t u q k (g .inside) m s in
       let n = w .0 in
-      (omega arith, item (sym (x .stops t u at q (omega arith) k) ∙ e) (x .reads t u low i at a next q h n k f) (subst (λ (z : ℕ). Standing (r u) z (i + 1) next l last end) (x .after t u low a) (w .1)))
+      (omega arith, item (sym (x .stops t u at q (omega arith) k) ∙ e) (x .reads t u low i at a next q h n k f) (subst (λ (z : S). Standing (r u) z (i + 1) next l last end) (x .after t u low a) (w .1)))
 
   -- A refusal stands behind the items before it, inside the text.
-  pub broken-place : (t : List ℕ) {low i at p : ℕ} {l : List A} → at ≤ length t → Broken (r t) 16 p low i at l → (at + length l ≤ p) × (p ≤ length t)
+  pub broken-place : (t : List ℕ) {low : S} {i at p : ℕ} {l : List A} → at ≤ length t → Broken (r t) 16 p low i at l → (at + length l ≤ p) × (p ≤ length t)
   broken-place t {low} {i} {at} {p} h (here e f) = let w = x .place t low i at p h f in let a = w .0 in (omega arith, w .1)
   broken-place t {low} {i} {at} {p} h (later {next = next} {a = a} e f b) =
       let g = item-goes t low i at a next h f in
@@ -150,7 +117,7 @@ module _ {A : Type 0} {r : List ℕ → Reader A} {P : A → Type 0} {text : ℕ
       (omega arith, w .1)
 
   -- Texts that agree up to the byte of a refusal have the same refusal.
-  pub broken-same : (t u : List ℕ) (p : ℕ) → take (p + 1) t ≡ take (p + 1) u → {low i at : ℕ} {l : List A} → at ≤ length t → Broken (r t) 16 p low i at l → Broken (r u) 16 p low i at l
+  pub broken-same : (t u : List ℕ) (p : ℕ) → take (p + 1) t ≡ take (p + 1) u → {low : S} {i at : ℕ} {l : List A} → at ≤ length t → Broken (r t) 16 p low i at l → Broken (r u) 16 p low i at l
   broken-same t u p k {low} {i} {at} h (here e f) =
       let m = x .place t low i at p h f in
       here (sym (x .stops t u at p (m .0) k) ∙ e) (x .same t u low i at p h f k)
@@ -159,10 +126,10 @@ module _ {A : Type 0} {r : List ℕ → Reader A} {P : A → Type 0} {text : ℕ
       let m = broken-place t (g .inside) b .0 in
       let on = g .on in
       later (sym (x .stops t u at p (omega arith) k) ∙ e) (x .reads t u low i at a next p h (omega arith) k f)
-      (subst (λ (z : ℕ). Broken (r u) 16 p z (i + 1) next l) (x .after t u low a) (broken-same t u p k (g .inside) b))
+      (subst (λ (z : S). Broken (r u) 16 p z (i + 1) next l) (x .after t u low a) (broken-same t u p k (g .inside) b))
 
   -- The bytes before a refusal go on to the texts of items.
-  pub broken-extends : (t : List ℕ) {low i at p : ℕ} {l : List A} → at ≤ length t → Broken (r t) 16 p low i at l → Extends (Text (Each P) (textFrom text i)) t at p
+  pub broken-extends : (t : List ℕ) {low : S} {i at p : ℕ} {l : List A} → at ≤ length t → Broken (r t) 16 p low i at l → Extends (Text (Each P) (textFrom text i)) t at p
   unfolding textFrom
   broken-extends t {low} {i} {at} {p} h (here e f) =
       let w = x .extends t low i at p h f in
@@ -179,7 +146,7 @@ module _ {A : Type 0} {r : List ℕ → Reader A} {P : A → Type 0} {text : ℕ
       }
 
   -- Items end behind a byte for each, inside the text.
-  pub standing-long : (t : List ℕ) {low i at last end : ℕ} {l : List A} → at ≤ length t → Standing (r t) low i at l last end → (at + length l ≤ end) × (end ≤ length t)
+  pub standing-long : (t : List ℕ) {low : S} {i at : ℕ} {last : S} {end : ℕ} {l : List A} → at ≤ length t → Standing (r t) low i at l last end → (at + length l ≤ end) × (end ≤ length t)
   standing-long t h (stop e) = (omega arith, h)
   standing-long t {low} {i} {at} h (item {next = next} {a = a} e f s) =
       let g = item-goes t low i at a next h f in
@@ -189,7 +156,7 @@ module _ {A : Type 0} {r : List ℕ → Reader A} {P : A → Type 0} {text : ℕ
       (omega arith, w .1)
 
   -- The same of the loops, which have the length of their text for fuel.
-  pub items-again : (t u : List ℕ) (low i at q : ℕ) {last end : ℕ} → 0 < at → at ≤ length t → end ≤ q → take (q + 1) t ≡ take (q + 1) u → itemsFrom (r t) (length t) low i at .end ≡ found last end
+  pub items-again : (t u : List ℕ) (low : S) (i at q : ℕ) {last : S} {end : ℕ} → 0 < at → at ≤ length t → end ≤ q → take (q + 1) t ≡ take (q + 1) u → itemsFrom (r t) (length t) low i at .end ≡ found last end
       → itemsFrom (r u) (length u) low i at ≡ record { values = itemsFrom (r t) (length t) low i at .values; end = found last end }
   items-again t u low i at q pos h m k e =
       let s = standing-same t u q k h m (items-standing (r t) (length t) low i at e) in
@@ -200,7 +167,7 @@ module _ {A : Type 0} {r : List ℕ → Reader A} {P : A → Type 0} {text : ℕ
       items-back (r u) (length u) (omega arith) (s .1)
 
   -- A loop that ends with 16 ends so again.
-  pub items-broken-again : (t u : List ℕ) (low i at p : ℕ) → 0 < at → at ≤ length t → take (p + 1) t ≡ take (p + 1) u → itemsFrom (r t) (length t) low i at .end ≡ refused 16 p
+  pub items-broken-again : (t u : List ℕ) (low : S) (i at p : ℕ) → 0 < at → at ≤ length t → take (p + 1) t ≡ take (p + 1) u → itemsFrom (r t) (length t) low i at .end ≡ refused 16 p
       → itemsFrom (r u) (length u) low i at ≡ record { values = itemsFrom (r t) (length t) low i at .values; end = refused 16 p }
   items-broken-again t u low i at p pos h k e =
       let b = items-broken (r t) t (item-goes t) (length t) low i at h (omega arith) e in

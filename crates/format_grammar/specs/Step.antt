@@ -17,3 +17,8 @@ _then_ (refused number place) k = refused number place
 unfoldable pub checked : {A : Type 0} → Verdict → A → (next : ℕ) → Step A
 checked Fine a next = found a next
 checked (Refused number place) a next = refused number place
+
+-- A refusal, whatever value was read for; a value leaves nothing that may follow it.
+unfoldable pub stopped : {A B : Type 0} → Step A → Step B
+stopped (found a next) = refused 16 next
+stopped (refused number place) = refused number place
