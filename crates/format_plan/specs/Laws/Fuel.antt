@@ -9,7 +9,7 @@ use lib.Dec.{eqb}
 use borrow.Author.Tests.{eqb-false}
 use Rattle.base_limits.specs.declared.Verdict.{Verdict}
 use Rattle.base_limits.specs.declared.Verdict.the-variants.{Fine, Refused}
-use Rattle.format_write.specs.Key.{newline, colon, keptKey, dualKey}
+use Rattle.format_key.specs.Key.{newline, colon, keptKey, dualKey}
 use Rattle.base_limits.specs.Limits.{maxDigits}
 use Rattle.format_number.specs.Step.{Step, found, refused, checked}
 use Rattle.format_number.specs.Number.{byteIs, fixedAt, numeralAt, numberAt, numberTo, decimalFrom}

@@ -17,7 +17,7 @@ use Rattle.format_record.specs.Record.{recordOf, startedAs}
 use Rattle.format_record.specs.Laws.Record.{started-whole, member-added-record, length-record}
 use Rattle.format_number.specs.Step.{Step, found, refused, checked, _then_}
 use Rattle.format_survey_lines.specs.Lines.{Lines}
-use Rattle.format_write.specs.Key.{newline}
+use Rattle.format_key.specs.Key.{newline}
 use Rattle.format_number.specs.Laws.Byte.{byte-inside}
 use Rattle.format_number.specs.Laws.Step.{then-value, checked-fine, checked-value}
 use Rattle.format_plan_lines.specs.Items.{Reader, following, itemsFrom, puts, none, more}

@@ -13,11 +13,11 @@ use borrow.Author.Tests.{leb-true, leb-false}
 use Rattle.base_limits.specs.Limits.{maxVertices, maxEdges, maxDigits}
 use Rattle.base_limits.specs.declared.Verdict.{Verdict}
 use Rattle.base_limits.specs.declared.Verdict.the-variants.{Fine, Refused}
-use Rattle.format_write.specs.Key.{comma, newline}
+use Rattle.format_key.specs.Key.{nodesKey, linksKey, nodeKey, linkKey, comma, newline}
 use Rattle.format_number.specs.Step.{Step, found, refused, _then_, checked}
 use Rattle.format_survey_lines.specs.Lines.{linesFrom}
 use Rattle.format_number.specs.Number.{byteIs, fixedAt, numeralEnd, numeralAt, decimalFrom, numberAt, numberTo, numberLine}
-use Rattle.format_survey_lines.specs.Line.{nodesKey, linksKey, nodeKey, linkKey, Tests, testsFor, verticesTest, edgesTest, groupTest, countLine, groupLine, groupLines, edgeLine, edgeLines}
+use Rattle.format_survey_lines.specs.Line.{Tests, testsFor, verticesTest, edgesTest, groupTest, countLine, groupLine, groupLines, edgeLine, edgeLines}
 use Rattle.format_survey.specs.Reading.{endAt, surveyOf, surveyAt, outcomeOf, reading}
 use Rattle.format_number.specs.Laws.Step.{then-found, then-refused, then-value}
 use Rattle.format_number.specs.Laws.Number.{numeral-range, numeral-width}

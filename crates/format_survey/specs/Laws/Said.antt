@@ -7,7 +7,8 @@ use Rattle.base_limits.specs.declared.Verdict.the-variants.{Refused}
 use Rattle.format_write.specs.Text.{lineOf}
 use Rattle.format_number.specs.Step.{Step, found, refused, _then_}
 use Rattle.format_survey_lines.specs.Lines.{linesAfter}
-use Rattle.format_survey_lines.specs.Line.{nodesKey, linksKey, nodeKey, Tests, countLine, countsAt, groupLine, groupLines, Edge, edgeLine, edgeLines, Counts}
+use Rattle.format_key.specs.Key.{nodesKey, linksKey, nodeKey}
+use Rattle.format_survey_lines.specs.Line.{Tests, countLine, countsAt, groupLine, groupLines, Edge, edgeLine, edgeLines, Counts}
 use Rattle.format_survey.specs.Reading.{endAt, bodyAt, surveyOf, surveyAt}
 use Rattle.format_survey_lines.specs.Render.{edgeText, textOf}
 use Rattle.format_survey.specs.Render.{render}

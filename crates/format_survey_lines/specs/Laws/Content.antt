@@ -5,10 +5,10 @@ use mathlib.Core.Path.{_≡_, refl, ap, sym, _∙_, subst}
 use mathlib.Core.List.{List, [], _∷_, _++_, append-assoc, append-nil}
 use lib.ListN.{length}
 use Rattle.base_limits.specs.Limits.{maxDigits}
-use Rattle.format_write.specs.Key.{comma, newline}
+use Rattle.format_key.specs.Key.{linkKey, comma, newline}
 use Rattle.format_number.specs.Step.{Step, found, refused, _then_}
 use Rattle.format_survey_lines.specs.Lines.{Lines, more, linesFrom}
-use Rattle.format_survey_lines.specs.Line.{linkKey, Edge, edgeLine}
+use Rattle.format_survey_lines.specs.Line.{Edge, edgeLine}
 use Rattle.format_number.specs.Number.{numberText}
 use Rattle.format_survey_lines.specs.Render.{edgeText, textOf}
 use Rattle.format_number.specs.Laws.Spells.{Reads, Seq, Empty, reads-then, reads-as, reads-value}
