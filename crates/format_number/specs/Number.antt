@@ -6,7 +6,7 @@ use mathlib.Core.Bool.{Bool, true, false, _&&_, cond}
 use mathlib.Core.List.{List, [], _∷_, _++_}
 use lib.ListN.{length, getD, take, drop}
 use lib.Dec.{eqb, leb}
-use Rattle.format_write.specs.Key.{comma, newline}
+use Rattle.format_key.specs.Key.{comma, newline}
 use Rattle.format_number.specs.declared.Class.{Class}
 use Rattle.format_number.specs.declared.Class.the-variants.{Digit, LineEnd, Comma, Other}
 use Rattle.base_limits.specs.Limits.{maxDigits}

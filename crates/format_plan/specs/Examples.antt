@@ -5,7 +5,7 @@ use mathlib.Core.List.{[], _∷_, _++_}
 use lib.Dec.{eqb}
 use Rattle.base_limits.specs.Verdict.{refuseIf, _before_}
 use Rattle.format_record.specs.Record.{recordOf}
-use Rattle.format_write.specs.Key.{ascii, terminalsKey, costKey, boundKey, roundsKey, keptKey, dualKey}
+use Rattle.format_key.specs.Key.{ascii, terminalsKey, costKey, boundKey, roundsKey, keptKey, dualKey}
 use Rattle.format_write.specs.Text.{planText}
 use Rattle.format_print.specs.Examples.{p3-printed}
 use Rattle.format_grammar.specs.Step.{found, checked, _then_}

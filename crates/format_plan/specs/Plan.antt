@@ -9,7 +9,7 @@ use Rattle.base_finite.specs.Below.{tabulate}
 use Rattle.base_limits.specs.Limits.{recordBytes}
 use Rattle.base_limits.specs.Verdict.{refuseIf, Outcome, refusal, answer, outcome}
 use Rattle.base_limits.specs.declared.Verdict.{Verdict}
-use Rattle.format_write.specs.Key.{terminalsKey, costKey, boundKey, roundsKey}
+use Rattle.format_key.specs.Key.{terminalsKey, costKey, boundKey, roundsKey}
 use Rattle.format_grammar.specs.Step.{Step, found, refused, _then_}
 use Rattle.format_grammar.specs.Lines.{linesAfter}
 use Rattle.format_plan_lines.specs.Lines.{countDigits, valueLine, keptAt, Moat, moatsAt, isIn, moatRecord}

@@ -45,7 +45,7 @@ fn stopped_claims(step: Number) -> Claims
 fn claim_lines(text: &[u8], cursor: Cursor) -> Claims
     ensures { λ r. ⌜ claimsStep r ≡ claimsAt (old text) (cursor .at) ⌝ }
 {
-    let one = format_plan_lines::value_line(text, cursor, b"sites=", COUNT_DIGITS);
+    let one = format_plan_lines::value_line(text, cursor, &format_key::TERMINALS, COUNT_DIGITS);
     let Number::Value {
         value: terminals,
         next: a,
@@ -53,7 +53,7 @@ fn claim_lines(text: &[u8], cursor: Cursor) -> Claims
     else {
         return stopped_claims(one);
     };
-    let two = format_plan_lines::value_line(text, a, b"cost=", COUNT_DIGITS);
+    let two = format_plan_lines::value_line(text, a, &format_key::COST, COUNT_DIGITS);
     let Number::Value {
         value: cost,
         next: b,
@@ -61,7 +61,7 @@ fn claim_lines(text: &[u8], cursor: Cursor) -> Claims
     else {
         return stopped_claims(two);
     };
-    let three = format_plan_lines::value_line(text, b, b"bound=", COUNT_DIGITS);
+    let three = format_plan_lines::value_line(text, b, &format_key::BOUND, COUNT_DIGITS);
     let Number::Value {
         value: bound,
         next: c,
@@ -69,7 +69,7 @@ fn claim_lines(text: &[u8], cursor: Cursor) -> Claims
     else {
         return stopped_claims(three);
     };
-    let four = format_plan_lines::value_line(text, c, b"rounds=", COUNT_DIGITS);
+    let four = format_plan_lines::value_line(text, c, &format_key::ROUNDS, COUNT_DIGITS);
     let Number::Value {
         value: rounds,
         next,

@@ -12,7 +12,7 @@ use Rattle.base_limits.specs.Limits.{maxDigits, memberBytes, recordBytes, maxDu
 use Rattle.base_limits.specs.Verdict.{refuseIf, _before_}
 use Rattle.base_limits.specs.declared.Verdict.{Verdict}
 use Rattle.format_record.specs.Record.{recordOf, withMemberIn}
-use Rattle.format_write.specs.Key.{keptKey, dualKey, colon, comma, newline}
+use Rattle.format_key.specs.Key.{keptKey, dualKey, colon, comma, newline}
 use Rattle.format_grammar.specs.Step.{Step, found, _then_, checked}
 use Rattle.format_grammar.specs.Lines.{Lines}
 use Rattle.format_grammar.specs.Bytes.{byteIs, fixedAt}

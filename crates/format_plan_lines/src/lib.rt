@@ -41,7 +41,7 @@ pub fn value_line(text: &[u8], cursor: Cursor, key: &[u8], limit: usize) -> Numb
 fn keep_line(text: &[u8], cursor: Cursor, edges: usize, low: u64, i: usize) -> Number
     ensures { λ r. ⌜ numberStep r ≡ keepLine (old text) edges low i (cursor .at) ⌝ }
 {
-    let step = value_line(text, cursor, b"keep=", MAX_DIGITS);
+    let step = value_line(text, cursor, &format_key::KEPT, MAX_DIGITS);
     let Number::Value { value, next: _ } = step else {
         return step;
     };
@@ -141,7 +141,7 @@ fn members(text: &[u8], cursor: Cursor, part: &mut [u8]) -> Number
 fn moat_head(text: &[u8], cursor: Cursor) -> Number
     ensures { λ r. ⌜ numberStep r ≡ moatHead (old text) (cursor .at) ⌝ }
 {
-    let key = format_number::fixed(text, cursor, b"moat=");
+    let key = format_number::fixed(text, cursor, &format_key::DUAL);
     let Number::Value { value: _, next: a } = key else {
         return key;
     };

@@ -3,7 +3,8 @@ use Prim.Native.Nat.{ℕ}
 use mathlib.Core.List.{List, _++_}
 use lib.ListN.{length}
 use Rattle.format_write.specs.Text.{lineOf}
-use Rattle.format_survey_lines.specs.Line.{nodesKey, linksKey, nodeKey, Edge}
+use Rattle.format_key.specs.Key.{nodesKey, linksKey, nodeKey}
+use Rattle.format_survey_lines.specs.Line.{Edge}
 use Rattle.format_survey_lines.specs.Render.{edgeText}
 use Rattle.format_grammar.specs.Lines.{textOf}
 

@@ -6,24 +6,11 @@ use lib.Dec.{eqb, ltb, leb}
 use Rattle.base_limits.specs.Limits.{maxVertices, maxEdges, groupNumbers, maxDigits}
 use Rattle.base_limits.specs.Verdict.{refuseIf, _before_}
 use Rattle.base_limits.specs.declared.Verdict.{Verdict}
-use Rattle.format_write.specs.Key.{ascii, comma, newline}
+use Rattle.format_key.specs.Key.{nodesKey, linksKey, nodeKey, linkKey, comma, newline}
 use Rattle.format_grammar.specs.Step.{Step, found, _then_, checked}
 use Rattle.format_grammar.specs.Lines.{Lines, linesFrom}
 use Rattle.format_grammar.specs.Bytes.{fixedAt}
 use Rattle.format_number.specs.Number.{numberTo, numberLine}
-
--- The keys.
-abbrev pub nodesKey : List ℕ
-nodesKey = ascii "nodes="
-
-abbrev pub linksKey : List ℕ
-linksKey = ascii "links="
-
-abbrev pub nodeKey : List ℕ
-nodeKey = ascii "node="
-
-abbrev pub linkKey : List ℕ
-linkKey = ascii "link="
 
 -- What is tested when a line is complete: a count, and the group of vertex v.
 pub record Tests : Type 0 where

@@ -1,8 +1,8 @@
 -- The text of an edge's line, and of lines one after another (document 01, 'Survey text and printed plan').
 use Prim.Native.Nat.{ℕ}
 use mathlib.Core.List.{List, _++_}
-use Rattle.format_write.specs.Key.{comma, newline}
-use Rattle.format_survey_lines.specs.Line.{linkKey, Edge}
+use Rattle.format_key.specs.Key.{comma, newline, linkKey}
+use Rattle.format_survey_lines.specs.Line.{Edge}
 use Rattle.format_number.specs.Number.{numberText}
 
 unfoldable pub edgeText : Edge → List ℕ

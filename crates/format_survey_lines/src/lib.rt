@@ -8,7 +8,8 @@ ghost use lib.Seq.{sets};
 ghost use Rattle.format_number.specs.Number.{numberLine};
 ghost use Rattle.format_number.specs.Answer.{numberStep};
 ghost use Rattle.format_grammar.specs.Step.{stopped};
-ghost use Rattle.format_survey_lines.specs.Line.{nodesKey, linksKey, edgeLines, firstsOf, secondsOf, weightsOf, testsFor, countsAt, groupLines, verticesTest, edgesTest, groupTest, countLine, groupLine, edgeLine};
+ghost use Rattle.format_key.specs.Key.{nodesKey, linksKey};
+ghost use Rattle.format_survey_lines.specs.Line.{edgeLines, firstsOf, secondsOf, weightsOf, testsFor, countsAt, groupLines, verticesTest, edgesTest, groupTest, countLine, groupLine, edgeLine};
 ghost use Rattle.format_survey_lines.specs.Answer.{edgeStep, countsStep};
 use base_limits::GROUP_NUMBERS;
 use base_limits::MAX_DIGITS;
@@ -61,7 +62,7 @@ fn opened<'a>(text: &'a [u8]) -> Reader<'a>
 fn nodes_at(text: &[u8], at: usize) -> Number
     ensures { λ r. ⌜ numberStep r ≡ numberLine nodesKey (old text) at ⌝ }
 {
-    number_line(text, Cursor { at }, b"nodes=")
+    number_line(text, Cursor { at }, &format_key::NODES)
 }
 
 fn nodes_line<'a>(r: Reader<'a>) -> Number
@@ -111,7 +112,7 @@ fn vertices_line(text: &[u8], lent: usize) -> Number
 fn edges_line(text: &[u8], cursor: Cursor, firsts: usize, seconds: usize, weights: usize) -> Number
     ensures { λ r. ⌜ numberStep r ≡ countLine linksKey (edgesTest firsts seconds weights) (old text) (cursor .at) ⌝ }
 {
-    let step = number_line(text, cursor, b"links=");
+    let step = number_line(text, cursor, &format_key::LINKS);
     let Number::Value { value, next: _ } = step else {
         return step;
     };
@@ -147,7 +148,7 @@ fn edges_line(text: &[u8], cursor: Cursor, firsts: usize, seconds: usize, weight
 fn group_line(text: &[u8], cursor: Cursor, vertex: usize) -> Number
     ensures { λ r. ⌜ numberStep r ≡ groupLine groupTest (old text) vertex (cursor .at) ⌝ }
 {
-    let step = number_line(text, cursor, b"node=");
+    let step = number_line(text, cursor, &format_key::NODE);
     let Number::Value { value, next: _ } = step else {
         return step;
     };
@@ -178,7 +179,7 @@ fn stopped_edge(step: Number) -> EdgeLine
 fn edge_line(text: &[u8], cursor: Cursor, edge: usize) -> EdgeLine
     ensures { λ r. ⌜ edgeStep r ≡ edgeLine (old text) edge (cursor .at) ⌝ }
 {
-    let key = fixed(text, cursor, b"link=");
+    let key = fixed(text, cursor, &format_key::LINK);
     let Number::Value { value: _, next: a } = key else {
         return stopped_edge(key);
     };

@@ -114,7 +114,7 @@ fn put_members(out: &mut [u8], at: usize, part: &[u8]) -> usize
 pub fn put_dual(out: &mut [u8], at: usize, part: &[u8]) -> usize
     ensures { λ r. ⌜ Wrote (old out) at (dualLine (old part)) (new out) r ⌝ }
 {
-    let next = put_bytes(out, at, b"moat=");
+    let next = put_bytes(out, at, &format_key::DUAL);
     let next = put_number(out, next, format_record::value(part));
     let next = put(out, next, b':');
     let next = put_members(out, next, part);
@@ -128,7 +128,7 @@ fn put_mark(out: &mut [u8], at: usize, mark: u8, e: usize) -> usize
     match mark {
         0 => at,
         1 => at,
-        2 => put_line(out, at, b"keep=", base_buffer::wide(e)),
+        2 => put_line(out, at, &format_key::KEPT, base_buffer::wide(e)),
         _ => at,
     }
 }

@@ -10,7 +10,7 @@ use Rattle.base_finite.specs.Below.{sumBelow}
 use Rattle.base_finite.specs.Laws.Below.{lt-or-ge}
 use Rattle.base_limits.specs.Limits.{recordBytes, maxVertices, maxEdges, maxDuals}
 use Rattle.base_limits.specs.Verdict.{answer}
-use Rattle.format_write.specs.Key.{keptKey, comma}
+use Rattle.format_key.specs.Key.{keptKey, comma}
 use Rattle.format_write.specs.Decimal.{decimal}
 use Rattle.format_write.specs.Text.{lineOf, listed, keptLine}
 use Rattle.format_print.specs.Room.{longestDual, planRoom}

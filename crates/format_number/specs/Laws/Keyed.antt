@@ -8,7 +8,7 @@ use lib.ListN.{length, length-append}
 use Rattle.base_limits.specs.Limits.{maxDigits}
 use Rattle.base_limits.specs.declared.Verdict.{Verdict}
 use Rattle.base_limits.specs.declared.Verdict.the-variants.{Fine, Refused}
-use Rattle.format_write.specs.Key.{comma, newline}
+use Rattle.format_key.specs.Key.{comma, newline}
 use Rattle.format_write.specs.Decimal.{decimal}
 use Rattle.format_write.specs.Text.{lineOf}
 use Rattle.format_number.specs.Number.{isDigit, classOf, numberTo, numberLine, numberText, numberAt}

@@ -20,7 +20,7 @@ use Rattle.format_grammar.specs.Step.{Step, found, refused, _then_, checked}
 use Rattle.format_number.specs.Laws.Number.{numeral-range, numeral-width}
 use Rattle.format_number.specs.Laws.Words.{numeral-same}
 use Rattle.format_number.specs.Number.{numeralEnd, numeralAt, decimalFrom, numberAt, numberTo, numberLine}
-use Rattle.format_write.specs.Key.{newline}
+use Rattle.format_key.specs.Key.{newline}
 
 numeral-alike : (limit : ℕ) (t u : List ℕ) (at : ℕ) → 1 ≤ limit → take (at + (limit + 1)) t ≡ take (at + (limit + 1)) u → numeralAt limit t at ≡ numeralAt limit u at
 unfolding numeralAt

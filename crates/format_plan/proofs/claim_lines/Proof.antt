@@ -1,7 +1,7 @@
 -- `format_plan::claim_lines` meets its contract: a refusal of any line stays, and a value goes on to the next line.
 use borrow.Author.Needs.{needs}
 use mathlib.Core.Path.{sym, _∙_}
-use Rattle.format_write.specs.Key.{terminalsKey, costKey, boundKey, roundsKey}
+use Rattle.format_key.specs.Key.{terminalsKey, costKey, boundKey, roundsKey}
 use Rattle.format_number.specs.Laws.Step.{stopped-stays, value-goes}
 use Rattle.format_plan.specs.Plan.{claimsAt}
 use Rattle.format_plan.specs.Answer.{claimsStep}

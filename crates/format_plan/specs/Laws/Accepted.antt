@@ -11,7 +11,7 @@ use lib.Dec.{leb}
 use borrow.Author.Tests.{leb-true, leb-false}
 use Rattle.base_limits.specs.Limits.{maxDigits, recordBytes, maxDuals}
 use Rattle.base_limits.specs.Verdict.{answer, outcome}
-use Rattle.format_write.specs.Key.{keptKey, terminalsKey, costKey, boundKey, roundsKey, newline}
+use Rattle.format_key.specs.Key.{keptKey, terminalsKey, costKey, boundKey, roundsKey, newline}
 use Rattle.format_write.specs.Text.{lineOf, countLines}
 use Rattle.format_grammar.specs.Step.{Step, found, refused, _then_}
 use Rattle.format_grammar.specs.Lines.{linesAfter, textOf}

@@ -10,7 +10,7 @@ use lib.ListN.{length, length-append}
 use borrow.Author.Tests.{lt-leb, le-leb}
 use Rattle.base_limits.specs.Limits.{maxDigits, maxDuals}
 use Rattle.base_limits.specs.declared.Verdict.{Verdict}
-use Rattle.format_write.specs.Key.{newline, comma, colon, dualKey, keptKey, terminalsKey, costKey, boundKey, roundsKey}
+use Rattle.format_key.specs.Key.{newline, comma, colon, dualKey, keptKey, terminalsKey, costKey, boundKey, roundsKey}
 use Rattle.format_write.specs.Decimal.{decimal}
 use Rattle.format_write.specs.Text.{lineOf, listed, countLines}
 use Rattle.format_number.specs.Number.{isDigit, classOf, numberAt, numberTo, numberText}

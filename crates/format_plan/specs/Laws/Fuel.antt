@@ -4,7 +4,7 @@ use native.Mathlib.Omega.{arith}
 use mathlib.Core.Path.{_≡_}
 use mathlib.Core.List.{List, [], _∷_}
 use lib.ListN.{length}
-use Rattle.format_write.specs.Key.{newline, colon, keptKey, dualKey}
+use Rattle.format_key.specs.Key.{newline, colon, keptKey, dualKey}
 use Rattle.base_limits.specs.Limits.{maxDigits}
 use Rattle.format_number.specs.Number.{numberAt, numberTo}
 use Rattle.format_plan_lines.specs.Lines.{valueLine, keepLine, keepReader, separator, memberAt, memberReader, membersAt, Moat, moatHead, moatLine, moatReader}

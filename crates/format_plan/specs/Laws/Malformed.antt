@@ -11,7 +11,7 @@ use borrow.Author.Tests.{le-leb, lt-leb}
 use Rattle.base_limits.specs.Verdict.{refusal}
 use Rattle.base_limits.specs.declared.Verdict.{Verdict}
 use Rattle.base_limits.specs.declared.Verdict.the-variants.{Fine, Refused}
-use Rattle.format_write.specs.Key.{keptKey}
+use Rattle.format_key.specs.Key.{keptKey}
 use Rattle.format_write.specs.Text.{lineOf}
 use Rattle.format_grammar.specs.Step.{Step, found, refused, _then_, checked}
 use Rattle.format_grammar.specs.Lines.{Lines, linesAfter, textOf}

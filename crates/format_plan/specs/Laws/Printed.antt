@@ -10,7 +10,7 @@ use Rattle.base_finite.specs.Below.{thoseBelow, tabulate}
 use Rattle.base_finite.specs.Laws.Below.{length-tabulate}
 use Rattle.base_limits.specs.Limits.{maxDigits, recordBytes, maxEdges, maxDuals}
 use Rattle.format_record.specs.Record.{valueIn, memberIn, recordAt}
-use Rattle.format_write.specs.Key.{keptKey}
+use Rattle.format_key.specs.Key.{keptKey}
 use Rattle.format_write.specs.Text.{lineOf, membersOf, dualLine, textBelow, keptLine, keptLines, dualLines, countLines, planText}
 use Rattle.format_grammar.specs.Step.{found}
 use Rattle.format_grammar.specs.Lines.{textOf}

@@ -1,6 +1,6 @@
 -- `format_plan_lines::keep_line` meets its contract: the tests decide the case of the definition.
 use borrow.Author.Needs.{needs}
-use Rattle.format_write.specs.Key.{keptKey}
+use Rattle.format_key.specs.Key.{keptKey}
 use Rattle.format_number.specs.Answer.{numberStep}
 use Rattle.format_number.specs.Laws.Step.{refusal-stays, check-refused, check-fine}
 use Rattle.format_plan_lines.specs.Lines.{keepLine, keptTest}

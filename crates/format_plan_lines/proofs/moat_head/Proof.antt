@@ -1,7 +1,7 @@
 -- `format_plan_lines::moat_head` meets its contract: a refusal of any part stays, and a value goes on to the next part.
 use borrow.Author.Needs.{needs}
 use mathlib.Core.Path.{sym, _∙_}
-use Rattle.format_write.specs.Key.{dualKey}
+use Rattle.format_key.specs.Key.{dualKey}
 use Rattle.format_number.specs.Answer.{numberStep}
 use Rattle.format_number.specs.Laws.Step.{refusal-stays, value-goes}
 use Rattle.format_plan_lines.specs.Lines.{moatHead}

@@ -15,7 +15,7 @@ use Rattle.format_record.specs.Bits.{lowBytes}
 use Rattle.format_record.specs.Laws.Bits.{bytes-cong}
 use Rattle.format_record.specs.Record.{recordOf, startedAs}
 use Rattle.format_record.specs.Laws.Record.{started-whole, member-added-record, length-record}
-use Rattle.format_write.specs.Key.{newline}
+use Rattle.format_key.specs.Key.{newline}
 use Rattle.format_plan_lines.specs.Lines.{keptTest, keepLine, risen, memberReader, membersAt, moatTest, moatLine, moatHead, moatOf, Moat, moatRecord, moatReader, putMember, putMoat, isIn}
 use Rattle.format_plan_lines.specs.Answer.{Members, forgotten, moatStored, MoatRead}
 use Rattle.format_plan_lines.specs.Laws.Tests.{kept-low, kept-high, risen-low, risen-high}

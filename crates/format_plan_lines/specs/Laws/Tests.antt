@@ -5,7 +5,7 @@ use mathlib.Core.List.{[], _∷_}
 use borrow.Author.Tests.{lt-ltb, le-ltb, le-leb, lt-leb}
 use Rattle.base_limits.specs.Verdict.{refuseIf, _before_}
 use Rattle.base_limits.specs.declared.Verdict.the-variants.{Fine, Refused}
-use Rattle.format_write.specs.Key.{comma}
+use Rattle.format_key.specs.Key.{comma}
 use Rattle.format_plan_lines.specs.Lines.{keptTest, risen, moatTest, separator}
 
 module _ (m low i e : ℕ) where

@@ -7,8 +7,8 @@ use mathlib.Core.List.{List}
 use lib.ListN.{length, take}
 use lib.Seq.{take-take}
 use Rattle.base_limits.specs.Limits.{maxVertices, maxEdges, maxDigits}
-use Rattle.format_write.specs.Key.{comma, newline}
-use Rattle.format_survey_lines.specs.Line.{nodesKey, linksKey, nodeKey, linkKey, Tests, testsFor, verticesTest, edgesTest, groupTest, countLine, groupLine, groupLines, edgeLine, edgeLines}
+use Rattle.format_key.specs.Key.{comma, newline, nodesKey, linksKey, nodeKey, linkKey}
+use Rattle.format_survey_lines.specs.Line.{Tests, testsFor, verticesTest, edgesTest, groupTest, countLine, groupLine, groupLines, edgeLine, edgeLines}
 use Rattle.format_survey.specs.Reading.{surveyOf, surveyAt, outcomeOf, reading}
 use Rattle.format_survey_lines.specs.Laws.Tests.{vertices-passed, edges-passed}
 use Rattle.format_survey.specs.Laws.Said.{saidAt, said-survey}

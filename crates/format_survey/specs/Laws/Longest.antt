@@ -6,11 +6,11 @@ use mathlib.Core.List.{List, [], _∷_, _++_}
 use lib.ListN.{length, length-append}
 use Rattle.base_limits.specs.Limits.{maxVertices, maxEdges, maxDigits}
 use Rattle.base_limits.specs.Verdict.{answer}
-use Rattle.format_write.specs.Key.{comma, newline}
+use Rattle.format_key.specs.Key.{nodesKey, linksKey, nodeKey, linkKey, comma, newline}
 use Rattle.format_write.specs.Decimal.{decimal}
 use Rattle.format_write.specs.Text.{lineOf}
 use Rattle.format_write.specs.Laws.Decimal.{length-decimal}
-use Rattle.format_survey_lines.specs.Line.{nodesKey, linksKey, nodeKey, linkKey, Edge}
+use Rattle.format_survey_lines.specs.Line.{Edge}
 use Rattle.format_survey.specs.Reading.{Survey, reading}
 use Rattle.format_number.specs.Number.{numberText}
 use Rattle.format_survey_lines.specs.Render.{edgeText}

@@ -7,7 +7,8 @@ use Rattle.base_limits.specs.declared.Verdict.the-variants.{Refused}
 use Rattle.format_write.specs.Text.{lineOf}
 use Rattle.format_grammar.specs.Step.{Step, found, refused, _then_}
 use Rattle.format_grammar.specs.Lines.{linesAfter, textOf, whole}
-use Rattle.format_survey_lines.specs.Line.{nodesKey, linksKey, nodeKey, Tests, countLine, countsAt, groupLine, groupLines, Edge, edgeLine, edgeLines, Counts}
+use Rattle.format_key.specs.Key.{nodesKey, linksKey, nodeKey}
+use Rattle.format_survey_lines.specs.Line.{Tests, countLine, countsAt, groupLine, groupLines, Edge, edgeLine, edgeLines, Counts}
 use Rattle.format_grammar.specs.Bytes.{endAt}
 use Rattle.format_survey.specs.Reading.{bodyAt, surveyOf, surveyAt}
 use Rattle.format_survey_lines.specs.Render.{edgeText}

@@ -38,7 +38,7 @@ use denote.Triple.Walked.{says, Stays, stay-none-slice, walkOf, goes-none-slice,
 use denote.Exit.{yes}
 use denote.Triple.Clauses.{ensured, lasts}
 use Rattle.format_grammar.specs.Step.{Step}
-use Rattle.format_survey_lines.specs.Line.{nodesKey}
+use Rattle.format_key.specs.Key.{nodesKey}
 use Rattle.format_number.specs.Number.{numberLine}
 use Rattle.format_number.specs.Answer.{numberStep}
 use Rattle.format_survey_lines.specs.declared.Reader.{Reader}

@@ -4,8 +4,8 @@ use native.Mathlib.Omega.{arith}
 use mathlib.Core.Path.{_≡_, refl, ap, sym, _∙_, subst}
 use mathlib.Core.List.{List, [], _++_}
 use Rattle.base_limits.specs.Limits.{maxDigits}
-use Rattle.format_write.specs.Key.{comma, newline}
-use Rattle.format_survey_lines.specs.Line.{linkKey, Edge, edgeLine}
+use Rattle.format_key.specs.Key.{comma, newline, linkKey}
+use Rattle.format_survey_lines.specs.Line.{Edge, edgeLine}
 use Rattle.format_number.specs.Number.{numberText}
 use Rattle.format_survey_lines.specs.Render.{edgeText}
 use Rattle.format_number.specs.Laws.Words.{Numeral, reads-number}

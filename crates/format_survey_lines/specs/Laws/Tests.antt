@@ -10,9 +10,9 @@ use Rattle.base_limits.specs.Limits.{maxVertices, maxEdges, groupNumbers, maxDi
 use Rattle.base_limits.specs.Verdict.{refuseIf, _before_}
 use Rattle.base_limits.specs.declared.Verdict.{Verdict}
 use Rattle.base_limits.specs.declared.Verdict.the-variants.{Fine, Refused}
-use Rattle.format_write.specs.Key.{comma, newline}
+use Rattle.format_key.specs.Key.{comma, newline, nodeKey, linkKey, nodesKey, linksKey}
 use Rattle.format_grammar.specs.Step.{found, checked}
-use Rattle.format_survey_lines.specs.Line.{verticesTest, edgesTest, groupTest, nodeKey, linkKey, groupLine, Edge, edgeLine, nodesKey, linksKey, testsFor, countLine, countsAt, Counts}
+use Rattle.format_survey_lines.specs.Line.{verticesTest, edgesTest, groupTest, groupLine, Edge, edgeLine, testsFor, countLine, countsAt, Counts}
 use Rattle.format_number.specs.Number.{numberLine, numberTo}
 use Rattle.format_grammar.specs.Bytes.{fixedAt}
 use Rattle.format_number.specs.Laws.Digits.{number-to-below}
