@@ -5,14 +5,15 @@ use mathlib.Core.Bool.{_||_, cond}
 use mathlib.Core.List.{List, [], _∷_, _++_}
 use lib.ListN.{length, set, drop}
 use lib.Dec.{ltb}
+use Rattle.format_number.specs.Number.{numberLine}
 use Rattle.base_finite.specs.Below.{tabulate}
-use Rattle.base_limits.specs.Limits.{recordBytes}
+use Rattle.base_limits.specs.Limits.{recordBytes, figureDigits}
 use Rattle.base_limits.specs.Verdict.{refuseIf, Outcome, refusal, answer, outcome}
 use Rattle.base_limits.specs.declared.Verdict.{Verdict}
 use Rattle.format_key.specs.Key.{terminalsKey, costKey, boundKey, roundsKey}
 use Rattle.format_grammar.specs.Step.{Step, found, refused, _then_}
 use Rattle.format_grammar.specs.Lines.{linesAfter}
-use Rattle.format_plan_lines.specs.Lines.{countDigits, valueLine, keptAt, Moat, moatsAt, isIn, moatRecord}
+use Rattle.format_plan_lines.specs.Lines.{keptAt, Moat, moatsAt, isIn, moatRecord}
 
 -- The counts that a plan claims: sites, cost and bound; and its rounds, which nothing decides.
 pub record Claims : Type 0 where
@@ -23,10 +24,10 @@ pub record Claims : Type 0 where
 
 unfoldable pub claimsAt : List ℕ → (at : ℕ) → Step Claims
 claimsAt t at =
-    valueLine terminalsKey countDigits t at then λ k a.
-    valueLine costKey countDigits t a then λ c b.
-    valueLine boundKey countDigits t b then λ y d.
-    valueLine roundsKey countDigits t d then λ r e.
+    numberLine terminalsKey figureDigits t at then λ k a.
+    numberLine costKey figureDigits t a then λ c b.
+    numberLine boundKey figureDigits t b then λ y d.
+    numberLine roundsKey figureDigits t d then λ r e.
     found (record { terminals = k; cost = c; bound = y; rounds = r }) e
 
 -- What a printed plan says.

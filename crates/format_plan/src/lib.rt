@@ -6,12 +6,10 @@ ghost use Rattle.format_number.specs.Answer.{numberStep};
 ghost use Rattle.format_grammar.specs.Step.{stopped};
 ghost use Rattle.format_plan.specs.Plan.{bodyAt, claimsAt, cleared, planReading};
 ghost use Rattle.format_plan.specs.Answer.{Stores, Fills, Reads, claimsStep, planOutcome};
+use base_limits::FIGURE_DIGITS;
 use base_limits::RECORD_BYTES;
 use format_number::Cursor;
 use format_number::Number;
-
-// Digits of a count of the plan, at most.
-const COUNT_DIGITS: usize = 10;
 
 // The counts that a plan claims, with the next cursor.
 pub enum Claims {
@@ -45,7 +43,7 @@ fn stopped_claims(step: Number) -> Claims
 fn claim_lines(text: &[u8], cursor: Cursor) -> Claims
     ensures { λ r. ⌜ claimsStep r ≡ claimsAt (old text) (cursor .at) ⌝ }
 {
-    let one = format_plan_lines::value_line(text, cursor, &format_key::TERMINALS, COUNT_DIGITS);
+    let one = format_number::number_line(text, cursor, &format_key::TERMINALS, FIGURE_DIGITS);
     let Number::Value {
         value: terminals,
         next: a,
@@ -53,7 +51,7 @@ fn claim_lines(text: &[u8], cursor: Cursor) -> Claims
     else {
         return stopped_claims(one);
     };
-    let two = format_plan_lines::value_line(text, a, &format_key::COST, COUNT_DIGITS);
+    let two = format_number::number_line(text, a, &format_key::COST, FIGURE_DIGITS);
     let Number::Value {
         value: cost,
         next: b,
@@ -61,7 +59,7 @@ fn claim_lines(text: &[u8], cursor: Cursor) -> Claims
     else {
         return stopped_claims(two);
     };
-    let three = format_plan_lines::value_line(text, b, &format_key::BOUND, COUNT_DIGITS);
+    let three = format_number::number_line(text, b, &format_key::BOUND, FIGURE_DIGITS);
     let Number::Value {
         value: bound,
         next: c,
@@ -69,7 +67,7 @@ fn claim_lines(text: &[u8], cursor: Cursor) -> Claims
     else {
         return stopped_claims(three);
     };
-    let four = format_plan_lines::value_line(text, c, &format_key::ROUNDS, COUNT_DIGITS);
+    let four = format_number::number_line(text, c, &format_key::ROUNDS, FIGURE_DIGITS);
     let Number::Value {
         value: rounds,
         next,

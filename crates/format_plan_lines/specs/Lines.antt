@@ -8,7 +8,7 @@ use mathlib.Core.List.{List, [], _∷_}
 use lib.ListN.{length, set}
 use lib.Seq.{sets}
 use lib.Dec.{eqb, ltb, leb}
-use Rattle.base_limits.specs.Limits.{maxDigits, memberBytes, recordBytes, maxDuals}
+use Rattle.base_limits.specs.Limits.{memberBytes, recordBytes, maxDuals, keptDigits, valueDigits, memberDigits}
 use Rattle.base_limits.specs.Verdict.{refuseIf, _before_}
 use Rattle.base_limits.specs.declared.Verdict.{Verdict}
 use Rattle.format_record.specs.Record.{recordOf, withMemberIn}
@@ -16,27 +16,19 @@ use Rattle.format_key.specs.Key.{keptKey, dualKey, colon, comma, newline}
 use Rattle.format_grammar.specs.Step.{Step, found, _then_, checked}
 use Rattle.format_grammar.specs.Lines.{Lines}
 use Rattle.format_grammar.specs.Bytes.{byteIs, fixedAt}
-use Rattle.format_number.specs.Number.{numberAt, numberTo}
+use Rattle.format_number.specs.Number.{numberAt, numberLine}
 use Rattle.format_grammar.specs.Items.{ItemReader, itemsFrom}
-
--- digits of a count of the plan, at most
-abbrev pub countDigits : ℕ
-countDigits = 10
 
 -- members lie below this
 abbrev pub memberNumbers : ℕ
 memberNumbers = 8 * memberBytes
-
--- A line of a key and one number of at most limit digits.
-unfoldable pub valueLine : (key : List ℕ) (limit : ℕ) → List ℕ → (at : ℕ) → Step ℕ
-valueLine key limit t at = fixedAt key t at then λ z p. numberTo limit newline t p
 
 -- 26 at keep line i, where no kept track lies below low and m is the number of tracks.
 unfoldable pub keptTest : (m low i e : ℕ) → Verdict
 keptTest m low i e = refuseIf (ltb e low || leb m e) 26 i
 
 unfoldable pub keepLine : List ℕ → (m low i at : ℕ) → Step ℕ
-keepLine t m low i at = valueLine keptKey maxDigits t at then λ e p. checked (keptTest m low i e) e p
+keepLine t m low i at = numberLine keptKey keptDigits t at then λ e p. checked (keptTest m low i e) e p
 
 -- Keep lines stand as long as a line begins like one.
 unfoldable pub keepReader : List ℕ → (m : ℕ) → ItemReader ℕ ℕ
@@ -51,7 +43,7 @@ separator zero = []
 separator (suc i) = comma ∷ []
 
 unfoldable pub memberAt : List ℕ → (low i at : ℕ) → Step ℕ
-memberAt t low i at = fixedAt (separator i) t at then λ z p. numberAt maxDigits t p
+memberAt t low i at = fixedAt (separator i) t at then λ z p. numberAt memberDigits t p
 
 -- The lowest member that may follow v, where low was the lowest that might stand here; past all members once one is none or does not rise.
 unfoldable pub risen : (low v : ℕ) → ℕ
@@ -77,7 +69,7 @@ moatTest i low = refuseIf (ltb memberNumbers low) 27 i before refuseIf (leb maxD
 unfoldable pub moatHead : List ℕ → (at : ℕ) → Step ℕ
 moatHead t at =
     fixedAt dualKey t at then λ z a.
-    numberAt maxDigits t a then λ amount b.
+    numberAt valueDigits t a then λ amount b.
     fixedAt (colon ∷ []) t b then λ y c.
     found amount c
 

@@ -2,17 +2,19 @@
 // the next cursor, or a refusal.
 ghost use Rattle.base_buffer.specs.Lent.{old, new};
 ghost use mathlib.Core.Path.{_≡_};
-ghost use Prim.Native.Nat.{min};
 ghost use lib.ListN.{length};
 ghost use Rattle.base_limits.specs.Limits.{recordBytes};
 ghost use Rattle.format_grammar.specs.Bytes.{byteIs};
 ghost use Rattle.format_number.specs.Answer.{numberStep};
-ghost use Rattle.format_plan_lines.specs.Lines.{valueLine, keepLine, keptAt, putMark, memberAt, risen, membersAt, putMember, putMoat, moatHead, moatOf, moatRecord, moatLine, moatsAt};
+ghost use Rattle.format_plan_lines.specs.Lines.{keepLine, keptAt, putMark, memberAt, risen, membersAt, putMember, putMoat, moatHead, moatOf, moatRecord, moatLine, moatsAt};
 ghost use Rattle.format_plan_lines.specs.Answer.{Members, MoatRead};
 ghost use Rattle.format_grammar.specs.Items.{Ends};
-use base_limits::MAX_DIGITS;
+use base_limits::KEPT_DIGITS;
 use base_limits::MAX_DUALS;
+use base_limits::MAX_VERTICES;
+use base_limits::MEMBER_DIGITS;
 use base_limits::RECORD_BYTES;
+use base_limits::VALUE_DIGITS;
 use format_number::Cursor;
 use format_number::Number;
 
@@ -26,22 +28,11 @@ fn byte_is(text: &[u8], at: usize, b: u8) -> bool
     text[at] == b
 }
 
-// A line of a key and one number.
-pub fn value_line(text: &[u8], cursor: Cursor, key: &[u8], limit: usize) -> Number
-    ensures { λ r. ⌜ numberStep r ≡ valueLine (old key) (min limit 10) (old text) (cursor .at) ⌝ }
-{
-    let step = format_number::fixed(text, cursor, key);
-    let Number::Value { value: _, next } = step else {
-        return step;
-    };
-    format_number::number_to(text, next, limit, false)
-}
-
 // `keep=e`, line i of its kind: 26 where e is below low or no track.
 fn keep_line(text: &[u8], cursor: Cursor, edges: usize, low: u64, i: usize) -> Number
     ensures { λ r. ⌜ numberStep r ≡ keepLine (old text) edges low i (cursor .at) ⌝ }
 {
-    let step = value_line(text, cursor, &format_key::KEPT, MAX_DIGITS);
+    let step = format_number::number_line(text, cursor, &format_key::KEPT, KEPT_DIGITS);
     let Number::Value { value, next: _ } = step else {
         return step;
     };
@@ -90,13 +81,13 @@ fn member_at(text: &[u8], cursor: Cursor, low: u64, i: usize) -> Number
     ensures { λ r. ⌜ numberStep r ≡ memberAt (old text) low i (cursor .at) ⌝ }
 {
     if i == 0 {
-        return format_number::number_at(text, cursor, MAX_DIGITS);
+        return format_number::number_at(text, cursor, MEMBER_DIGITS);
     }
     let step = format_number::fixed(text, cursor, b",");
     let Number::Value { value: _, next } = step else {
         return step;
     };
-    format_number::number_at(text, next, MAX_DIGITS)
+    format_number::number_at(text, next, MEMBER_DIGITS)
 }
 
 // The lowest member that may follow v; past all members once one is none or does not rise.
@@ -145,7 +136,7 @@ fn moat_head(text: &[u8], cursor: Cursor) -> Number
     let Number::Value { value: _, next: a } = key else {
         return key;
     };
-    let sum = format_number::number_at(text, a, MAX_DIGITS);
+    let sum = format_number::number_at(text, a, VALUE_DIGITS);
     let Number::Value {
         value: amount,
         next: b,

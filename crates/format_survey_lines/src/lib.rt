@@ -5,16 +5,20 @@ ghost use mathlib.Core.Path.{_≡_};
 ghost use Prim.Native.Nat.{_<_};
 ghost use lib.ListN.{set};
 ghost use lib.Seq.{sets};
+ghost use Rattle.base_limits.specs.Limits.{countDigits};
 ghost use Rattle.format_number.specs.Number.{numberLine};
 ghost use Rattle.format_number.specs.Answer.{numberStep};
 ghost use Rattle.format_grammar.specs.Step.{stopped};
 ghost use Rattle.format_key.specs.Key.{nodesKey, linksKey};
 ghost use Rattle.format_survey_lines.specs.Line.{edgeLines, firstsOf, secondsOf, weightsOf, testsFor, countsAt, groupLines, verticesTest, edgesTest, groupTest, countLine, groupLine, edgeLine};
 ghost use Rattle.format_survey_lines.specs.Answer.{edgeStep, countsStep};
+use base_limits::COUNT_DIGITS;
+use base_limits::ENDPOINT_DIGITS;
+use base_limits::GROUP_DIGITS;
 use base_limits::GROUP_NUMBERS;
-use base_limits::MAX_DIGITS;
 use base_limits::MAX_EDGES;
 use base_limits::MAX_VERTICES;
+use base_limits::WEIGHT_DIGITS;
 use format_number::Cursor;
 use format_number::Number;
 use format_number::fixed;
@@ -60,20 +64,20 @@ fn opened<'a>(text: &'a [u8]) -> Reader<'a>
 
 // `nodes=n` at an offset.
 fn nodes_at(text: &[u8], at: usize) -> Number
-    ensures { λ r. ⌜ numberStep r ≡ numberLine nodesKey (old text) at ⌝ }
+    ensures { λ r. ⌜ numberStep r ≡ numberLine nodesKey countDigits (old text) at ⌝ }
 {
-    number_line(text, Cursor { at }, &format_key::NODES)
+    number_line(text, Cursor { at }, &format_key::NODES, COUNT_DIGITS)
 }
 
 fn nodes_line<'a>(r: Reader<'a>) -> Number
-    ensures { λ s. ⌜ numberStep s ≡ numberLine nodesKey (now (r .entry .text)) (r .entry .at) ⌝ }
+    ensures { λ s. ⌜ numberStep s ≡ numberLine nodesKey countDigits (now (r .entry .text)) (r .entry .at) ⌝ }
 {
     nodes_at(r.text, r.at)
 }
 
 // The line with which a text begins.
 fn first_line(text: &[u8]) -> Number
-    ensures { λ r. ⌜ numberStep r ≡ numberLine nodesKey (old text) 0 ⌝ }
+    ensures { λ r. ⌜ numberStep r ≡ numberLine nodesKey countDigits (old text) 0 ⌝ }
 {
     nodes_line(opened(text))
 }
@@ -112,7 +116,7 @@ fn vertices_line(text: &[u8], lent: usize) -> Number
 fn edges_line(text: &[u8], cursor: Cursor, firsts: usize, seconds: usize, weights: usize) -> Number
     ensures { λ r. ⌜ numberStep r ≡ countLine linksKey (edgesTest firsts seconds weights) (old text) (cursor .at) ⌝ }
 {
-    let step = number_line(text, cursor, &format_key::LINKS);
+    let step = number_line(text, cursor, &format_key::LINKS, COUNT_DIGITS);
     let Number::Value { value, next: _ } = step else {
         return step;
     };
@@ -148,7 +152,7 @@ fn edges_line(text: &[u8], cursor: Cursor, firsts: usize, seconds: usize, weight
 fn group_line(text: &[u8], cursor: Cursor, vertex: usize) -> Number
     ensures { λ r. ⌜ numberStep r ≡ groupLine groupTest (old text) vertex (cursor .at) ⌝ }
 {
-    let step = number_line(text, cursor, &format_key::NODE);
+    let step = number_line(text, cursor, &format_key::NODE, GROUP_DIGITS);
     let Number::Value { value, next: _ } = step else {
         return step;
     };
@@ -183,7 +187,7 @@ fn edge_line(text: &[u8], cursor: Cursor, edge: usize) -> EdgeLine
     let Number::Value { value: _, next: a } = key else {
         return stopped_edge(key);
     };
-    let one = number_to(text, a, MAX_DIGITS, true);
+    let one = number_to(text, a, ENDPOINT_DIGITS, true);
     let Number::Value {
         value: first,
         next: b,
@@ -191,7 +195,7 @@ fn edge_line(text: &[u8], cursor: Cursor, edge: usize) -> EdgeLine
     else {
         return stopped_edge(one);
     };
-    let two = number_to(text, b, MAX_DIGITS, true);
+    let two = number_to(text, b, ENDPOINT_DIGITS, true);
     let Number::Value {
         value: second,
         next: c,
@@ -199,7 +203,7 @@ fn edge_line(text: &[u8], cursor: Cursor, edge: usize) -> EdgeLine
     else {
         return stopped_edge(two);
     };
-    let three = number_to(text, c, MAX_DIGITS, false);
+    let three = number_to(text, c, WEIGHT_DIGITS, false);
     let Number::Value {
         value: weight,
         next,

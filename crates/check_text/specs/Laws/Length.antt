@@ -6,25 +6,25 @@ use mathlib.Core.Path.{_≡_, ap, sym, _∙_}
 use mathlib.Core.Logic.{⊎-elim}
 use mathlib.Core.List.{List, [], _∷_, _++_}
 use lib.ListN.{length, length-append}
+use Rattle.format_number.specs.Laws.Words.{digits-most}
 use Rattle.base_finite.specs.Below.{sumBelow}
 use Rattle.base_finite.specs.Laws.Below.{lt-or-ge}
-use Rattle.base_limits.specs.Limits.{recordBytes, maxVertices, maxEdges, maxDuals}
+use Rattle.base_limits.specs.Limits.{recordBytes, maxVertices, maxEdges, maxDuals, valueDigits}
 use Rattle.base_limits.specs.Verdict.{answer}
 use Rattle.format_key.specs.Key.{keptKey, comma}
 use Rattle.format_write.specs.Decimal.{decimal}
 use Rattle.format_write.specs.Text.{lineOf, listed, keptLine}
 use Rattle.format_print.specs.Room.{longestDual, planRoom}
-use Rattle.format_write.specs.Laws.Decimal.{length-decimal}
 use Rattle.format_print.specs.Laws.Room.{roomBelow, room-of-members, length-dual, kept-line-le, length-count-lines}
 use Rattle.format_grammar.specs.Step.{found}
 use Rattle.format_survey_lines.specs.Line.{testsFor}
 use Rattle.format_survey.specs.Reading.{Survey as SurveyText}
 use Rattle.format_grammar.specs.Lines.{textOf}
-use Rattle.format_survey.specs.Render.{render}
+use Rattle.format_survey.specs.Render.{render, longestText}
 use Rattle.format_grammar.specs.Laws.Step.{then-value}
 use Rattle.format_survey.specs.Laws.Said.{saidAt, reads-said}
 use Rattle.format_survey.specs.Laws.WellFormed.{sparing, accepted-within}
-use Rattle.format_survey.specs.Laws.Longest.{longestText, longest-within}
+use Rattle.format_survey.specs.Laws.Longest.{longest-within}
 use Rattle.survey_core.specs.Survey.{edgeCount}
 use Rattle.check_rule.specs.Check.{Checked}
 use Rattle.format_grammar.specs.Language.{Each, none, more}
@@ -81,7 +81,7 @@ moat-most : (d : Moat) → Printed d → length (moatText d) ≤ longestDual
 unfolding moatText
 moat-most d p =
     let l = length-dual (d .value) (d .members) in
-    let x = length-decimal 6 (d .value) (p .small) in
+    let x = digits-most valueDigits (d .value) (omega arith) (p .small) in
     let m = listed-most (d .members) (p .rises) in
     omega arith
 

@@ -4,7 +4,7 @@ use native.Mathlib.Omega.{arith}
 use mathlib.Core.Path.{_≡_, refl, ap, sym, _∙_, subst}
 use mathlib.Core.List.{List, [], _++_}
 use lib.ListN.{length, length-append}
-use Rattle.base_limits.specs.Limits.{maxVertices, maxEdges}
+use Rattle.base_limits.specs.Limits.{maxVertices, maxEdges, figureDigits}
 use Rattle.base_limits.specs.Verdict.{answer}
 use Rattle.format_record.specs.Bits.{Bytes}
 use Rattle.format_print.specs.Room.{planRoom}
@@ -13,16 +13,15 @@ use Rattle.format_print.specs.Laws.Room.{plan-text-le}
 use Rattle.format_grammar.specs.Step.{found}
 use Rattle.format_survey_lines.specs.Line.{Edge}
 use Rattle.format_survey.specs.Reading.{outcomeOf, reading, Survey as SurveyText}
-use Rattle.format_survey.specs.Render.{render}
+use Rattle.format_survey.specs.Render.{render, longestText}
 use Rattle.format_survey.specs.Laws.WellFormed.{Within, accepted-render, surveyFrom as surveyOfText}
-use Rattle.format_survey.specs.Laws.Longest.{longestText, longest-read}
+use Rattle.format_survey.specs.Laws.Longest.{longest-read}
 use Rattle.survey_core.specs.Survey.{Survey, edgeCount}
 use Rattle.survey_core.specs.Laws.Group.{Numbered}
 use Rattle.check_rule.specs.Check.{Checked, dualAt, checkedOf, checking}
 use Rattle.check_core.specs.Stage.{DualsFit, CountsFit}
 use Rattle.check_rule.specs.Laws.Accuracy.{checking-passing}
 use Rattle.check_core.specs.Laws.Duals.{counts-fit}
-use Rattle.format_plan_lines.specs.Lines.{countDigits}
 use Rattle.format_plan.specs.Plan.{Claims, planAt}
 use Rattle.check_text.specs.Verify.{planVerified, planFrom, verifiedFrom, verifying}
 use Rattle.check_text.specs.Laws.Verify.{claim-fine, room-suffices}
@@ -41,7 +40,7 @@ printed c rounds marks records = planText (c .terminals) (c .cost) (c .bound) ro
 
 module _ (s : Survey) (numbered : Numbered s) (marks records : List ℕ) (c : Checked) (passed : checking s marks records ≡ answer c) where
   -- What passes fits the digits and the limits of a printed plan.
-  passed-fits : (rounds : ℕ) → rounds < 10 ^ countDigits → Fits (claimsOf c rounds) marks records
+  passed-fits : (rounds : ℕ) → rounds < 10 ^ figureDigits → Fits (claimsOf c rounds) marks records
   unfolding checkedOf dualAt edgeCount
   passed-fits rounds h =
       let law = checking-passing s numbered marks records in
@@ -62,7 +61,7 @@ module _ (s : Survey) (numbered : Numbered s) (marks records : List ℕ) (c : Ch
       }
 
   -- The text of what passes is no longer than any plan's.
-  passed-length : Bytes records → (rounds : ℕ) → rounds < 10 ^ countDigits → length (printed c rounds marks records) ≤ planRoom
+  passed-length : Bytes records → (rounds : ℕ) → rounds < 10 ^ figureDigits → length (printed c rounds marks records) ≤ planRoom
   passed-length bytes rounds h =
       let f = passed-fits rounds h in
       let k = f .few .terminals in
@@ -82,7 +81,7 @@ module _ (s : Survey) (numbered : Numbered s) (marks records : List ℕ) (c : Ch
       }
 
   -- The plan behind any text is read back and passes.
-  plan-passes : Bytes records → (u : List ℕ) (rounds : ℕ) → rounds < 10 ^ countDigits → planVerified s (planFrom (u ++ printed c rounds marks records) s (length u)) ≡ answer c
+  plan-passes : Bytes records → (u : List ℕ) (rounds : ℕ) → rounds < 10 ^ figureDigits → planVerified s (planFrom (u ++ printed c rounds marks records) s (length u)) ≡ answer c
   unfolding planVerified planIn outcomeOf edgeCount
   plan-passes bytes u rounds h =
       let t = u ++ printed c rounds marks records in
@@ -104,7 +103,7 @@ read-numbered t gb fb sb wb s e =
     subst (λ (x : SurveyText). Numbered (surveyIn x)) (sym (a .says)) (render-numbered (a .groups) (a .edges) (a .within))
 
 -- Behind a rendering.
-render-passes : (groups : List ℕ) (edges : List Edge) → Within groups edges → (marks records : List ℕ) → Bytes records → (rounds : ℕ) → rounds < 10 ^ countDigits → (c : Checked)
+render-passes : (groups : List ℕ) (edges : List Edge) → Within groups edges → (marks records : List ℕ) → Bytes records → (rounds : ℕ) → rounds < 10 ^ figureDigits → (c : Checked)
     → checking (surveyIn (surveyOfText groups edges)) marks records ≡ answer c → verifying (render groups edges ++ printed c rounds marks records) ≡ answer c
 unfolding verifying verifiedFrom
 render-passes groups edges w marks records bytes rounds h c passed =
@@ -113,7 +112,7 @@ render-passes groups edges w marks records bytes rounds h c passed =
     ap (verifiedFrom t) read
     ∙ plan-passes (surveyIn (surveyOfText groups edges)) (render-numbered groups edges w) marks records c passed bytes (render groups edges) rounds h
 
-module _ (t gb fb sb wb : List ℕ) (s : SurveyText) (read : reading t gb fb sb wb ≡ answer s) (marks records : List ℕ) (bytes : Bytes records) (rounds : ℕ) (few : rounds < 10 ^ countDigits) where
+module _ (t gb fb sb wb : List ℕ) (s : SurveyText) (read : reading t gb fb sb wb ≡ answer s) (marks records : List ℕ) (bytes : Bytes records) (rounds : ℕ) (few : rounds < 10 ^ figureDigits) where
   -- A plan that the checker passes for the survey of a text, printed behind this text, passes with the same counts.
   pub printed-passes : (c : Checked) → checking (surveyIn s) marks records ≡ answer c → verifying (t ++ printed c rounds marks records) ≡ answer c
   printed-passes c passed =

@@ -5,13 +5,12 @@ use mathlib.Core.Path.{_≡_, refl, ap, sym, _∙_, subst}
 use mathlib.Core.Bool.{false}
 use mathlib.Core.List.{List, [], _∷_, _++_, append-assoc, append-nil}
 use lib.ListN.{length, length-append}
-use Rattle.base_limits.specs.Limits.{maxDigits}
 use Rattle.base_limits.specs.declared.Verdict.{Verdict}
 use Rattle.base_limits.specs.declared.Verdict.the-variants.{Fine, Refused}
 use Rattle.format_key.specs.Key.{comma, newline}
 use Rattle.format_write.specs.Decimal.{decimal}
 use Rattle.format_write.specs.Text.{lineOf}
-use Rattle.format_number.specs.Number.{isDigit, classOf, numberTo, numberLine, numberText, numberAt}
+use Rattle.format_number.specs.Number.{isDigit, classOf, numberTo, numberLine, numberText, numberAt, OfDigits}
 use Rattle.format_number.specs.Laws.Words.{Numeral, reads-number}
 use Rattle.format_grammar.specs.Bytes.{fixedAt}
 use Rattle.format_grammar.specs.Language.{Reads, Seq, Empty, Fixed, Text}
@@ -21,10 +20,6 @@ use Rattle.format_grammar.specs.Laws.Stands.{stands-first, stands-second}
 use Rattle.format_grammar.specs.Laws.Step.{then-found, then-value}
 use Rattle.format_grammar.specs.Stands.{Stands}
 use Rattle.format_grammar.specs.Step.{_then_, checked, found}
-
--- Numbers of at most so many digits.
-abbrev pub Small : ℕ → Type 0
-Small x = x < 10 ^ maxDigits
 
 pub newline-no-digit : isDigit (classOf newline) ≡ false
 unfolding isDigit classOf
@@ -36,18 +31,18 @@ comma-no-digit = refl
 
 -- A key, a number of at most limit digits, and the byte that ends it.
 pub reads-keyed : (key : List ℕ) (limit stop : ℕ) → 1 ≤ limit → isDigit (classOf stop) ≡ false
-    → Reads (λ t at. fixedAt key t at then λ z p. numberTo limit stop t p) (Text (λ x. x < 10 ^ limit) (λ x. key ++ decimal x ++ (stop ∷ []))) (Text (λ x. x < 10 ^ limit) (λ x. key ++ decimal x ++ (stop ∷ [])))
+    → Reads (λ t at. fixedAt key t at then λ z p. numberTo limit stop t p) (Text (OfDigits limit) (λ x. key ++ decimal x ++ (stop ∷ []))) (Text (OfDigits limit) (λ x. key ++ decimal x ++ (stop ∷ [])))
 unfolding numberText
 reads-keyed key limit stop positive no-digit = reads-as (λ t at. refl) to from to from (reads-then (reads-fixed key) (λ z. reads-number limit stop positive no-digit))
   where
-    to : (a : ℕ) (w : List ℕ) → Seq (Fixed key) (λ z. Numeral limit stop) a w → Text (λ x. x < 10 ^ limit) (λ x. key ++ decimal x ++ (stop ∷ [])) a w
+    to : (a : ℕ) (w : List ℕ) → Seq (Fixed key) (λ z. Numeral limit stop) a w → Text (OfDigits limit) (λ x. key ++ decimal x ++ (stop ∷ [])) a w
     to a w m =
         record {
           holds = m .second .below;
           word = m .whole ∙ ap (λ (x : List ℕ). x ++ m .right) (m .first .word) ∙ ap (λ (x : List ℕ). key ++ x) (m .second .word) ∙ sym (append-assoc key (decimal a) (stop ∷ []));
         }
 
-    from : (a : ℕ) (w : List ℕ) → Text (λ x. x < 10 ^ limit) (λ x. key ++ decimal x ++ (stop ∷ [])) a w → Seq (Fixed key) (λ z. Numeral limit stop) a w
+    from : (a : ℕ) (w : List ℕ) → Text (OfDigits limit) (λ x. key ++ decimal x ++ (stop ∷ [])) a w → Seq (Fixed key) (λ z. Numeral limit stop) a w
     from a w m =
         record {
           value = 0;
@@ -58,28 +53,28 @@ reads-keyed key limit stop positive no-digit = reads-as (λ t at. refl) to from 
           whole = m .word ∙ append-assoc key (decimal a) (stop ∷ []);
         }
 
-pub reads-line : (key : List ℕ) → Reads (numberLine key) (Text Small (lineOf key)) (Text Small (lineOf key))
+pub reads-line : (key : List ℕ) (limit : ℕ) → 1 ≤ limit → Reads (numberLine key limit) (Text (OfDigits limit) (lineOf key)) (Text (OfDigits limit) (lineOf key))
 unfolding numberLine lineOf
-reads-line key = reads-keyed key maxDigits newline (omega arith) newline-no-digit
+reads-line key limit positive = reads-keyed key limit newline positive newline-no-digit
 
 -- A line whose number is tested: what passes is read, and what fails is refused for another reason than its form.
-pub record Passes (test : ℕ → Verdict) (x : ℕ) : Type 0 where
-  pub small : Small x
+pub record Passes (limit : ℕ) (test : ℕ → Verdict) (x : ℕ) : Type 0 where
+  pub small : OfDigits limit x
   pub passes : test x ≡ Fine
 
-pub reads-tested : (key : List ℕ) (test : ℕ → Verdict) → ((x n p : ℕ) → test x ≡ Refused n p → n ≡ 16 → ⊥)
-    → Reads (λ t at. numberLine key t at then λ x p. checked (test x) x p) (Text (Passes test) (lineOf key)) (Text Small (lineOf key))
-reads-tested key test h = reads-as (λ t at. refl) to from to′ from′ (reads-then (reads-line key) (λ x. reads-checked (test x) x (h x)))
+pub reads-tested : (key : List ℕ) (limit : ℕ) → 1 ≤ limit → (test : ℕ → Verdict) → ((x n p : ℕ) → test x ≡ Refused n p → n ≡ 16 → ⊥)
+    → Reads (λ t at. numberLine key limit t at then λ x p. checked (test x) x p) (Text (Passes limit test) (lineOf key)) (Text (OfDigits limit) (lineOf key))
+reads-tested key limit positive test h = reads-as (λ t at. refl) to from to′ from′ (reads-then (reads-line key limit positive) (λ x. reads-checked (test x) x (h x)))
   where
-    to : (a : ℕ) (w : List ℕ) → Seq (Text Small (lineOf key)) (λ x c z. Empty x c z × (test x ≡ Fine)) a w → Text (Passes test) (lineOf key) a w
+    to : (a : ℕ) (w : List ℕ) → Seq (Text (OfDigits limit) (lineOf key)) (λ x c z. Empty x c z × (test x ≡ Fine)) a w → Text (Passes limit test) (lineOf key) a w
     to a w m =
         let e : m .value ≡ a = sym (m .second .0 .value) in
         record {
-          holds = subst (Passes test) e record { small = m .first .holds; passes = m .second .1 };
+          holds = subst (Passes limit test) e record { small = m .first .holds; passes = m .second .1 };
           word = m .whole ∙ ap (λ (x : List ℕ). m .left ++ x) (m .second .0 .word) ∙ append-nil (m .left) ∙ m .first .word ∙ ap (lineOf key) e;
         }
 
-    from : (a : ℕ) (w : List ℕ) → Text (Passes test) (lineOf key) a w → Seq (Text Small (lineOf key)) (λ x c z. Empty x c z × (test x ≡ Fine)) a w
+    from : (a : ℕ) (w : List ℕ) → Text (Passes limit test) (lineOf key) a w → Seq (Text (OfDigits limit) (lineOf key)) (λ x c z. Empty x c z × (test x ≡ Fine)) a w
     from a w m =
         record {
           value = a;
@@ -90,15 +85,15 @@ reads-tested key test h = reads-as (λ t at. refl) to from to′ from′ (reads-
           whole = m .word ∙ sym (append-nil (lineOf key a));
         }
 
-    to′ : (a : ℕ) (w : List ℕ) → Seq (Text Small (lineOf key)) (λ x. Empty x) a w → Text Small (lineOf key) a w
+    to′ : (a : ℕ) (w : List ℕ) → Seq (Text (OfDigits limit) (lineOf key)) (λ x. Empty x) a w → Text (OfDigits limit) (lineOf key) a w
     to′ a w m =
         let e : m .value ≡ a = sym (m .second .value) in
         record {
-          holds = subst Small e (m .first .holds);
+          holds = subst (OfDigits limit) e (m .first .holds);
           word = m .whole ∙ ap (λ (x : List ℕ). m .left ++ x) (m .second .word) ∙ append-nil (m .left) ∙ m .first .word ∙ ap (lineOf key) e;
         }
 
-    from′ : (a : ℕ) (w : List ℕ) → Text Small (lineOf key) a w → Seq (Text Small (lineOf key)) (λ x. Empty x) a w
+    from′ : (a : ℕ) (w : List ℕ) → Text (OfDigits limit) (lineOf key) a w → Seq (Text (OfDigits limit) (lineOf key)) (λ x. Empty x) a w
     from′ a w m =
         record {
           value = a;

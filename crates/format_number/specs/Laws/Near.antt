@@ -7,7 +7,6 @@ use mathlib.Core.Path.{_≡_, refl, ap, sym, _∙_, subst}
 use lib.Dec.{eqb}
 use lib.ListN.{length, take, drop}
 use borrow.Author.Tests.{eqb-false}
-use Rattle.base_limits.specs.Limits.{maxDigits}
 use Rattle.base_limits.specs.declared.Verdict.{Verdict}
 use Rattle.base_limits.specs.declared.Verdict.the-variants.{Fine}
 use Rattle.format_grammar.specs.Bytes.{fixedAt}
@@ -17,9 +16,10 @@ use Rattle.format_grammar.specs.Laws.Local.{local-checked, local-then, local-as
 use Rattle.format_grammar.specs.Laws.Stands.{take-less}
 use Rattle.format_grammar.specs.Laws.Step.{then-found, then-refused, then-value}
 use Rattle.format_grammar.specs.Step.{Step, found, refused, _then_, checked}
+use Rattle.format_write.specs.Decimal.{spelledAfter}
 use Rattle.format_number.specs.Laws.Number.{numeral-range, numeral-width}
 use Rattle.format_number.specs.Laws.Words.{numeral-same}
-use Rattle.format_number.specs.Number.{numeralEnd, numeralAt, decimalFrom, numberAt, numberTo, numberLine}
+use Rattle.format_number.specs.Number.{numeralEnd, numeralAt, numberAt, numberTo, numberLine, lineBytes}
 use Rattle.format_key.specs.Key.{newline}
 
 numeral-alike : (limit : ℕ) (t u : List ℕ) (at : ℕ) → 1 ≤ limit → take (at + (limit + 1)) t ≡ take (at + (limit + 1)) u → numeralAt limit t at ≡ numeralAt limit u at
@@ -37,7 +37,7 @@ numeral-alike limit t u at h e =
 number-alike : (limit : ℕ) (t u : List ℕ) (at : ℕ) → 1 ≤ limit → take (at + (limit + 1)) t ≡ take (at + (limit + 1)) u → numberAt limit t at ≡ numberAt limit u at
 unfolding numberAt
 number-alike limit t u at h e =
-    ap (λ (w : List ℕ). cond (eqb (length w) 0) (refused 16 at) (found (decimalFrom 0 w) (at + length w))) (numeral-alike limit t u at h e)
+    ap (λ (w : List ℕ). cond (eqb (length w) 0) (refused 16 at) (found (spelledAfter 0 w) (at + length w))) (numeral-alike limit t u at h e)
 
 number-near : (limit : ℕ) (t : List ℕ) (at v p : ℕ) → 1 ≤ limit → numberAt limit t at ≡ found v p → p ≤ at + limit
 unfolding numberAt
@@ -45,7 +45,7 @@ number-near limit t at v p h e =
     let w = numeral-width t limit at .most in
     by-width (eqb (length (numeralAt limit t at)) 0) e
   where
-    by-width : (z : Bool) → cond z (refused 16 at) (found (decimalFrom 0 (numeralAt limit t at)) (at + length (numeralAt limit t at))) ≡ found v p → p ≤ at + limit
+    by-width : (z : Bool) → cond z (refused 16 at) (found (spelledAfter 0 (numeralAt limit t at)) (at + length (numeralAt limit t at))) ≡ found v p → p ≤ at + limit
     by-width true q = let z : _≡_ {A = ℕ} 0 1 = cc in absurd (omega arith)
     by-width false q = let w = numeral-width t limit at .most in let s : at + length (numeralAt limit t at) ≡ p = cc in omega arith
 
@@ -79,15 +79,11 @@ local-number limit stop h =
         let q : g .1 ≡ p = cc (g .3) in
         omega arith
 
--- The bytes that a line of a key and a number can take.
-abbrev pub lineBytes : List ℕ → ℕ
-lineBytes key = length key + (maxDigits + 1)
-
-pub local-tested : (key : List ℕ) (test : ℕ → Verdict) → Local (λ t at. numberLine key t at then λ x p. checked (test x) x p) (lineBytes key) (λ x. test x ≡ Fine)
+pub local-tested : (key : List ℕ) (limit : ℕ) → 1 ≤ limit → (test : ℕ → Verdict) → Local (λ t at. numberLine key limit t at then λ x p. checked (test x) x p) (lineBytes key limit) (λ x. test x ≡ Fine)
 unfolding numberLine
-local-tested key test =
+local-tested key limit positive test =
     local-as (λ t at. refl) (omega arith) (λ a x. x)
-    (local-then (local-then {Q = Any} (local-fixed key) (λ z x. local-number maxDigits newline (omega arith))) (λ n x. passed n))
+    (local-then (local-then {Q = Any} (local-fixed key) (λ z x. local-number limit newline positive)) (λ n x. passed n))
   where
     passed : (n : ℕ) → Local (λ t at. checked (test n) n at) 0 (λ x. test x ≡ Fine)
     passed n = local-as (λ t at. refl) (omega arith) (λ a x. subst (λ (k : ℕ). test k ≡ Fine) (x .0) (x .1)) (local-checked (test n) n)
@@ -96,7 +92,7 @@ pub number-goes : (limit : ℕ) (t : List ℕ) (at : ℕ) {v p : ℕ} → number
 unfolding numberAt
 number-goes limit t at {v} {p} e = by-width (eqb (length (numeralAt limit t at)) 0) refl e
   where
-    by-width : (z : Bool) → eqb (length (numeralAt limit t at)) 0 ≡ z → cond z (refused 16 at) (found (decimalFrom 0 (numeralAt limit t at)) (at + length (numeralAt limit t at))) ≡ found v p → Goes t at p
+    by-width : (z : Bool) → eqb (length (numeralAt limit t at)) 0 ≡ z → cond z (refused 16 at) (found (spelledAfter 0 (numeralAt limit t at)) (at + length (numeralAt limit t at))) ≡ found v p → Goes t at p
     by-width true w q = let z : _≡_ {A = ℕ} 0 1 = cc in absurd (omega arith)
     by-width false w q =
         let n = eqb-false (length (numeralAt limit t at)) 0 w in

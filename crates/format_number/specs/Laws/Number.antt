@@ -10,7 +10,8 @@ use lib.ListN.{length, getD, take, drop, drop-of-length-le, length-take, length-
 use lib.Dec.{eqb, leb}
 use lib.Seq.{take-nil, drop-cons}
 use borrow.Author.Tests.{eqb-true, leb-true, leb-false}
-use Rattle.format_number.specs.Number.{classOf, isDigit, digitsEnd, numeralEnd, numeralAt, decimalFrom}
+use Rattle.format_write.specs.Decimal.{spelledAfter}
+use Rattle.format_number.specs.Number.{classOf, isDigit, digitsEnd, numeralEnd, numeralAt}
 use Rattle.format_number.specs.Laws.Byte.{digit-inside}
 use Rattle.format_number.specs.declared.Class.{Class}
 use Rattle.format_number.specs.declared.Class.the-variants.{Digit, LineEnd, Comma, Other}
@@ -89,8 +90,8 @@ value-step n d i h k = rw (add-one, pow-suc) (omega arith)
 pub value-fits : (n i : ℕ) → n + 23 ≤ 23 * 10 ^ i → i < 10 → n ≤ 23000000000
 value-fits n i h k = let p : 10 ^ i ≤ 10 ^ 9 = pow-le-pow-right {n = 10} (omega arith) {i = i} {j = 9} (omega arith) in omega arith
 
-pub decimal-more : (n i : ℕ) (s : List ℕ) → i < length s → decimalFrom n (drop i s) ≡ decimalFrom (n * 10 + (getD s i 0 - 48)) (drop (i + 1) s)
-unfolding decimalFrom
+pub decimal-more : (n i : ℕ) (s : List ℕ) → i < length s → spelledAfter n (drop i s) ≡ spelledAfter (n * 10 + (getD s i 0 - 48)) (drop (i + 1) s)
+unfolding spelledAfter
 decimal-more n i s h = rw (add-one, drop-cons s i 0 h)
 
 pub record Width (t : List ℕ) (limit at width : ℕ) : Type 0 where

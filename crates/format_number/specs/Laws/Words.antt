@@ -9,9 +9,9 @@ use lib.ListN.{length, getD, take, drop, length-append, length-drop}
 use lib.Seq.{length-take-le}
 use lib.Dec.{eqb}
 use borrow.Author.Tests.{eq-eqb, ne-eqb, eqb-true, eqb-false}
-use Rattle.format_write.specs.Decimal.{decimal}
+use Rattle.format_write.specs.Decimal.{decimal, spelledAfter}
 use Rattle.format_write.specs.Laws.Decimal.{length-decimal, decimal-small}
-use Rattle.format_number.specs.Number.{classOf, isDigit, digitsEnd, numeralEnd, numeralAt, decimalFrom, numberAt, numberTo, numberText}
+use Rattle.format_number.specs.Number.{classOf, isDigit, digitsEnd, numeralEnd, numeralAt, numberAt, numberTo, numberText}
 use Rattle.format_number.specs.Laws.Byte.{class-digit, digit-inside}
 use Rattle.format_number.specs.Laws.Number.{digits-none, digits-range, numeral-range}
 use Rattle.format_number.specs.Laws.Digits.{Digits, none, one, numeral-digits, number-below}
@@ -65,7 +65,7 @@ run-is t (suc limit) at (one {d = d} {ds = ds} low high r) s h e =
     let ih = run-is t limit (at + 1) r (stands-second (d ∷ []) ds s) (omega arith) (subst (λ (n : ℕ). isDigit (classOf (getD t n 0)) ≡ false) (sym z) e) in
     rw k (ih ∙ z)
 
-number-of : (t : List ℕ) (limit at : ℕ) {w : List ℕ} → numeralAt limit t at ≡ w → 0 < length w → numberAt limit t at ≡ found (decimalFrom 0 w) (at + length w)
+number-of : (t : List ℕ) (limit at : ℕ) {w : List ℕ} → numeralAt limit t at ≡ w → 0 < length w → numberAt limit t at ≡ found (spelledAfter 0 w) (at + length w)
 unfolding numberAt
 number-of t limit at {w} e h = let n : length w ≡ 0 → ⊥ = λ z. omega arith in rw (e, ne-eqb (length w) 0 n)
 
@@ -77,7 +77,8 @@ first-byte : {t : List ℕ} {at : ℕ} (w : List ℕ) → 0 < length w → Stand
 first-byte [] h s = absurd (omega arith)
 first-byte (b ∷ w) h s = stands-head s
 
-digits-most : (limit v : ℕ) → 1 ≤ limit → v < 10 ^ limit → length (decimal v) ≤ limit
+-- A number of at most limit digits has so many.
+pub digits-most : (limit v : ℕ) → 1 ≤ limit → v < 10 ^ limit → length (decimal v) ≤ limit
 digits-most zero v h k = absurd (omega arith)
 digits-most (suc limit) v h k = length-decimal limit v k
 
@@ -138,20 +139,20 @@ is-digit LineEnd e = no-bool (sym e)
 is-digit Comma e = no-bool (sym e)
 is-digit Other e = no-bool (sym e)
 
-numeral-decimal : (t : List ℕ) (limit at : ℕ) (w : List ℕ) → Digits w → 0 < length w → Stands t at w → numeralEnd limit t at ≡ at + length w → decimal (decimalFrom 0 w) ≡ w
-unfolding numeralEnd decimalFrom
+numeral-decimal : (t : List ℕ) (limit at : ℕ) (w : List ℕ) → Digits w → 0 < length w → Stands t at w → numeralEnd limit t at ≡ at + length w → decimal (spelledAfter 0 w) ≡ w
+unfolding numeralEnd spelledAfter
 numeral-decimal t limit at [] g h s e = absurd (omega arith)
 numeral-decimal t limit at (d ∷ ds) g h s e = by-zero (eqb d 48) refl
   where
-    by-zero : (z : Bool) → eqb d 48 ≡ z → decimal (decimalFrom 0 (d ∷ ds)) ≡ d ∷ ds
+    by-zero : (z : Bool) → eqb d 48 ≡ z → decimal (spelledAfter 0 (d ∷ ds)) ≡ d ∷ ds
     by-zero true q =
         let b : d ≡ 48 = eqb-true d 48 q in
         let r : eqb (getD t at 0) 48 ≡ true = eq-eqb (getD t at 0) 48 (stands-head s ∙ b) in
         let l : at + 1 ≡ at + suc (length ds) = sym (ap (λ z. cond z (at + 1) (digitsEnd limit t at)) r) ∙ e in
         alone ds (omega arith) b
       where
-        alone : (ds : List ℕ) → length ds ≡ 0 → d ≡ 48 → decimal (decimalFrom 0 (d ∷ ds)) ≡ d ∷ ds
-        alone [] l b = ap (λ (x : ℕ). decimal (decimalFrom 0 (x ∷ []))) b ∙ decimal-small 0 (omega arith) ∙ ap (λ (x : ℕ). x ∷ []) (sym b)
+        alone : (ds : List ℕ) → length ds ≡ 0 → d ≡ 48 → decimal (spelledAfter 0 (d ∷ ds)) ≡ d ∷ ds
+        alone [] l b = ap (λ (x : ℕ). decimal (spelledAfter 0 (x ∷ []))) b ∙ decimal-small 0 (omega arith) ∙ ap (λ (x : ℕ). x ∷ []) (sym b)
         alone (x ∷ xs) l b = absurd (omega arith)
     by-zero false q =
         let n = eqb-false d 48 q in
@@ -177,10 +178,10 @@ numbered t limit at h = by-digit (isDigit (classOf (getD t at 0))) refl
         let q : numeralEnd limit t at ≡ at + length w = omega arith in
         let m : numeralAt limit t at ≡ w = numeral-of-end t limit at w q s in
         let g : Digits w = subst Digits m (numeral-digits t limit at) in
-        let x : decimal (decimalFrom 0 w) ≡ w = numeral-decimal t limit at w g (omega arith) s q in
-        let f : numberAt limit t at ≡ found (decimalFrom 0 w) (at + length w) = number-of t limit at m (omega arith) in
-        present (decimalFrom 0 w)
-        (number-below t limit at (decimalFrom 0 w) (at + length w) h f)
+        let x : decimal (spelledAfter 0 w) ≡ w = numeral-decimal t limit at w g (omega arith) s q in
+        let f : numberAt limit t at ≡ found (spelledAfter 0 w) (at + length w) = number-of t limit at m (omega arith) in
+        present (spelledAfter 0 w)
+        (number-below t limit at (spelledAfter 0 w) (at + length w) h f)
         (subst (Stands t at) (sym x) s)
         (q ∙ ap (λ (z : List ℕ). at + length z) (sym x))
 

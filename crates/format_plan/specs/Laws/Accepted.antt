@@ -9,9 +9,10 @@ use lib.ListN.{length, take, length-append}
 use lib.Seq.{take-all}
 use lib.Dec.{leb}
 use borrow.Author.Tests.{leb-true, leb-false}
-use Rattle.base_limits.specs.Limits.{maxDigits, recordBytes, maxDuals}
+use Rattle.format_number.specs.Number.{numberLine, OfDigits}
+use Rattle.base_limits.specs.Limits.{recordBytes, maxDuals, keptDigits, figureDigits}
 use Rattle.base_limits.specs.Verdict.{answer, outcome}
-use Rattle.format_key.specs.Key.{keptKey, terminalsKey, costKey, boundKey, roundsKey, newline}
+use Rattle.format_key.specs.Key.{keptKey, terminalsKey, costKey, boundKey, roundsKey}
 use Rattle.format_write.specs.Text.{lineOf, countLines}
 use Rattle.format_grammar.specs.Step.{Step, found, refused, _then_}
 use Rattle.format_grammar.specs.Lines.{linesAfter, textOf}
@@ -21,47 +22,38 @@ use Rattle.format_grammar.specs.Stands.{Stands}
 use Rattle.format_grammar.specs.Laws.Stands.{stands-append}
 use Rattle.format_grammar.specs.Language.{Reads, Word, Seq, Empty, Text, Each, none, more}
 use Rattle.format_grammar.specs.Laws.Language.{bound, reads-then, reads-as, reads-value, joined, text-stands}
-use Rattle.format_number.specs.Laws.Keyed.{newline-no-digit, reads-keyed}
+use Rattle.format_number.specs.Laws.Keyed.{reads-line}
 use Rattle.format_grammar.specs.Items.{ItemReader, Standing, stop, item, Lists}
-use Rattle.format_plan_lines.specs.Lines.{countDigits, valueLine, keepReader, keptAt, memberReader, membersAt, memberNumbers, Moat, moatLine, moatReader, moatsAt}
+use Rattle.format_plan_lines.specs.Lines.{keepReader, keptAt, memberReader, membersAt, memberNumbers, Moat, moatLine, moatReader, moatsAt}
 use Rattle.format_plan.specs.Plan.{Claims, claimsAt, Plan, bodyAt, planAt, withRoom, planReading}
 use Rattle.format_plan_lines.specs.Laws.Tests.{risen-next}
 use Rattle.format_plan_lines.specs.Laws.Lines.{keep-passed, risen-back}
 use Rattle.format_grammar.specs.Laws.Items.{items-stop}
 use Rattle.format_plan.specs.Laws.Reading.{room-fine}
 use Rattle.format_plan.specs.Laws.Room.{room-answer, moat-passed}
-use Rattle.format_plan.specs.Laws.Back.{Rising, ended, rising, SmallMoat, Printed, Few, Printable, moatText, claimsText, planWords, plan-back}
+use Rattle.format_plan.specs.Laws.Back.{Rising, ended, rising, DualDigits, Printed, ClaimDigits, Printable, moatText, claimsText, planWords, plan-back}
 use Rattle.format_grammar.specs.Laws.Listing.{standing-words, items-standing}
 use Rattle.format_plan.specs.Laws.Listed.{lists-kept, lists-moats, moat-read, text-from}
 
 -- ---- the counts
 
--- Numbers of at most so many digits, as counts have.
-Count : ℕ → Type 0
-Count x = x < 10 ^ countDigits
-
--- A line of a key and a count.
-reads-count : (key : List ℕ) → Reads (valueLine key countDigits) (Text Count (lineOf key)) (Text Count (lineOf key))
-unfolding valueLine lineOf Count
-reads-count key = reads-keyed key countDigits newline (omega arith) newline-no-digit
-
 ClaimParts : Claims → List ℕ → Type 0
 ClaimParts =
-    Seq (Text Count (lineOf terminalsKey)) λ k. Seq (Text Count (lineOf costKey)) λ c. Seq (Text Count (lineOf boundKey)) λ b. Seq (Text Count (lineOf roundsKey)) λ r.
+    Seq (Text (OfDigits figureDigits) (lineOf terminalsKey)) λ k. Seq (Text (OfDigits figureDigits) (lineOf costKey)) λ c. Seq (Text (OfDigits figureDigits) (lineOf boundKey)) λ b. Seq (Text (OfDigits figureDigits) (lineOf roundsKey)) λ r.
     Empty (record { terminals = k; cost = c; bound = b; rounds = r })
 
 -- The counts are read exactly where their lines stand.
-pub reads-claims : Reads claimsAt (Text Few claimsText) (Text Few claimsText)
-unfolding claimsAt ClaimParts claimsText countLines Count
+pub reads-claims : Reads claimsAt (Text ClaimDigits claimsText) (Text ClaimDigits claimsText)
+unfolding claimsAt ClaimParts claimsText countLines
 reads-claims =
     reads-as (λ t at. refl) to from to from
-    (reads-then (reads-count terminalsKey) λ k.
-    reads-then (reads-count costKey) λ c.
-    reads-then (reads-count boundKey) λ b.
-    reads-then (reads-count roundsKey) λ r.
+    (reads-then (reads-line terminalsKey figureDigits (omega arith)) λ k.
+    reads-then (reads-line costKey figureDigits (omega arith)) λ c.
+    reads-then (reads-line boundKey figureDigits (omega arith)) λ b.
+    reads-then (reads-line roundsKey figureDigits (omega arith)) λ r.
     reads-value (record { terminals = k; cost = c; bound = b; rounds = r }))
   where
-    to : (x : Claims) (w : List ℕ) → ClaimParts x w → Text Few claimsText x w
+    to : (x : Claims) (w : List ℕ) → ClaimParts x w → Text ClaimDigits claimsText x w
     to x w m =
         let a = m .second in
         let b = a .second in
@@ -69,7 +61,7 @@ reads-claims =
         let d = c .second in
         let e : record { terminals = m .value; cost = a .value; bound = b .value; rounds = c .value } ≡ x = sym (d .value) in
         record {
-          holds = subst Few e record { terminals = m .first .holds; cost = a .first .holds; bound = b .first .holds; rounds = c .first .holds };
+          holds = subst ClaimDigits e record { terminals = m .first .holds; cost = a .first .holds; bound = b .first .holds; rounds = c .first .holds };
           word =
               m .whole ∙ ap (λ (z : List ℕ). z ++ m .right) (m .first .word) ∙ ap (λ (z : List ℕ). lineOf terminalsKey (m .value) ++ z)
               (a .whole ∙ ap (λ (z : List ℕ). z ++ a .right) (a .first .word) ∙ ap (λ (z : List ℕ). lineOf costKey (a .value) ++ z)
@@ -79,7 +71,7 @@ reads-claims =
               ∙ ap claimsText e;
         }
 
-    from : (x : Claims) (w : List ℕ) → Text Few claimsText x w → ClaimParts x w
+    from : (x : Claims) (w : List ℕ) → Text ClaimDigits claimsText x w → ClaimParts x w
     from x w m =
         record {
           value = x .terminals;
@@ -131,7 +123,7 @@ members-rise t {low} h (item {a = v} {l = vs} e f s) =
     (omega arith, rising k0 k1 (subst (λ (x : ℕ). Rising memberNumbers x vs) (risen-next low v k0 k1) (r .1)))
 
 -- A moat line that is read has a moat that fits, and few before it.
-moat-printed : (t : List ℕ) (i at : ℕ) (d : Moat) (p : ℕ) → moatLine t i at ≡ found d p → SmallMoat d → Printed d × (i < maxDuals)
+moat-printed : (t : List ℕ) (i at : ℕ) (d : Moat) (p : ℕ) → moatLine t i at ≡ found d p → DualDigits d → Printed d × (i < maxDuals)
 unfolding membersAt
 moat-printed t i at d p e w =
     let r = moat-read t i at d p e in
@@ -140,7 +132,7 @@ moat-printed t i at d p e w =
     (record { small = w .value; rises = subst (λ (x : Moat). Rising memberNumbers 0 (x .members)) (r .moat) m }, b .1)
 
 -- Moats that are read fit their lines, and are few.
-moats-printed : (t : List ℕ) {low i at last end : ℕ} {ds : List Moat} → i ≤ maxDuals → Each SmallMoat ds → Standing (moatReader t) low i at ds last end → Each Printed ds × (i + length ds ≤ maxDuals)
+moats-printed : (t : List ℕ) {low i at last end : ℕ} {ds : List Moat} → i ≤ maxDuals → Each DualDigits ds → Standing (moatReader t) low i at ds last end → Each Printed ds × (i + length ds ≤ maxDuals)
 unfolding moatReader
 moats-printed t h none (stop e) = (none, omega arith)
 moats-printed t {low} {i} {at} h (more {a = d} w ws) (item {next = next} e f s) =
@@ -238,12 +230,12 @@ rendering-whole {t} {at = at} {p = p} r =
     sym (take-all (at + length (planWords p)) t (omega arith)) ∙ r .stands .is
 
 -- A rendering is accepted.
-pub rendering-accepted : (t : List ℕ) (m at : ℕ) → m ≤ 10 ^ maxDigits → {p : Plan} {q : ℕ} → Rendering t m at p q → planAt t m at ≡ found p q
+pub rendering-accepted : (t : List ℕ) (m at : ℕ) → m ≤ 10 ^ keptDigits → {p : Plan} {q : ℕ} → Rendering t m at p q → planAt t m at ≡ found p q
 rendering-accepted t m at few {p} r = plan-back t m at p few (r .printable) (r .stands) (r .ends) ∙ ap (λ (z : ℕ). found p z) (sym (r .next))
 
 -- At the end of a text, or behind it, no plan stands: the first byte of its first key is missing.
 pub plan-missing : (t : List ℕ) (m at : ℕ) → length t ≤ at → planAt t m at ≡ refused 16 at
-unfolding planAt claimsAt valueLine terminalsKey
+unfolding planAt claimsAt numberLine terminalsKey
 plan-missing t m at h = then-refused _ (then-refused _ (then-refused _ (fixed-short terminalsKey t 0 at (omega arith) h)))
 
 -- What is accepted from any offset is a rendering, which ends where the text does.
@@ -258,7 +250,7 @@ found-rendering t m at {p} {q} e = by-test (leb at (length t)) refl
         absurd (omega arith)
 
 -- A plan is accepted exactly if the text from there to its end is the plan's rendering.
-pub accepted-iff : (t : List ℕ) (m at : ℕ) → m ≤ 10 ^ maxDigits → (p : Plan) (q : ℕ) → (planAt t m at ≡ found p q) ↔ Rendering t m at p q
+pub accepted-iff : (t : List ℕ) (m at : ℕ) → m ≤ 10 ^ keptDigits → (p : Plan) (q : ℕ) → (planAt t m at ≡ found p q) ↔ Rendering t m at p q
 accepted-iff t m at few p q = (found-rendering t m at, rendering-accepted t m at few)
 
 -- ---- with lent buffers
@@ -269,7 +261,7 @@ pub record RoomFor (m : ℕ) (p : Plan) (marks records : List ℕ) : Type 0 wher
   pub moats : recordBytes * length (p .moats) ≤ length records
 
 -- Reading answers a plan exactly if the text from there to its end is the plan's rendering and the lent buffers have room for it.
-pub reading-accepted : (t : List ℕ) (from m : ℕ) (marks records : List ℕ) → m ≤ 10 ^ maxDigits → (p : Plan)
+pub reading-accepted : (t : List ℕ) (from m : ℕ) (marks records : List ℕ) → m ≤ 10 ^ keptDigits → (p : Plan)
     → (planReading t from m marks records ≡ answer p) ↔ (Rendering t m from p (length t) × RoomFor m p marks records)
 unfolding planReading withRoom outcome
 reading-accepted t from m marks records few p = (to, back)

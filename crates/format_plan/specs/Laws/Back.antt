@@ -8,17 +8,17 @@ use mathlib.Core.Bool.{Bool, true, false, not}
 use mathlib.Core.List.{List, [], _∷_, _++_, append-assoc, append-nil}
 use lib.ListN.{length, length-append}
 use borrow.Author.Tests.{lt-leb, le-leb}
-use Rattle.base_limits.specs.Limits.{maxDigits, maxDuals}
+use Rattle.base_limits.specs.Limits.{maxDuals, keptDigits, valueDigits, memberDigits, figureDigits}
 use Rattle.base_limits.specs.declared.Verdict.{Verdict}
 use Rattle.format_key.specs.Key.{newline, comma, colon, dualKey, keptKey, terminalsKey, costKey, boundKey, roundsKey}
 use Rattle.format_write.specs.Decimal.{decimal}
 use Rattle.format_write.specs.Text.{lineOf, listed, countLines}
-use Rattle.format_number.specs.Number.{isDigit, classOf, numberAt, numberTo, numberText}
+use Rattle.format_number.specs.Number.{isDigit, classOf, numberAt, numberTo, numberText, numberLine, OfDigits}
 use Rattle.format_number.specs.Laws.Digits.{Digits, one}
 use Rattle.format_number.specs.Laws.Decimal.{decimal-numeral}
-use Rattle.format_number.specs.Laws.Keyed.{Small, newline-no-digit, comma-no-digit, keyed-back, number-back}
+use Rattle.format_number.specs.Laws.Keyed.{newline-no-digit, comma-no-digit, keyed-back, number-back}
 use Rattle.format_plan_lines.specs.Laws.Tests.{kept-fine, risen-next, moat-fine}
-use Rattle.format_plan_lines.specs.Lines.{countDigits, valueLine, keptTest, keepLine, keepReader, separator, memberNumbers, memberAt, risen, memberReader, membersAt, Moat, moatTest, moatHead, moatOf, moatLine, moatReader, moatsAt, keptAt}
+use Rattle.format_plan_lines.specs.Lines.{keptTest, keepLine, keepReader, separator, memberNumbers, memberAt, risen, memberReader, membersAt, Moat, moatTest, moatHead, moatOf, moatLine, moatReader, moatsAt, keptAt}
 use Rattle.format_plan.specs.Plan.{Claims, claimsAt, bodyAt, Plan, planAt}
 use Rattle.format_grammar.specs.Bytes.{byteIs}
 use Rattle.format_grammar.specs.Items.{Standing, stop, item}
@@ -33,8 +33,8 @@ use Rattle.format_grammar.specs.Step.{found, _then_, checked}
 
 -- A line of a key and a number, where it stands.
 pub value-back : (key : List ℕ) (limit : ℕ) (t : List ℕ) (at x : ℕ) → 1 ≤ limit → x < 10 ^ limit → Stands t at (lineOf key x)
-    → valueLine key limit t at ≡ found x (at + length (lineOf key x))
-unfolding valueLine lineOf numberText
+    → numberLine key limit t at ≡ found x (at + length (lineOf key x))
+unfolding numberLine lineOf numberText
 value-back key limit t at x pos h s =
     let e : key ++ decimal x ++ (newline ∷ []) ≡ key ++ numberText newline x = append-assoc key (decimal x) (newline ∷ []) in
     keyed-back key limit newline t at x pos h newline-no-digit (subst (Stands t at) e s) ∙ ap (λ (w : List ℕ). found x (at + length w)) (sym e)
@@ -45,16 +45,16 @@ pub data Rising (m : ℕ) : (low : ℕ) → List ℕ → Type 0 where
   rising : {low e : ℕ} {es : List ℕ} → low ≤ e → e < m → Rising m (e + 1) es → Rising m low (e ∷ es)
 
 -- A keep line where it stands: a line begins there, and only the test of its track is left.
-pub keep-line-back : (t : List ℕ) (m low i at e : ℕ) → Small e → Stands t at (lineOf keptKey e)
+pub keep-line-back : (t : List ℕ) (m low i at e : ℕ) → OfDigits keptDigits e → Stands t at (lineOf keptKey e)
     → (keepReader t m .stop at ≡ false) × (keepLine t m low i at ≡ checked (keptTest m low i e) e (at + length (lineOf keptKey e)))
 unfolding keepReader keepLine lineOf keptKey
 keep-line-back t m low i at e h s =
     let f = s .fits in
     let here : byteIs t at (code "k") ≡ true = byte-is t at (code "k") (omega arith) (stands-head s) in
-    (ap not here, then-found (λ x p. checked (keptTest m low i x) x p) (value-back keptKey maxDigits t at e (omega arith) h s))
+    (ap not here, then-found (λ x p. checked (keptTest m low i x) x p) (value-back keptKey keptDigits t at e (omega arith) h s))
 
 -- Keep lines, where the byte behind them begins none.
-pub keep-back : (t : List ℕ) (m : ℕ) → m ≤ 10 ^ maxDigits → {low : ℕ} {ks : List ℕ} → Rising m low ks → (i at end : ℕ) → Stands t at (textOf (lineOf keptKey) ks)
+pub keep-back : (t : List ℕ) (m : ℕ) → m ≤ 10 ^ keptDigits → {low : ℕ} {ks : List ℕ} → Rising m low ks → (i at end : ℕ) → Stands t at (textOf (lineOf keptKey) ks)
     → end ≡ at + length (textOf (lineOf keptKey) ks) → byteIs t end (code "k") ≡ false → (last : ℕ) × Standing (keepReader t m) low i at ks last end
 unfolding keepReader textOf checked
 keep-back t m few {low} ended i at end s q e =
@@ -128,7 +128,7 @@ no-end zero t at v s = by-digits (decimal v) s (decimal-numeral v .digits) (deci
 no-end (suc i) t at v s = other-byte t at comma newline (stands-head s) (λ q. omega arith)
 
 -- Members, where their line ends behind them.
-pub members-back : (t : List ℕ) {vs : List ℕ} → Each Small vs → (low i at end : ℕ) → Stands t at (memberText i vs ++ (newline ∷ []))
+pub members-back : (t : List ℕ) {vs : List ℕ} → Each (OfDigits memberDigits) vs → (low i at end : ℕ) → Stands t at (memberText i vs ++ (newline ∷ []))
     → end ≡ at + length (memberText i vs) → (last : ℕ) × Standing (memberReader t) low i at vs last end
 unfolding memberReader memberAt memberText numberText
 members-back t none low i at end s q =
@@ -149,7 +149,7 @@ members-back t (more {a = v} {l = vs} h r) low i at end s q =
     let l₁ : at + length (separator i ++ decimal v) ≡ p + length (decimal v) = omega arith in
     let rest′ : Stands t (p + length (decimal v)) (n .0 ∷ n .1) = subst (λ (x : ℕ). Stands t x (n .0 ∷ n .1)) l₁ (subst (Stands t (at + length (separator i ++ decimal v))) (n .2) rest) in
     let y′ : Stands t p (numberText (n .0) v) = stands-append (decimal v) (n .0 ∷ []) y (stands-first (n .0 ∷ []) (n .1) rest′) in
-    let x = number-back maxDigits (n .0) t p v (omega arith) h (n .3) y′ in
+    let x = number-back memberDigits (n .0) t p v (omega arith) h (n .3) y′ in
     let f = reads-fixed (separator i) .complete t at 0 (separator i) (record { value = refl; word = refl }) z in
     let w = length-append (separator i ++ decimal v) (followers vs) in
     let m = later-text i vs in
@@ -157,9 +157,9 @@ members-back t (more {a = v} {l = vs} h r) low i at end s q =
     let text : Stands t (p + length (decimal v)) (memberText (i + 1) vs ++ (newline ∷ [])) =
     subst (λ (g : List ℕ). Stands t (p + length (decimal v)) (g ++ (newline ∷ []))) (sym m) (subst (λ (g : ℕ). Stands t g R) l₁ rest) in
     let tail = members-back t r (risen low v) (i + 1) (p + length (decimal v)) end text (omega arith) in
-    (tail .0, item (no-end i t at v a) (then-found (λ z q. numberAt maxDigits t q) f ∙ x) (tail .1))
+    (tail .0, item (no-end i t at v a) (then-found (λ z q. numberAt memberDigits t q) f ∙ x) (tail .1))
 
-rising-small : {low : ℕ} {vs : List ℕ} → Rising memberNumbers low vs → Each Small vs
+rising-small : {low : ℕ} {vs : List ℕ} → Rising memberNumbers low vs → Each (OfDigits memberDigits) vs
 rising-small ended = none
 rising-small (rising {e = v} {es = vs} h k r) = more {a = v} {l = vs} (omega arith) (rising-small r)
 
@@ -178,16 +178,16 @@ pub colon-ends : isDigit (classOf colon) ≡ false
 unfolding isDigit classOf
 colon-ends = refl
 
-head-back : (t : List ℕ) (at x : ℕ) → x < 10 ^ maxDigits → Stands t at (dualKey ++ decimal x ++ (colon ∷ [])) → moatHead t at ≡ found x (at + length (dualKey ++ decimal x ++ (colon ∷ [])))
+head-back : (t : List ℕ) (at x : ℕ) → OfDigits valueDigits x → Stands t at (dualKey ++ decimal x ++ (colon ∷ [])) → moatHead t at ≡ found x (at + length (dualKey ++ decimal x ++ (colon ∷ [])))
 unfolding moatHead numberTo numberText
 head-back t at x h s =
     let e : dualKey ++ decimal x ++ (colon ∷ []) ≡ dualKey ++ numberText colon x = append-assoc dualKey (decimal x) (colon ∷ []) in
-    keyed-back dualKey maxDigits colon t at x (omega arith) h colon-ends (subst (Stands t at) e s) ∙ ap (λ (w : List ℕ). found x (at + length w)) (sym e)
+    keyed-back dualKey valueDigits colon t at x (omega arith) h colon-ends (subst (Stands t at) e s) ∙ ap (λ (w : List ℕ). found x (at + length w)) (sym e)
 
 -- A moat whose numbers fit its line.
-pub record SmallMoat (d : Moat) : Type 0 where
-  pub value : Small (d .value)
-  pub members : Each Small (d .members)
+pub record DualDigits (d : Moat) : Type 0 where
+  pub value : OfDigits valueDigits (d .value)
+  pub members : Each (OfDigits memberDigits) (d .members)
 
 -- A moat line where it stands: its members are read, and only the test of what they leave is left.
 pub record MoatStands (t : List ℕ) (i at : ℕ) (d : Moat) : Type 0 where
@@ -197,7 +197,7 @@ pub record MoatStands (t : List ℕ) (i at : ℕ) (d : Moat) : Type 0 where
   pub members : Standing (memberReader t) 0 0 from (d .members) last end
   pub line : moatLine t i at ≡ checked (moatTest i last) d (at + length (moatText d))
 
-pub moat-line-back : (t : List ℕ) (i at : ℕ) (d : Moat) → SmallMoat d → Stands t at (moatText d) → MoatStands t i at d
+pub moat-line-back : (t : List ℕ) (i at : ℕ) (d : Moat) → DualDigits d → Stands t at (moatText d) → MoatStands t i at d
 unfolding moatText moatLine membersAt _then_
 moat-line-back t i at d p s =
     let H = dualKey ++ decimal (d .value) ++ (colon ∷ []) in
@@ -229,7 +229,7 @@ moat-line-back t i at d p s =
 
 -- A moat that fits its line.
 pub record Printed (d : Moat) : Type 0 where
-  pub small : d .value < 10 ^ maxDigits
+  pub small : OfDigits valueDigits (d .value)
   pub rises : Rising memberNumbers 0 (d .members)
 
 pub moat-back : (t : List ℕ) (i at : ℕ) (d : Moat) → Printed d → i < maxDuals → Stands t at (moatText d) → moatLine t i at ≡ found d (at + length (moatText d))
@@ -272,16 +272,16 @@ moats-back t (more {a = d} {l = ds} p r) low i at few s q =
     (rest .0, item (lt-leb (length t) at (omega arith)) (moat-back t i at d p (omega arith) a) (rest .1))
 
 -- Counts that fit their lines.
-pub record Few (c : Claims) : Type 0 where
-  pub terminals : c .terminals < 10 ^ countDigits
-  pub cost : c .cost < 10 ^ countDigits
-  pub bound : c .bound < 10 ^ countDigits
-  pub rounds : c .rounds < 10 ^ countDigits
+pub record ClaimDigits (c : Claims) : Type 0 where
+  pub terminals : OfDigits figureDigits (c .terminals)
+  pub cost : OfDigits figureDigits (c .cost)
+  pub bound : OfDigits figureDigits (c .bound)
+  pub rounds : OfDigits figureDigits (c .rounds)
 
 unfoldable pub claimsText : Claims → List ℕ
 claimsText c = countLines (c .terminals) (c .cost) (c .bound) (c .rounds)
 
-pub claims-back : (t : List ℕ) (at : ℕ) (c : Claims) → Few c → Stands t at (claimsText c) → claimsAt t at ≡ found c (at + length (claimsText c))
+pub claims-back : (t : List ℕ) (at : ℕ) (c : Claims) → ClaimDigits c → Stands t at (claimsText c) → claimsAt t at ≡ found c (at + length (claimsText c))
 unfolding claimsAt claimsText countLines _then_
 claims-back t at c few s =
     let K = lineOf terminalsKey (c .terminals) in
@@ -296,10 +296,10 @@ claims-back t at c few s =
     let e₂ : at + length (K ++ C) ≡ at + length K + length C = omega arith in
     let e₃ : at + length (K ++ C ++ B) ≡ at + length K + length C + length B = omega arith in
     let e₄ : at + length K + length C + length B + length R ≡ at + length (K ++ C ++ B ++ R) = omega arith in
-    let k = value-back terminalsKey countDigits t at (c .terminals) (omega arith) (few .terminals) (stands-first K C s₂) in
-    let x = value-back costKey countDigits t (at + length K) (c .cost) (omega arith) (few .cost) (stands-second K C s₂) in
-    let y = value-back boundKey countDigits t (at + length K + length C) (c .bound) (omega arith) (few .bound) (subst (λ (z : ℕ). Stands t z B) e₂ (stands-second (K ++ C) B s₃)) in
-    let r = value-back roundsKey countDigits t (at + length K + length C + length B) (c .rounds) (omega arith) (few .rounds) (subst (λ (z : ℕ). Stands t z R) e₃ (stands-second (K ++ C ++ B) R s)) in
+    let k = value-back terminalsKey figureDigits t at (c .terminals) (omega arith) (few .terminals) (stands-first K C s₂) in
+    let x = value-back costKey figureDigits t (at + length K) (c .cost) (omega arith) (few .cost) (stands-second K C s₂) in
+    let y = value-back boundKey figureDigits t (at + length K + length C) (c .bound) (omega arith) (few .bound) (subst (λ (z : ℕ). Stands t z B) e₂ (stands-second (K ++ C) B s₃)) in
+    let r = value-back roundsKey figureDigits t (at + length K + length C + length B) (c .rounds) (omega arith) (few .rounds) (subst (λ (z : ℕ). Stands t z R) e₃ (stands-second (K ++ C ++ B) R s)) in
     rw (k, x, y, r) (ap (λ (z : ℕ). found c z) e₄)
 
 -- A plan as it is printed, and what makes it fit: counts of ten digits, tracks that rise below m, moats that rise and are few.
@@ -307,7 +307,7 @@ unfoldable pub planWords : Plan → List ℕ
 planWords p = claimsText (p .claims) ++ textOf (lineOf keptKey) (p .kept) ++ textOf moatText (p .moats)
 
 pub record Printable (m : ℕ) (p : Plan) : Type 0 where
-  pub few : Few (p .claims)
+  pub few : ClaimDigits (p .claims)
   pub kept : Rising m 0 (p .kept)
   pub moats : Each Printed (p .moats)
   pub count : length (p .moats) ≤ maxDuals
@@ -330,7 +330,7 @@ claims-some c =
     omega arith
 
 -- A printed plan that stands at the end of a text is read back.
-pub plan-back : (t : List ℕ) (m at : ℕ) (p : Plan) → m ≤ 10 ^ maxDigits → Printable m p → Stands t at (planWords p) → at + length (planWords p) ≡ length t → planAt t m at ≡ found p (length t)
+pub plan-back : (t : List ℕ) (m at : ℕ) (p : Plan) → m ≤ 10 ^ keptDigits → Printable m p → Stands t at (planWords p) → at + length (planWords p) ≡ length t → planAt t m at ≡ found p (length t)
 unfolding planAt bodyAt planWords keptAt moatsAt _then_ linesAfter
 plan-back t m at p few w s q =
     let C = claimsText (p .claims) in

@@ -5,9 +5,9 @@ use mathlib.Core.Path.{_≡_}
 use mathlib.Core.List.{List, [], _∷_}
 use lib.ListN.{length}
 use Rattle.format_key.specs.Key.{newline, colon, keptKey, dualKey}
-use Rattle.base_limits.specs.Limits.{maxDigits}
-use Rattle.format_number.specs.Number.{numberAt, numberTo}
-use Rattle.format_plan_lines.specs.Lines.{valueLine, keepLine, keepReader, separator, memberAt, memberReader, membersAt, Moat, moatHead, moatLine, moatReader}
+use Rattle.base_limits.specs.Limits.{keptDigits, memberDigits, valueDigits}
+use Rattle.format_number.specs.Number.{numberAt, numberTo, numberLine}
+use Rattle.format_plan_lines.specs.Lines.{keepLine, keepReader, separator, memberAt, memberReader, membersAt, Moat, moatHead, moatLine, moatReader}
 use Rattle.format_plan_lines.specs.Laws.Lines.{members-end}
 use Rattle.format_grammar.specs.Bytes.{fixedAt}
 use Rattle.format_grammar.specs.Items.{itemsFrom, Goes}
@@ -18,14 +18,14 @@ use Rattle.format_grammar.specs.Step.{found}
 use Rattle.format_number.specs.Laws.Near.{number-goes}
 
 keep-goes : (t : List ℕ) (m low i at : ℕ) {e p : ℕ} → at ≤ length t → keepLine t m low i at ≡ found e p → Goes t at p
-unfolding keepLine valueLine numberTo
+unfolding keepLine numberLine numberTo
 keep-goes t m low i at {e} {p} h q =
-    let line = then-value (valueLine keptKey maxDigits t at) _ q in
+    let line = then-value (numberLine keptKey keptDigits t at) _ q in
     let key = then-value (fixedAt keptKey t at) _ (line .2) in
-    let number = then-value (numberAt maxDigits t (key .1)) _ (key .3) in
+    let number = then-value (numberAt keptDigits t (key .1)) _ (key .3) in
     let stop = then-value (fixedAt (newline ∷ []) t (number .1)) _ (number .3) in
     let a = fixed-goes keptKey t at (key .2) in
-    let b = number-goes maxDigits t (key .1) (number .2) in
+    let b = number-goes keptDigits t (key .1) (number .2) in
     let c = fixed-goes (newline ∷ []) t (number .1) (stop .2) in
     let a0 = a .on in
     let b0 = b .on in
@@ -40,7 +40,7 @@ unfolding memberAt
 member-goes t low i at h q =
     let sep = then-value (fixedAt (separator i) t at) _ q in
     let a = fixed-goes (separator i) t at (sep .2) .on in
-    let b = number-goes maxDigits t (sep .1) (sep .3) in
+    let b = number-goes memberDigits t (sep .1) (sep .3) in
     let b0 = b .on in
     let b1 = b .inside in
     record { on = omega arith; inside = b1 }
@@ -60,10 +60,10 @@ moat-goes t i at {d} {p} h q =
     let head = then-value (moatHead t at) _ q in
     let list = then-value (membersAt t (head .1) .end) _ (head .3) in
     let key = then-value (fixedAt dualKey t at) _ (head .2) in
-    let number = then-value (numberAt maxDigits t (key .1)) _ (key .3) in
+    let number = then-value (numberAt valueDigits t (key .1)) _ (key .3) in
     let mark = then-value (fixedAt (colon ∷ []) t (number .1)) _ (number .3) in
     let a = fixed-goes dualKey t at (key .2) .on in
-    let b = number-goes maxDigits t (key .1) (number .2) in
+    let b = number-goes valueDigits t (key .1) (number .2) in
     let b0 = b .on in
     let c = fixed-goes (colon ∷ []) t (number .1) (mark .2) in
     let c0 = c .on in

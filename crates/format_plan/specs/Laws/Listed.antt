@@ -8,7 +8,7 @@ use mathlib.Core.List.{List, [], _∷_, _++_, append-assoc, append-nil}
 use lib.ListN.{length, getD, take, length-append}
 use lib.Dec.{ltb, leb}
 use borrow.Author.Tests.{leb-true, leb-false}
-use Rattle.base_limits.specs.Limits.{maxDigits}
+use Rattle.base_limits.specs.Limits.{keptDigits, valueDigits, memberDigits}
 use Rattle.base_limits.specs.declared.Verdict.{Verdict}
 use Rattle.base_limits.specs.declared.Verdict.the-variants.{Fine, Refused}
 use Rattle.format_key.specs.Key.{keptKey, dualKey, colon, newline}
@@ -16,7 +16,7 @@ use Rattle.format_write.specs.Decimal.{decimal}
 use Rattle.format_write.specs.Text.{lineOf, listed}
 use Rattle.format_grammar.specs.Step.{Step, found, refused, _then_, checked}
 use Rattle.format_grammar.specs.Lines.{Lines, textOf}
-use Rattle.format_number.specs.Number.{isDigit, classOf, numberAt, numberTo, numberLine}
+use Rattle.format_number.specs.Number.{isDigit, classOf, numberAt, numberTo, OfDigits}
 use Rattle.format_grammar.specs.Bytes.{byteIs, fixedAt}
 use Rattle.format_grammar.specs.Laws.Bytes.{byte-inside, read-same, byte-same, reads-fixed}
 use Rattle.format_number.specs.Laws.Decimal.{decimal-numeral}
@@ -26,12 +26,12 @@ use Rattle.format_grammar.specs.Laws.Stands.{stands-append, stands-byte, stands
 use Rattle.format_grammar.specs.Language.{Reads, Word, Extends, Fixed, Text, none}
 use Rattle.format_grammar.specs.Laws.Language.{bound, read-again, text-stands}
 use Rattle.format_number.specs.Laws.Words.{Numbered, absent, present, numbered, number-is, no-digit-number, numeral-same}
-use Rattle.format_number.specs.Laws.Keyed.{Small, Passes, reads-keyed, reads-tested}
+use Rattle.format_number.specs.Laws.Keyed.{Passes, reads-keyed, reads-tested}
 use Rattle.format_survey.specs.Laws.WellFormed.{one-spares, two-spare}
 use Rattle.format_grammar.specs.Items.{Broken, Lists, textFrom}
-use Rattle.format_plan_lines.specs.Lines.{valueLine, keptTest, keepLine, keepReader, separator, memberAt, memberReader, membersAt, Moat, moatTest, moatHead, moatOf, moatLine, moatReader}
+use Rattle.format_plan_lines.specs.Lines.{keptTest, keepLine, keepReader, separator, memberAt, memberReader, membersAt, Moat, moatTest, moatHead, moatOf, moatLine, moatReader}
 use Rattle.format_grammar.specs.Laws.Items.{items-stop}
-use Rattle.format_plan.specs.Laws.Back.{SmallMoat, moatText, moat-some, line-some, colon-ends, memberText, later-text, listed-text}
+use Rattle.format_plan.specs.Laws.Back.{DualDigits, moatText, moat-some, line-some, colon-ends, memberText, later-text, listed-text}
 use Rattle.format_grammar.specs.Laws.Listing.{standing-words, standing-long, items-standing, items-broken, item-goes, broken-place, broken-extends, items-again, items-broken-again}
 
 -- ---- bytes and ends that texts have in common
@@ -75,12 +75,12 @@ unfolding keptTest
 kept-spares m low i e n p = one-spares (ltb e low || leb m e) 26 i n p (λ z. omega arith)
 
 -- A keep line is read where its text stands, unless its test fails.
-reads-keep : (m low i : ℕ) → Reads (λ t at. keepLine t m low i at) (Text (Passes (keptTest m low i)) (lineOf keptKey)) (Text Small (lineOf keptKey))
-unfolding keepLine valueLine numberLine
-reads-keep m low i = reads-tested keptKey (keptTest m low i) (kept-spares m low i)
+reads-keep : (m low i : ℕ) → Reads (λ t at. keepLine t m low i at) (Text (Passes keptDigits (keptTest m low i)) (lineOf keptKey)) (Text (OfDigits keptDigits) (lineOf keptKey))
+unfolding keepLine
+reads-keep m low i = reads-tested keptKey keptDigits (omega arith) (keptTest m low i) (kept-spares m low i)
 
 -- Keep lines are the texts of their tracks.
-pub lists-kept : (m : ℕ) → Lists (λ t. keepReader t m) Small (λ i. lineOf keptKey)
+pub lists-kept : (m : ℕ) → Lists (λ t. keepReader t m) (OfDigits keptDigits) (λ i. lineOf keptKey)
 unfolding keepReader
 lists-kept m =
     record {
@@ -99,44 +99,44 @@ lists-kept m =
 -- ---- members
 
 -- A number without the byte that ends it.
-number-sound : (t : List ℕ) (at v p : ℕ) → numberAt maxDigits t at ≡ found v p → Word (Text Small decimal) t at v p
-number-sound t at v p e = by-case (numbered t maxDigits at (omega arith))
+number-sound : (limit : ℕ) → 1 ≤ limit → (t : List ℕ) (at v p : ℕ) → numberAt limit t at ≡ found v p → Word (Text (OfDigits limit) decimal) t at v p
+number-sound limit positive t at v p e = by-case (numbered t limit at positive)
   where
-    by-case : Numbered t maxDigits at → Word (Text Small decimal) t at v p
-    by-case (absent x) = let z : _≡_ {A = ℕ} 0 1 = cc (no-digit-number t maxDigits at x) in absurd (omega arith)
+    by-case : Numbered t limit at → Word (Text (OfDigits limit) decimal) t at v p
+    by-case (absent x) = let z : _≡_ {A = ℕ} 0 1 = cc (no-digit-number t limit at x) in absurd (omega arith)
     by-case (present y k s x) =
-        let f = number-is t maxDigits at y x s in
+        let f = number-is t limit at y x s in
         let same : y ≡ v = cc in
         let end : p ≡ at + length (decimal y) = cc in
-        record { word = decimal y; member = record { holds = subst Small same k; word = ap decimal same }; ends = end; stands = s }
+        record { word = decimal y; member = record { holds = subst (OfDigits limit) same k; word = ap decimal same }; ends = end; stands = s }
 
 -- A number is refused where no digit stands, and there.
-number-refused : (t : List ℕ) (at n p : ℕ) → numberAt maxDigits t at ≡ refused n p → (isDigit (classOf (getD t at 0)) ≡ false) × (p ≡ at)
-number-refused t at n p e = by-case (numbered t maxDigits at (omega arith))
+number-refused : (limit : ℕ) → 1 ≤ limit → (t : List ℕ) (at n p : ℕ) → numberAt limit t at ≡ refused n p → (isDigit (classOf (getD t at 0)) ≡ false) × (p ≡ at)
+number-refused limit positive t at n p e = by-case (numbered t limit at positive)
   where
-    by-case : Numbered t maxDigits at → (isDigit (classOf (getD t at 0)) ≡ false) × (p ≡ at)
-    by-case (absent x) = (x, cc (no-digit-number t maxDigits at x))
-    by-case (present y k s x) = let z : _≡_ {A = ℕ} 0 1 = cc (number-is t maxDigits at y x s) in absurd (omega arith)
+    by-case : Numbered t limit at → (isDigit (classOf (getD t at 0)) ≡ false) × (p ≡ at)
+    by-case (absent x) = (x, cc (no-digit-number t limit at x))
+    by-case (present y k s x) = let z : _≡_ {A = ℕ} 0 1 = cc (number-is t limit at y x s) in absurd (omega arith)
 
 -- A number is read again from a text with the same bytes up to the one behind it.
-number-again : (t u : List ℕ) (at v p q : ℕ) → p ≤ q → take (q + 1) t ≡ take (q + 1) u → numberAt maxDigits t at ≡ found v p → numberAt maxDigits u at ≡ found v p
-number-again t u at v p q h k e = by-case (numbered t maxDigits at (omega arith))
+number-again : (limit : ℕ) → 1 ≤ limit → (t u : List ℕ) (at v p q : ℕ) → p ≤ q → take (q + 1) t ≡ take (q + 1) u → numberAt limit t at ≡ found v p → numberAt limit u at ≡ found v p
+number-again limit positive t u at v p q h k e = by-case (numbered t limit at positive)
   where
-    by-case : Numbered t maxDigits at → numberAt maxDigits u at ≡ found v p
-    by-case (absent x) = let z : _≡_ {A = ℕ} 0 1 = cc (no-digit-number t maxDigits at x) in absurd (omega arith)
+    by-case : Numbered t limit at → numberAt limit u at ≡ found v p
+    by-case (absent x) = let z : _≡_ {A = ℕ} 0 1 = cc (no-digit-number t limit at x) in absurd (omega arith)
     by-case (present y l s x) =
-        let f = number-is t maxDigits at y x s in
+        let f = number-is t limit at y x s in
         let end : p ≡ at + length (decimal y) = cc in
         let s′ : Stands u at (decimal y) = stands-same (q + 1) k (omega arith) s in
-        number-is u maxDigits at y (numeral-same t u maxDigits at (q + 1) k (omega arith) (omega arith) ∙ x) s′ ∙ sym f ∙ e
+        number-is u limit at y (numeral-same t u limit at (q + 1) k (omega arith) (omega arith) ∙ x) s′ ∙ sym f ∙ e
 
 -- A number is refused again.
-number-same : (t u : List ℕ) (at p : ℕ) → numberAt maxDigits t at ≡ refused 16 p → take (p + 1) t ≡ take (p + 1) u → numberAt maxDigits u at ≡ refused 16 p
-number-same t u at p e k =
-    let r = number-refused t at 16 p e in
+number-same : (limit : ℕ) → 1 ≤ limit → (t u : List ℕ) (at p : ℕ) → numberAt limit t at ≡ refused 16 p → take (p + 1) t ≡ take (p + 1) u → numberAt limit u at ≡ refused 16 p
+number-same limit positive t u at p e k =
+    let r = number-refused limit positive t at 16 p e in
     let q : p ≡ at = r .1 in
     let s : getD t at 0 ≡ getD u at 0 = read-same t u (p + 1) at k (omega arith) in
-    no-digit-number u maxDigits at (ap (λ (b : ℕ). isDigit (classOf b)) (sym s) ∙ r .0) ∙ ap (λ (n : ℕ). refused 16 n) (sym q)
+    no-digit-number u limit at (ap (λ (b : ℕ). isDigit (classOf b)) (sym s) ∙ r .0) ∙ ap (λ (n : ℕ). refused 16 n) (sym q)
 
 -- Member i of its moat, as it is printed.
 unfoldable pub memberPart : (i v : ℕ) → List ℕ
@@ -156,12 +156,12 @@ module _ (t : List ℕ) (low i at : ℕ) (h : at ≤ length t) where
   after-separator {z} {p} e = reads-fixed (separator i) .sound t at z p h e
 
   -- A member that is read stands there.
-  member-sound : (v p : ℕ) → memberAt t low i at ≡ found v p → Word (Text Small (memberPart i)) t at v p
+  member-sound : (v p : ℕ) → memberAt t low i at ≡ found v p → Word (Text (OfDigits memberDigits) (memberPart i)) t at v p
   unfolding memberAt memberPart
   member-sound v p e =
       let s = then-value (fixedAt (separator i) t at) _ e in
       let x = after-separator (s .2) in
-      let y = number-sound t (s .1) v p (s .3) in
+      let y = number-sound memberDigits (omega arith) t (s .1) v p (s .3) in
       let xe = x .ends in
       let ye = y .ends in
       let n = length-append (x .word) (y .word) in
@@ -177,21 +177,21 @@ module _ (t : List ℕ) (low i at : ℕ) (h : at ≤ length t) where
   unfolding memberAt
   member-place p e = by-place (then-stops (fixedAt (separator i) t at) _ e)
     where
-      by-place : Stops (fixedAt (separator i) t at) (λ z q. numberAt maxDigits t q) 16 p → (at ≤ p) × (p ≤ length t)
+      by-place : Stops (fixedAt (separator i) t at) (λ z q. numberAt memberDigits t q) 16 p → (at ≤ p) × (p ≤ length t)
       by-place (early q) = reads-fixed (separator i) .place t at p h q
       by-place (late z q x y) =
           let b = bound (after-separator x) in
           let a = b .0 in
           let c = b .1 in
-          let s : p ≡ q = number-refused t q 16 p y .1 in
+          let s : p ≡ q = number-refused memberDigits (omega arith) t q 16 p y .1 in
           (omega arith, omega arith)
 
   -- The bytes before the refusal of a member go on to a member.
-  member-extends : (p : ℕ) → memberAt t low i at ≡ refused 16 p → Extends (Text Small (memberPart i)) t at p
+  member-extends : (p : ℕ) → memberAt t low i at ≡ refused 16 p → Extends (Text (OfDigits memberDigits) (memberPart i)) t at p
   unfolding memberAt memberPart
   member-extends p e = by-place (then-stops (fixedAt (separator i) t at) _ e)
     where
-      by-place : Stops (fixedAt (separator i) t at) (λ z q. numberAt maxDigits t q) 16 p → Extends (Text Small (memberPart i)) t at p
+      by-place : Stops (fixedAt (separator i) t at) (λ z q. numberAt memberDigits t q) 16 p → Extends (Text (OfDigits memberDigits) (memberPart i)) t at p
       by-place (early q) =
           let x = reads-fixed (separator i) .extends t at p h q in
           record {
@@ -203,7 +203,7 @@ module _ (t : List ℕ) (low i at : ℕ) (h : at ≤ length t) where
           }
       by-place (late z q x y) =
           let w = after-separator x in
-          let s : p ≡ at + length (w .word) = number-refused t q 16 p y .1 ∙ w .ends in
+          let s : p ≡ at + length (w .word) = number-refused memberDigits (omega arith) t q 16 p y .1 ∙ w .ends in
           record {
             value = 0;
             word = w .word ++ decimal 0;
@@ -217,22 +217,22 @@ module _ (t : List ℕ) (low i at : ℕ) (h : at ≤ length t) where
   unfolding memberAt
   member-again u v p q l k e =
       let s = then-value (fixedAt (separator i) t at) _ e in
-      let b = bound (number-sound t (s .1) v p (s .3)) .0 in
-      then-found _ (read-again (reads-fixed (separator i)) t u at (s .0) (s .1) (q + 1) h (omega arith) k (s .2)) ∙ number-again t u (s .1) v p q l k (s .3)
+      let b = bound (number-sound memberDigits (omega arith) t (s .1) v p (s .3)) .0 in
+      then-found _ (read-again (reads-fixed (separator i)) t u at (s .0) (s .1) (q + 1) h (omega arith) k (s .2)) ∙ number-again memberDigits (omega arith) t u (s .1) v p q l k (s .3)
 
   -- A member is refused again.
   member-same : (u : List ℕ) (p : ℕ) → memberAt t low i at ≡ refused 16 p → take (p + 1) t ≡ take (p + 1) u → memberAt u low i at ≡ refused 16 p
   unfolding memberAt
   member-same u p e k = by-place (then-stops (fixedAt (separator i) t at) _ e)
     where
-      by-place : Stops (fixedAt (separator i) t at) (λ z q. numberAt maxDigits t q) 16 p → (fixedAt (separator i) u at then λ z q. numberAt maxDigits u q) ≡ refused 16 p
+      by-place : Stops (fixedAt (separator i) t at) (λ z q. numberAt memberDigits t q) 16 p → (fixedAt (separator i) u at then λ z q. numberAt memberDigits u q) ≡ refused 16 p
       by-place (early q) = then-refused _ (reads-fixed (separator i) .same t u at p h q k)
       by-place (late z q x y) =
-          let s : p ≡ q = number-refused t q 16 p y .1 in
-          then-found _ (read-again (reads-fixed (separator i)) t u at z q (p + 1) h (omega arith) k x) ∙ number-same t u q p y k
+          let s : p ≡ q = number-refused memberDigits (omega arith) t q 16 p y .1 in
+          then-found _ (read-again (reads-fixed (separator i)) t u at z q (p + 1) h (omega arith) k x) ∙ number-same memberDigits (omega arith) t u q p y k
 
 -- Members are their separators and numbers.
-pub lists-members : Lists memberReader Small memberPart
+pub lists-members : Lists memberReader (OfDigits memberDigits) memberPart
 unfolding memberReader
 lists-members =
     record {
@@ -263,9 +263,9 @@ unfoldable pub headText : (amount : ℕ) → List ℕ
 headText x = dualKey ++ decimal x ++ (colon ∷ [])
 
 -- The amount is read exactly where it stands.
-reads-head : Reads moatHead (Text Small headText) (Text Small headText)
+reads-head : Reads moatHead (Text (OfDigits valueDigits) headText) (Text (OfDigits valueDigits) headText)
 unfolding moatHead numberTo headText
-reads-head = reads-keyed dualKey maxDigits colon (omega arith) colon-ends
+reads-head = reads-keyed dualKey valueDigits colon (omega arith) colon-ends
 
 -- What stands before the members has a byte.
 head-some : (x : ℕ) → 0 < length (headText x)
@@ -352,7 +352,7 @@ module _ (t : List ℕ) (at : ℕ) (h : at ≤ length t) where
       items-broken (memberReader t) t (item-goes lists-members t) (length t) 0 0 c d (omega arith) f
 
   -- A moat line that is read stands there.
-  moat-sound : (i : ℕ) (d : Moat) (p : ℕ) → moatLine t i at ≡ found d p → Word (Text SmallMoat moatText) t at d p
+  moat-sound : (i : ℕ) (d : Moat) (p : ℕ) → moatLine t i at ≡ found d p → Word (Text DualDigits moatText) t at d p
   unfolding membersAt memberReader
   moat-sound i d p e =
       let r = moat-read t i at d p e in
@@ -372,7 +372,7 @@ module _ (t : List ℕ) (at : ℕ) (h : at ≤ length t) where
       let m = length-append (H ++ M) (newline ∷ []) in
       let end : r .end ≡ at + length (H ++ M) = omega arith in
       let whole : Stands t at (H ++ M ++ (newline ∷ [])) = stands-append (H ++ M) (newline ∷ []) c (subst (λ (k : ℕ). Stands t k (newline ∷ [])) end (stands-byte t (r .end) newline (z .0) (z .1))) in
-      subst (λ (f : Moat). Word (Text SmallMoat moatText) t at f p) (r .moat)
+      subst (λ (f : Moat). Word (Text DualDigits moatText) t at f p) (r .moat)
       record {
         word = H ++ M ++ (newline ∷ []);
         member = record { holds = record { value = x .member .holds; members = y .member .holds }; word = moat-parts (moatOf t (r .amount) (r .from)) };
@@ -394,11 +394,11 @@ module _ (t : List ℕ) (at : ℕ) (h : at ≤ length t) where
           (omega arith, b .1)
 
   -- The bytes before the refusal of a moat line go on to a moat line.
-  moat-extends : (i p : ℕ) → moatLine t i at ≡ refused 16 p → Extends (Text SmallMoat moatText) t at p
+  moat-extends : (i p : ℕ) → moatLine t i at ≡ refused 16 p → Extends (Text DualDigits moatText) t at p
   unfolding textFrom
   moat-extends i p e = by-place (moat-stops t i at p e)
     where
-      by-place : MoatStops t at p → Extends (Text SmallMoat moatText) t at p
+      by-place : MoatStops t at p → Extends (Text DualDigits moatText) t at p
       by-place (before q) =
           let x = reads-head .extends t at p h q in
           let d : Moat = record { value = x .value; members = [] } in
@@ -462,7 +462,7 @@ module _ (t : List ℕ) (at : ℕ) (h : at ≤ length t) where
           ∙ ap (λ (L : Lines ℕ ℕ). L .end then λ low y. checked (moatTest i low) (record { value = x; members = L .values }) (y + 1)) (items-broken-again lists-members t u 0 0 c p (omega arith) (a .1) k r)
 
 -- Moat lines are the texts of their moats.
-pub lists-moats : Lists moatReader SmallMoat (λ i. moatText)
+pub lists-moats : Lists moatReader DualDigits (λ i. moatText)
 unfolding moatReader
 lists-moats =
     record {

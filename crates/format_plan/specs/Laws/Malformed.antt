@@ -8,6 +8,8 @@ use mathlib.Core.List.{List, [], _∷_, _++_, append-assoc, append-nil}
 use lib.ListN.{length, take, length-append}
 use lib.Seq.{take-at, length-take-le}
 use borrow.Author.Tests.{le-leb, lt-leb}
+use Rattle.base_limits.specs.Limits.{keptDigits}
+use Rattle.format_number.specs.Number.{OfDigits}
 use Rattle.base_limits.specs.Verdict.{refusal}
 use Rattle.base_limits.specs.declared.Verdict.{Verdict}
 use Rattle.base_limits.specs.declared.Verdict.the-variants.{Fine, Refused}
@@ -21,22 +23,21 @@ use Rattle.format_grammar.specs.Stands.{Stands}
 use Rattle.format_grammar.specs.Laws.Stands.{stands-first, stands-second, stands-end}
 use Rattle.format_grammar.specs.Language.{Lively, read, otherwise, Each, none, more}
 use Rattle.format_grammar.specs.Laws.Language.{bound, read-again, text-stands}
-use Rattle.format_number.specs.Laws.Keyed.{Small}
 use Rattle.format_grammar.specs.Items.{ItemReader, Standing, stop, item, Broken, here, later}
 use Rattle.format_plan_lines.specs.Lines.{keptTest, keepReader, keptAt, Moat, moatTest, moatReader, moatsAt}
 use Rattle.format_plan.specs.Plan.{Claims, claimsAt, Plan, bodyAt, planAt, withRoom, planReading}
 use Rattle.format_plan.specs.Laws.Room.{room-refusal}
 use Rattle.format_grammar.specs.Laws.Items.{items-back}
-use Rattle.format_plan.specs.Laws.Back.{keep-line-back, SmallMoat, moat-line-back, moatText, Few, claimsText, claims-back, claims-some, planWords, lines-long, line-some, moat-some, no-keep}
+use Rattle.format_plan.specs.Laws.Back.{keep-line-back, DualDigits, moat-line-back, moatText, ClaimDigits, claimsText, claims-back, claims-some, planWords, lines-long, line-some, moat-some, no-keep}
 use Rattle.format_grammar.specs.Laws.Listing.{items-standing, items-broken, broken-items, item-goes, standing-long, broken-place, broken-extends, items-again, items-broken-again}
 use Rattle.format_plan.specs.Laws.Listed.{kept-spares, moat-spares, lists-kept, lists-moats, text-from}
 use Rattle.format_plan.specs.Laws.Accepted.{reads-claims, lines-words, plan-missing}
 
 -- A well-formed plan: any counts, tracks, amounts and members of at most so many digits, whether or not they rise or pass their limits.
 pub record WellFormedPlan (p : Plan) : Type 0 where
-  pub few : Few (p .claims)
-  pub kept : Each Small (p .kept)
-  pub moats : Each SmallMoat (p .moats)
+  pub few : ClaimDigits (p .claims)
+  pub kept : Each (OfDigits keptDigits) (p .kept)
+  pub moats : Each DualDigits (p .moats)
 
 -- ---- a well-formed plan is not refused with 16
 
@@ -71,20 +72,20 @@ met-lines {A} r t P f tested (more {a = a} {l = l} p ps) low i at end s q e =
     by-test (Refused n p) h b c y = one-refused (here b c) (omega arith) (h n p refl)
 
 -- Keep lines that stand before a byte that begins none.
-met-kept : (t : List ℕ) (m : ℕ) {ks : List ℕ} → Each Small ks → (at end : ℕ) → Stands t at (textOf (lineOf keptKey) ks) → end ≡ at + length (textOf (lineOf keptKey) ks) → byteIs t end (code "k") ≡ false
+met-kept : (t : List ℕ) (m : ℕ) {ks : List ℕ} → Each (OfDigits keptDigits) ks → (at end : ℕ) → Stands t at (textOf (lineOf keptKey) ks) → end ≡ at + length (textOf (lineOf keptKey) ks) → byteIs t end (code "k") ≡ false
     → Met (keepReader t m) 0 0 at ks end
 unfolding keepReader
-met-kept t m w at end s q e = met-lines (keepReader t m) t Small (lineOf keptKey) tested w 0 0 at end s q (ap not e)
+met-kept t m w at end s q e = met-lines (keepReader t m) t (OfDigits keptDigits) (lineOf keptKey) tested w 0 0 at end s q (ap not e)
   where
-    tested : (low i at e : ℕ) → Small e → Stands t at (lineOf keptKey e) → Tested (keepReader t m) low i at e (at + length (lineOf keptKey e))
+    tested : (low i at e : ℕ) → OfDigits keptDigits e → Stands t at (lineOf keptKey e) → Tested (keepReader t m) low i at e (at + length (lineOf keptKey e))
     tested low i at e h s = let b = keep-line-back t m low i at e h s in record { test = keptTest m low i e; spares = kept-spares m low i e; begins = b .0; line = b .1 }
 
 -- Moat lines that stand to the end of the text.
-met-moats : (t : List ℕ) {ds : List Moat} → Each SmallMoat ds → (at : ℕ) → Stands t at (textOf moatText ds) → at + length (textOf moatText ds) ≡ length t → Met (moatReader t) 0 0 at ds (length t)
+met-moats : (t : List ℕ) {ds : List Moat} → Each DualDigits ds → (at : ℕ) → Stands t at (textOf moatText ds) → at + length (textOf moatText ds) ≡ length t → Met (moatReader t) 0 0 at ds (length t)
 unfolding moatReader
-met-moats t w at s q = met-lines (moatReader t) t SmallMoat moatText tested w 0 0 at (length t) s (sym q) (le-leb (length t) (length t) (omega arith))
+met-moats t w at s q = met-lines (moatReader t) t DualDigits moatText tested w 0 0 at (length t) s (sym q) (le-leb (length t) (length t) (omega arith))
   where
-    tested : (low i at : ℕ) (d : Moat) → SmallMoat d → Stands t at (moatText d) → Tested (moatReader t) low i at d (at + length (moatText d))
+    tested : (low i at : ℕ) (d : Moat) → DualDigits d → Stands t at (moatText d) → Tested (moatReader t) low i at d (at + length (moatText d))
     tested low i at d h s =
         let b = moat-line-back t i at d h s in
         let n = moat-some d in

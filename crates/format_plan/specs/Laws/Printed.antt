@@ -8,7 +8,7 @@ use lib.ListN.{length, getD, length-append}
 use lib.Dec.{eqb}
 use Rattle.base_finite.specs.Below.{thoseBelow, tabulate}
 use Rattle.base_finite.specs.Laws.Below.{length-tabulate}
-use Rattle.base_limits.specs.Limits.{maxDigits, recordBytes, maxEdges, maxDuals}
+use Rattle.base_limits.specs.Limits.{recordBytes, maxEdges, maxDuals, valueDigits}
 use Rattle.format_record.specs.Record.{valueIn, memberIn, recordAt}
 use Rattle.format_key.specs.Key.{keptKey}
 use Rattle.format_write.specs.Text.{lineOf, membersOf, dualLine, textBelow, keptLine, keptLines, dualLines, countLines, planText}
@@ -19,7 +19,7 @@ use Rattle.format_grammar.specs.Laws.Stands.{stands-end}
 use Rattle.format_grammar.specs.Language.{Each, none, more}
 use Rattle.format_plan_lines.specs.Lines.{memberNumbers, Moat}
 use Rattle.format_plan.specs.Plan.{Claims, Plan, planAt}
-use Rattle.format_plan.specs.Laws.Back.{Rising, ended, rising, Printed, Few, Printable, moatText, claimsText, planWords, plan-back}
+use Rattle.format_plan.specs.Laws.Back.{Rising, ended, rising, Printed, ClaimDigits, Printable, moatText, claimsText, planWords, plan-back}
 
 -- The tracks that marks keep, rising.
 unfoldable pub keptIn : List ℕ → List ℕ
@@ -96,10 +96,10 @@ each-printed (suc n) h p = each-snoc (each-printed n h (λ i k. p i (omega arith
 
 -- What a printed plan is asked: counts of at most ten digits, tracks and moats within the limits, amounts of at most seven digits.
 pub record Fits (claims : Claims) (marks records : List ℕ) : Type 0 where
-  pub few : Few claims
+  pub few : ClaimDigits claims
   pub tracks : length marks ≤ maxEdges
   pub moats : length records / recordBytes ≤ maxDuals
-  pub values : (i : ℕ) → i < length records / recordBytes → valueIn (recordAt records i) < 10 ^ maxDigits
+  pub values : (i : ℕ) → i < length records / recordBytes → valueIn (recordAt records i) < 10 ^ valueDigits
 
 printable : (claims : Claims) (marks records : List ℕ) → Fits claims marks records → Printable (length marks) (planIn claims marks records)
 unfolding planIn keptIn moatsIn moatIn membersOf

@@ -6,7 +6,9 @@ use mathlib.Core.Path.{_≡_, refl, ap, sym, _∙_}
 use mathlib.Core.List.{List}
 use lib.ListN.{length, take}
 use lib.Seq.{take-take}
-use Rattle.base_limits.specs.Limits.{maxVertices, maxEdges, maxDigits}
+use Rattle.format_number.specs.Number.{lineBytes}
+use Rattle.format_survey.specs.Render.{edgeBytes}
+use Rattle.base_limits.specs.Limits.{maxVertices, maxEdges, countDigits, groupDigits, endpointDigits, weightDigits}
 use Rattle.format_key.specs.Key.{comma, newline, nodesKey, linksKey, nodeKey, linkKey}
 use Rattle.format_survey_lines.specs.Line.{Tests, testsFor, verticesTest, edgesTest, groupTest, countLine, groupLine, groupLines, edgeLine, edgeLines}
 use Rattle.format_survey.specs.Reading.{surveyOf, surveyAt, outcomeOf, reading}
@@ -17,41 +19,37 @@ use Rattle.format_grammar.specs.Language.{Local, Any}
 use Rattle.format_grammar.specs.Laws.Local.{local-value, local-then, local-as, local-fixed, local-lines, local-end}
 use Rattle.format_grammar.specs.Lines.{linesFrom, whole}
 use Rattle.format_grammar.specs.Step.{found, _then_}
-use Rattle.format_number.specs.Laws.Near.{local-number, lineBytes, local-tested}
-
--- The bytes that an edge's line can take.
-abbrev edgeBytes : ℕ
-edgeBytes = length linkKey + 3 * (maxDigits + 1)
+use Rattle.format_number.specs.Laws.Near.{local-number, local-tested}
 
 local-edge : (e : ℕ) → Local (λ t at. edgeLine t e at) edgeBytes Any
 unfolding edgeLine
 local-edge e =
     local-as (λ t at. refl) (omega arith) (λ a x. tt)
     (local-then {Q = Any} (local-fixed linkKey) λ z x.
-    local-then {Q = Any} (local-number maxDigits comma (omega arith)) λ u x.
-    local-then {Q = Any} (local-number maxDigits comma (omega arith)) λ v x.
-    local-then {Q = Any} (local-number maxDigits newline (omega arith)) λ w x.
+    local-then {Q = Any} (local-number endpointDigits comma (omega arith)) λ u x.
+    local-then {Q = Any} (local-number endpointDigits comma (omega arith)) λ v x.
+    local-then {Q = Any} (local-number weightDigits newline (omega arith)) λ w x.
     local-value (record { first = u; second = v; weight = w }))
 
 -- How many bytes are looked at.
 abbrev pub farthest : ℕ
-farthest = lineBytes nodesKey + (lineBytes linksKey + (maxVertices * lineBytes nodeKey + (maxEdges * edgeBytes + 1)))
+farthest = lineBytes nodesKey countDigits + (lineBytes linksKey countDigits + (maxVertices * lineBytes nodeKey groupDigits + (maxEdges * edgeBytes + 1)))
 
 module _ (a b c d : ℕ) where
   abbrev tests : Tests
   tests = testsFor a b c d
 
-  local-said : Local (saidAt tests) (lineBytes nodesKey + (lineBytes linksKey + (maxVertices * lineBytes nodeKey + (maxEdges * edgeBytes + 0)))) Any
+  local-said : Local (saidAt tests) (lineBytes nodesKey countDigits + (lineBytes linksKey countDigits + (maxVertices * lineBytes nodeKey groupDigits + (maxEdges * edgeBytes + 0)))) Any
   unfolding saidAt countLine groupLines groupLine edgeLines testsFor
   local-said =
-      local-then {Q = Any} (local-tested nodesKey (verticesTest a)) λ n x.
-      local-then {Q = Any} (local-tested linksKey (edgesTest b c d)) λ m y.
+      local-then {Q = Any} (local-tested nodesKey countDigits (omega arith) (verticesTest a)) λ n x.
+      local-then {Q = Any} (local-tested linksKey countDigits (omega arith) (edgesTest b c d)) λ m y.
       local-then {Q = Any} (few-groups n (vertices-passed a n x .most)) λ gs z.
       local-then {Q = Any} (few-edges m (edges-passed b c d m y .most)) λ es z.
       local-value (record { counts = record { vertices = n; edges = m }; groups = gs; edges = es })
     where
-      few-groups : (n : ℕ) → n ≤ maxVertices → Local (λ t at. whole (linesFrom (groupLine groupTest t) n 0 at)) (maxVertices * lineBytes nodeKey) Any
-      few-groups n h = local-as (λ t at. refl) (omega arith) (λ a x. tt) (local-lines (groupLine groupTest) (lineBytes nodeKey) (λ i. local-as (λ t at. refl) (omega arith) (λ a x. tt) (local-tested nodeKey (groupTest i))) n 0)
+      few-groups : (n : ℕ) → n ≤ maxVertices → Local (λ t at. whole (linesFrom (groupLine groupTest t) n 0 at)) (maxVertices * lineBytes nodeKey groupDigits) Any
+      few-groups n h = local-as (λ t at. refl) (omega arith) (λ a x. tt) (local-lines (groupLine groupTest) (lineBytes nodeKey groupDigits) (λ i. local-as (λ t at. refl) (omega arith) (λ a x. tt) (local-tested nodeKey groupDigits (omega arith) (groupTest i))) n 0)
 
       few-edges : (m : ℕ) → m ≤ maxEdges → Local (λ t at. whole (linesFrom (edgeLine t) m 0 at)) (maxEdges * edgeBytes) Any
       few-edges m h = local-as (λ t at. refl) (omega arith) (λ a x. tt) (local-lines edgeLine edgeBytes local-edge m 0)

@@ -1,14 +1,17 @@
 -- A whole text as a word: the lines that are read are the rendering of what they say.
 use Prim.Native.Nat.{ℕ}
+use native.Mathlib.Omega.{arith}
 use mathlib.Core.Path.{_≡_, refl, ap, sym, _∙_, subst, fun-ext}
 use mathlib.Core.List.{List, [], _++_}
 use lib.ListN.{length}
+use Rattle.base_limits.specs.Limits.{countDigits, groupDigits}
+use Rattle.format_number.specs.Number.{OfDigits}
 use Rattle.base_limits.specs.declared.Verdict.the-variants.{Refused}
 use Rattle.format_write.specs.Text.{lineOf}
 use Rattle.format_grammar.specs.Step.{Step, found, refused, _then_}
 use Rattle.format_grammar.specs.Lines.{linesAfter, textOf, whole}
 use Rattle.format_key.specs.Key.{nodesKey, linksKey, nodeKey}
-use Rattle.format_survey_lines.specs.Line.{Tests, countLine, countsAt, groupLine, groupLines, Edge, edgeLine, edgeLines, Counts}
+use Rattle.format_survey_lines.specs.Line.{Tests, countLine, countsAt, groupLine, groupLines, Edge, edgeLine, edgeLines, Counts, EdgeDigits}
 use Rattle.format_grammar.specs.Bytes.{endAt}
 use Rattle.format_survey.specs.Reading.{bodyAt, surveyOf, surveyAt}
 use Rattle.format_survey_lines.specs.Render.{edgeText}
@@ -16,8 +19,8 @@ use Rattle.format_survey.specs.Render.{render}
 use Rattle.format_grammar.specs.Laws.Step.{then-then}
 use Rattle.format_grammar.specs.Language.{Reads, Seq, Empty, Text, EachFrom, Texts}
 use Rattle.format_grammar.specs.Laws.Language.{reads-then, reads-as, reads-value, joined}
-use Rattle.format_number.specs.Laws.Keyed.{Small, Passes, reads-tested}
-use Rattle.format_survey_lines.specs.Laws.Content.{SmallEdge, reads-edge}
+use Rattle.format_number.specs.Laws.Keyed.{Passes, reads-tested}
+use Rattle.format_survey_lines.specs.Laws.Content.{reads-edge}
 use Rattle.format_grammar.specs.Laws.Lines.{reads-lines}
 
 -- What a text says before its end is looked for.
@@ -41,13 +44,13 @@ pub record Rendered (N M : ℕ → Type 0) (P : ℕ → ℕ → Type 0) (x : Sai
   pub someVertices : N (length (x .groups))
   pub someEdges : M (length (x .edges))
   pub eachGroup : EachFrom P 0 (x .groups)
-  pub eachEdge : EachFrom (λ i. SmallEdge) 0 (x .edges)
+  pub eachEdge : EachFrom (λ i. EdgeDigits) 0 (x .edges)
   pub word : w ≡ render (x .groups) (x .edges)
 
 module _ (N M : ℕ → Type 0) (P : ℕ → ℕ → Type 0) where
   abbrev Parts : Said → List ℕ → Type 0
   Parts =
-      Seq (Text N (lineOf nodesKey)) λ n. Seq (Text M (lineOf linksKey)) λ m. Seq (Texts P (lineOf nodeKey) n 0) λ gs. Seq (Texts (λ i. SmallEdge) edgeText m 0) λ es.
+      Seq (Text N (lineOf nodesKey)) λ n. Seq (Text M (lineOf linksKey)) λ m. Seq (Texts P (lineOf nodeKey) n 0) λ gs. Seq (Texts (λ i. EdgeDigits) edgeText m 0) λ es.
       Empty (record { counts = record { vertices = n; edges = m }; groups = gs; edges = es })
 
   to : (x : Said) (w : List ℕ) → Parts x w → Rendered N M P x w
@@ -119,19 +122,19 @@ pub record Sparing (tests : Tests) : Type 0 where
   pub group : (v x n p : ℕ) → tests .group v x ≡ Refused n p → n ≡ 16 → ⊥
 
 abbrev pub Accepted : Tests → Said → List ℕ → Type 0
-Accepted tests = Rendered (Passes (tests .vertices)) (Passes (tests .edges)) (λ v. Passes (tests .group v))
+Accepted tests = Rendered (Passes countDigits (tests .vertices)) (Passes countDigits (tests .edges)) (λ v. Passes groupDigits (tests .group v))
 
 abbrev pub Formed : Said → List ℕ → Type 0
-Formed = Rendered Small Small (λ v. Small)
+Formed = Rendered (OfDigits countDigits) (OfDigits countDigits) (λ v. OfDigits groupDigits)
 
 pub reads-said : (tests : Tests) → Sparing tests → Reads (saidAt tests) (Accepted tests) Formed
 unfolding saidAt countLine groupLines groupLine edgeLines
 reads-said tests h =
     reads-as (λ t at. refl) (to _ _ _) (from _ _ _) (to _ _ _) (from _ _ _)
-    (reads-then (reads-tested nodesKey (tests .vertices) (h .vertices)) λ n.
-    reads-then (reads-tested linksKey (tests .edges) (h .edges)) λ m.
-    reads-then (reads-lines (groupLine (tests .group)) (λ v. Passes (tests .group v)) (λ v. Small) (lineOf nodeKey) (λ v. reads-tested nodeKey (tests .group v) (h .group v)) n 0) λ gs.
-    reads-then (reads-lines edgeLine (λ e. SmallEdge) (λ e. SmallEdge) edgeText reads-edge m 0) λ es.
+    (reads-then (reads-tested nodesKey countDigits (omega arith) (tests .vertices) (h .vertices)) λ n.
+    reads-then (reads-tested linksKey countDigits (omega arith) (tests .edges) (h .edges)) λ m.
+    reads-then (reads-lines (groupLine (tests .group)) (λ v. Passes groupDigits (tests .group v)) (λ v. OfDigits groupDigits) (lineOf nodeKey) (λ v. reads-tested nodeKey groupDigits (omega arith) (tests .group v) (h .group v)) n 0) λ gs.
+    reads-then (reads-lines edgeLine (λ e. EdgeDigits) (λ e. EdgeDigits) edgeText reads-edge m 0) λ es.
     reads-value (record { counts = record { vertices = n; edges = m }; groups = gs; edges = es }))
 
 -- The groups and the edges from an offset on, and what is read behind them.

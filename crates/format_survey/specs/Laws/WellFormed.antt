@@ -9,15 +9,14 @@ use lib.ListN.{length, take, length-append}
 use lib.Seq.{take-at, take-all, length-take-le}
 use lib.Dec.{leb}
 use borrow.Author.Tests.{leb-true, leb-false}
-use Rattle.base_limits.specs.Limits.{maxVertices, maxEdges, groupNumbers}
+use Rattle.format_number.specs.Number.{OfDigits}
+use Rattle.base_limits.specs.Limits.{maxVertices, maxEdges, groupNumbers, countDigits, groupDigits}
 use Rattle.base_limits.specs.Verdict.{refusal, answer, refuseIf, _before_}
 use Rattle.base_limits.specs.declared.Verdict.the-variants.{Refused}
-use Rattle.format_survey_lines.specs.Line.{Tests, testsFor, verticesTest, edgesTest, groupTest, Edge}
+use Rattle.format_survey_lines.specs.Line.{Tests, testsFor, verticesTest, edgesTest, groupTest, Edge, EdgeDigits}
 use Rattle.format_survey.specs.Reading.{Survey, surveyOf, surveyAt, outcomeOf, reading}
 use Rattle.format_survey.specs.Render.{render}
 use Rattle.format_survey_lines.specs.Laws.Tests.{vertices-fine, edges-fine, group-fine, vertices-passed, edges-passed, group-passed}
-use Rattle.format_number.specs.Laws.Keyed.{Small}
-use Rattle.format_survey_lines.specs.Laws.Content.{SmallEdge}
 use Rattle.format_survey.specs.Laws.Said.{Said, saidAt, Sparing, Accepted, Formed, reads-said, said-survey}
 use Rattle.format_grammar.specs.Bytes.{endAt}
 use Rattle.format_grammar.specs.Language.{Reads, Lively, read, otherwise, EachFrom, moreFrom}
@@ -32,10 +31,10 @@ use Rattle.format_grammar.specs.Step.{Step, found, refused, _then_}
 pub record WellFormed (t : List ℕ) : Type 0 where
   pub groups : List ℕ
   pub edges : List Edge
-  pub fewGroups : Small (length groups)
-  pub fewEdges : Small (length edges)
-  pub eachGroup : EachFrom (λ v. Small) 0 groups
-  pub eachEdge : EachFrom (λ e. SmallEdge) 0 edges
+  pub fewGroups : OfDigits countDigits (length groups)
+  pub fewEdges : OfDigits countDigits (length edges)
+  pub eachGroup : EachFrom (λ v. OfDigits groupDigits) 0 groups
+  pub eachEdge : EachFrom (λ e. EdgeDigits) 0 edges
   pub word : t ≡ render groups edges
 
 -- A survey within the counts, with groups up to 255.
@@ -44,7 +43,7 @@ pub record Within (groups : List ℕ) (edges : List Edge) : Type 0 where
   pub fewGroups : length groups ≤ maxVertices
   pub fewEdges : length edges ≤ maxEdges
   pub eachGroup : EachFrom (λ v g. g < groupNumbers) 0 groups
-  pub eachEdge : EachFrom (λ e. SmallEdge) 0 edges
+  pub eachEdge : EachFrom (λ e. EdgeDigits) 0 edges
 
 -- What the text of these groups and edges says.
 unfoldable pub surveyFrom : List ℕ → List Edge → Survey

@@ -3,40 +3,34 @@ use Prim.Native.Nat.{ℕ}
 use native.Mathlib.Omega.{arith}
 use mathlib.Core.Path.{_≡_, refl, ap, sym, _∙_, subst}
 use mathlib.Core.List.{List, [], _++_}
-use Rattle.base_limits.specs.Limits.{maxDigits}
+use Rattle.base_limits.specs.Limits.{endpointDigits, weightDigits}
 use Rattle.format_key.specs.Key.{comma, newline, linkKey}
-use Rattle.format_survey_lines.specs.Line.{Edge, edgeLine}
+use Rattle.format_survey_lines.specs.Line.{Edge, edgeLine, EdgeDigits}
 use Rattle.format_number.specs.Number.{numberText}
 use Rattle.format_survey_lines.specs.Render.{edgeText}
 use Rattle.format_number.specs.Laws.Words.{Numeral, reads-number}
-use Rattle.format_number.specs.Laws.Keyed.{Small, newline-no-digit, comma-no-digit}
+use Rattle.format_number.specs.Laws.Keyed.{newline-no-digit, comma-no-digit}
 use Rattle.format_grammar.specs.Language.{Reads, Seq, Empty, Fixed, Text}
 use Rattle.format_grammar.specs.Laws.Bytes.{reads-fixed}
 use Rattle.format_grammar.specs.Laws.Language.{reads-then, reads-as, reads-value, joined}
 use Rattle.format_grammar.specs.Lines.{whole}
 
--- The numbers of an edge.
-pub record SmallEdge (x : Edge) : Type 0 where
-  pub first : Small (x .first)
-  pub second : Small (x .second)
-  pub weight : Small (x .weight)
-
 EdgeParts : Edge → List ℕ → Type 0
 EdgeParts =
-    Seq (Fixed linkKey) λ z. Seq (Numeral maxDigits comma) λ u. Seq (Numeral maxDigits comma) λ v. Seq (Numeral maxDigits newline) λ w.
+    Seq (Fixed linkKey) λ z. Seq (Numeral endpointDigits comma) λ u. Seq (Numeral endpointDigits comma) λ v. Seq (Numeral weightDigits newline) λ w.
     Empty (record { first = u; second = v; weight = w })
 
-pub reads-edge : (e : ℕ) → Reads (λ t at. edgeLine t e at) (Text SmallEdge edgeText) (Text SmallEdge edgeText)
+pub reads-edge : (e : ℕ) → Reads (λ t at. edgeLine t e at) (Text EdgeDigits edgeText) (Text EdgeDigits edgeText)
 unfolding edgeLine EdgeParts edgeText
 reads-edge e =
     reads-as (λ t at. refl) to from to from
     (reads-then (reads-fixed linkKey) λ z.
-    reads-then (reads-number maxDigits comma (omega arith) comma-no-digit) λ u.
-    reads-then (reads-number maxDigits comma (omega arith) comma-no-digit) λ v.
-    reads-then (reads-number maxDigits newline (omega arith) newline-no-digit) λ w.
+    reads-then (reads-number endpointDigits comma (omega arith) comma-no-digit) λ u.
+    reads-then (reads-number endpointDigits comma (omega arith) comma-no-digit) λ v.
+    reads-then (reads-number weightDigits newline (omega arith) newline-no-digit) λ w.
     reads-value (record { first = u; second = v; weight = w }))
   where
-    to : (x : Edge) (w : List ℕ) → EdgeParts x w → Text SmallEdge edgeText x w
+    to : (x : Edge) (w : List ℕ) → EdgeParts x w → Text EdgeDigits edgeText x w
     to x w m =
         let a = m .second in
         let b = a .second in
@@ -44,7 +38,7 @@ reads-edge e =
         let d = c .second in
         let e : record { first = a .value; second = b .value; weight = c .value } ≡ x = sym (d .value) in
         record {
-          holds = subst SmallEdge e record { first = a .first .below; second = b .first .below; weight = c .first .below };
+          holds = subst EdgeDigits e record { first = a .first .below; second = b .first .below; weight = c .first .below };
           word =
               m .whole ∙ ap (λ (z : List ℕ). z ++ m .right) (m .first .word) ∙ ap (λ (z : List ℕ). linkKey ++ z)
               (a .whole ∙ ap (λ (z : List ℕ). z ++ a .right) (a .first .word) ∙ ap (λ (z : List ℕ). numberText comma (a .value) ++ z)
@@ -54,7 +48,7 @@ reads-edge e =
               ∙ ap edgeText e;
         }
 
-    from : (x : Edge) (w : List ℕ) → Text SmallEdge edgeText x w → EdgeParts x w
+    from : (x : Edge) (w : List ℕ) → Text EdgeDigits edgeText x w → EdgeParts x w
     from x w m =
         record {
           value = 0;

@@ -4,7 +4,7 @@ use native.Mathlib.Omega.{arith}
 use mathlib.Core.Path.{_≡_, ap, ap₂, sym, _∙_, subst}
 use mathlib.Core.List.{List, _++_}
 use lib.ListN.{length, take}
-use Rattle.base_limits.specs.Limits.{recordBytes}
+use Rattle.base_limits.specs.Limits.{recordBytes, figureDigits}
 use Rattle.base_limits.specs.Verdict.{answer}
 use Rattle.base_limits.specs.declared.Verdict.the-variants.{Fine}
 use Rattle.format_write.specs.Text.{planText}
@@ -22,7 +22,6 @@ use Rattle.plan_core.specs.Plan.{Plan, planOf, planRefusal, Counts, countsOf, c
 use Rattle.plan_core.specs.Laws.Ready.{Ready, fine-ready}
 use Rattle.plan_core.specs.Laws.Passes.{finished-passes}
 use Rattle.plan_core.specs.Laws.Promise.{cut-marks, cut-records}
-use Rattle.format_plan_lines.specs.Lines.{countDigits}
 use Rattle.check_text.specs.Verify.{verifying}
 use Rattle.check_text.specs.Laws.Accuracy.{surveyIn}
 use Rattle.check_text.specs.Laws.Passes.{read-numbered, printed-passes, printed-length}
@@ -45,7 +44,7 @@ printedCall s marks records c =
     planText (c .terminals) (c .cost) (c .bound) (c .rounds) (take (edgeCount s) (marksAfter s marks records)) (take (recordBytes * c .duals) (recordsAfter s marks records))
 
 -- Rounds have few digits.
-rounds-few : (s : Survey) → SurveySound s → planOf (problemOf s) .rounds < 10 ^ countDigits
+rounds-few : (s : Survey) → SurveySound s → planOf (problemOf s) .rounds < 10 ^ figureDigits
 unfolding planOf problemOf vertexCount
 rounds-few s sound =
     let some = sound .some in
