@@ -13,7 +13,7 @@ use Rattle.format_survey.specs.Reading.{Body, surveyOf, Survey as SurveyText}
 use Rattle.format_survey_lines.specs.Line.{Counts, Tests, testsFor, groupTest, groupLines, edgeLines, countsAt}
 use Rattle.survey_core.specs.Survey.{Survey, surveyFrom, edgeCount}
 use Rattle.check_rule.specs.Check.{Checked, checking}
-use Rattle.format_plan.specs.Plan.{Plan, planAt, withRoom, marksOf, moatRecords}
+use Rattle.format_plan.specs.Plan.{Plan, planAt, withRoom, marksOf, dualRecords}
 
 -- The lines of a survey after its counts, behind which more may follow.
 unfoldable pub linesAt : List ℕ → (vertices edges at : ℕ) → Body
@@ -47,7 +47,7 @@ judged (answer c) terminals cost bound = outcome (claimTest c terminals cost bou
 unfoldable pub planVerified : Survey → Outcome Plan → Outcome Checked
 planVerified s (refusal number place) = refusal number place
 planVerified s (answer p) =
-    judged (checking s (marksOf (edgeCount s) (p .kept)) (moatRecords (p .moats))) (p .claims .terminals) (p .claims .cost) (p .claims .bound)
+    judged (checking s (marksOf (edgeCount s) (p .kept)) (dualRecords (p .duals))) (p .claims .terminals) (p .claims .cost) (p .claims .bound)
 
 -- The plan from an offset on, with room for every plan within the limits.
 unfoldable pub planFrom : List ℕ → Survey → (at : ℕ) → Outcome Plan

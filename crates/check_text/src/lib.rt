@@ -104,9 +104,9 @@ fn verify_plan(
             cost,
             bound,
             rounds: _,
-            moats,
+            duals,
         } => {
-            let size = RECORD_BYTES * moats;
+            let size = RECORD_BYTES * duals;
             judge(
                 groups,
                 firsts,

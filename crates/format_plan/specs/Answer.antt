@@ -7,8 +7,8 @@ use Rattle.base_limits.specs.Limits.{recordBytes}
 use Rattle.base_limits.specs.Verdict.{Outcome, refusal, answer}
 use Rattle.format_grammar.specs.Step.{Step, found, refused, _then_, checked}
 use Rattle.format_grammar.specs.Items.{puts}
-use Rattle.format_plan_lines.specs.Lines.{putMark, putMoat}
-use Rattle.format_plan.specs.Plan.{Claims, Plan, Body, marksOf, moatRecords, roomTest, marksAfter, recordsAfter}
+use Rattle.format_plan_lines.specs.Lines.{putMark, putDual}
+use Rattle.format_plan.specs.Plan.{Claims, Plan, Body, marksOf, dualRecords, roomTest, marksAfter, recordsAfter}
 use Rattle.format_plan.specs.declared.PlanText.{PlanText}
 use Rattle.format_plan.specs.declared.PlanText.the-variants.{Plan as PlanRead, Refused as PlanRefused}
 use Rattle.format_plan.specs.declared.Claims.{Claims as ClaimsLines}
@@ -22,7 +22,7 @@ claimsStep (Refused number place) = refused number place
 pub record Stores (b : Body) (step : Step ℕ) (marks marks′ records records′ : List ℕ) : Type 0 where
   pub end : step ≡ b .end
   pub intoMarks : marks′ ≡ puts putMark marks 0 (b .kept)
-  pub intoRecords : records′ ≡ puts putMoat records 0 (b .moats)
+  pub intoRecords : records′ ≡ puts putDual records 0 (b .duals)
 
 -- Where the lines after the counts end, once there is room for what they say.
 unfoldable pub roomed : Body → (m marks records : ℕ) → Step ℕ
@@ -37,20 +37,20 @@ storedIf (refused number place) new old = old
 pub record Fills (b : Body) (m : ℕ) (step : Step ℕ) (marks marks′ records records′ : List ℕ) : Type 0 where
   pub end : step ≡ roomed b m (length marks) (length records)
   pub intoMarks : marks′ ≡ storedIf step (marksOf m (b .kept) ++ drop m marks) marks
-  pub intoRecords : records′ ≡ storedIf step (moatRecords (b .moats) ++ drop (recordBytes * length (b .moats)) records) records
+  pub intoRecords : records′ ≡ storedIf step (dualRecords (b .duals) ++ drop (recordBytes * length (b .duals)) records) records
 
 -- The answer of reading: the counts, and the number of moats.
 pub record Read : Type 0 where
   pub claims : Claims
-  pub moats : ℕ
+  pub duals : ℕ
 
 unfoldable pub planOutcome : PlanText → Outcome Read
-planOutcome (PlanRead k c b r moats) = answer (record { claims = record { terminals = k; cost = c; bound = b; rounds = r }; moats = moats })
+planOutcome (PlanRead k c b r duals) = answer (record { claims = record { terminals = k; cost = c; bound = b; rounds = r }; duals = duals })
 planOutcome (PlanRefused number place) = refusal number place
 
 unfoldable pub readOf : Outcome Plan → Outcome Read
 readOf (refusal number place) = refusal number place
-readOf (answer p) = answer (record { claims = p .claims; moats = length (p .moats) })
+readOf (answer p) = answer (record { claims = p .claims; duals = length (p .duals) })
 
 -- What reading a plan answers, and what each lent buffer, with its primed content at the end, then holds.
 pub record Reads (o : Outcome Plan) (m : ℕ) (read : Outcome Read) (marks marks′ records records′ : List ℕ) : Type 0 where

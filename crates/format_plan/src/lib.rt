@@ -109,7 +109,7 @@ fn plan_body(
     let Number::Value { value: _, next } = kept else {
         return kept;
     };
-    format_plan_lines::moat_lines(text, next, records)
+    format_plan_lines::dual_lines(text, next, records)
 }
 
 // The two passes over the lines after the counts: the first decides, into buffers of no length, and the second stores.
@@ -153,7 +153,7 @@ pub enum PlanText {
         cost: u64,
         bound: u64,
         rounds: u64,
-        moats: usize,
+        duals: usize,
     },
     Refused {
         number: u64,
@@ -186,7 +186,7 @@ pub fn read_plan(
                 cost,
                 bound,
                 rounds,
-                moats: value as usize,
+                duals: value as usize,
             },
         },
     }

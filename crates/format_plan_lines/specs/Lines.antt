@@ -57,38 +57,38 @@ unfoldable pub membersAt : List ℕ → (at : ℕ) → Lines ℕ ℕ
 membersAt t at = itemsFrom (memberReader t) (length t) 0 0 at
 
 -- A moat as it is printed: the amount and the members.
-pub record Moat : Type 0 where
+pub record PrintedDual : Type 0 where
   pub value : ℕ
   pub members : List ℕ
 
 -- 27, then 28, at moat line i.
-unfoldable pub moatTest : (i low : ℕ) → Verdict
-moatTest i low = refuseIf (ltb memberNumbers low) 27 i before refuseIf (leb maxDuals i) 28 i
+unfoldable pub dualTest : (i low : ℕ) → Verdict
+dualTest i low = refuseIf (ltb memberNumbers low) 27 i before refuseIf (leb maxDuals i) 28 i
 
 -- The amount, and where the members begin.
-unfoldable pub moatHead : List ℕ → (at : ℕ) → Step ℕ
-moatHead t at =
+unfoldable pub dualHead : List ℕ → (at : ℕ) → Step ℕ
+dualHead t at =
     fixedAt dualKey t at then λ z a.
     numberAt valueDigits t a then λ amount b.
     fixedAt (colon ∷ []) t b then λ y c.
     found amount c
 
 -- The moat whose members stand at an offset.
-abbrev pub moatOf : List ℕ → (amount at : ℕ) → Moat
-moatOf t amount at = record { value = amount; members = membersAt t at .values }
+abbrev pub listedDual : List ℕ → (amount at : ℕ) → PrintedDual
+listedDual t amount at = record { value = amount; members = membersAt t at .values }
 
-unfoldable pub moatLine : List ℕ → (i at : ℕ) → Step Moat
-moatLine t i at =
-    moatHead t at then λ amount c.
+unfoldable pub dualLineAt : List ℕ → (i at : ℕ) → Step PrintedDual
+dualLineAt t i at =
+    dualHead t at then λ amount c.
     membersAt t c .end then λ low d.
-    checked (moatTest i low) (moatOf t amount c) (d + 1)
+    checked (dualTest i low) (listedDual t amount c) (d + 1)
 
 -- Moat lines stand to the end of the text; the number after them is how many there are.
-unfoldable pub moatReader : List ℕ → ItemReader ℕ Moat
-moatReader t = record { stop = λ at. leb (length t) at; item = λ low i at. moatLine t i at; after = λ low d. low + 1 }
+unfoldable pub dualReader : List ℕ → ItemReader ℕ PrintedDual
+dualReader t = record { stop = λ at. leb (length t) at; item = λ low i at. dualLineAt t i at; after = λ low d. low + 1 }
 
-unfoldable pub moatsAt : List ℕ → (at : ℕ) → Lines ℕ Moat
-moatsAt t at = itemsFrom (moatReader t) (length t) 0 0 at
+unfoldable pub dualsAt : List ℕ → (at : ℕ) → Lines ℕ PrintedDual
+dualsAt t at = itemsFrom (dualReader t) (length t) 0 0 at
 
 -- ---- records
 
@@ -96,8 +96,8 @@ unfoldable pub isIn : List ℕ → ℕ → Bool
 isIn [] v = false
 isIn (x ∷ xs) v = eqb v x || isIn xs v
 
-unfoldable pub moatRecord : Moat → List ℕ
-moatRecord d = recordOf (d .value) (isIn (d .members))
+unfoldable pub dualRecord : PrintedDual → List ℕ
+dualRecord d = recordOf (d .value) (isIn (d .members))
 
 -- ---- one store after another, as the reading does it
 
@@ -108,5 +108,5 @@ abbrev pub putMember : List ℕ → ℕ → ℕ → List ℕ
 putMember part i v = withMemberIn part v
 
 -- Record i, where the buffer has room for it.
-unfoldable pub putMoat : List ℕ → ℕ → Moat → List ℕ
-putMoat records i d = cond (ltb i (length records / recordBytes)) (sets records (recordBytes * i) (moatRecord d)) records
+unfoldable pub putDual : List ℕ → ℕ → PrintedDual → List ℕ
+putDual records i d = cond (ltb i (length records / recordBytes)) (sets records (recordBytes * i) (dualRecord d)) records

@@ -6,8 +6,8 @@ ghost use lib.ListN.{length};
 ghost use Rattle.base_limits.specs.Limits.{recordBytes};
 ghost use Rattle.format_grammar.specs.Bytes.{byteIs};
 ghost use Rattle.format_number.specs.Answer.{numberStep};
-ghost use Rattle.format_plan_lines.specs.Lines.{keepLine, keptAt, putMark, memberAt, risen, membersAt, putMember, putMoat, moatHead, moatOf, moatRecord, moatLine, moatsAt};
-ghost use Rattle.format_plan_lines.specs.Answer.{Members, MoatRead};
+ghost use Rattle.format_plan_lines.specs.Lines.{keepLine, keptAt, putMark, memberAt, risen, membersAt, putMember, putDual, dualHead, listedDual, dualRecord, dualLineAt, dualsAt};
+ghost use Rattle.format_plan_lines.specs.Answer.{Members, DualRead};
 ghost use Rattle.format_grammar.specs.Items.{Ends};
 use base_limits::KEPT_DIGITS;
 use base_limits::MAX_DUALS;
@@ -129,8 +129,8 @@ fn members(text: &[u8], cursor: Cursor, part: &mut [u8]) -> Number
 }
 
 // The start of a moat line, `moat=amount:`.
-fn moat_head(text: &[u8], cursor: Cursor) -> Number
-    ensures { λ r. ⌜ numberStep r ≡ moatHead (old text) (cursor .at) ⌝ }
+fn dual_head(text: &[u8], cursor: Cursor) -> Number
+    ensures { λ r. ⌜ numberStep r ≡ dualHead (old text) (cursor .at) ⌝ }
 {
     let key = format_number::fixed(text, cursor, &format_key::DUAL);
     let Number::Value { value: _, next: a } = key else {
@@ -157,16 +157,16 @@ fn moat_head(text: &[u8], cursor: Cursor) -> Number
 // Writes the record of a moat whose members stand at the cursor.
 fn fill_record(text: &[u8], list: Cursor, amount: u64, part: &mut [u8])
     requires { ⌜ (length (now part) ≡ recordBytes) × Members (membersAt (now text) (list .at) .values) ⌝ }
-    ensures { λ _. ⌜ new part ≡ moatRecord (moatOf (old text) amount (list .at)) ⌝ }
+    ensures { λ _. ⌜ new part ≡ dualRecord (listedDual (old text) amount (list .at)) ⌝ }
 {
     format_record::start_record(part, amount);
     members(text, list, part);
 }
 
 // The same for record i of a buffer, where it has room.
-fn put_moat(text: &[u8], list: Cursor, amount: u64, i: usize, records: &mut [u8])
+fn store_dual(text: &[u8], list: Cursor, amount: u64, i: usize, records: &mut [u8])
     requires { ⌜ Members (membersAt (now text) (list .at) .values) ⌝ }
-    ensures { λ _. ⌜ new records ≡ putMoat (old records) i (moatOf (old text) amount (list .at)) ⌝ }
+    ensures { λ _. ⌜ new records ≡ putDual (old records) i (listedDual (old text) amount (list .at)) ⌝ }
 {
     if i < records.len() / RECORD_BYTES {
         let start = RECORD_BYTES * i;
@@ -176,10 +176,10 @@ fn put_moat(text: &[u8], list: Cursor, amount: u64, i: usize, records: &mut [u8]
 }
 
 // Moat line i; its record is stored where it is not refused and the buffer has room.
-fn moat_line(text: &[u8], cursor: Cursor, i: usize, records: &mut [u8]) -> Number
-    ensures { λ r. ⌜ MoatRead (moatLine (old text) i (cursor .at)) (numberStep r) i (old records) (new records) ⌝ }
+fn dual_line(text: &[u8], cursor: Cursor, i: usize, records: &mut [u8]) -> Number
+    ensures { λ r. ⌜ DualRead (dualLineAt (old text) i (cursor .at)) (numberStep r) i (old records) (new records) ⌝ }
 {
-    let head = moat_head(text, cursor);
+    let head = dual_head(text, cursor);
     let Number::Value {
         value: amount,
         next: list,
@@ -207,7 +207,7 @@ fn moat_line(text: &[u8], cursor: Cursor, i: usize, records: &mut [u8]) -> Numbe
             place: i,
         };
     }
-    put_moat(text, list, amount, i, records);
+    store_dual(text, list, amount, i, records);
     let end = last.at;
     Number::Value {
         value: 0,
@@ -216,8 +216,8 @@ fn moat_line(text: &[u8], cursor: Cursor, i: usize, records: &mut [u8]) -> Numbe
 }
 
 // The moat lines, to the end of the text; their records are stored up to the first refusal, as far as the buffer reaches.
-pub fn moat_lines(text: &[u8], cursor: Cursor, records: &mut [u8]) -> Number
-    ensures { λ r. ⌜ Ends putMoat (moatsAt (old text) (cursor .at)) (old records) (numberStep r) (new records) ⌝ }
+pub fn dual_lines(text: &[u8], cursor: Cursor, records: &mut [u8]) -> Number
+    ensures { λ r. ⌜ Ends putDual (dualsAt (old text) (cursor .at)) (old records) (numberStep r) (new records) ⌝ }
 {
     let mut next = cursor;
     let mut i = 0;
@@ -229,7 +229,7 @@ pub fn moat_lines(text: &[u8], cursor: Cursor, records: &mut [u8]) -> Number
                 next,
             };
         }
-        let step = moat_line(text, next, i, records);
+        let step = dual_line(text, next, i, records);
         let Number::Value {
             value: _,
             next: after,

@@ -22,7 +22,7 @@ use Rattle.survey_core.specs.Accuracy.{Accurate}
 use Rattle.survey_core.specs.Laws.Group.{Numbered}
 use Rattle.check_rule.specs.Check.{Checked, checking}
 use Rattle.check_rule.specs.Laws.Accuracy.{checking-accurate}
-use Rattle.format_plan.specs.Plan.{Claims, Plan, marksOf, moatRecords}
+use Rattle.format_plan.specs.Plan.{Claims, Plan, marksOf, dualRecords}
 use Rattle.check_text.specs.Verify.{linesAt, surveyAt, prefixAt, claimTest, judged, planVerified, planFrom, verifiedFrom, verifying}
 
 -- The survey that a text says.
@@ -86,7 +86,7 @@ pub record Parts (t : List ℕ) (c : Checked) : Type 0 where
   pub plan : Plan
   pub read : prefixAt (testsFor maxVertices maxEdges maxEdges maxEdges) t ≡ found survey next
   pub behind : planFrom t (surveyIn survey) next ≡ answer plan
-  pub passes : checking (surveyIn survey) (marksOf (edgeCount (surveyIn survey)) (plan .kept)) (moatRecords (plan .moats)) ≡ answer c
+  pub passes : checking (surveyIn survey) (marksOf (edgeCount (surveyIn survey)) (plan .kept)) (dualRecords (plan .duals)) ≡ answer c
   pub claims : Claimed (plan .claims) c
 
 -- Nothing else passes.
@@ -118,5 +118,5 @@ verified-accurate t c e =
       survey = v .survey;
       next = v .next;
       read = v .read;
-      accurate = checking-accurate s (prefix-numbered maxVertices maxEdges maxEdges maxEdges t (v .read)) (marksOf (edgeCount s) (v .plan .kept)) (moatRecords (v .plan .moats)) c (v .passes);
+      accurate = checking-accurate s (prefix-numbered maxVertices maxEdges maxEdges maxEdges t (v .read)) (marksOf (edgeCount s) (v .plan .kept)) (dualRecords (v .plan .duals)) c (v .passes);
     }

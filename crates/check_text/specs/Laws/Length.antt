@@ -28,13 +28,13 @@ use Rattle.format_survey.specs.Laws.Longest.{longest-within}
 use Rattle.survey_core.specs.Survey.{edgeCount}
 use Rattle.check_rule.specs.Check.{Checked}
 use Rattle.format_grammar.specs.Language.{Each, none, more}
-use Rattle.format_plan_lines.specs.Lines.{separator, memberNumbers, Moat}
+use Rattle.format_plan_lines.specs.Lines.{separator, memberNumbers, PrintedDual}
 use Rattle.format_plan.specs.Plan.{Plan, planAt}
 use Rattle.check_text.specs.Verify.{prefixAt, planFrom, verifying}
 use Rattle.check_text.specs.Laws.Accuracy.{surveyIn, verified-parts}
 use Rattle.check_text.specs.Laws.Prefix.{prefix-said}
 use Rattle.format_plan.specs.Laws.Room.{room-answer}
-use Rattle.format_plan.specs.Laws.Back.{Rising, ended, rising, followers, memberText, listed-text, moatText, claimsText, planWords, Printed, Printable}
+use Rattle.format_plan.specs.Laws.Back.{Rising, ended, rising, followers, memberText, listed-text, dualText, claimsText, planWords, Printed, Printable}
 use Rattle.format_plan.specs.Laws.Accepted.{found-rendering}
 
 -- ---- moat lines
@@ -77,22 +77,22 @@ listed-most (v ∷ vs) r =
     omega arith
 
 -- A moat line takes no more than the longest.
-moat-most : (d : Moat) → Printed d → length (moatText d) ≤ longestDual
-unfolding moatText
-moat-most d p =
+dual-most : (d : PrintedDual) → Printed d → length (dualText d) ≤ longestDual
+unfolding dualText
+dual-most d p =
     let l = length-dual (d .value) (d .members) in
     let x = digits-most valueDigits (d .value) (omega arith) (p .small) in
     let m = listed-most (d .members) (p .rises) in
     omega arith
 
 -- Nor do moat lines one after another.
-moats-most : {ds : List Moat} → Each Printed ds → length (textOf moatText ds) ≤ longestDual * length ds
+duals-most : {ds : List PrintedDual} → Each Printed ds → length (textOf dualText ds) ≤ longestDual * length ds
 unfolding textOf
-moats-most none = omega arith
-moats-most (more {a = d} {l = ds} p r) =
-    let ih = moats-most r in
-    let x = moat-most d p in
-    let l = length-append (moatText d) (textOf moatText ds) in
+duals-most none = omega arith
+duals-most (more {a = d} {l = ds} p r) =
+    let ih = duals-most r in
+    let x = dual-most d p in
+    let l = length-append (dualText d) (textOf dualText ds) in
     omega arith
 
 -- ---- keep lines
@@ -115,7 +115,7 @@ unfolding planWords claimsText
 words-most m p few w =
     let C = claimsText (p .claims) in
     let K = textOf (lineOf keptKey) (p .kept) in
-    let D = textOf moatText (p .moats) in
+    let D = textOf dualText (p .duals) in
     let a = length-append C K in
     let b = length-append (C ++ K) D in
     let f = w .few in
@@ -125,7 +125,7 @@ words-most m p few w =
     let z = f .rounds in
     let c = length-count-lines (p .claims .terminals) (p .claims .cost) (p .claims .bound) (p .claims .rounds) (omega arith) (omega arith) (omega arith) (omega arith) in
     let d = kept-most few (omega arith) (w .kept) in
-    let e = moats-most (w .moats) in
+    let e = duals-most (w .duals) in
     let n = w .count in
     omega arith
 

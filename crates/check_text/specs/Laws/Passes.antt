@@ -56,7 +56,7 @@ module _ (s : Survey) (numbered : Numbered s) (marks records : List ℕ) (c : Ch
       record {
         few = record { terminals = omega arith; cost = omega arith; bound = omega arith; rounds = h };
         tracks = omega arith;
-        moats = p .records-few;
+        duals = p .records-few;
         values = λ i l. let small = p .duals-sound i l .small in omega arith;
       }
 
@@ -68,7 +68,7 @@ module _ (s : Survey) (numbered : Numbered s) (marks records : List ℕ) (c : Ch
       let x = f .few .cost in
       let b = f .few .bound in
       let whole = checking-passing s numbered marks records .0 c passed .records-whole in
-      let few = f .moats in
+      let few = f .duals in
       plan-text-le (c .terminals) (c .cost) (c .bound) rounds marks records
       record {
         terminals-fit = omega arith;

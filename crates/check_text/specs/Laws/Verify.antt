@@ -20,11 +20,11 @@ use Rattle.format_survey_lines.specs.Laws.Tests.{counts-fit}
 use Rattle.format_survey.specs.Laws.Reading.{sets-filled}
 use Rattle.survey_core.specs.Survey.{Survey, surveyFrom, edgeCount}
 use Rattle.check_rule.specs.Check.{Checked, checking}
-use Rattle.format_plan_lines.specs.Lines.{Moat, moatRecord}
-use Rattle.format_plan.specs.Plan.{Claims, Plan, planAt, withRoom, marksOf, moatRecords, marksAfter, recordsAfter}
+use Rattle.format_plan_lines.specs.Lines.{PrintedDual, dualRecord}
+use Rattle.format_plan.specs.Plan.{Claims, Plan, planAt, withRoom, marksOf, dualRecords, marksAfter, recordsAfter}
 use Rattle.check_text.specs.Verify.{linesAt, surveyAt, prefixAt, claimTest, judged, planVerified, planFrom, verifiedFrom, verifying}
 use Rattle.format_plan.specs.Answer.{Read, Reads, readOf}
-use Rattle.format_plan_lines.specs.Laws.Lines.{length-moat}
+use Rattle.format_plan_lines.specs.Laws.Lines.{length-dual-record}
 use Rattle.format_plan.specs.Laws.Room.{room-answer, room-enough}
 
 -- ---- claims
@@ -61,46 +61,46 @@ pub length-marks : (m : ℕ) (kept : List ℕ) → length (marksOf m kept) ≡ m
 unfolding marksOf
 length-marks m kept = length-tabulate m _
 
-length-records : (ds : List Moat) → length (moatRecords ds) ≡ recordBytes * length ds
-unfolding moatRecords
+length-records : (ds : List PrintedDual) → length (dualRecords ds) ≡ recordBytes * length ds
+unfolding dualRecords
 length-records [] = refl
-length-records (d ∷ ds) = omega (arith, length-append (moatRecord d) (moatRecords ds), length-moat d, length-records ds)
+length-records (d ∷ ds) = omega (arith, length-append (dualRecord d) (dualRecords ds), length-dual-record d, length-records ds)
 
-plan-read : (s : Survey) (o : Outcome Plan) {claims : Claims} {moats : ℕ} {marks marks′ records records′ : List ℕ}
-    → Reads o (edgeCount s) (answer (record { claims = claims; moats = moats })) marks marks′ records records′
-    → planVerified s o ≡ judged (checking s (take (edgeCount s) marks′) (take (recordBytes * moats) records′)) (claims .terminals) (claims .cost) (claims .bound)
+plan-read : (s : Survey) (o : Outcome Plan) {claims : Claims} {duals : ℕ} {marks marks′ records records′ : List ℕ}
+    → Reads o (edgeCount s) (answer (record { claims = claims; duals = duals })) marks marks′ records records′
+    → planVerified s o ≡ judged (checking s (take (edgeCount s) marks′) (take (recordBytes * duals) records′)) (claims .terminals) (claims .cost) (claims .bound)
 unfolding readOf marksAfter recordsAfter planVerified
-plan-read s o {claims} {moats} {marks} {marks′} {records} {records′} r = by-outcome o (r .answered) (r .intoMarks) (r .intoRecords)
+plan-read s o {claims} {duals} {marks} {marks′} {records} {records′} r = by-outcome o (r .answered) (r .intoMarks) (r .intoRecords)
   where
-    by-outcome : (x : Outcome Plan) → answer (record { claims = claims; moats = moats }) ≡ readOf x → marks′ ≡ marksAfter x (edgeCount s) marks → records′ ≡ recordsAfter x records
-        → planVerified s x ≡ judged (checking s (take (edgeCount s) marks′) (take (recordBytes * moats) records′)) (claims .terminals) (claims .cost) (claims .bound)
+    by-outcome : (x : Outcome Plan) → answer (record { claims = claims; duals = duals }) ≡ readOf x → marks′ ≡ marksAfter x (edgeCount s) marks → records′ ≡ recordsAfter x records
+        → planVerified s x ≡ judged (checking s (take (edgeCount s) marks′) (take (recordBytes * duals) records′)) (claims .terminals) (claims .cost) (claims .bound)
     by-outcome (refusal n p) a b c = let z : _≡_ {A = ℕ} 0 1 = cc in absurd (omega arith)
     by-outcome (answer p) a b c =
-        let read : _≡_ {A = Read} (record { claims = claims; moats = moats }) (record { claims = p .claims; moats = length (p .moats) }) = cc in
+        let read : _≡_ {A = Read} (record { claims = claims; duals = duals }) (record { claims = p .claims; duals = length (p .duals) }) = cc in
         let same : claims ≡ p .claims = ap (λ (r : Read). r .claims) read in
-        let many : moats ≡ length (p .moats) = ap (λ (r : Read). r .moats) read in
+        let many : duals ≡ length (p .duals) = ap (λ (r : Read). r .duals) read in
         let tm : take (edgeCount s) marks′ ≡ marksOf (edgeCount s) (p .kept) = ap (take (edgeCount s)) b ∙ take-at (marksOf (edgeCount s) (p .kept)) (drop (edgeCount s) marks) (edgeCount s) (length-marks (edgeCount s) (p .kept)) in
-        let tr : take (recordBytes * moats) records′ ≡ moatRecords (p .moats) = ap (λ n. take (recordBytes * n) records′) many ∙ ap (take (recordBytes * length (p .moats))) c ∙ take-at (moatRecords (p .moats)) (drop (recordBytes * length (p .moats)) records) (recordBytes * length (p .moats)) (length-records (p .moats)) in
+        let tr : take (recordBytes * duals) records′ ≡ dualRecords (p .duals) = ap (λ n. take (recordBytes * n) records′) many ∙ ap (take (recordBytes * length (p .duals))) c ∙ take-at (dualRecords (p .duals)) (drop (recordBytes * length (p .duals)) records) (recordBytes * length (p .duals)) (length-records (p .duals)) in
         rw (tm, tr, same) refl
 
 -- The same of the parts that are lent.
-pub plan-judged : (s : Survey) (o : Outcome Plan) {read : Outcome Read} {claims : Claims} {moats : ℕ} {marks marks′ records records′ : List ℕ}
-    → Reads o (edgeCount s) read marks marks′ records records′ → read ≡ answer (record { claims = claims; moats = moats })
-    → judged (checking s (take (edgeCount s - 0) marks′) (take (recordBytes * moats - 0) records′)) (claims .terminals) (claims .cost) (claims .bound) ≡ planVerified s o
-plan-judged s o {claims = claims} {moats = moats} {marks = marks} {marks′ = marks′} {records = records} {records′ = records′} r e =
-    rw (sub-zero (edgeCount s), sub-zero (recordBytes * moats)) (sym (plan-read s o (subst (λ (x : Outcome Read). Reads o (edgeCount s) x marks marks′ records records′) e r)))
+pub plan-judged : (s : Survey) (o : Outcome Plan) {read : Outcome Read} {claims : Claims} {duals : ℕ} {marks marks′ records records′ : List ℕ}
+    → Reads o (edgeCount s) read marks marks′ records records′ → read ≡ answer (record { claims = claims; duals = duals })
+    → judged (checking s (take (edgeCount s - 0) marks′) (take (recordBytes * duals - 0) records′)) (claims .terminals) (claims .cost) (claims .bound) ≡ planVerified s o
+plan-judged s o {claims = claims} {duals = duals} {marks = marks} {marks′ = marks′} {records = records} {records′ = records′} r e =
+    rw (sub-zero (edgeCount s), sub-zero (recordBytes * duals)) (sym (plan-read s o (subst (λ (x : Outcome Read). Reads o (edgeCount s) x marks marks′ records records′) e r)))
 
 -- No more moats are read than there is room for.
-pub plan-room : (t : List ℕ) (at m marks records : ℕ) {read : Outcome Read} {claims : Claims} {moats : ℕ} → read ≡ readOf (withRoom (planAt t m at) m marks records) → read ≡ answer (record { claims = claims; moats = moats })
-    → recordBytes * moats ≤ records
+pub plan-room : (t : List ℕ) (at m marks records : ℕ) {read : Outcome Read} {claims : Claims} {duals : ℕ} → read ≡ readOf (withRoom (planAt t m at) m marks records) → read ≡ answer (record { claims = claims; duals = duals })
+    → recordBytes * duals ≤ records
 unfolding readOf
-plan-room t at m marks records {read} {claims} {moats} a e = by-outcome (withRoom (planAt t m at) m marks records) refl (sym e ∙ a)
+plan-room t at m marks records {read} {claims} {duals} a e = by-outcome (withRoom (planAt t m at) m marks records) refl (sym e ∙ a)
   where
-    by-outcome : (o : Outcome Plan) → withRoom (planAt t m at) m marks records ≡ o → answer (record { claims = claims; moats = moats }) ≡ readOf o → recordBytes * moats ≤ records
+    by-outcome : (o : Outcome Plan) → withRoom (planAt t m at) m marks records ≡ o → answer (record { claims = claims; duals = duals }) ≡ readOf o → recordBytes * duals ≤ records
     by-outcome (refusal n q) r e = let z : _≡_ {A = ℕ} 0 1 = cc in absurd (omega arith)
     by-outcome (answer p) r e =
-        let same : _≡_ {A = Read} (record { claims = claims; moats = moats }) (record { claims = p .claims; moats = length (p .moats) }) = cc e in
-        subst (λ (n : ℕ). recordBytes * n ≤ records) (sym (ap (λ (r : Read). r .moats) same)) (room-answer (planAt t m at) m marks records r .3)
+        let same : _≡_ {A = Read} (record { claims = claims; duals = duals }) (record { claims = p .claims; duals = length (p .duals) }) = cc e in
+        subst (λ (n : ℕ). recordBytes * n ≤ records) (sym (ap (λ (r : Read). r .duals) same)) (room-answer (planAt t m at) m marks records r .3)
 
 -- 7 cannot come: the check answers what the text says.
 pub room-suffices : (t : List ℕ) (s : Survey) (at : ℕ) → edgeCount s ≤ maxEdges → planFrom t s at ≡ outcomeOf (planAt t (edgeCount s) at)

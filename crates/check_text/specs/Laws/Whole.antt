@@ -17,7 +17,7 @@ use Rattle.format_survey.specs.Laws.Said.{saidAt, reads-said}
 use Rattle.format_survey.specs.Laws.WellFormed.{Within, sparing, accepted-within, surveyFrom as surveyOfText}
 use Rattle.survey_core.specs.Survey.{Survey, edgeCount}
 use Rattle.check_rule.specs.Check.{Checked, checking}
-use Rattle.format_plan.specs.Plan.{Plan, planAt, marksOf, moatRecords}
+use Rattle.format_plan.specs.Plan.{Plan, planAt, marksOf, dualRecords}
 use Rattle.check_text.specs.Verify.{prefixAt, planVerified, planFrom, verifiedFrom, verifying}
 use Rattle.check_text.specs.Laws.Verify.{claim-fine, room-suffices}
 use Rattle.check_text.specs.Laws.Accuracy.{surveyIn, Claimed, verified-parts}
@@ -38,7 +38,7 @@ pub record Pair (t : List ℕ) (c : Checked) : Type 0 where
   pub within : Within groups edges
   pub printable : Printable (length edges) plan
   pub word : t ≡ render groups edges ++ planWords plan
-  pub passes : checking (surveyWith groups edges) (marksOf (length edges) (plan .kept)) (moatRecords (plan .moats)) ≡ answer c
+  pub passes : checking (surveyWith groups edges) (marksOf (length edges) (plan .kept)) (dualRecords (plan .duals)) ≡ answer c
   pub claims : Claimed (plan .claims) c
 
 count-is : (groups : List ℕ) (edges : List Edge) → edgeCount (surveyWith groups edges) ≡ length edges
@@ -81,7 +81,7 @@ verified-pair t c e =
     let r = found-rendering t m (v .next) (a .1) in
     let s = prefix-start t (v .survey) (v .next) (v .read) in
     let n : m ≡ length (s .edges) = ap (λ (x : SurveyText). edgeCount (surveyIn x)) (s .says) ∙ count-is (s .groups) (s .edges) in
-    let p : checking (surveyIn (v .survey)) (marksOf (length (s .edges)) (v .plan .kept)) (moatRecords (v .plan .moats)) ≡ answer c = rw n at (v .passes) in
+    let p : checking (surveyIn (v .survey)) (marksOf (length (s .edges)) (v .plan .kept)) (dualRecords (v .plan .duals)) ≡ answer c = rw n at (v .passes) in
     record {
       groups = s .groups;
       edges = s .edges;
@@ -89,7 +89,7 @@ verified-pair t c e =
       within = s .within;
       printable = subst (λ (k : ℕ). Printable k (v .plan)) n (r .printable);
       word = rendering-whole r ∙ ap (λ (u : List ℕ). u ++ planWords (v .plan)) (s .word);
-      passes = subst (λ (x : SurveyText). checking (surveyIn x) (marksOf (length (s .edges)) (v .plan .kept)) (moatRecords (v .plan .moats)) ≡ answer c) (s .says) p;
+      passes = subst (λ (x : SurveyText). checking (surveyIn x) (marksOf (length (s .edges)) (v .plan .kept)) (dualRecords (v .plan .duals)) ≡ answer c) (s .says) p;
       claims = v .claims;
     }
 
@@ -105,7 +105,7 @@ pair-verified t c x =
     let l = length-append u w in
     let read : planAt (u ++ w) (edgeCount s) (length u) ≡ found (x .plan) (length (u ++ w)) =
     ap (λ (m : ℕ). planAt (u ++ w) m (length u)) n ∙ plan-back (u ++ w) (length (x .edges)) (length u) (x .plan) (omega arith) (x .printable) (stands-end u w) (sym l) in
-    let passed : checking s (marksOf (edgeCount s) (x .plan .kept)) (moatRecords (x .plan .moats)) ≡ answer c = rw n (x .passes) in
+    let passed : checking s (marksOf (edgeCount s) (x .plan .kept)) (dualRecords (x .plan .duals)) ≡ answer c = rw n (x .passes) in
     ap verifying (x .word)
     ∙ ap (verifiedFrom (u ++ w)) (prefix-render (x .groups) (x .edges) w (x .within))
     ∙ ap (planVerified s) (room-suffices (u ++ w) s (length u) (omega (arith, n, few)) ∙ ap outcomeOf read)

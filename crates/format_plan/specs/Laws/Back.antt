@@ -17,8 +17,8 @@ use Rattle.format_number.specs.Number.{isDigit, classOf, numberAt, numberTo, nu
 use Rattle.format_number.specs.Laws.Digits.{Digits, one}
 use Rattle.format_number.specs.Laws.Decimal.{decimal-numeral}
 use Rattle.format_number.specs.Laws.Keyed.{newline-no-digit, comma-no-digit, keyed-back, number-back}
-use Rattle.format_plan_lines.specs.Laws.Tests.{kept-fine, risen-next, moat-fine}
-use Rattle.format_plan_lines.specs.Lines.{keptTest, keepLine, keepReader, separator, memberNumbers, memberAt, risen, memberReader, membersAt, Moat, moatTest, moatHead, moatOf, moatLine, moatReader, moatsAt, keptAt}
+use Rattle.format_plan_lines.specs.Laws.Tests.{kept-fine, risen-next, dual-fine}
+use Rattle.format_plan_lines.specs.Lines.{keptTest, keepLine, keepReader, separator, memberNumbers, memberAt, risen, memberReader, membersAt, PrintedDual, dualTest, dualHead, listedDual, dualLineAt, dualReader, dualsAt, keptAt}
 use Rattle.format_plan.specs.Plan.{Claims, claimsAt, bodyAt, Plan, planAt}
 use Rattle.format_grammar.specs.Bytes.{byteIs}
 use Rattle.format_grammar.specs.Items.{Standing, stop, item}
@@ -171,35 +171,35 @@ rising-last t {low} {i} {at} {last} {end} few (rising {e = v} {es = vs} h k r) (
     rising-last t (omega arith) r (subst (λ (g : ℕ). Standing (memberReader t) g (i + 1) next vs last end) (risen-next low v h k) s)
 
 -- A moat line as it is printed.
-unfoldable pub moatText : Moat → List ℕ
-moatText d = dualKey ++ decimal (d .value) ++ (colon ∷ []) ++ listed (d .members) ++ (newline ∷ [])
+unfoldable pub dualText : PrintedDual → List ℕ
+dualText d = dualKey ++ decimal (d .value) ++ (colon ∷ []) ++ listed (d .members) ++ (newline ∷ [])
 
 pub colon-ends : isDigit (classOf colon) ≡ false
 unfolding isDigit classOf
 colon-ends = refl
 
-head-back : (t : List ℕ) (at x : ℕ) → OfDigits valueDigits x → Stands t at (dualKey ++ decimal x ++ (colon ∷ [])) → moatHead t at ≡ found x (at + length (dualKey ++ decimal x ++ (colon ∷ [])))
-unfolding moatHead numberTo numberText
+head-back : (t : List ℕ) (at x : ℕ) → OfDigits valueDigits x → Stands t at (dualKey ++ decimal x ++ (colon ∷ [])) → dualHead t at ≡ found x (at + length (dualKey ++ decimal x ++ (colon ∷ [])))
+unfolding dualHead numberTo numberText
 head-back t at x h s =
     let e : dualKey ++ decimal x ++ (colon ∷ []) ≡ dualKey ++ numberText colon x = append-assoc dualKey (decimal x) (colon ∷ []) in
     keyed-back dualKey valueDigits colon t at x (omega arith) h colon-ends (subst (Stands t at) e s) ∙ ap (λ (w : List ℕ). found x (at + length w)) (sym e)
 
 -- A moat whose numbers fit its line.
-pub record DualDigits (d : Moat) : Type 0 where
+pub record DualDigits (d : PrintedDual) : Type 0 where
   pub value : OfDigits valueDigits (d .value)
   pub members : Each (OfDigits memberDigits) (d .members)
 
 -- A moat line where it stands: its members are read, and only the test of what they leave is left.
-pub record MoatStands (t : List ℕ) (i at : ℕ) (d : Moat) : Type 0 where
+pub record DualStands (t : List ℕ) (i at : ℕ) (d : PrintedDual) : Type 0 where
   pub from : ℕ
   pub last : ℕ
   pub end : ℕ
   pub members : Standing (memberReader t) 0 0 from (d .members) last end
-  pub line : moatLine t i at ≡ checked (moatTest i last) d (at + length (moatText d))
+  pub line : dualLineAt t i at ≡ checked (dualTest i last) d (at + length (dualText d))
 
-pub moat-line-back : (t : List ℕ) (i at : ℕ) (d : Moat) → DualDigits d → Stands t at (moatText d) → MoatStands t i at d
-unfolding moatText moatLine membersAt _then_
-moat-line-back t i at d p s =
+pub dual-line-back : (t : List ℕ) (i at : ℕ) (d : PrintedDual) → DualDigits d → Stands t at (dualText d) → DualStands t i at d
+unfolding dualText dualLineAt membersAt _then_
+dual-line-back t i at d p s =
     let H = dualKey ++ decimal (d .value) ++ (colon ∷ []) in
     let M = memberText 0 (d .members) in
     let x = listed-text (d .members) in
@@ -222,21 +222,21 @@ moat-line-back t i at d p s =
       end = c + length M;
       members = ms .1;
       line =
-          then-found (λ amount k. membersAt t k .end then λ low y. checked (moatTest i low) (moatOf t amount k) (y + 1)) (head-back t at (d .value) (p .value) a)
-          ∙ ap (λ (L : Lines ℕ ℕ). L .end then λ low y. checked (moatTest i low) (record { value = d .value; members = L .values }) (y + 1)) g
-          ∙ ap (λ (k : ℕ). checked (moatTest i (ms .0)) d k) q;
+          then-found (λ amount k. membersAt t k .end then λ low y. checked (dualTest i low) (listedDual t amount k) (y + 1)) (head-back t at (d .value) (p .value) a)
+          ∙ ap (λ (L : Lines ℕ ℕ). L .end then λ low y. checked (dualTest i low) (record { value = d .value; members = L .values }) (y + 1)) g
+          ∙ ap (λ (k : ℕ). checked (dualTest i (ms .0)) d k) q;
     }
 
 -- A moat that fits its line.
-pub record Printed (d : Moat) : Type 0 where
+pub record Printed (d : PrintedDual) : Type 0 where
   pub small : OfDigits valueDigits (d .value)
   pub rises : Rising memberNumbers 0 (d .members)
 
-pub moat-back : (t : List ℕ) (i at : ℕ) (d : Moat) → Printed d → i < maxDuals → Stands t at (moatText d) → moatLine t i at ≡ found d (at + length (moatText d))
+pub dual-back : (t : List ℕ) (i at : ℕ) (d : PrintedDual) → Printed d → i < maxDuals → Stands t at (dualText d) → dualLineAt t i at ≡ found d (at + length (dualText d))
 unfolding checked
-moat-back t i at d p few s =
-    let m = moat-line-back t i at d (record { value = p .small; members = rising-small (p .rises) }) s in
-    m .line ∙ ap (λ (v : Verdict). checked v d (at + length (moatText d))) (moat-fine i (m .last) (rising-last t (omega arith) (p .rises) (m .members)) few)
+dual-back t i at d p few s =
+    let m = dual-line-back t i at d (record { value = p .small; members = rising-small (p .rises) }) s in
+    m .line ∙ ap (λ (v : Verdict). checked v d (at + length (dualText d))) (dual-fine i (m .last) (rising-last t (omega arith) (p .rises) (m .members)) few)
 
 -- Every line has a byte, so that there are no more lines than bytes.
 pub lines-long : {A : Type 0} (f : A → List ℕ) → ((a : A) → 0 < length (f a)) → (l : List A) → length l ≤ length (textOf f l)
@@ -252,24 +252,24 @@ pub line-some : (key : List ℕ) (x : ℕ) → 0 < length (lineOf key x)
 unfolding lineOf
 line-some key x = let n = length-append (key ++ decimal x) (newline ∷ []) in omega arith
 
-pub moat-some : (d : Moat) → 0 < length (moatText d)
-unfolding moatText
-moat-some d = let n = length-append (dualKey ++ decimal (d .value) ++ (colon ∷ []) ++ listed (d .members)) (newline ∷ []) in omega arith
+pub dual-some : (d : PrintedDual) → 0 < length (dualText d)
+unfolding dualText
+dual-some d = let n = length-append (dualKey ++ decimal (d .value) ++ (colon ∷ []) ++ listed (d .members)) (newline ∷ []) in omega arith
 
 -- Moat lines that stand to the end of the text.
-pub moats-back : (t : List ℕ) {ds : List Moat} → Each Printed ds → (low i at : ℕ) → i + length ds ≤ maxDuals → Stands t at (textOf moatText ds) → at + length (textOf moatText ds) ≡ length t
-    → (last : ℕ) × Standing (moatReader t) low i at ds last (length t)
-unfolding moatReader textOf
-moats-back t none low i at few s q =
+pub duals-back : (t : List ℕ) {ds : List PrintedDual} → Each Printed ds → (low i at : ℕ) → i + length ds ≤ maxDuals → Stands t at (textOf dualText ds) → at + length (textOf dualText ds) ≡ length t
+    → (last : ℕ) × Standing (dualReader t) low i at ds last (length t)
+unfolding dualReader textOf
+duals-back t none low i at few s q =
     let same : at ≡ length t = omega arith in
-    (low, subst (λ (z : ℕ). Standing (moatReader t) low i at [] low z) same (stop (le-leb (length t) at (omega arith))))
-moats-back t (more {a = d} {l = ds} p r) low i at few s q =
-    let a = stands-first (moatText d) (textOf moatText ds) s in
-    let b = stands-second (moatText d) (textOf moatText ds) s in
-    let n = length-append (moatText d) (textOf moatText ds) in
-    let k = moat-some d in
-    let rest = moats-back t r (low + 1) (i + 1) (at + length (moatText d)) (omega arith) b (omega arith) in
-    (rest .0, item (lt-leb (length t) at (omega arith)) (moat-back t i at d p (omega arith) a) (rest .1))
+    (low, subst (λ (z : ℕ). Standing (dualReader t) low i at [] low z) same (stop (le-leb (length t) at (omega arith))))
+duals-back t (more {a = d} {l = ds} p r) low i at few s q =
+    let a = stands-first (dualText d) (textOf dualText ds) s in
+    let b = stands-second (dualText d) (textOf dualText ds) s in
+    let n = length-append (dualText d) (textOf dualText ds) in
+    let k = dual-some d in
+    let rest = duals-back t r (low + 1) (i + 1) (at + length (dualText d)) (omega arith) b (omega arith) in
+    (rest .0, item (lt-leb (length t) at (omega arith)) (dual-back t i at d p (omega arith) a) (rest .1))
 
 -- Counts that fit their lines.
 pub record ClaimDigits (c : Claims) : Type 0 where
@@ -304,23 +304,23 @@ claims-back t at c few s =
 
 -- A plan as it is printed, and what makes it fit: counts of ten digits, tracks that rise below m, moats that rise and are few.
 unfoldable pub planWords : Plan → List ℕ
-planWords p = claimsText (p .claims) ++ textOf (lineOf keptKey) (p .kept) ++ textOf moatText (p .moats)
+planWords p = claimsText (p .claims) ++ textOf (lineOf keptKey) (p .kept) ++ textOf dualText (p .duals)
 
 pub record Printable (m : ℕ) (p : Plan) : Type 0 where
   pub few : ClaimDigits (p .claims)
   pub kept : Rising m 0 (p .kept)
-  pub moats : Each Printed (p .moats)
-  pub count : length (p .moats) ≤ maxDuals
+  pub duals : Each Printed (p .duals)
+  pub count : length (p .duals) ≤ maxDuals
 
 -- No keep line begins where the moats do.
-pub no-keep : (t : List ℕ) (ds : List Moat) (at : ℕ) → Stands t at (textOf moatText ds) → at + length (textOf moatText ds) ≡ length t → byteIs t at (code "k") ≡ false
-unfolding textOf moatText dualKey
+pub no-keep : (t : List ℕ) (ds : List PrintedDual) (at : ℕ) → Stands t at (textOf dualText ds) → at + length (textOf dualText ds) ≡ length t → byteIs t at (code "k") ≡ false
+unfolding textOf dualText dualKey
 no-keep t [] at s q = by-test (byteIs t at (code "k")) refl
   where
     by-test : (x : Bool) → byteIs t at (code "k") ≡ x → byteIs t at (code "k") ≡ false
     by-test true e = let i = byte-inside t at (code "k") e .0 in absurd (omega arith)
     by-test false e = e
-no-keep t (d ∷ ds) at s q = other-byte t at (code "m") (code "k") (stands-head (stands-first (moatText d) (textOf moatText ds) s)) (λ e. omega arith)
+no-keep t (d ∷ ds) at s q = other-byte t at (code "m") (code "k") (stands-head (stands-first (dualText d) (textOf dualText ds) s)) (λ e. omega arith)
 
 pub claims-some : (c : Claims) → 0 < length (claimsText c)
 unfolding claimsText countLines
@@ -331,11 +331,11 @@ claims-some c =
 
 -- A printed plan that stands at the end of a text is read back.
 pub plan-back : (t : List ℕ) (m at : ℕ) (p : Plan) → m ≤ 10 ^ keptDigits → Printable m p → Stands t at (planWords p) → at + length (planWords p) ≡ length t → planAt t m at ≡ found p (length t)
-unfolding planAt bodyAt planWords keptAt moatsAt _then_ linesAfter
+unfolding planAt bodyAt planWords keptAt dualsAt _then_ linesAfter
 plan-back t m at p few w s q =
     let C = claimsText (p .claims) in
     let K = textOf (lineOf keptKey) (p .kept) in
-    let D = textOf moatText (p .moats) in
+    let D = textOf dualText (p .duals) in
     let a = stands-first (C ++ K) D s in
     let l₁ = length-append C K in
     let l₂ = length-append (C ++ K) D in
@@ -344,14 +344,14 @@ plan-back t m at p few w s q =
     let f = s .fits in
     let d = stands-second (C ++ K) D s in
     let c = claims-back t at (p .claims) (w .few) (stands-first C K a) in
-    let ks = keep-back t m few (w .kept) 0 x y (stands-second C K a) (omega arith) (no-keep t (p .moats) y d (omega arith)) in
-    let few-moats = w .count in
-    let ds = moats-back t (w .moats) 0 0 y (omega arith) d (omega arith) in
+    let ks = keep-back t m few (w .kept) 0 x y (stands-second C K a) (omega arith) (no-keep t (p .duals) y d (omega arith)) in
+    let few-duals = w .count in
+    let ds = duals-back t (w .duals) 0 0 y (omega arith) d (omega arith) in
     let n₁ = lines-long (lineOf keptKey) (line-some keptKey) (p .kept) in
-    let n₂ = lines-long moatText moat-some (p .moats) in
+    let n₂ = lines-long dualText dual-some (p .duals) in
     let n₃ = claims-some (p .claims) in
     let g = items-back (keepReader t m) (length t) (omega arith) (ks .1) in
-    let h = items-back (moatReader t) (length t) (omega arith) (ds .1) in
+    let h = items-back (dualReader t) (length t) (omega arith) (ds .1) in
     then-found _ c
-    ∙ ap (λ (k : Lines ℕ ℕ). let l = linesAfter (k .end) (moatsAt t) in l .end then λ count z. found (record { claims = p .claims; kept = k .values; moats = l .values }) z) g
-    ∙ ap (λ (l : Lines ℕ Moat). l .end then λ count z. found (record { claims = p .claims; kept = p .kept; moats = l .values }) z) h
+    ∙ ap (λ (k : Lines ℕ ℕ). let l = linesAfter (k .end) (dualsAt t) in l .end then λ count z. found (record { claims = p .claims; kept = k .values; duals = l .values }) z) g
+    ∙ ap (λ (l : Lines ℕ PrintedDual). l .end then λ count z. found (record { claims = p .claims; kept = p .kept; duals = l .values }) z) h

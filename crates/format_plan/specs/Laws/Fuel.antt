@@ -7,7 +7,7 @@ use lib.ListN.{length}
 use Rattle.format_key.specs.Key.{newline, colon, keptKey, dualKey}
 use Rattle.base_limits.specs.Limits.{keptDigits, memberDigits, valueDigits}
 use Rattle.format_number.specs.Number.{numberAt, numberTo, numberLine}
-use Rattle.format_plan_lines.specs.Lines.{keepLine, keepReader, separator, memberAt, memberReader, membersAt, Moat, moatHead, moatLine, moatReader}
+use Rattle.format_plan_lines.specs.Lines.{keepLine, keepReader, separator, memberAt, memberReader, membersAt, PrintedDual, dualHead, dualLineAt, dualReader}
 use Rattle.format_plan_lines.specs.Laws.Lines.{members-end}
 use Rattle.format_grammar.specs.Bytes.{fixedAt}
 use Rattle.format_grammar.specs.Items.{itemsFrom, Goes}
@@ -54,10 +54,10 @@ pub member-fuel : (t : List ℕ) (fuel low i at : ℕ) → at ≤ length t → l
 unfolding memberReader
 member-fuel t fuel low i at h k = items-fuel (memberReader t) t (λ l j a v p b q. member-goes t l j a b q) fuel low i at h k
 
-moat-goes : (t : List ℕ) (i at : ℕ) {d : Moat} {p : ℕ} → at ≤ length t → moatLine t i at ≡ found d p → Goes t at p
-unfolding moatLine moatHead membersAt memberReader
-moat-goes t i at {d} {p} h q =
-    let head = then-value (moatHead t at) _ q in
+dual-goes : (t : List ℕ) (i at : ℕ) {d : PrintedDual} {p : ℕ} → at ≤ length t → dualLineAt t i at ≡ found d p → Goes t at p
+unfolding dualLineAt dualHead membersAt memberReader
+dual-goes t i at {d} {p} h q =
+    let head = then-value (dualHead t at) _ q in
     let list = then-value (membersAt t (head .1) .end) _ (head .3) in
     let key = then-value (fixedAt dualKey t at) _ (head .2) in
     let number = then-value (numberAt valueDigits t (key .1)) _ (key .3) in
@@ -74,6 +74,6 @@ moat-goes t i at {d} {p} h q =
     let same : list .1 + 1 ≡ p = checked-next _ _ _ (list .3) in
     record { on = omega arith; inside = omega arith }
 
-pub moat-fuel : (t : List ℕ) (fuel low i at : ℕ) → at ≤ length t → length t - at < fuel → itemsFrom (moatReader t) (suc fuel) low i at ≡ itemsFrom (moatReader t) fuel low i at
-unfolding moatReader
-moat-fuel t fuel low i at h k = items-fuel (moatReader t) t (λ l j x d y b q. moat-goes t j x b q) fuel low i at h k
+pub dual-fuel : (t : List ℕ) (fuel low i at : ℕ) → at ≤ length t → length t - at < fuel → itemsFrom (dualReader t) (suc fuel) low i at ≡ itemsFrom (dualReader t) fuel low i at
+unfolding dualReader
+dual-fuel t fuel low i at h k = items-fuel (dualReader t) t (λ l j x d y b q. dual-goes t j x b q) fuel low i at h k

@@ -16,10 +16,10 @@ use Rattle.format_record.specs.Laws.Bits.{bytes-cong}
 use Rattle.format_record.specs.Record.{recordOf, startedAs}
 use Rattle.format_record.specs.Laws.Record.{started-whole, member-added-record, length-record}
 use Rattle.format_key.specs.Key.{newline}
-use Rattle.format_plan_lines.specs.Lines.{keptTest, keepLine, risen, memberReader, membersAt, moatTest, moatLine, moatHead, moatOf, Moat, moatRecord, moatReader, putMember, putMoat, isIn}
-use Rattle.format_plan_lines.specs.Answer.{Members, forgotten, moatStored, MoatRead}
+use Rattle.format_plan_lines.specs.Lines.{keptTest, keepLine, risen, memberReader, membersAt, dualTest, dualLineAt, dualHead, listedDual, PrintedDual, dualRecord, dualReader, putMember, putDual, isIn}
+use Rattle.format_plan_lines.specs.Answer.{Members, forgotten, dualStored, DualRead}
 use Rattle.format_plan_lines.specs.Laws.Tests.{kept-low, kept-high, risen-low, risen-high}
-use Rattle.format_plan_lines.specs.Laws.Puts.{moat-length}
+use Rattle.format_plan_lines.specs.Laws.Puts.{dual-length}
 use Rattle.format_grammar.specs.Items.{itemsFrom, puts, Ends}
 use Rattle.format_grammar.specs.Language.{none, more}
 use Rattle.format_grammar.specs.Lines.{following, Lines}
@@ -107,81 +107,81 @@ members-added a S i (v ∷ vs) (more h hs) =
     ∙ record-cong a _ _ (λ w. or-assoc (S w) (eqb w v) (isIn vs w))
 
 -- A record that is started, and to which members are added, is that of the moat.
-pub record-filled : (part : List ℕ) (a : ℕ) (vs : List ℕ) → length part ≡ recordBytes → Members vs → puts putMember (startedAs part a) 0 vs ≡ moatRecord (record { value = a; members = vs })
-unfolding moatRecord
+pub record-filled : (part : List ℕ) (a : ℕ) (vs : List ℕ) → length part ≡ recordBytes → Members vs → puts putMember (startedAs part a) 0 vs ≡ dualRecord (record { value = a; members = vs })
+unfolding dualRecord
 record-filled part a vs h each =
     ap (λ l. puts putMember l 0 vs) (started-whole part a h)
     ∙ members-added a (λ v. false) 0 vs each
 
-pub length-moat : (d : Moat) → length (moatRecord d) ≡ recordBytes
-unfolding moatRecord
-length-moat d = length-record (d .value) (isIn (d .members))
+pub length-dual-record : (d : PrintedDual) → length (dualRecord d) ≡ recordBytes
+unfolding dualRecord
+length-dual-record d = length-record (d .value) (isIn (d .members))
 
-pub moat-put : (records : List ℕ) (i : ℕ) (d : Moat) → i < length records / recordBytes → putMoat records i d ≡ take (recordBytes * i) records ++ (moatRecord d ++ drop (recordBytes * i + recordBytes) records)
-unfolding putMoat
-moat-put records i d h =
-    let n = length-moat d in
-    let at : sets records (recordBytes * i) (moatRecord d) ≡ take (recordBytes * i) records ++ (moatRecord d ++ drop (recordBytes * i + length (moatRecord d)) records) = sets-eq (moatRecord d) records (recordBytes * i) (omega arith) ∙ append-assoc (take (recordBytes * i) records) (moatRecord d) _ in
-    let all : take (recordBytes * i) records ++ (moatRecord d ++ drop (recordBytes * i + length (moatRecord d)) records) ≡ take (recordBytes * i) records ++ (moatRecord d ++ drop (recordBytes * i + recordBytes) records) = ap (λ (k : ℕ). take (recordBytes * i) records ++ (moatRecord d ++ drop (recordBytes * i + k) records)) n in
+pub dual-put : (records : List ℕ) (i : ℕ) (d : PrintedDual) → i < length records / recordBytes → putDual records i d ≡ take (recordBytes * i) records ++ (dualRecord d ++ drop (recordBytes * i + recordBytes) records)
+unfolding putDual
+dual-put records i d h =
+    let n = length-dual-record d in
+    let at : sets records (recordBytes * i) (dualRecord d) ≡ take (recordBytes * i) records ++ (dualRecord d ++ drop (recordBytes * i + length (dualRecord d)) records) = sets-eq (dualRecord d) records (recordBytes * i) (omega arith) ∙ append-assoc (take (recordBytes * i) records) (dualRecord d) _ in
+    let all : take (recordBytes * i) records ++ (dualRecord d ++ drop (recordBytes * i + length (dualRecord d)) records) ≡ take (recordBytes * i) records ++ (dualRecord d ++ drop (recordBytes * i + recordBytes) records) = ap (λ (k : ℕ). take (recordBytes * i) records ++ (dualRecord d ++ drop (recordBytes * i + k) records)) n in
     rw (lt-ltb i (length records / recordBytes) h) (at ∙ all)
 
-pub moat-left : (records : List ℕ) (i : ℕ) (d : Moat) → length records / recordBytes ≤ i → putMoat records i d ≡ records
-unfolding putMoat
-moat-left records i d h = rw (le-ltb i (length records / recordBytes) h)
+pub dual-left : (records : List ℕ) (i : ℕ) (d : PrintedDual) → length records / recordBytes ≤ i → putDual records i d ≡ records
+unfolding putDual
+dual-left records i d h = rw (le-ltb i (length records / recordBytes) h)
 
 -- ---- moat lines
 
 module _ (t : List ℕ) (i at : ℕ) {records records′ : List ℕ} where
-  pub moat-stops : {n p : ℕ} → moatHead t at ≡ refused n p → records′ ≡ records → MoatRead (moatLine t i at) (refused n p) i records records′
-  unfolding moatLine _then_ forgotten moatStored
-  moat-stops e r = rw e record { end = refl; stored = r }
+  pub dual-stops : {n p : ℕ} → dualHead t at ≡ refused n p → records′ ≡ records → DualRead (dualLineAt t i at) (refused n p) i records records′
+  unfolding dualLineAt _then_ forgotten dualStored
+  dual-stops e r = rw e record { end = refl; stored = r }
 
-  module _ {amount c : ℕ} (head : moatHead t at ≡ found amount c) where
-    pub moat-unlisted : {n p : ℕ} → membersAt t c .end ≡ refused n p → records′ ≡ records → MoatRead (moatLine t i at) (refused n p) i records records′
-    unfolding moatLine _then_ forgotten moatStored
-    moat-unlisted e r = rw (head, e) record { end = refl; stored = r }
+  module _ {amount c : ℕ} (head : dualHead t at ≡ found amount c) where
+    pub dual-unlisted : {n p : ℕ} → membersAt t c .end ≡ refused n p → records′ ≡ records → DualRead (dualLineAt t i at) (refused n p) i records records′
+    unfolding dualLineAt _then_ forgotten dualStored
+    dual-unlisted e r = rw (head, e) record { end = refl; stored = r }
 
-    pub moat-refused : {low d n p : ℕ} → membersAt t c .end ≡ found low d → moatTest i low ≡ Refused n p → records′ ≡ records → MoatRead (moatLine t i at) (refused n p) i records records′
-    unfolding moatLine _then_ checked forgotten moatStored
-    moat-refused e f r = rw (head, e, f) record { end = refl; stored = r }
+    pub dual-refused : {low d n p : ℕ} → membersAt t c .end ≡ found low d → dualTest i low ≡ Refused n p → records′ ≡ records → DualRead (dualLineAt t i at) (refused n p) i records records′
+    unfolding dualLineAt _then_ checked forgotten dualStored
+    dual-refused e f r = rw (head, e, f) record { end = refl; stored = r }
 
-    pub moat-read : {low d : ℕ} → membersAt t c .end ≡ found low d → moatTest i low ≡ Fine → records′ ≡ putMoat records i (moatOf t amount c) → MoatRead (moatLine t i at) (found 0 (d + 1)) i records records′
-    unfolding moatLine _then_ checked forgotten moatStored
-    moat-read e f r = rw (head, e, f) record { end = refl; stored = r }
+    pub dual-read : {low d : ℕ} → membersAt t c .end ≡ found low d → dualTest i low ≡ Fine → records′ ≡ putDual records i (listedDual t amount c) → DualRead (dualLineAt t i at) (found 0 (d + 1)) i records records′
+    unfolding dualLineAt _then_ checked forgotten dualStored
+    dual-read e f r = rw (head, e, f) record { end = refl; stored = r }
 
 -- One turn of the loop over the moat lines.
-module _ (t : List ℕ) (whole : Lines ℕ Moat) (old : List ℕ) (i at : ℕ) (buffer buffer′ : List ℕ) where
-  pub moats-more : {z next : ℕ} → i < length t → at < length t → found z next ≡ forgotten (moatLine t i at) → buffer′ ≡ moatStored (moatLine t i at) buffer i
-      → Left (moatReader t) putMoat whole old (length t) i i at buffer → Left (moatReader t) putMoat whole old (length t) (i + 1) (i + 1) next buffer′
-  unfolding forgotten moatStored moatReader
-  moats-more {z} {next} h k e s l = by-line (moatLine t i at) refl e s
+module _ (t : List ℕ) (whole : Lines ℕ PrintedDual) (old : List ℕ) (i at : ℕ) (buffer buffer′ : List ℕ) where
+  pub duals-more : {z next : ℕ} → i < length t → at < length t → found z next ≡ forgotten (dualLineAt t i at) → buffer′ ≡ dualStored (dualLineAt t i at) buffer i
+      → Left (dualReader t) putDual whole old (length t) i i at buffer → Left (dualReader t) putDual whole old (length t) (i + 1) (i + 1) next buffer′
+  unfolding forgotten dualStored dualReader
+  duals-more {z} {next} h k e s l = by-line (dualLineAt t i at) refl e s
     where
-      by-line : (x : Step Moat) → moatLine t i at ≡ x → found z next ≡ forgotten x → buffer′ ≡ moatStored x buffer i → Left (moatReader t) putMoat whole old (length t) (i + 1) (i + 1) next buffer′
+      by-line : (x : Step PrintedDual) → dualLineAt t i at ≡ x → found z next ≡ forgotten x → buffer′ ≡ dualStored x buffer i → Left (dualReader t) putDual whole old (length t) (i + 1) (i + 1) next buffer′
       by-line (found d p) q e s =
           let same : p ≡ next = cc in
-          rw s (subst (λ (x : ℕ). Left (moatReader t) putMoat whole old (length t) (i + 1) (i + 1) x (putMoat buffer i d)) same (left-more (moatReader t) putMoat whole old (length t) i i at buffer h (lt-leb (length t) at k) q l))
+          rw s (subst (λ (x : ℕ). Left (dualReader t) putDual whole old (length t) (i + 1) (i + 1) x (putDual buffer i d)) same (left-more (dualReader t) putDual whole old (length t) i i at buffer h (lt-leb (length t) at k) q l))
       by-line (refused n p) q e s = let w : _≡_ {A = ℕ} 0 1 = cc in absurd (omega arith)
 
-  pub moats-refused : {n p : ℕ} → i < length t → at < length t → refused n p ≡ forgotten (moatLine t i at) → buffer′ ≡ moatStored (moatLine t i at) buffer i
-      → Left (moatReader t) putMoat whole old (length t) i i at buffer → Ends putMoat whole old (refused n p) buffer′ × (length buffer′ ≡ length old)
-  unfolding forgotten moatStored moatReader
-  moats-refused {n} {p} h k e s l = by-line (moatLine t i at) refl e s
+  pub duals-refused : {n p : ℕ} → i < length t → at < length t → refused n p ≡ forgotten (dualLineAt t i at) → buffer′ ≡ dualStored (dualLineAt t i at) buffer i
+      → Left (dualReader t) putDual whole old (length t) i i at buffer → Ends putDual whole old (refused n p) buffer′ × (length buffer′ ≡ length old)
+  unfolding forgotten dualStored dualReader
+  duals-refused {n} {p} h k e s l = by-line (dualLineAt t i at) refl e s
     where
-      by-line : (x : Step Moat) → moatLine t i at ≡ x → refused n p ≡ forgotten x → buffer′ ≡ moatStored x buffer i → Ends putMoat whole old (refused n p) buffer′ × (length buffer′ ≡ length old)
+      by-line : (x : Step PrintedDual) → dualLineAt t i at ≡ x → refused n p ≡ forgotten x → buffer′ ≡ dualStored x buffer i → Ends putDual whole old (refused n p) buffer′ × (length buffer′ ≡ length old)
       by-line (found d y) q e s = let w : _≡_ {A = ℕ} 0 1 = cc in absurd (omega arith)
       by-line (refused x y) q e s =
-          let r : moatLine t i at ≡ refused n p = cc in
-          rw s (left-refused (moatReader t) putMoat whole old (length t) i i at buffer h (lt-leb (length t) at k) r l, left-length putMoat moat-length l)
+          let r : dualLineAt t i at ≡ refused n p = cc in
+          rw s (left-refused (dualReader t) putDual whole old (length t) i i at buffer h (lt-leb (length t) at k) r l, left-length putDual dual-length l)
 
 pub members-end : (t : List ℕ) (at : ℕ) {low p : ℕ} → membersAt t at .end ≡ found low p → p < length t
 unfolding membersAt memberReader
 members-end t at {low} {p} e = byte-inside t p newline (items-stop (memberReader t) (length t) 0 0 at e) .0
 
 -- The record in the part of the buffer that is lent for it.
-pub moat-put-part : (records : List ℕ) (i : ℕ) (d : Moat) → i < length records / recordBytes
-    → take (recordBytes * i) records ++ (moatRecord d ++ drop (recordBytes * i + recordBytes - recordBytes * i) (drop (recordBytes * i) records)) ≡ putMoat records i d
-moat-put-part records i d h =
+pub dual-put-part : (records : List ℕ) (i : ℕ) (d : PrintedDual) → i < length records / recordBytes
+    → take (recordBytes * i) records ++ (dualRecord d ++ drop (recordBytes * i + recordBytes - recordBytes * i) (drop (recordBytes * i) records)) ≡ putDual records i d
+dual-put-part records i d h =
     let n : recordBytes * i + recordBytes - recordBytes * i ≡ recordBytes = omega arith in
-    ap (λ (k : ℕ). take (recordBytes * i) records ++ (moatRecord d ++ drop k (drop (recordBytes * i) records))) n
-    ∙ ap (λ (l : List ℕ). take (recordBytes * i) records ++ (moatRecord d ++ l)) (drop-drop recordBytes (recordBytes * i) records)
-    ∙ sym (moat-put records i d h)
+    ap (λ (k : ℕ). take (recordBytes * i) records ++ (dualRecord d ++ drop k (drop (recordBytes * i) records))) n
+    ∙ ap (λ (l : List ℕ). take (recordBytes * i) records ++ (dualRecord d ++ l)) (drop-drop recordBytes (recordBytes * i) records)
+    ∙ sym (dual-put records i d h)

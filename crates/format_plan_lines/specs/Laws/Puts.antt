@@ -10,7 +10,7 @@ use Rattle.base_limits.specs.Limits.{valueBytes}
 use Rattle.format_record.specs.Bits.{withMember}
 use Rattle.format_record.specs.Record.{withMemberIn}
 use Rattle.format_record.specs.Laws.Bits.{length-with-member}
-use Rattle.format_plan_lines.specs.Lines.{Moat, putMark, putMember, putMoat, moatRecord}
+use Rattle.format_plan_lines.specs.Lines.{PrintedDual, putMark, putMember, putDual, dualRecord}
 
 pub mark-length : (l : List ℕ) (i e : ℕ) → length (putMark l i e) ≡ length l
 mark-length l i e = length-set l e 2
@@ -23,10 +23,10 @@ member-length l i v =
     ∙ sym (length-append (take valueBytes l) (drop valueBytes l))
     ∙ ap length (take-append-drop valueBytes l)
 
-pub moat-length : (l : List ℕ) (i : ℕ) (d : Moat) → length (putMoat l i d) ≡ length l
-unfolding putMoat
-moat-length l i d = by-room (ltb i (length l / 40))
+pub dual-length : (l : List ℕ) (i : ℕ) (d : PrintedDual) → length (putDual l i d) ≡ length l
+unfolding putDual
+dual-length l i d = by-room (ltb i (length l / 40))
   where
-    by-room : (b : Bool) → length (cond b (sets l (40 * i) (moatRecord d)) l) ≡ length l
-    by-room true = length-sets l (40 * i) (moatRecord d)
+    by-room : (b : Bool) → length (cond b (sets l (40 * i) (dualRecord d)) l) ≡ length l
+    by-room true = length-sets l (40 * i) (dualRecord d)
     by-room false = refl

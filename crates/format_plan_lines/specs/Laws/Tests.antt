@@ -6,7 +6,7 @@ use borrow.Author.Tests.{lt-ltb, le-ltb, le-leb, lt-leb}
 use Rattle.base_limits.specs.Verdict.{refuseIf, _before_}
 use Rattle.base_limits.specs.declared.Verdict.the-variants.{Fine, Refused}
 use Rattle.format_key.specs.Key.{comma}
-use Rattle.format_plan_lines.specs.Lines.{keptTest, risen, moatTest, separator}
+use Rattle.format_plan_lines.specs.Lines.{keptTest, risen, dualTest, separator}
 
 module _ (m low i e : ℕ) where
   pub kept-low : e < low → keptTest m low i e ≡ Refused 26 i
@@ -44,14 +44,14 @@ separator-later zero n = absurd (n refl)
 separator-later (suc i) n = refl
 
 module _ (i low : ℕ) where
-  pub moat-falls : 256 < low → moatTest i low ≡ Refused 27 i
-  unfolding moatTest refuseIf _before_
-  moat-falls h = rw (lt-ltb 256 low h)
+  pub dual-falls : 256 < low → dualTest i low ≡ Refused 27 i
+  unfolding dualTest refuseIf _before_
+  dual-falls h = rw (lt-ltb 256 low h)
 
-  pub moat-many : low ≤ 256 → 511 ≤ i → moatTest i low ≡ Refused 28 i
-  unfolding moatTest refuseIf _before_
-  moat-many h k = rw (le-ltb 256 low h, le-leb 511 i k)
+  pub dual-many : low ≤ 256 → 511 ≤ i → dualTest i low ≡ Refused 28 i
+  unfolding dualTest refuseIf _before_
+  dual-many h k = rw (le-ltb 256 low h, le-leb 511 i k)
 
-  pub moat-fine : low ≤ 256 → i < 511 → moatTest i low ≡ Fine
-  unfolding moatTest refuseIf _before_
-  moat-fine h k = rw (le-ltb 256 low h, lt-leb 511 i k)
+  pub dual-fine : low ≤ 256 → i < 511 → dualTest i low ≡ Fine
+  unfolding dualTest refuseIf _before_
+  dual-fine h k = rw (le-ltb 256 low h, lt-leb 511 i k)

@@ -1,12 +1,12 @@
--- `format_plan_lines::moat_head` meets its contract: a refusal of any part stays, and a value goes on to the next part.
+-- `format_plan_lines::dual_head` meets its contract: a refusal of any part stays, and a value goes on to the next part.
 use borrow.Author.Needs.{needs}
 use mathlib.Core.Path.{sym, _∙_}
 use Rattle.format_key.specs.Key.{dualKey}
 use Rattle.format_number.specs.Answer.{numberStep}
 use Rattle.format_number.specs.Laws.Step.{refusal-stays, value-goes}
-use Rattle.format_plan_lines.specs.Lines.{moatHead}
-use Rattle.format_plan_lines.proofs.moat_head.Statement.{statement}
-use Rattle.format_plan_lines.proofs.moat_head.Tie as tie
+use Rattle.format_plan_lines.specs.Lines.{dualHead}
+use Rattle.format_plan_lines.proofs.dual_head.Statement.{statement}
+use Rattle.format_plan_lines.proofs.dual_head.Tie as tie
 
 slice-aggregate-fixed : tie.Need-slice-aggregate-fixed
 slice-aggregate-fixed c = search needs
@@ -21,7 +21,7 @@ enum-told : tie.Need-enum-told
 enum-told c = search needs
 
 returns : tie.Need-returns
-unfolding moatHead dualKey
+unfolding dualHead dualKey
 returns c = refusal-stays _ (c .before .before .fixed .ensures) (c .enum-told .given .1)
 
 number-at-requires : tie.Need-number-at-requires
@@ -34,7 +34,7 @@ enum-told-2 : tie.Need-enum-told-2
 enum-told-2 c = search needs
 
 returns-2 : tie.Need-returns-2
-unfolding moatHead dualKey
+unfolding dualHead dualKey
 returns-2 c =
     refusal-stays _ (c .before .before .number-at .ensures) (c .enum-told2 .given .1)
     ∙ sym (value-goes _ (c .before .before .before .before .before .before .fixed .ensures) (c .before .before .before .before .key .given .1))
@@ -52,21 +52,21 @@ enum-told-3 : tie.Need-enum-told-3
 enum-told-3 c = search needs
 
 returns-3 : tie.Need-returns-3
-unfolding moatHead dualKey
+unfolding dualHead dualKey
 returns-3 c =
     refusal-stays _ (c .before .before .fixed2 .ensures) (c .enum-told3 .given .1)
     ∙ sym (value-goes _ (c .before .before .before .before .before .before .before .number-at .ensures) (c .before .before .before .before .before .sum .given .1))
     ∙ sym (value-goes _ (c .before .before .before .before .before .before .before .before .before .before .before .fixed .ensures) (c .before .before .before .before .before .before .before .before .before .key .given .1))
 
 returns-4 : tie.Need-returns-4
-unfolding moatHead dualKey numberStep
+unfolding dualHead dualKey numberStep
 returns-4 c =
     sym (value-goes _ (c .before .before .before .fixed2 .ensures) (c .before .mark .given .1))
     ∙ sym (value-goes _ (c .before .before .before .before .before .before .before .before .number-at .ensures) (c .before .before .before .before .before .before .sum .given .1))
     ∙ sym (value-goes _ (c .before .before .before .before .before .before .before .before .before .before .before .before .fixed .ensures) (c .before .before .before .before .before .before .before .before .before .before .key .given .1))
 
-pub moat-head-spec : {M : Type 1} → statement M
-moat-head-spec =
+pub dual-head-spec : {M : Type 1} → statement M
+dual-head-spec =
     tie.close
     (tie.spec
     slice-aggregate-fixed

@@ -1,12 +1,12 @@
--- `format_plan_lines::put_moat` meets its contract: the record takes the place of that of the buffer.
+-- `format_plan_lines::store_dual` meets its contract: the record takes the place of that of the buffer.
 use native.Mathlib.Omega.{arith}
 use borrow.Author.Needs.{needs}
 use mathlib.Core.Path.{sym}
 use lib.ListN.{length-take, length-drop}
-use Rattle.format_plan_lines.specs.Lines.{moatOf}
-use Rattle.format_plan_lines.specs.Laws.Lines.{moat-put-part, moat-left}
-use Rattle.format_plan_lines.proofs.put_moat.Statement.{statement}
-use Rattle.format_plan_lines.proofs.put_moat.Tie as tie
+use Rattle.format_plan_lines.specs.Lines.{listedDual}
+use Rattle.format_plan_lines.specs.Laws.Lines.{dual-put-part, dual-left}
+use Rattle.format_plan_lines.proofs.store_dual.Statement.{statement}
+use Rattle.format_plan_lines.proofs.store_dual.Tie as tie
 
 mul-start : tie.Need-mul-start
 mul-start c = search needs
@@ -34,15 +34,15 @@ same-length c = search needs
 returns : tie.Need-returns
 returns c =
     let a = c .before .before .before .before .before .before .before .args in
-    rw (c .before .before .fill-record .ensures) (moat-put-part (a .records .now) (a .i) (moatOf (a .text .now) (a .amount) (a .list .at)) (c .before .before .before .before .if1 .taken))
+    rw (c .before .before .fill-record .ensures) (dual-put-part (a .records .now) (a .i) (listedDual (a .text .now) (a .amount) (a .list .at)) (c .before .before .before .before .if1 .taken))
 
 returns-2 : tie.Need-returns-2
 returns-2 c =
     let a = c .before .before .before .args in
-    sym (moat-left (a .records .now) (a .i) _ (c .if1 .left))
+    sym (dual-left (a .records .now) (a .i) _ (c .if1 .left))
 
-pub put-moat-spec : {M : Type 1} → statement M
-put-moat-spec =
+pub store-dual-spec : {M : Type 1} → statement M
+store-dual-spec =
     tie.close
     (tie.spec
     mul-start

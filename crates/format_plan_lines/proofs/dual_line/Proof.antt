@@ -1,18 +1,18 @@
--- `format_plan_lines::moat_line` meets its contract: a refusal of the start, of the members or of a test stays; otherwise the record is stored.
+-- `format_plan_lines::dual_line` meets its contract: a refusal of the start, of the members or of a test stays; otherwise the record is stored.
 use native.Mathlib.Omega.{arith}
 use borrow.Author.Needs.{needs}
 use mathlib.Core.Path.{refl, ap, sym, _∙_}
 use Rattle.format_number.specs.Answer.{numberStep}
-use Rattle.format_plan_lines.specs.Lines.{putMember, putMoat, moatOf}
-use Rattle.format_plan_lines.specs.Laws.Tests.{moat-falls, moat-many, moat-fine}
+use Rattle.format_plan_lines.specs.Lines.{putMember, putDual, listedDual}
+use Rattle.format_plan_lines.specs.Laws.Tests.{dual-falls, dual-many, dual-fine}
 use Rattle.format_plan_lines.specs.Laws.Puts.{member-length}
 use Rattle.format_grammar.specs.Laws.Items.{empty-pass}
-use Rattle.format_plan_lines.specs.Laws.Lines.{members-below, members-end, moat-stops, moat-unlisted, moat-refused, moat-read}
-use Rattle.format_plan_lines.proofs.moat_line.Statement.{statement}
-use Rattle.format_plan_lines.proofs.moat_line.Tie as tie
+use Rattle.format_plan_lines.specs.Laws.Lines.{members-below, members-end, dual-stops, dual-unlisted, dual-refused, dual-read}
+use Rattle.format_plan_lines.proofs.dual_line.Statement.{statement}
+use Rattle.format_plan_lines.proofs.dual_line.Tie as tie
 
-moat-head-requires : tie.Need-moat-head-requires
-moat-head-requires c κs = search needs
+dual-head-requires : tie.Need-dual-head-requires
+dual-head-requires c κs = search needs
 
 enum-known-head : tie.Need-enum-known-head
 enum-known-head c = search needs
@@ -24,7 +24,7 @@ returns : tie.Need-returns
 unfolding numberStep
 returns c =
     let a = c .before .before .before .before .before .args in
-    rw (c .enum-told .given .1) (moat-stops (a .text .now) (a .i) (a .cursor .at) (sym (c .before .before .moat-head .ensures) ∙ ap numberStep (c .enum-told .given .1)) refl)
+    rw (c .enum-told .given .1) (dual-stops (a .text .now) (a .i) (a .cursor .at) (sym (c .before .before .dual-head .ensures) ∙ ap numberStep (c .enum-told .given .1)) refl)
 
 sub-members : tie.Need-sub-members
 sub-members c = search needs
@@ -52,7 +52,7 @@ unfolding numberStep
 returns-2 c =
     let a = c .before .before .before .before .before .before .before .before .before .before .before .before .args in
     rw (c .enum-told2 .given .1)
-    (moat-unlisted (a .text .now) (a .i) (a .cursor .at) (sym (c .before .before .before .before .before .before .before .before .before .moat-head .ensures) ∙ ap numberStep (c .before .before .before .before .before .before .before .head .given .1))
+    (dual-unlisted (a .text .now) (a .i) (a .cursor .at) (sym (c .before .before .before .before .before .before .before .before .before .dual-head .ensures) ∙ ap numberStep (c .before .before .before .before .before .before .before .head .given .1))
     (sym (c .before .before .before .before .members .ensures .end) ∙ ap numberStep (c .enum-told2 .given .1))
     (empty-pass putMember member-length (a .records .now) _ (c .before .before .before .before .members .ensures .stored)))
 
@@ -63,9 +63,9 @@ returns-3 : tie.Need-returns-3
 unfolding numberStep
 returns-3 c =
     let a = c .before .before .before .before .before .before .before .before .before .before .before .before .before .before .args in
-    moat-refused (a .text .now) (a .i) (a .cursor .at) (sym (c .before .before .before .before .before .before .before .before .before .before .before .moat-head .ensures) ∙ ap numberStep (c .before .before .before .before .before .before .before .before .before .head .given .1))
+    dual-refused (a .text .now) (a .i) (a .cursor .at) (sym (c .before .before .before .before .before .before .before .before .before .before .before .dual-head .ensures) ∙ ap numberStep (c .before .before .before .before .before .before .before .before .before .head .given .1))
     (sym (c .before .before .before .before .before .before .members .ensures .end) ∙ ap numberStep (c .before .before .step .given .1))
-    (moat-falls (a .i) _ (c .if1 .taken))
+    (dual-falls (a .i) _ (c .if1 .taken))
     (empty-pass putMember member-length (a .records .now) _ (c .before .before .before .before .before .before .members .ensures .stored))
 
 same-length-3 : tie.Need-same-length-3
@@ -75,14 +75,14 @@ returns-4 : tie.Need-returns-4
 unfolding numberStep
 returns-4 c =
     let a = c .before .before .before .before .before .before .before .before .before .before .before .before .before .before .before .args in
-    moat-refused (a .text .now) (a .i) (a .cursor .at) (sym (c .before .before .before .before .before .before .before .before .before .before .before .before .moat-head .ensures) ∙ ap numberStep (c .before .before .before .before .before .before .before .before .before .before .head .given .1))
+    dual-refused (a .text .now) (a .i) (a .cursor .at) (sym (c .before .before .before .before .before .before .before .before .before .before .before .before .dual-head .ensures) ∙ ap numberStep (c .before .before .before .before .before .before .before .before .before .before .head .given .1))
     (sym (c .before .before .before .before .before .before .before .members .ensures .end) ∙ ap numberStep (c .before .before .before .step .given .1))
-    (moat-many (a .i) _ (c .before .if1 .left) (c .if2 .taken))
+    (dual-many (a .i) _ (c .before .if1 .left) (c .if2 .taken))
     (empty-pass putMember member-length (a .records .now) _ (c .before .before .before .before .before .before .before .members .ensures .stored))
 
-put-moat-requires : tie.Need-put-moat-requires
+store-dual-requires : tie.Need-store-dual-requires
 unfolding numberStep
-put-moat-requires c κs =
+store-dual-requires c κs =
     let a = c .before .before .before .before .before .before .before .before .before .before .before .before .before .before .before .before .args in
     members-below (a .text .now) _ (sym (c .before .before .before .before .before .before .before .before .members .ensures .end) ∙ ap numberStep (c .before .before .before .before .step .given .1)) (c .before .before .if1 .left)
 
@@ -100,16 +100,16 @@ returns-5 : tie.Need-returns-5
 unfolding numberStep
 returns-5 c =
     let a = c .before .before .before .before .before .before .before .before .before .before .before .before .before .before .before .before .before .before .before .args in
-    moat-read (a .text .now) (a .i) (a .cursor .at) (sym (c .before .before .before .before .before .before .before .before .before .before .before .before .before .before .before .before .moat-head .ensures) ∙ ap numberStep (c .before .before .before .before .before .before .before .before .before .before .before .before .before .before .head .given .1))
+    dual-read (a .text .now) (a .i) (a .cursor .at) (sym (c .before .before .before .before .before .before .before .before .before .before .before .before .before .before .before .before .dual-head .ensures) ∙ ap numberStep (c .before .before .before .before .before .before .before .before .before .before .before .before .before .before .head .given .1))
     (sym (c .before .before .before .before .before .before .before .before .before .before .before .members .ensures .end) ∙ ap numberStep (c .before .before .before .before .before .before .before .step .given .1))
-    (moat-fine (a .i) _ (c .before .before .before .before .before .if1 .left) (c .before .before .before .before .if2 .left))
-    (c .before .before .put-moat .ensures ∙ ap (λ l. putMoat l (a .i) (moatOf (a .text .now) (c .before .before .before .before .before .before .before .before .before .before .before .before .before .before .head .given .0 .0) (c .before .before .before .before .before .before .before .before .before .before .before .before .before .before .head .given .0 .1 .0 .at))) (empty-pass putMember member-length (a .records .now) _ (c .before .before .before .before .before .before .before .before .before .before .before .members .ensures .stored)))
+    (dual-fine (a .i) _ (c .before .before .before .before .before .if1 .left) (c .before .before .before .before .if2 .left))
+    (c .before .before .store-dual .ensures ∙ ap (λ l. putDual l (a .i) (listedDual (a .text .now) (c .before .before .before .before .before .before .before .before .before .before .before .before .before .before .head .given .0 .0) (c .before .before .before .before .before .before .before .before .before .before .before .before .before .before .head .given .0 .1 .0 .at))) (empty-pass putMember member-length (a .records .now) _ (c .before .before .before .before .before .before .before .before .before .before .before .members .ensures .stored)))
 
-pub moat-line-spec : {M : Type 1} → statement M
-moat-line-spec =
+pub dual-line-spec : {M : Type 1} → statement M
+dual-line-spec =
     tie.close
     (tie.spec
-    moat-head-requires
+    dual-head-requires
     enum-known-head
     enum-told
     returns
@@ -125,7 +125,7 @@ moat-line-spec =
     returns-3
     same-length-3
     returns-4
-    put-moat-requires
+    store-dual-requires
     add-t13
     same-length-4
     returns-5)
