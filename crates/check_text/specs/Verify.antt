@@ -8,19 +8,11 @@ use Rattle.base_limits.specs.Limits.{maxVertices, maxEdges, recordBytes, maxDua
 use Rattle.base_limits.specs.Verdict.{refuseIf, _before_, Outcome, refusal, answer, outcome}
 use Rattle.base_limits.specs.declared.Verdict.{Verdict}
 use Rattle.format_grammar.specs.Step.{Step, found, refused, _then_}
-use Rattle.format_grammar.specs.Lines.{linesAfter}
-use Rattle.format_survey.specs.Reading.{Body, surveyOf, Survey as SurveyText}
-use Rattle.format_survey_lines.specs.Line.{Counts, Tests, testsFor, groupTest, groupLines, edgeLines, countsAt}
+use Rattle.format_survey.specs.Reading.{surveyOf, Survey as SurveyText}
+use Rattle.format_survey_lines.specs.Line.{Counts, Tests, testsFor, countsAt, linesAt}
 use Rattle.survey_core.specs.Survey.{Survey, surveyFrom, edgeCount}
 use Rattle.check_rule.specs.Check.{Checked, checking}
 use Rattle.format_plan.specs.Plan.{Plan, planAt, withRoom, marksOf, dualRecords}
-
--- The lines of a survey after its counts, behind which more may follow.
-unfoldable pub linesAt : List ℕ → (vertices edges at : ℕ) → Body
-linesAt t vertices edges at =
-    let gs = groupLines groupTest t vertices at in
-    let es = linesAfter (gs .end) (edgeLines t edges) in
-    record { groups = gs .values; edges = es .values; end = es .end }
 
 -- The survey of these counts, and the offset behind its lines.
 unfoldable pub surveyAt : List ℕ → Counts → (at : ℕ) → Step SurveyText

@@ -5,11 +5,9 @@ ghost use mathlib.Core.Path.{_≡_};
 ghost use Prim.Native.Nat.{_≤_};
 ghost use lib.ListN.{length};
 ghost use Rattle.base_limits.specs.Limits.{maxVertices, maxEdges};
-ghost use Rattle.format_number.specs.Answer.{numberStep};
-ghost use Rattle.format_survey.specs.Answer.{Stores};
 ghost use Rattle.survey_core.specs.Survey.{lentSurvey};
 ghost use Rattle.check_rule.specs.Check.{checking};
-ghost use Rattle.check_text.specs.Verify.{linesAt, surveyAt, judged, planVerified, planFrom, verifiedFrom, verifying};
+ghost use Rattle.check_text.specs.Verify.{surveyAt, judged, planVerified, planFrom, verifiedFrom, verifying};
 ghost use Rattle.check_text.specs.Answer.{verifiedOutcome};
 use base_limits::MAX_EDGES;
 use base_limits::MAX_VERTICES;
@@ -122,26 +120,6 @@ fn verify_plan(
     }
 }
 
-// The lines of a survey after its counts; the values up to the first refusal go into the buffers, as far as these reach.
-fn survey_lines(
-    text: &[u8],
-    cursor: Cursor,
-    vertices: usize,
-    edges: usize,
-    groups: &mut [u8],
-    firsts: &mut [u32],
-    seconds: &mut [u32],
-    weights: &mut [u32],
-) -> Number
-    ensures { λ r. ⌜ Stores (linesAt (old text) vertices edges (cursor .at)) (numberStep r) (old groups) (new groups) (old firsts) (new firsts) (old seconds) (new seconds) (old weights) (new weights) ⌝ }
-{
-    let heads = format_survey_lines::group_lines(text, cursor, vertices, groups);
-    let Number::Value { value: _, next } = heads else {
-        return heads;
-    };
-    format_survey_lines::edge_lines(text, next, edges, firsts, seconds, weights)
-}
-
 // The lines of a survey after its counts, and the printed plan behind them.
 fn verify_lines(text: &[u8], cursor: Cursor, vertices: usize, edges: usize) -> Verified
     requires { ⌜ (vertices ≤ maxVertices) × (edges ≤ maxEdges) ⌝ }
@@ -151,7 +129,7 @@ fn verify_lines(text: &[u8], cursor: Cursor, vertices: usize, edges: usize) -> V
     let mut firsts = [0u32; MAX_EDGES];
     let mut seconds = [0u32; MAX_EDGES];
     let mut weights = [0u32; MAX_EDGES];
-    let step = survey_lines(
+    let step = format_survey_lines::survey_lines(
         text,
         cursor,
         vertices,

@@ -1,6 +1,7 @@
 -- What reading at an offset of a text finds: a value with the next offset, or a refusal. 'The earliest finding wins' (document 01,
 -- 'Survey text and printed plan'): a step after a refusal is not taken.
 use Prim.Native.Nat.{ℕ}
+use mathlib.Core.List.{List}
 use Rattle.base_limits.specs.declared.Verdict.{Verdict}
 use Rattle.base_limits.specs.declared.Verdict.the-variants.{Fine, Refused}
 
@@ -22,3 +23,8 @@ checked (Refused number place) a next = refused number place
 unfoldable pub stopped : {A B : Type 0} → Step A → Step B
 stopped (found a next) = refused 16 next
 stopped (refused number place) = refused number place
+
+-- What a buffer holds after a step: where that is refused, what it held.
+unfoldable pub storedIf : {A : Type 0} → Step A → (new old : List ℕ) → List ℕ
+storedIf (found a next) new old = new
+storedIf (refused number place) new old = old

@@ -5,7 +5,7 @@ ghost use mathlib.Core.Path.{_≡_};
 ghost use Rattle.format_number.specs.Answer.{numberStep};
 ghost use Rattle.format_grammar.specs.Step.{stopped};
 ghost use Rattle.format_plan.specs.Plan.{bodyAt, claimsAt, cleared, planReading};
-ghost use Rattle.format_plan.specs.Answer.{Stores, Fills, Reads, claimsStep, planOutcome};
+ghost use Rattle.format_plan.specs.Answer.{PlanStored, PlanFilled, PlanRead, claimsStep, planOutcome};
 use base_limits::FIGURE_DIGITS;
 use base_limits::RECORD_BYTES;
 use format_number::Cursor;
@@ -103,7 +103,9 @@ fn plan_body(
     marks: &mut [u8],
     records: &mut [u8],
 ) -> Number
-    ensures { λ r. ⌜ Stores (bodyAt (old text) edges (cursor .at)) (numberStep r) (old marks) (new marks) (old records) (new records) ⌝ }
+    ensures { λ r.
+        let lines = bodyAt (old text) edges (cursor .at) in
+        ⌜ PlanStored lines (numberStep r) (old marks) (new marks) (old records) (new records) ⌝ }
 {
     let kept = format_plan_lines::keep_lines(text, cursor, edges, marks);
     let Number::Value { value: _, next } = kept else {
@@ -120,7 +122,9 @@ fn plan_lines(
     marks: &mut [u8],
     records: &mut [u8],
 ) -> Number
-    ensures { λ r. ⌜ Fills (bodyAt (old text) edges (cursor .at)) edges (numberStep r) (old marks) (new marks) (old records) (new records) ⌝ }
+    ensures { λ r.
+        let lines = bodyAt (old text) edges (cursor .at) in
+        ⌜ PlanFilled lines edges (numberStep r) (old marks) (new marks) (old records) (new records) ⌝ }
 {
     let found = plan_body(text, cursor, edges, &mut marks[0..0], &mut records[0..0]);
     let Number::Value {
@@ -169,7 +173,9 @@ pub fn read_plan(
     marks: &mut [u8],
     records: &mut [u8],
 ) -> PlanText
-    ensures { λ r. ⌜ Reads (planReading (old text) from edges (old marks) (old records)) edges (planOutcome r) (old marks) (new marks) (old records) (new records) ⌝ }
+    ensures { λ r.
+        let plan = planReading (old text) from edges (old marks) (old records) in
+        ⌜ PlanRead plan edges (planOutcome r) (old marks) (new marks) (old records) (new records) ⌝ }
 {
     match claim_lines(text, Cursor { at: from }) {
         Claims::Refused { number, place } => PlanText::Refused { number, place },

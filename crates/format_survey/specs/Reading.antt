@@ -4,24 +4,17 @@ use mathlib.Core.List.{List, _++_}
 use lib.ListN.{length, drop}
 use Rattle.base_limits.specs.Verdict.{Outcome, refusal, answer}
 use Rattle.base_limits.specs.declared.Verdict.{Verdict}
-use Rattle.format_survey_lines.specs.Line.{Tests, groupTest, testsFor, Edge, firstsOf, secondsOf, weightsOf, Counts, countsAt, groupLines, edgeLines}
+use Rattle.format_survey_lines.specs.Line.{Tests, groupTest, testsFor, Edge, firstsOf, secondsOf, weightsOf, Counts, countsAt, SurveyLines, linesOf}
 use Rattle.format_grammar.specs.Bytes.{endAt}
-use Rattle.format_grammar.specs.Lines.{linesAfter}
 use Rattle.format_grammar.specs.Step.{Step, found, refused, _then_}
 
--- The lines after the counts: what they say up to the first refusal, and where they end.
-pub record Body : Type 0 where
-  pub groups : List ℕ
-  pub edges : List Edge
-  pub end : Step ℕ
-
-unfoldable pub bodyAt : (ℕ → ℕ → Verdict) → List ℕ → Counts → (at : ℕ) → Body
+-- The lines after the counts, to the end of the text.
+unfoldable pub bodyAt : (ℕ → ℕ → Verdict) → List ℕ → Counts → (at : ℕ) → SurveyLines
 bodyAt test t counts at =
-    let gs = groupLines test t (counts .vertices) at in
-    let es = linesAfter (gs .end) (edgeLines t (counts .edges)) in
-    record { groups = gs .values; edges = es .values; end = es .end then λ z p. endAt t p }
+    let lines = linesOf test t counts at in
+    record { groups = lines .groups; edges = lines .edges; end = lines .end then λ z p. endAt t p }
 
-unfoldable pub bodyOf : List ℕ → (vertices edges at : ℕ) → Body
+unfoldable pub bodyOf : List ℕ → (vertices edges at : ℕ) → SurveyLines
 bodyOf t vertices edges at = bodyAt groupTest t (record { vertices = vertices; edges = edges }) at
 
 -- What a text says: n and m, and the first n groups and m ends and prices.

@@ -8,7 +8,7 @@ use Rattle.base_limits.specs.Verdict.{refuseIf, _before_}
 use Rattle.base_limits.specs.declared.Verdict.{Verdict}
 use Rattle.format_key.specs.Key.{nodesKey, linksKey, nodeKey, linkKey, comma, newline}
 use Rattle.format_grammar.specs.Step.{Step, found, _then_, checked}
-use Rattle.format_grammar.specs.Lines.{Lines, linesFrom}
+use Rattle.format_grammar.specs.Lines.{Lines, linesFrom, linesAfter}
 use Rattle.format_grammar.specs.Bytes.{fixedAt}
 use Rattle.format_number.specs.Number.{numberTo, numberLine, OfDigits}
 
@@ -85,3 +85,19 @@ groupLines test t count at = linesFrom (groupLine test t) count 0 at
 
 unfoldable pub edgeLines : List ℕ → (count at : ℕ) → Lines ℕ Edge
 edgeLines t count at = linesFrom (edgeLine t) count 0 at
+
+-- The lines of a survey after its counts: what they say up to the first refusal, and where they end.
+pub record SurveyLines : Type 0 where
+  pub groups : List ℕ
+  pub edges : List Edge
+  pub end : Step ℕ
+
+unfoldable pub linesOf : (ℕ → ℕ → Verdict) → List ℕ → Counts → (at : ℕ) → SurveyLines
+linesOf test t counts at =
+    let gs = groupLines test t (counts .vertices) at in
+    let es = linesAfter (gs .end) (edgeLines t (counts .edges)) in
+    record { groups = gs .values; edges = es .values; end = es .end }
+
+-- The same with the test of groups; more may stand behind these lines.
+unfoldable pub linesAt : List ℕ → (vertices edges at : ℕ) → SurveyLines
+linesAt t vertices edges at = linesOf groupTest t (record { vertices = vertices; edges = edges }) at

@@ -5,13 +5,13 @@ ghost use mathlib.Core.Path.{_≡_};
 ghost use Prim.Native.Nat.{_<_};
 ghost use lib.ListN.{set};
 ghost use lib.Seq.{sets};
-ghost use Rattle.base_limits.specs.Limits.{countDigits};
+ghost use Rattle.base_limits.specs.Limits.{countDigits, groupNumbers};
 ghost use Rattle.format_number.specs.Number.{numberLine};
 ghost use Rattle.format_number.specs.Answer.{numberStep};
 ghost use Rattle.format_grammar.specs.Step.{stopped};
 ghost use Rattle.format_key.specs.Key.{nodesKey, linksKey};
-ghost use Rattle.format_survey_lines.specs.Line.{edgeLines, firstsOf, secondsOf, weightsOf, testsFor, countsAt, groupLines, verticesTest, edgesTest, groupTest, countLine, groupLine, edgeLine};
-ghost use Rattle.format_survey_lines.specs.Answer.{edgeStep, countsStep};
+ghost use Rattle.format_survey_lines.specs.Line.{edgeLines, firstsOf, secondsOf, weightsOf, testsFor, countsAt, groupLines, verticesTest, edgesTest, groupTest, countLine, groupLine, edgeLine, linesAt};
+ghost use Rattle.format_survey_lines.specs.Answer.{edgeStep, countsStep, LinesStored};
 use base_limits::COUNT_DIGITS;
 use base_limits::ENDPOINT_DIGITS;
 use base_limits::GROUP_DIGITS;
@@ -257,7 +257,7 @@ pub fn counts(text: &[u8], groups: usize, firsts: usize, seconds: usize, weights
 
 // Stores where the buffer reaches.
 fn store8(buffer: &mut [u8], at: usize, value: u64)
-    requires { ⌜ value < 256 ⌝ }
+    requires { ⌜ value < groupNumbers ⌝ }
     ensures { λ r. ⌜ new buffer ≡ set (old buffer) at value ⌝ }
 {
     base_buffer::put8(buffer, at, value as u8);
@@ -272,7 +272,9 @@ fn store32(buffer: &mut [u32], at: usize, value: u64)
 
 // So many lines `node=g`; the groups up to the first refusal go into the buffer, as far as it reaches.
 pub fn group_lines(text: &[u8], cursor: Cursor, count: usize, groups: &mut [u8]) -> Number
-    ensures { λ r. ⌜ (numberStep r ≡ groupLines groupTest (old text) count (cursor .at) .end) × (new groups ≡ sets (old groups) 0 (groupLines groupTest (old text) count (cursor .at) .values)) ⌝ }
+    ensures { λ r.
+        let lines = groupLines groupTest (old text) count (cursor .at) in
+        ⌜ (numberStep r ≡ lines .end) × (new groups ≡ sets (old groups) 0 (lines .values)) ⌝ }
 {
     let mut next = cursor;
     let mut vertex = 0;
@@ -297,7 +299,12 @@ pub fn edge_lines(
     seconds: &mut [u32],
     weights: &mut [u32],
 ) -> Number
-    ensures { λ r. ⌜ (numberStep r ≡ edgeLines (old text) count (cursor .at) .end) × (new firsts ≡ sets (old firsts) 0 (firstsOf (edgeLines (old text) count (cursor .at) .values))) × (new seconds ≡ sets (old seconds) 0 (secondsOf (edgeLines (old text) count (cursor .at) .values))) × (new weights ≡ sets (old weights) 0 (weightsOf (edgeLines (old text) count (cursor .at) .values))) ⌝ }
+    ensures { λ r.
+        let lines = edgeLines (old text) count (cursor .at) in
+        ⌜ (numberStep r ≡ lines .end)
+        × (new firsts ≡ sets (old firsts) 0 (firstsOf (lines .values)))
+        × (new seconds ≡ sets (old seconds) 0 (secondsOf (lines .values)))
+        × (new weights ≡ sets (old weights) 0 (weightsOf (lines .values))) ⌝ }
 {
     let mut next = cursor;
     let mut edge = 0;
@@ -319,4 +326,27 @@ pub fn edge_lines(
         }
     }
     Number::Value { value: 0, next }
+}
+
+// The lines of a survey after its counts; the values up to the first refusal go into the buffers, as far as these reach.
+pub fn survey_lines(
+    text: &[u8],
+    cursor: Cursor,
+    vertices: usize,
+    edges: usize,
+    groups: &mut [u8],
+    firsts: &mut [u32],
+    seconds: &mut [u32],
+    weights: &mut [u32],
+) -> Number
+    ensures { λ r.
+        let lines = linesAt (old text) vertices edges (cursor .at) in
+        ⌜ LinesStored lines (numberStep r) (old groups) (new groups) (old firsts) (new firsts)
+        (old seconds) (new seconds) (old weights) (new weights) ⌝ }
+{
+    let heads = group_lines(text, cursor, vertices, groups);
+    let Number::Value { value: _, next } = heads else {
+        return heads;
+    };
+    edge_lines(text, next, edges, firsts, seconds, weights)
 }

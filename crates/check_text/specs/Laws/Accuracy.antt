@@ -13,7 +13,7 @@ use Rattle.base_limits.specs.declared.Verdict.{Verdict}
 use Rattle.base_limits.specs.declared.Verdict.the-variants.{Fine, Refused}
 use Rattle.format_grammar.specs.Step.{Step, found, refused}
 use Rattle.format_grammar.specs.Lines.{following, linesFrom}
-use Rattle.format_survey_lines.specs.Line.{testsFor, groupTest, groupLine, groupLines, countsAt}
+use Rattle.format_survey_lines.specs.Line.{testsFor, groupTest, groupLine, groupLines, countsAt, linesAt, linesOf}
 use Rattle.format_survey.specs.Reading.{surveyOf, Survey as SurveyText}
 use Rattle.format_grammar.specs.Laws.Step.{then-value}
 use Rattle.format_survey_lines.specs.Laws.Tests.{group-below}
@@ -23,7 +23,7 @@ use Rattle.survey_core.specs.Laws.Group.{Numbered}
 use Rattle.check_rule.specs.Check.{Checked, checking}
 use Rattle.check_rule.specs.Laws.Accuracy.{checking-accurate}
 use Rattle.format_plan.specs.Plan.{Claims, Plan, marksOf, dualRecords}
-use Rattle.check_text.specs.Verify.{linesAt, surveyAt, prefixAt, claimTest, judged, planVerified, planFrom, verifiedFrom, verifying}
+use Rattle.check_text.specs.Verify.{surveyAt, prefixAt, claimTest, judged, planVerified, planFrom, verifiedFrom, verifying}
 
 -- The survey that a text says.
 abbrev pub surveyIn : SurveyText → Survey
@@ -42,7 +42,7 @@ groups-below t (suc count) i at v = by-line (groupLine groupTest t i at) v refl 
 
 -- Groups that are read are group numbers.
 pub prefix-numbered : (a b c d : ℕ) (t : List ℕ) {s : SurveyText} {at : ℕ} → prefixAt (testsFor a b c d) t ≡ found s at → Numbered (surveyIn s)
-unfolding prefixAt surveyAt linesAt surveyOf groupLines
+unfolding prefixAt surveyAt linesAt linesOf surveyOf groupLines
 prefix-numbered a b c d t {s} {at} e =
     let one = then-value (countsAt (testsFor a b c d) t) _ e in
     let two = then-value (linesAt t (one .0 .vertices) (one .0 .edges) (one .1) .end) _ (one .3) in

@@ -6,18 +6,18 @@ use mathlib.Core.List.{List, _++_}
 use lib.ListN.{length}
 use Rattle.base_limits.specs.Limits.{maxVertices, maxEdges}
 use Rattle.format_grammar.specs.Step.{found, _then_}
-use Rattle.format_survey_lines.specs.Line.{testsFor, Edge}
+use Rattle.format_survey_lines.specs.Line.{testsFor, Edge, linesAt, linesOf}
 use Rattle.format_survey.specs.Reading.{surveyOf}
 use Rattle.format_survey.specs.Render.{render}
 use Rattle.format_grammar.specs.Laws.Step.{then-found}
 use Rattle.format_grammar.specs.Laws.Stands.{stands-first, stands-whole}
 use Rattle.format_survey.specs.Laws.Said.{saidAt, reads-said, said-then}
 use Rattle.format_survey.specs.Laws.WellFormed.{Within, surveyFrom, saidFrom, sparing, within-accepted}
-use Rattle.check_text.specs.Verify.{linesAt, surveyAt, prefixAt}
+use Rattle.check_text.specs.Verify.{surveyAt, prefixAt}
 
 -- The survey at the start of a text is what the lines there say.
 pub prefix-said : (a b c d : ℕ) (t : List ℕ) → prefixAt (testsFor a b c d) t ≡ (saidAt (testsFor a b c d) t 0 then λ x p. found (surveyOf (x .counts) (x .groups) (x .edges)) p)
-unfolding prefixAt surveyAt linesAt testsFor
+unfolding prefixAt surveyAt linesAt linesOf testsFor
 prefix-said a b c d t = said-then (testsFor a b c d) t (λ x p. found (surveyOf (x .counts) (x .groups) (x .edges)) p)
 
 -- A rendering is read back from the start of a text, and the offset behind it is its length.

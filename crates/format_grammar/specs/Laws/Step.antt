@@ -1,10 +1,11 @@
 -- Laws of steps: what follows a value, a refusal and a test.
 use Prim.Native.Nat.{ℕ}
 use native.Mathlib.Omega.{arith}
+use mathlib.Core.List.{List}
 use mathlib.Core.Path.{_≡_, refl, ap}
 use Rattle.base_limits.specs.declared.Verdict.{Verdict}
 use Rattle.base_limits.specs.declared.Verdict.the-variants.{Fine, Refused}
-use Rattle.format_grammar.specs.Step.{Step, found, refused, _then_, checked}
+use Rattle.format_grammar.specs.Step.{Step, found, refused, _then_, checked, storedIf}
 
 pub then-found : {A B : Type 0} {s : Step A} {a : A} {next : ℕ} (k : A → ℕ → Step B) → s ≡ found a next → (s then k) ≡ k a next
 unfolding _then_
@@ -53,3 +54,12 @@ pub checked-next : {A : Type 0} {b : A} {q : ℕ} (w : Verdict) (a : A) (p : ℕ
 unfolding checked
 checked-next Fine a p e = cc
 checked-next (Refused n r) a p e = let z : _≡_ {A = ℕ} 0 1 = cc in absurd (omega arith)
+
+-- A buffer after a step, by the step.
+pub stored-found : {A : Type 0} {s : Step A} {a : A} {next : ℕ} (new old : List ℕ) → s ≡ found a next → storedIf s new old ≡ new
+unfolding storedIf
+stored-found new old e = ap (λ s. storedIf s new old) e
+
+pub stored-refused : {A : Type 0} {s : Step A} {number place : ℕ} (new old : List ℕ) → s ≡ refused number place → storedIf s new old ≡ old
+unfolding storedIf
+stored-refused new old e = ap (λ s. storedIf s new old) e

@@ -11,7 +11,7 @@ use Rattle.format_write.specs.Text.{lineOf}
 use Rattle.format_grammar.specs.Step.{Step, found, refused, _then_}
 use Rattle.format_grammar.specs.Lines.{linesAfter, textOf, whole}
 use Rattle.format_key.specs.Key.{nodesKey, linksKey, nodeKey}
-use Rattle.format_survey_lines.specs.Line.{Tests, countLine, countsAt, groupLine, groupLines, Edge, edgeLine, edgeLines, Counts, EdgeDigits}
+use Rattle.format_survey_lines.specs.Line.{Tests, countLine, countsAt, groupLine, groupLines, Edge, edgeLine, edgeLines, Counts, EdgeDigits, linesOf}
 use Rattle.format_grammar.specs.Bytes.{endAt}
 use Rattle.format_survey.specs.Reading.{bodyAt, surveyOf, surveyAt}
 use Rattle.format_survey_lines.specs.Render.{edgeText}
@@ -183,7 +183,7 @@ said-then tests t last = by-vertices (countLine nodesKey (tests .vertices) t 0)
 
 -- A survey's text, read to its end.
 pub said-survey : (tests : Tests) (t : List ℕ) → surveyAt tests t ≡ (saidAt tests t 0 then λ x p. endAt t p then λ z q. found (surveyOf (x .counts) (x .groups) (x .edges)) q)
-unfolding surveyAt bodyAt
+unfolding surveyAt bodyAt linesOf
 said-survey tests t =
     ap (λ k. countsAt tests t then k) (fun-ext (λ c. fun-ext (λ p. then-then (linesAfter (groupLines (tests .group) t (c .vertices) p .end) (edgeLines t (c .edges)) .end) _ _)))
     ∙ said-then tests t (λ x p. endAt t p then λ z q. found (surveyOf (x .counts) (x .groups) (x .edges)) q)

@@ -1,10 +1,10 @@
--- `check_text::survey_lines` meets its contract: a refused group line stays, and the edge lines follow the group lines.
+-- `format_survey_lines::survey_lines` meets its contract: a refused group line stays, and the edge lines follow the group lines.
 use borrow.Author.Needs.{needs}
 use mathlib.Core.Path.{refl, ap, sym, _∙_}
 use Rattle.format_number.specs.Answer.{numberStep}
-use Rattle.check_text.specs.Laws.Verify.{lines-stopped, lines-read}
-use Rattle.check_text.proofs.survey_lines.Statement.{statement}
-use Rattle.check_text.proofs.survey_lines.Tie as tie
+use Rattle.format_survey_lines.specs.Laws.Body.{lines-stopped, lines-read}
+use Rattle.format_survey_lines.proofs.survey_lines.Statement.{statement}
+use Rattle.format_survey_lines.proofs.survey_lines.Tie as tie
 
 group-lines-requires : tie.Need-group-lines-requires
 group-lines-requires c κs = search needs
