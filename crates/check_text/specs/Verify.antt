@@ -8,7 +8,7 @@ use Rattle.base_limits.specs.Limits.{maxVertices, maxEdges, recordBytes, maxDua
 use Rattle.base_limits.specs.Verdict.{refuseIf, _before_, Outcome, refusal, answer, outcome}
 use Rattle.base_limits.specs.declared.Verdict.{Verdict}
 use Rattle.format_grammar.specs.Step.{Step, found, refused, _then_}
-use Rattle.format_survey.specs.Reading.{surveyOf, Survey as SurveyText}
+use Rattle.format_survey.specs.Reading.{surveyOf, SurveyText}
 use Rattle.format_survey_lines.specs.Line.{Counts, Tests, testsFor, countsAt, linesAt}
 use Rattle.survey_core.specs.Survey.{Survey, surveyFrom, edgeCount}
 use Rattle.check_rule.specs.Check.{Checked, checking}

@@ -1,5 +1,5 @@
-// Checks a survey text with a printed plan behind it: the survey is read, then the plan, then the checker looks at both, and at last the
-// claimed counts are held against what it finds. Definitions in specs/.
+// Checks a survey text with a printed plan behind it: the survey is read, then the plan, then the checker looks at
+// both, and at last the claimed counts are held against what it finds. Definitions in specs/.
 ghost use Rattle.base_buffer.specs.Lent.{old, new};
 ghost use mathlib.Core.Path.{_≡_};
 ghost use Prim.Native.Nat.{_≤_};
@@ -44,7 +44,9 @@ fn judge(
     cost: u64,
     bound: u64,
 ) -> Verified
-    ensures { λ r. ⌜ verifiedOutcome r ≡ judged (checking (lentSurvey groups firsts seconds weights) (old marks) (old records)) terminals cost bound ⌝ }
+    ensures { λ r.
+        let s = lentSurvey groups firsts seconds weights in
+        ⌜ verifiedOutcome r ≡ judged (checking s (old marks) (old records)) terminals cost bound ⌝ }
 {
     match check_core::check(groups, firsts, seconds, weights, marks, records) {
         Checking::Refused { number, place } => Verified::Refused { number, place },
@@ -90,7 +92,9 @@ fn verify_plan(
     weights: &[u32],
 ) -> Verified
     requires { ⌜ length (now firsts) ≤ maxEdges ⌝ }
-    ensures { λ r. ⌜ verifiedOutcome r ≡ planVerified (lentSurvey groups firsts seconds weights) (planFrom (old text) (lentSurvey groups firsts seconds weights) at) ⌝ }
+    ensures { λ r.
+        let s = lentSurvey groups firsts seconds weights in
+        ⌜ verifiedOutcome r ≡ planVerified s (planFrom (old text) s at) ⌝ }
 {
     let mut marks = [0u8; MAX_EDGES];
     let mut records = [0u8; RECORDS_ROOM];
@@ -123,7 +127,9 @@ fn verify_plan(
 // The lines of a survey after its counts, and the printed plan behind them.
 fn verify_lines(text: &[u8], cursor: Cursor, vertices: usize, edges: usize) -> Verified
     requires { ⌜ (vertices ≤ maxVertices) × (edges ≤ maxEdges) ⌝ }
-    ensures { λ r. ⌜ verifiedOutcome r ≡ verifiedFrom (old text) (surveyAt (old text) (record { vertices = vertices; edges = edges }) (cursor .at)) ⌝ }
+    ensures { λ r.
+        let survey = surveyAt (old text) (record { vertices = vertices; edges = edges }) (cursor .at) in
+        ⌜ verifiedOutcome r ≡ verifiedFrom (old text) survey ⌝ }
 {
     let mut groups = [0u8; MAX_VERTICES];
     let mut firsts = [0u32; MAX_EDGES];

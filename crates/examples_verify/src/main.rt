@@ -1,4 +1,5 @@
-// Checks surveys with printed plans behind them: P1 to P11 of document 01 pass, and a plan spoilt in one place is refused for that.
+// Checks surveys with printed plans behind them: P1 to P11 of document 01 pass, and a plan spoilt in one place is
+// refused for that.
 use check_text::Verified;
 
 fn line(key: &[u8], value: u64) {
@@ -177,7 +178,8 @@ fn falling_members() {
     ));
 }
 
-// Malformed plans: a leading zero, too many digits, a kept track after the moats, a comma with no member, an early end, no plan.
+// Malformed plans: a leading zero, too many digits, a kept track after the moats, a comma with no member, an early
+// end, no plan.
 fn leading_zero() {
     show(check_text::verify(
         b"nodes=3\nlinks=2\nnode=1\nnode=0\nnode=1\nlink=0,1,3\nlink=1,2,4\nsites=2\ncost=07\n",

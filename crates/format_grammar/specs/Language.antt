@@ -9,9 +9,9 @@ use Rattle.format_grammar.specs.Stands.{Stands}
 use Rattle.format_grammar.specs.Step.{Step, found, refused}
 
 -- A word of G is read, or refused for another reason than its form.
-pub data Lively {A : Type 0} (s : Step A) (a : A) (p : ℕ) : Type 0 where
-  read : s ≡ found a p → Lively s a p
-  otherwise : {n q : ℕ} → s ≡ refused n q → (n ≡ 16 → ⊥) → Lively s a p
+pub data NotMalformed {A : Type 0} (s : Step A) (a : A) (p : ℕ) : Type 0 where
+  read : s ≡ found a p → NotMalformed s a p
+  otherwise : {n q : ℕ} → s ≡ refused n q → (n ≡ 16 → ⊥) → NotMalformed s a p
 
 -- A word that stands at an offset, and where it ends.
 pub record Word {A : Type 0} (W : A → List ℕ → Type 0) (t : List ℕ) (at : ℕ) (a : A) (p : ℕ) : Type 0 where
@@ -31,7 +31,7 @@ pub record Extends {A : Type 0} (G : A → List ℕ → Type 0) (t : List ℕ) (
 pub record Reads {A : Type 0} (f : List ℕ → ℕ → Step A) (W G : A → List ℕ → Type 0) : Type 0 where
   pub complete : (t : List ℕ) (at : ℕ) (a : A) (w : List ℕ) → W a w → Stands t at w → f t at ≡ found a (at + length w)
   pub sound : (t : List ℕ) (at : ℕ) (a : A) (p : ℕ) → at ≤ length t → f t at ≡ found a p → Word W t at a p
-  pub lively : (t : List ℕ) (at : ℕ) (a : A) (w : List ℕ) → G a w → Stands t at w → Lively (f t at) a (at + length w)
+  pub notMalformed : (t : List ℕ) (at : ℕ) (a : A) (w : List ℕ) → G a w → Stands t at w → NotMalformed (f t at) a (at + length w)
   pub same : (t u : List ℕ) (at p : ℕ) → at ≤ length t → f t at ≡ refused 16 p → take (p + 1) t ≡ take (p + 1) u → f u at ≡ refused 16 p
   pub place : (t : List ℕ) (at p : ℕ) → at ≤ length t → f t at ≡ refused 16 p → (at ≤ p) × (p ≤ length t)
   pub extends : (t : List ℕ) (at p : ℕ) → at ≤ length t → f t at ≡ refused 16 p → Extends G t at p
@@ -78,7 +78,7 @@ pub record Texts {A : Type 0} (P : ℕ → A → Type 0) (text : A → List ℕ)
   pub word : w ≡ textOf text l
 
 -- A step looks at no more than b bytes from its offset on, ends among them, and its value satisfies P.
-pub record Local {A : Type 0} (f : List ℕ → ℕ → Step A) (b : ℕ) (P : A → Type 0) : Type 0 where
+pub record LooksWithin {A : Type 0} (f : List ℕ → ℕ → Step A) (b : ℕ) (P : A → Type 0) : Type 0 where
   pub same : (t u : List ℕ) (at : ℕ) → take (at + b) t ≡ take (at + b) u → f t at ≡ f u at
   pub near : (t : List ℕ) (at : ℕ) (a : A) (p : ℕ) → f t at ≡ found a p → (p ≤ at + b) × P a
 

@@ -1,12 +1,13 @@
-// Reads the bytes and numbers of a text: fixed bytes, a number with the byte that ends it, a line of a key and a number. Each step
-// answers a value with the next cursor, or a refusal.
+// Reads the bytes and numbers of a text: fixed bytes, a number with the byte that ends it, a line of a key and a
+// number. Each step answers a value with the next cursor, or a refusal.
 ghost use Rattle.base_buffer.specs.Lent.{old};
 ghost use mathlib.Core.Path.{_≡_};
 ghost use Prim.Native.Nat.{_-_, _≤_, min};
 ghost use lib.ListN.{length};
 ghost use Rattle.base_limits.specs.Limits.{maxDigits};
 ghost use Rattle.format_write.specs.Decimal.{spelledAfter};
-ghost use Rattle.format_number.specs.Number.{classOf, digitsEnd, numeralEnd, numeralAt, numberAt, stopOf, numberTo, numberLine};
+ghost use Rattle.format_number.specs.Number.{classOf, digitsEnd, numeralEnd, numeralAt, numberAt, stopOf};
+ghost use Rattle.format_number.specs.Number.{numberTo, numberLine};
 ghost use Rattle.format_grammar.specs.Bytes.{byteIs, fixedAt};
 ghost use Rattle.format_number.specs.Answer.{numberStep};
 use base_buffer::at8;

@@ -8,7 +8,7 @@ use Rattle.base_limits.specs.Verdict.{Outcome, refusal, answer}
 use Rattle.format_grammar.specs.Step.{Step, found, refused, _then_, checked, storedIf}
 use Rattle.format_grammar.specs.Items.{puts}
 use Rattle.format_plan_lines.specs.Lines.{putMark, putDual}
-use Rattle.format_plan.specs.Plan.{Claims, Plan, Body, marksOf, dualRecords, roomTest, marksAfter, recordsAfter}
+use Rattle.format_plan.specs.Plan.{Claims, Plan, PlanLines, marksOf, dualRecords, roomTest, marksAfter, recordsAfter}
 use Rattle.format_plan.specs.declared.PlanText.{PlanText}
 use Rattle.format_plan.specs.declared.PlanText.the-variants.{Plan as PlanFound, Refused as PlanRefused}
 use Rattle.format_plan.specs.declared.Claims.{Claims as ClaimsLines}
@@ -19,17 +19,17 @@ claimsStep (Found k c b r next) = found (record { terminals = k; cost = c; bound
 claimsStep (Refused number place) = refused number place
 
 -- What one pass over the lines after the counts answers and stores: as far as a buffer reaches.
-pub record PlanStored (b : Body) (step : Step ℕ) (marks marks′ records records′ : List ℕ) : Type 0 where
+pub record PlanStored (b : PlanLines) (step : Step ℕ) (marks marks′ records records′ : List ℕ) : Type 0 where
   pub end : step ≡ b .end
   pub intoMarks : marks′ ≡ puts putMark marks 0 (b .kept)
   pub intoRecords : records′ ≡ puts putDual records 0 (b .duals)
 
 -- Where the lines after the counts end, once there is room for what they say.
-unfoldable pub roomed : Body → (m marks records : ℕ) → Step ℕ
+unfoldable pub roomed : PlanLines → (m marks records : ℕ) → Step ℕ
 roomed b m marks records = b .end then λ count next. checked (roomTest m count marks records) count next
 
 -- The same of two passes, of which only the second stores.
-pub record PlanFilled (b : Body) (m : ℕ) (step : Step ℕ) (marks marks′ records records′ : List ℕ) : Type 0 where
+pub record PlanFilled (b : PlanLines) (m : ℕ) (step : Step ℕ) (marks marks′ records records′ : List ℕ) : Type 0 where
   pub end : step ≡ roomed b m (length marks) (length records)
   pub intoMarks : marks′ ≡ storedIf step (marksOf m (b .kept) ++ drop m marks) marks
   pub intoRecords : records′ ≡ storedIf step (dualRecords (b .duals) ++ drop (recordBytes * length (b .duals)) records) records

@@ -2,7 +2,7 @@ pub mod Fill
 pub mod Reading
 pub mod Room
 pub mod Fuel
-pub mod Back
+pub mod RoundTrip
 pub mod Printed
 pub mod Listed
 pub mod Accepted

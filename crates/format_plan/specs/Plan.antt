@@ -37,12 +37,12 @@ pub record Plan : Type 0 where
   pub duals : List PrintedDual
 
 -- The lines after the counts, up to the first refusal; where they end, with the number of moats.
-pub record Body : Type 0 where
+pub record PlanLines : Type 0 where
   pub kept : List ℕ
   pub duals : List PrintedDual
   pub end : Step ℕ
 
-unfoldable pub bodyAt : List ℕ → (m at : ℕ) → Body
+unfoldable pub bodyAt : List ℕ → (m at : ℕ) → PlanLines
 bodyAt t m at =
     let ks = keptAt t m at in
     let ds = linesAfter (ks .end) (dualsAt t) in

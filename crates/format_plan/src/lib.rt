@@ -1,5 +1,5 @@
-// Reads a printed plan behind a survey text: the counts, the kept tracks, the moats. Definitions in specs/. Each step answers a value with
-// the next cursor, or a refusal.
+// Reads a printed plan behind a survey text: the counts, the kept tracks, the moats. Definitions in specs/. Each step
+// answers a value with the next cursor, or a refusal.
 ghost use Rattle.base_buffer.specs.Lent.{old, new};
 ghost use mathlib.Core.Path.{_≡_};
 ghost use Rattle.format_number.specs.Answer.{numberStep};
@@ -165,7 +165,8 @@ pub enum PlanText {
     },
 }
 
-// Reads a printed plan for so many tracks, from an offset of the text on, into the lent buffers; a refusal writes nothing.
+// Reads a printed plan for so many tracks, from an offset of the text on, into the lent buffers; a refusal writes
+// nothing.
 pub fn read_plan(
     text: &[u8],
     from: usize,

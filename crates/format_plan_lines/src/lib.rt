@@ -1,12 +1,14 @@
-// Reads the lines of a printed plan: a key with a number, the kept tracks, the moats. Definitions in specs/. Each step answers a value with
-// the next cursor, or a refusal.
+// Reads the lines of a printed plan: the kept edges and the duals. Each step answers a value with the next cursor, or a
+// refusal.
 ghost use Rattle.base_buffer.specs.Lent.{old, new};
 ghost use mathlib.Core.Path.{_≡_};
 ghost use lib.ListN.{length};
 ghost use Rattle.base_limits.specs.Limits.{recordBytes};
 ghost use Rattle.format_grammar.specs.Bytes.{byteIs};
 ghost use Rattle.format_number.specs.Answer.{numberStep};
-ghost use Rattle.format_plan_lines.specs.Lines.{keepLine, keptAt, putMark, memberAt, risen, membersAt, putMember, putDual, dualHead, listedDual, dualRecord, dualLineAt, dualsAt};
+ghost use Rattle.format_plan_lines.specs.Lines.{keepLine, keptAt, putMark, memberAt, risen, membersAt};
+ghost use Rattle.format_plan_lines.specs.Lines.{putMember, putDual, dualHead, listedDual, dualRecord};
+ghost use Rattle.format_plan_lines.specs.Lines.{dualLineAt, dualsAt};
 ghost use Rattle.format_plan_lines.specs.Answer.{Members, DualRead};
 ghost use Rattle.format_grammar.specs.Items.{Ends};
 use base_limits::KEPT_DIGITS;
@@ -17,6 +19,11 @@ use base_limits::RECORD_BYTES;
 use base_limits::VALUE_DIGITS;
 use format_number::Cursor;
 use format_number::Number;
+
+// Members lie below the first; the second is past all that may stand in a list of members.
+const MEMBER_NUMBERS: u64 = MAX_VERTICES as u64;
+
+const NOT_RISEN: u64 = MEMBER_NUMBERS + 1;
 
 // The byte b stands at an offset.
 fn byte_is(text: &[u8], at: usize, b: u8) -> bool
@@ -76,7 +83,7 @@ pub fn keep_lines(text: &[u8], cursor: Cursor, edges: usize, marks: &mut [u8]) -
     Number::Refused { number: 16, place }
 }
 
-// Member i of a moat, with the comma before it unless it is the first.
+// Member i of a dual, with the comma before it unless it is the first.
 fn member_at(text: &[u8], cursor: Cursor, low: u64, i: usize) -> Number
     ensures { λ r. ⌜ numberStep r ≡ memberAt (old text) low i (cursor .at) ⌝ }
 {
@@ -95,15 +102,15 @@ fn risen_after(low: u64, v: u64) -> u64
     ensures { λ r. ⌜ r ≡ risen low v ⌝ }
 {
     if v < low {
-        return 257;
+        return NOT_RISEN;
     }
-    if 256 <= v {
-        return 257;
+    if MEMBER_NUMBERS <= v {
+        return NOT_RISEN;
     }
     v + 1
 }
 
-// The members of a moat, up to byte 10; they are added to the part up to the first refusal, as far as it reaches.
+// The members of a dual, up to byte 10; they are added to the part up to the first refusal, as far as it reaches.
 fn members(text: &[u8], cursor: Cursor, part: &mut [u8]) -> Number
     ensures { λ r. ⌜ Ends putMember (membersAt (old text) (cursor .at)) (old part) (numberStep r) (new part) ⌝ }
 {
@@ -128,7 +135,7 @@ fn members(text: &[u8], cursor: Cursor, part: &mut [u8]) -> Number
     Number::Refused { number: 16, place }
 }
 
-// The start of a moat line, `moat=amount:`.
+// The start of a dual's line, `moat=amount:`.
 fn dual_head(text: &[u8], cursor: Cursor) -> Number
     ensures { λ r. ⌜ numberStep r ≡ dualHead (old text) (cursor .at) ⌝ }
 {
@@ -154,7 +161,7 @@ fn dual_head(text: &[u8], cursor: Cursor) -> Number
     }
 }
 
-// Writes the record of a moat whose members stand at the cursor.
+// Writes the record of a dual whose members stand at the cursor.
 fn fill_record(text: &[u8], list: Cursor, amount: u64, part: &mut [u8])
     requires { ⌜ (length (now part) ≡ recordBytes) × Members (membersAt (now text) (list .at) .values) ⌝ }
     ensures { λ _. ⌜ new part ≡ dualRecord (listedDual (old text) amount (list .at)) ⌝ }
@@ -175,7 +182,7 @@ fn store_dual(text: &[u8], list: Cursor, amount: u64, i: usize, records: &mut [u
     }
 }
 
-// Moat line i; its record is stored where it is not refused and the buffer has room.
+// Dual line i; its record is stored where it is not refused and the buffer has room.
 fn dual_line(text: &[u8], cursor: Cursor, i: usize, records: &mut [u8]) -> Number
     ensures { λ r. ⌜ DualRead (dualLineAt (old text) i (cursor .at)) (numberStep r) i (old records) (new records) ⌝ }
 {
@@ -195,7 +202,7 @@ fn dual_line(text: &[u8], cursor: Cursor, i: usize, records: &mut [u8]) -> Numbe
     else {
         return step;
     };
-    if 256 < low {
+    if MEMBER_NUMBERS < low {
         return Number::Refused {
             number: 27,
             place: i,
@@ -215,7 +222,8 @@ fn dual_line(text: &[u8], cursor: Cursor, i: usize, records: &mut [u8]) -> Numbe
     }
 }
 
-// The moat lines, to the end of the text; their records are stored up to the first refusal, as far as the buffer reaches.
+// The dual lines, to the end of the text; their records are stored up to the first refusal, as far as the buffer
+// reaches.
 pub fn dual_lines(text: &[u8], cursor: Cursor, records: &mut [u8]) -> Number
     ensures { λ r. ⌜ Ends putDual (dualsAt (old text) (cursor .at)) (old records) (numberStep r) (new records) ⌝ }
 {

@@ -6,7 +6,7 @@ use lib.Seq.{sets}
 use Rattle.base_limits.specs.Verdict.{Outcome, refusal, answer}
 use Rattle.format_grammar.specs.Step.{Step, storedIf}
 use Rattle.format_survey_lines.specs.Line.{Counts, firstsOf, secondsOf, weightsOf, SurveyLines}
-use Rattle.format_survey.specs.Reading.{Survey}
+use Rattle.format_survey.specs.Reading.{SurveyText}
 use Rattle.format_survey.specs.declared.Reading.{Reading}
 use Rattle.format_survey.specs.declared.Reading.the-variants.{Survey as SurveyRead, Refused as ReadingRefused}
 
@@ -15,7 +15,7 @@ unfoldable pub countsOutcome : Reading → Outcome Counts
 countsOutcome (SurveyRead n m) = answer (record { vertices = n; edges = m })
 countsOutcome (ReadingRefused number place) = refusal number place
 
-unfoldable pub countsOf : Outcome Survey → Outcome Counts
+unfoldable pub countsOf : Outcome SurveyText → Outcome Counts
 countsOf (refusal number place) = refusal number place
 countsOf (answer s) = answer (record { vertices = s .vertices; edges = s .edges })
 

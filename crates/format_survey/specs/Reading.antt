@@ -18,7 +18,7 @@ unfoldable pub bodyOf : List ℕ → (vertices edges at : ℕ) → SurveyLines
 bodyOf t vertices edges at = bodyAt groupTest t (record { vertices = vertices; edges = edges }) at
 
 -- What a text says: n and m, and the first n groups and m ends and prices.
-pub record Survey : Type 0 where
+pub record SurveyText : Type 0 where
   pub vertices : ℕ
   pub edges : ℕ
   pub groups : List ℕ
@@ -26,7 +26,7 @@ pub record Survey : Type 0 where
   pub seconds : List ℕ
   pub weights : List ℕ
 
-unfoldable pub surveyOf : Counts → (groups : List ℕ) → (edges : List Edge) → Survey
+unfoldable pub surveyOf : Counts → (groups : List ℕ) → (edges : List Edge) → SurveyText
 surveyOf counts groups edges =
     record {
       vertices = counts .vertices;
@@ -37,7 +37,7 @@ surveyOf counts groups edges =
       weights = weightsOf edges;
     }
 
-unfoldable pub surveyAt : Tests → List ℕ → Step Survey
+unfoldable pub surveyAt : Tests → List ℕ → Step SurveyText
 surveyAt tests t =
     countsAt tests t then λ counts p.
     let body = bodyAt (tests .group) t counts p in
@@ -48,11 +48,11 @@ outcomeOf (found a next) = answer a
 outcomeOf (refused number place) = refusal number place
 
 -- The four lists are what the lent buffers hold; only their lengths matter.
-unfoldable pub reading : (t groups firsts seconds weights : List ℕ) → Outcome Survey
+unfoldable pub reading : (t groups firsts seconds weights : List ℕ) → Outcome SurveyText
 reading t groups firsts seconds weights =
     outcomeOf (surveyAt (testsFor (length groups) (length firsts) (length seconds) (length weights)) t)
 
 -- What a lent buffer holds at the end: the values read and, behind them, what it held; a refusal writes nothing.
-unfoldable pub filled : Outcome Survey → (Survey → List ℕ) → (old : List ℕ) → List ℕ
+unfoldable pub filled : Outcome SurveyText → (SurveyText → List ℕ) → (old : List ℕ) → List ℕ
 filled (refusal number place) values old = old
 filled (answer survey) values old = values survey ++ drop (length (values survey)) old

@@ -16,7 +16,8 @@ pub enum Reading {
     Refused { number: u64, place: usize },
 }
 
-// The lines after the counts, to the end of the text; the values up to the first refusal go into the buffers, as far as these reach.
+// The lines after the counts, to the end of the text; the values up to the first refusal go into the buffers, as far
+// as these reach.
 fn body(
     text: &[u8],
     cursor: Cursor,

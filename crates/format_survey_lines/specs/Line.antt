@@ -47,6 +47,10 @@ pub record Edge : Type 0 where
   pub second : ℕ
   pub weight : ℕ
 
+-- Numbers of 32 bits lie below this.
+abbrev pub wordNumbers : ℕ
+wordNumbers = 4294967296
+
 -- The numbers of an edge's line have no more digits than a line may give them.
 pub record EdgeDigits (x : Edge) : Type 0 where
   pub first : OfDigits endpointDigits (x .first)

@@ -1,5 +1,5 @@
-// Reads the lines of a survey text, each key=value, from the first towards the last. Each step answers a value with the next cursor, or
-// a refusal.
+// Reads the lines of a survey text, each key=value, from the first towards the last. Each step answers a value with
+// the next cursor, or a refusal.
 ghost use Rattle.base_buffer.specs.Lent.{old, new};
 ghost use mathlib.Core.Path.{_≡_};
 ghost use Prim.Native.Nat.{_<_};
@@ -10,7 +10,9 @@ ghost use Rattle.format_number.specs.Number.{numberLine};
 ghost use Rattle.format_number.specs.Answer.{numberStep};
 ghost use Rattle.format_grammar.specs.Step.{stopped};
 ghost use Rattle.format_key.specs.Key.{nodesKey, linksKey};
-ghost use Rattle.format_survey_lines.specs.Line.{edgeLines, firstsOf, secondsOf, weightsOf, testsFor, countsAt, groupLines, verticesTest, edgesTest, groupTest, countLine, groupLine, edgeLine, linesAt};
+ghost use Rattle.format_survey_lines.specs.Line.{edgeLines, firstsOf, secondsOf, weightsOf, testsFor, countsAt};
+ghost use Rattle.format_survey_lines.specs.Line.{groupLines, verticesTest, edgesTest, groupTest, countLine};
+ghost use Rattle.format_survey_lines.specs.Line.{groupLine, edgeLine, linesAt, wordNumbers};
 ghost use Rattle.format_survey_lines.specs.Answer.{edgeStep, countsStep, LinesStored};
 use base_limits::COUNT_DIGITS;
 use base_limits::ENDPOINT_DIGITS;
@@ -25,7 +27,8 @@ use format_number::fixed;
 use format_number::number_line;
 use format_number::number_to;
 
-// The text and how far it has been read. Each function over it takes it apart, for a function on the slice and the offset.
+// The text and how far it has been read. Each function over it takes it apart, for a function on the slice and the
+// offset.
 pub struct Reader<'a> {
     pub text: &'a [u8],
     pub at: usize,
@@ -264,7 +267,7 @@ fn store8(buffer: &mut [u8], at: usize, value: u64)
 }
 
 fn store32(buffer: &mut [u32], at: usize, value: u64)
-    requires { ⌜ value < 4294967296 ⌝ }
+    requires { ⌜ value < wordNumbers ⌝ }
     ensures { λ r. ⌜ new buffer ≡ set (old buffer) at value ⌝ }
 {
     base_buffer::put32(buffer, at, value as u32);
@@ -328,7 +331,8 @@ pub fn edge_lines(
     Number::Value { value: 0, next }
 }
 
-// The lines of a survey after its counts; the values up to the first refusal go into the buffers, as far as these reach.
+// The lines of a survey after its counts; the values up to the first refusal go into the buffers, as far as these
+// reach.
 pub fn survey_lines(
     text: &[u8],
     cursor: Cursor,

@@ -14,20 +14,16 @@ use Rattle.base_limits.specs.declared.Verdict.the-variants.{Fine, Refused}
 use Rattle.format_grammar.specs.Step.{Step, found, refused}
 use Rattle.format_grammar.specs.Lines.{following, linesFrom}
 use Rattle.format_survey_lines.specs.Line.{testsFor, groupTest, groupLine, groupLines, countsAt, linesAt, linesOf}
-use Rattle.format_survey.specs.Reading.{surveyOf, Survey as SurveyText}
+use Rattle.format_survey.specs.Reading.{surveyOf, SurveyText}
 use Rattle.format_grammar.specs.Laws.Step.{then-value}
 use Rattle.format_survey_lines.specs.Laws.Tests.{group-below}
-use Rattle.survey_core.specs.Survey.{Survey, surveyFrom, edgeCount}
-use Rattle.survey_core.specs.Accuracy.{Accurate}
+use Rattle.survey_core.specs.Survey.{edgeCount}
 use Rattle.survey_core.specs.Laws.Group.{Numbered}
 use Rattle.check_rule.specs.Check.{Checked, checking}
 use Rattle.check_rule.specs.Laws.Accuracy.{checking-accurate}
 use Rattle.format_plan.specs.Plan.{Claims, Plan, marksOf, dualRecords}
 use Rattle.check_text.specs.Verify.{surveyAt, prefixAt, claimTest, judged, planVerified, planFrom, verifiedFrom, verifying}
-
--- The survey that a text says.
-abbrev pub surveyIn : SurveyText → Survey
-surveyIn s = surveyFrom (s .groups) (s .firsts) (s .seconds) (s .weights)
+use Rattle.check_text.specs.Pair.{surveyIn, Claimed, Worth}
 
 groups-below : (t : List ℕ) (count i at v : ℕ) → getD (linesFrom (groupLine groupTest t) count i at .values) v 0 < groupNumbers
 unfolding linesFrom following
@@ -58,12 +54,6 @@ judged-answer (answer y) k c b {x} e = by-test (claimTest y k c b) e
     by-test : (v : Verdict) → outcome v y ≡ answer x → answer y ≡ answer x
     by-test Fine e = e
     by-test (Refused n p) e = let z : _≡_ {A = ℕ} 0 1 = cc in absurd (omega arith)
-
--- Counts that are what the checker found.
-pub record Claimed (x : Claims) (c : Checked) : Type 0 where
-  pub terminals : c .terminals ≡ x .terminals
-  pub cost : c .cost ≡ x .cost
-  pub bound : c .bound ≡ x .bound
 
 judged-claims : (o : Outcome Checked) (x : Claims) {c : Checked} → judged o (x .terminals) (x .cost) (x .bound) ≡ answer c → Claimed x c
 unfolding judged claimTest refuseIf _before_ outcome
@@ -102,13 +92,6 @@ verified-parts t c e = by-survey (prefixAt (testsFor maxVertices maxEdges maxEdg
     by-survey : (x : Step SurveyText) → prefixAt (testsFor maxVertices maxEdges maxEdges maxEdges) t ≡ x → verifiedFrom t x ≡ answer c → Parts t c
     by-survey (found s at) q e = by-plan s at (planFrom t (surveyIn s) at) q refl e
     by-survey (refused n p) q e = let z : _≡_ {A = ℕ} 0 1 = cc in absurd (omega arith)
-
--- What passes: the text begins with a survey, of which the k and the cost that are reported obey the accuracy rule.
-pub record Worth (t : List ℕ) (c : Checked) : Type 0 where
-  pub survey : SurveyText
-  pub next : ℕ
-  pub read : prefixAt (testsFor maxVertices maxEdges maxEdges maxEdges) t ≡ found survey next
-  pub accurate : Accurate (surveyIn survey) (c .terminals) (c .cost)
 
 pub verified-accurate : (t : List ℕ) (c : Checked) → verifying t ≡ answer c → Worth t c
 verified-accurate t c e =

@@ -18,12 +18,12 @@ use Rattle.format_print.specs.Room.{longestDual, planRoom}
 use Rattle.format_print.specs.Laws.Room.{roomBelow, room-of-members, length-dual, kept-line-le, length-count-lines}
 use Rattle.format_grammar.specs.Step.{found}
 use Rattle.format_survey_lines.specs.Line.{testsFor}
-use Rattle.format_survey.specs.Reading.{Survey as SurveyText}
+use Rattle.format_survey.specs.Reading.{SurveyText}
 use Rattle.format_grammar.specs.Lines.{textOf}
 use Rattle.format_survey.specs.Render.{render, longestText}
 use Rattle.format_grammar.specs.Laws.Step.{then-value}
-use Rattle.format_survey.specs.Laws.Said.{saidAt, reads-said}
-use Rattle.format_survey.specs.Laws.WellFormed.{sparing, accepted-within}
+use Rattle.format_survey.specs.Laws.Content.{contentAt, reads-content}
+use Rattle.format_survey.specs.Laws.WellFormed.{never-malformed, accepted-within}
 use Rattle.format_survey.specs.Laws.Longest.{longest-within}
 use Rattle.survey_core.specs.Survey.{edgeCount}
 use Rattle.check_rule.specs.Check.{Checked}
@@ -31,10 +31,12 @@ use Rattle.format_grammar.specs.Language.{Each, none, more}
 use Rattle.format_plan_lines.specs.Lines.{separator, memberNumbers, PrintedDual}
 use Rattle.format_plan.specs.Plan.{Plan, planAt}
 use Rattle.check_text.specs.Verify.{prefixAt, planFrom, verifying}
-use Rattle.check_text.specs.Laws.Accuracy.{surveyIn, verified-parts}
-use Rattle.check_text.specs.Laws.Prefix.{prefix-said}
+use Rattle.check_text.specs.Pair.{surveyIn}
+use Rattle.check_text.specs.Laws.Accuracy.{verified-parts}
+use Rattle.check_text.specs.Laws.Prefix.{prefix-content}
 use Rattle.format_plan.specs.Laws.Room.{room-answer}
-use Rattle.format_plan.specs.Laws.Back.{Rising, ended, rising, followers, memberText, listed-text, dualText, claimsText, planWords, Printed, Printable}
+use Rattle.format_plan.specs.WellFormed.{Rising, ended, rising, dualText, claimsText, planWords, Printed, Printable}
+use Rattle.format_plan.specs.Laws.RoundTrip.{followers, memberText, listed-text}
 use Rattle.format_plan.specs.Laws.Accepted.{found-rendering}
 
 -- ---- moat lines
@@ -133,8 +135,8 @@ words-most m p few w =
 pub prefix-most : (a b c d : ℕ) (t : List ℕ) {s : SurveyText} {at : ℕ} → prefixAt (testsFor a b c d) t ≡ found s at → at ≤ longestText
 prefix-most a b c d t {s} {at} e =
     let tests = testsFor a b c d in
-    let g = then-value (saidAt tests t 0) _ (sym (prefix-said a b c d t) ∙ e) in
-    let w = reads-said tests (sparing _ _ _ _) .sound t 0 (g .0) (g .1) (omega arith) (g .2) in
+    let g = then-value (contentAt tests t 0) _ (sym (prefix-content a b c d t) ∙ e) in
+    let w = reads-content tests (never-malformed _ _ _ _) .sound t 0 (g .0) (g .1) (omega arith) (g .2) in
     let l = longest-within (accepted-within a b c d (w .member)) in
     let same : length (w .word) ≡ length (render (g .0 .groups) (g .0 .edges)) = ap length (w .member .word) in
     let x = w .ends in

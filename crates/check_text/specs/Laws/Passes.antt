@@ -12,9 +12,10 @@ use Rattle.format_write.specs.Text.{planText}
 use Rattle.format_print.specs.Laws.Room.{plan-text-le}
 use Rattle.format_grammar.specs.Step.{found}
 use Rattle.format_survey_lines.specs.Line.{Edge}
-use Rattle.format_survey.specs.Reading.{outcomeOf, reading, Survey as SurveyText}
+use Rattle.format_survey.specs.Reading.{outcomeOf, reading, SurveyText}
 use Rattle.format_survey.specs.Render.{render, longestText}
-use Rattle.format_survey.specs.Laws.WellFormed.{Within, accepted-render, surveyFrom as surveyOfText}
+use Rattle.format_survey.specs.WellFormed.{WithinCounts, surveyOfText}
+use Rattle.format_survey.specs.Laws.WellFormed.{accepted-render}
 use Rattle.format_survey.specs.Laws.Longest.{longest-read}
 use Rattle.survey_core.specs.Survey.{Survey, edgeCount}
 use Rattle.survey_core.specs.Laws.Group.{Numbered}
@@ -25,8 +26,10 @@ use Rattle.check_core.specs.Laws.Duals.{counts-fit}
 use Rattle.format_plan.specs.Plan.{Claims, planAt}
 use Rattle.check_text.specs.Verify.{planVerified, planFrom, verifiedFrom, verifying}
 use Rattle.check_text.specs.Laws.Verify.{claim-fine, room-suffices}
-use Rattle.check_text.specs.Laws.Accuracy.{surveyIn, prefix-numbered}
-use Rattle.format_plan.specs.Laws.Printed.{planIn, Fits, read-back}
+use Rattle.check_text.specs.Pair.{surveyIn}
+use Rattle.check_text.specs.Laws.Accuracy.{prefix-numbered}
+use Rattle.format_plan.specs.WellFormed.{planIn, PlanFits}
+use Rattle.format_plan.specs.Laws.Printed.{read-back}
 use Rattle.check_text.specs.Laws.Prefix.{prefix-render}
 use Rattle.check_text.specs.Laws.Same.{drawn-passes}
 
@@ -40,7 +43,7 @@ printed c rounds marks records = planText (c .terminals) (c .cost) (c .bound) ro
 
 module _ (s : Survey) (numbered : Numbered s) (marks records : List ℕ) (c : Checked) (passed : checking s marks records ≡ answer c) where
   -- What passes fits the digits and the limits of a printed plan.
-  passed-fits : (rounds : ℕ) → rounds < 10 ^ figureDigits → Fits (claimsOf c rounds) marks records
+  passed-fits : (rounds : ℕ) → rounds < 10 ^ figureDigits → PlanFits (claimsOf c rounds) marks records
   unfolding checkedOf dualAt edgeCount
   passed-fits rounds h =
       let law = checking-passing s numbered marks records in
@@ -93,7 +96,7 @@ module _ (s : Survey) (numbered : Numbered s) (marks records : List ℕ) (c : Ch
       ∙ claim-fine (c .terminals) (c .cost) (c .bound) (drawn-passes s numbered marks records c bytes passed) refl refl refl
 
 -- The groups of a rendering are group numbers.
-render-numbered : (groups : List ℕ) (edges : List Edge) → Within groups edges → Numbered (surveyIn (surveyOfText groups edges))
+render-numbered : (groups : List ℕ) (edges : List Edge) → WithinCounts groups edges → Numbered (surveyIn (surveyOfText groups edges))
 render-numbered groups edges w = prefix-numbered maxVertices maxEdges maxEdges maxEdges (render groups edges ++ []) (prefix-render groups edges [] w)
 
 -- So are those of a text that is read.
@@ -103,7 +106,7 @@ read-numbered t gb fb sb wb s e =
     subst (λ (x : SurveyText). Numbered (surveyIn x)) (sym (a .says)) (render-numbered (a .groups) (a .edges) (a .within))
 
 -- Behind a rendering.
-render-passes : (groups : List ℕ) (edges : List Edge) → Within groups edges → (marks records : List ℕ) → Bytes records → (rounds : ℕ) → rounds < 10 ^ figureDigits → (c : Checked)
+render-passes : (groups : List ℕ) (edges : List Edge) → WithinCounts groups edges → (marks records : List ℕ) → Bytes records → (rounds : ℕ) → rounds < 10 ^ figureDigits → (c : Checked)
     → checking (surveyIn (surveyOfText groups edges)) marks records ≡ answer c → verifying (render groups edges ++ printed c rounds marks records) ≡ answer c
 unfolding verifying verifiedFrom
 render-passes groups edges w marks records bytes rounds h c passed =

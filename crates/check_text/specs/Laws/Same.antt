@@ -29,7 +29,7 @@ use Rattle.check_rule.specs.Laws.Meaning.{Passing}
 use Rattle.check_rule.specs.Laws.Accuracy.{checking-passing}
 use Rattle.format_plan_lines.specs.Lines.{PrintedDual, isIn, dualRecord}
 use Rattle.format_plan.specs.Plan.{marksOf, dualRecords}
-use Rattle.format_plan.specs.Laws.Printed.{keptIn, printedDual, printedDuals}
+use Rattle.format_plan.specs.WellFormed.{keptIn, printedDual, printedDuals}
 use Rattle.check_text.specs.Laws.Verify.{length-marks}
 
 -- ---- numbers in a list

@@ -10,7 +10,7 @@ use borrow.Author.Tests.{eq-eqb, ne-eqb}
 use Rattle.format_survey_lines.specs.Answer.{LinesStored}
 use Rattle.format_survey_lines.specs.Laws.Body.{lines-sizes}
 use Rattle.base_finite.specs.Laws.Below.{length-tabulate}
-use Rattle.base_limits.specs.Limits.{recordBytes, maxEdges}
+use Rattle.base_limits.specs.Limits.{recordBytes, maxEdges, maxVertices}
 use Rattle.base_limits.specs.Verdict.{refuseIf, Outcome, refusal, answer, outcome, _before_}
 use Rattle.format_grammar.specs.Step.{Step, found, refused, _then_}
 use Rattle.format_survey.specs.Reading.{surveyOf, outcomeOf}
@@ -148,7 +148,7 @@ module _ (t : List ℕ) (n m at : ℕ) {step : Step ℕ} where
 
 -- ---- the whole
 
-module _ (t : List ℕ) {step : Step Counts} (read : step ≡ countsAt (testsFor 256 2048 2048 2048) t) where
+module _ (t : List ℕ) {step : Step Counts} (read : step ≡ countsAt (testsFor maxVertices maxEdges maxEdges maxEdges) t) where
   pub verified-uncounted : {n p : ℕ} → step ≡ refused n p → refusal n p ≡ verifying t
   unfolding verifying verifiedFrom prefixAt _then_
   verified-uncounted e = rw (sym read ∙ e)
@@ -158,5 +158,5 @@ module _ (t : List ℕ) {step : Step Counts} (read : step ≡ countsAt (testsFor
     unfolding verifying prefixAt _then_
     verified-counted = rw (sym read ∙ counted) refl
 
-    pub counted-few : (n ≤ 256) × (m ≤ 2048)
-    counted-few = let f = counts-fit 256 2048 2048 2048 t (sym read ∙ counted) in (f .vertices .most, f .edges .most)
+    pub counted-few : (n ≤ maxVertices) × (m ≤ maxEdges)
+    counted-few = let f = counts-fit maxVertices maxEdges maxEdges maxEdges t (sym read ∙ counted) in (f .vertices .most, f .edges .most)

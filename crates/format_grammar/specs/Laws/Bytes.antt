@@ -138,7 +138,7 @@ reads-byte b =
     record {
       complete = byte-complete b;
       sound = byte-sound b;
-      lively = λ t at a w m s. read (byte-complete b t at a w m s);
+      notMalformed = λ t at a w m s. read (byte-complete b t at a w m s);
       same = λ t u at p h e k. refuse t u at p (byte-refused b t at p e) k;
       place = λ t at p h e. let r = byte-refused b t at p e .1 in (omega arith, omega arith);
       extends = λ t at p h e. record { value = 0; word = b ∷ []; member = record { value = refl; word = refl }; rest = b ∷ []; whole = ap (λ (k : ℕ). take k t ++ (b ∷ [])) (byte-refused b t at p e .1) };

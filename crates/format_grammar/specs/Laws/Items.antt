@@ -13,13 +13,13 @@ use Rattle.format_grammar.specs.Lines.{Lines, following}
 use Rattle.format_grammar.specs.Step.{found, refused, Step}
 
 -- At item i and offset at: where what is left ends, and what it stores, are where the whole ends and what that stores.
-pub record Left {S A : Type 0} (r : ItemReader S A) (put : List ℕ → ℕ → A → List ℕ) (whole : Lines S A) (old : List ℕ) (fuel : ℕ) (low : S) (i at : ℕ) (buffer : List ℕ) : Type 0 where
+pub record ItemsLeft {S A : Type 0} (r : ItemReader S A) (put : List ℕ → ℕ → A → List ℕ) (whole : Lines S A) (old : List ℕ) (fuel : ℕ) (low : S) (i at : ℕ) (buffer : List ℕ) : Type 0 where
   pub upto : i ≤ fuel
   pub end : itemsFrom r (fuel - i) low i at .end ≡ whole .end
   pub stored : puts put buffer i (itemsFrom r (fuel - i) low i at .values) ≡ puts put old 0 (whole .values)
 
 module _ {S A : Type 0} (r : ItemReader S A) (put : List ℕ → ℕ → A → List ℕ) where
-  pub left-start : (fuel : ℕ) (low : S) (at : ℕ) (old : List ℕ) → Left r put (itemsFrom r fuel low 0 at) old fuel low 0 at old
+  pub left-start : (fuel : ℕ) (low : S) (at : ℕ) (old : List ℕ) → ItemsLeft r put (itemsFrom r fuel low 0 at) old fuel low 0 at old
   left-start fuel low at old =
       record {
         upto = omega arith;
@@ -28,11 +28,11 @@ module _ {S A : Type 0} (r : ItemReader S A) (put : List ℕ → ℕ → A → L
       }
 
   module _ (whole : Lines S A) (old : List ℕ) (fuel : ℕ) (low : S) (i at : ℕ) (buffer : List ℕ) where
-    seen : {l : Lines S A} → itemsFrom r (fuel - i) low i at ≡ l → Left r put whole old fuel low i at buffer → (l .end ≡ whole .end) × (puts put buffer i (l .values) ≡ puts put old 0 (whole .values))
+    seen : {l : Lines S A} → itemsFrom r (fuel - i) low i at ≡ l → ItemsLeft r put whole old fuel low i at buffer → (l .end ≡ whole .end) × (puts put buffer i (l .values) ≡ puts put old 0 (whole .values))
     seen e h = (sym (ap (λ (x : Lines S A). x .end) e) ∙ h .end, sym (ap (λ (x : Lines S A). puts put buffer i (x .values)) e) ∙ h .stored)
 
-    pub left-more : {a : A} {next : ℕ} → i < fuel → r .stop at ≡ false → r .item low i at ≡ found a next → Left r put whole old fuel low i at buffer
-        → Left r put whole old fuel (r .after low a) (i + 1) next (put buffer i a)
+    pub left-more : {a : A} {next : ℕ} → i < fuel → r .stop at ≡ false → r .item low i at ≡ found a next → ItemsLeft r put whole old fuel low i at buffer
+        → ItemsLeft r put whole old fuel (r .after low a) (i + 1) next (put buffer i a)
     unfolding itemsFrom following puts
     left-more {a} {next} b s e h =
         let l = itemsFrom r (fuel - (i + 1)) (r .after low a) (i + 1) next in
@@ -40,21 +40,21 @@ module _ {S A : Type 0} (r : ItemReader S A) (put : List ℕ → ℕ → A → L
         let k = seen q h in
         record { upto = omega arith; end = k .0; stored = k .1 }
 
-    pub left-stop : i < fuel → r .stop at ≡ true → Left r put whole old fuel low i at buffer → Ends put whole old (found low at) buffer
+    pub left-stop : i < fuel → r .stop at ≡ true → ItemsLeft r put whole old fuel low i at buffer → Ends put whole old (found low at) buffer
     unfolding itemsFrom puts
     left-stop b s h =
         let q : itemsFrom r (fuel - i) low i at ≡ record { values = []; end = found low at } = rw (one-less b, s) in
         let k = seen q h in
         record { end = k .0; stored = k .1 }
 
-    pub left-refused : {n p : ℕ} → i < fuel → r .stop at ≡ false → r .item low i at ≡ refused n p → Left r put whole old fuel low i at buffer → Ends put whole old (refused n p) buffer
+    pub left-refused : {n p : ℕ} → i < fuel → r .stop at ≡ false → r .item low i at ≡ refused n p → ItemsLeft r put whole old fuel low i at buffer → Ends put whole old (refused n p) buffer
     unfolding itemsFrom following puts
     left-refused {n} {p} b s e h =
         let q : itemsFrom r (fuel - i) low i at ≡ record { values = []; end = refused n p } = rw (one-less b, s, e) in
         let k = seen q h in
         record { end = k .0; stored = k .1 }
 
-    pub left-out : fuel ≤ i → Left r put whole old fuel low i at buffer → Ends put whole old (refused 16 at) buffer
+    pub left-out : fuel ≤ i → ItemsLeft r put whole old fuel low i at buffer → Ends put whole old (refused 16 at) buffer
     unfolding itemsFrom puts
     left-out b h =
         let z : fuel - i ≡ 0 = omega arith in
@@ -68,7 +68,7 @@ module _ {A : Type 0} (put : List ℕ → ℕ → A → List ℕ) (same : (l : L
   puts-length buffer i [] = refl
   puts-length buffer i (a ∷ l) = puts-length (put buffer i a) (i + 1) l ∙ same buffer i a
 
-  pub left-length : {S : Type 0} {r : ItemReader S A} {whole : Lines S A} {old : List ℕ} {fuel : ℕ} {low : S} {i at : ℕ} {buffer : List ℕ} → Left r put whole old fuel low i at buffer → length buffer ≡ length old
+  pub left-length : {S : Type 0} {r : ItemReader S A} {whole : Lines S A} {old : List ℕ} {fuel : ℕ} {low : S} {i at : ℕ} {buffer : List ℕ} → ItemsLeft r put whole old fuel low i at buffer → length buffer ≡ length old
   left-length {whole = whole} {old = old} {i = i} {buffer = buffer} h = sym (puts-length buffer i _) ∙ ap length (h .stored) ∙ puts-length old 0 (whole .values)
 
 -- Items end where they stop.
@@ -126,11 +126,11 @@ items-forward {S} {A} r t goes (suc fuel) low i at {n} {p} h e = by-stop (r .sto
         omega arith
     by-stop false (refused x y) q ih e = let z : _≡_ {A = ℕ} 0 1 = cc in absurd (omega arith)
 
-pub items-back : {S A : Type 0} (r : ItemReader S A) (fuel : ℕ) {low : S} {i at : ℕ} {last : S} {end : ℕ} {l : List A} → length l < fuel → Standing r low i at l last end
+pub items-reads-back : {S A : Type 0} (r : ItemReader S A) (fuel : ℕ) {low : S} {i at : ℕ} {last : S} {end : ℕ} {l : List A} → length l < fuel → Standing r low i at l last end
     → itemsFrom r fuel low i at ≡ record { values = l; end = found last end }
 unfolding itemsFrom following
-items-back r zero h s = absurd (omega arith)
-items-back r (suc fuel) h (stop e) = rw e
-items-back {S} {A} r (suc fuel) {low} {i} {at} {last} {end} h (item {next = next} {a = a} {l = l} e f s) =
-    let k = items-back r fuel (omega arith) s in
+items-reads-back r zero h s = absurd (omega arith)
+items-reads-back r (suc fuel) h (stop e) = rw e
+items-reads-back {S} {A} r (suc fuel) {low} {i} {at} {last} {end} h (item {next = next} {a = a} {l = l} e f s) =
+    let k = items-reads-back r fuel (omega arith) s in
     rw (e, f, k)

@@ -6,7 +6,7 @@ use mathlib.Core.Path.{_≡_, refl, ap, sym, _∙_, subst}
 use lib.ListN.{length, take, length-append}
 use Rattle.base_limits.specs.declared.Verdict.{Verdict}
 use Rattle.base_limits.specs.declared.Verdict.the-variants.{Fine, Refused}
-use Rattle.format_grammar.specs.Language.{Lively, read, otherwise, Word, Extends, Reads, Seq, Empty, Text}
+use Rattle.format_grammar.specs.Language.{NotMalformed, read, otherwise, Word, Extends, Reads, Seq, Empty, Text}
 use Rattle.format_grammar.specs.Laws.Stands.{stands-none, stands-append, stands-first, stands-second, stands-same}
 use Rattle.format_grammar.specs.Laws.Step.{then-found, then-refused, then-value, Stops, early, late, then-stops}
 use Rattle.format_grammar.specs.Stands.{Stands}
@@ -30,7 +30,7 @@ reads-value {B} b =
     record {
       complete = λ t at c w m s. at-end at c w m;
       sound = λ t at c p h e. record { word = []; member = record { value = cc; word = refl }; ends = next-is e; stands = stands-none t at h };
-      lively = λ t at c w m s. read (at-end at c w m);
+      notMalformed = λ t at c w m s. read (at-end at c w m);
       same = λ t u at p h e q. absurd (never e);
       place = λ t at p h e. absurd (never e);
       extends = λ t at p h e. absurd (never e);
@@ -58,7 +58,7 @@ reads-checked {B} Fine b h =
     record {
       complete = λ t at c w m s. r .complete t at c w (m .0) s;
       sound = λ t at c p h e. let q = r .sound t at c p h e in record { word = q .word; member = (q .member, refl); ends = q .ends; stands = q .stands };
-      lively = r .lively;
+      notMalformed = r .notMalformed;
       same = r .same;
       place = r .place;
       extends = r .extends;
@@ -69,7 +69,7 @@ reads-checked {B} (Refused n p) b h =
     record {
       complete = λ t at c w m s. absurd (not-fine (m .1));
       sound = λ t at c p h e. absurd (never e);
-      lively = λ t at c w m s. otherwise refl (h n p refl);
+      notMalformed = λ t at c w m s. otherwise refl (h n p refl);
       same = λ t u at q i e k. absurd (h n p refl (number e));
       place = λ t at q i e. absurd (h n p refl (number e));
       extends = λ t at q i e. absurd (h n p refl (number e));
@@ -114,20 +114,20 @@ module _ {A B : Type 0} {f : List ℕ → ℕ → Step A} {W G : A → List ℕ 
         stands = stands-append (x .word) (y .word) (x .stands) (subst (λ (k : ℕ). Stands t k (y .word)) xe (y .stands));
       }
 
-  then-lively : (t : List ℕ) (at : ℕ) (b : B) (w : List ℕ) → Seq G H b w → Stands t at w → Lively (next t at) b (at + length w)
-  then-lively t at b w m st =
+  then-not-malformed : (t : List ℕ) (at : ℕ) (b : B) (w : List ℕ) → Seq G H b w → Stands t at w → NotMalformed (next t at) b (at + length w)
+  then-not-malformed t at b w m st =
       let st′ : Stands t at (m .left ++ m .right) = subst (Stands t at) (m .whole) st in
-      by-first (r .lively t at (m .value) (m .left) (m .first) (stands-first (m .left) (m .right) st′))
-      (s (m .value) .lively t (at + length (m .left)) b (m .right) (m .second) (stands-second (m .left) (m .right) st′))
+      by-first (r .notMalformed t at (m .value) (m .left) (m .first) (stands-first (m .left) (m .right) st′))
+      (s (m .value) .notMalformed t (at + length (m .left)) b (m .right) (m .second) (stands-second (m .left) (m .right) st′))
     where
-      by-second : f t at ≡ found (m .value) (at + length (m .left)) → Lively (g (m .value) t (at + length (m .left))) b (at + length (m .left) + length (m .right)) → Lively (next t at) b (at + length w)
+      by-second : f t at ≡ found (m .value) (at + length (m .left)) → NotMalformed (g (m .value) t (at + length (m .left))) b (at + length (m .left) + length (m .right)) → NotMalformed (next t at) b (at + length w)
       by-second e (read q) =
           let l : length w ≡ length (m .left) + length (m .right) = ap length (m .whole) ∙ length-append (m .left) (m .right) in
           let k : at + length (m .left) + length (m .right) ≡ at + length w = omega arith in
           read (then-found _ e ∙ q ∙ ap (λ (k : ℕ). found b k) k)
       by-second e (otherwise q n) = otherwise (then-found _ e ∙ q) n
 
-      by-first : Lively (f t at) (m .value) (at + length (m .left)) → Lively (g (m .value) t (at + length (m .left))) b (at + length (m .left) + length (m .right)) → Lively (next t at) b (at + length w)
+      by-first : NotMalformed (f t at) (m .value) (at + length (m .left)) → NotMalformed (g (m .value) t (at + length (m .left))) b (at + length (m .left) + length (m .right)) → NotMalformed (next t at) b (at + length w)
       by-first (read e) y = by-second e y
       by-first (otherwise e n) y = otherwise (then-refused _ e) n
 
@@ -181,7 +181,7 @@ module _ {A B : Type 0} {f : List ℕ → ℕ → Step A} {W G : A → List ℕ 
       record {
         complete = then-complete;
         sound = then-sound;
-        lively = then-lively;
+        notMalformed = then-not-malformed;
         same = then-same;
         place = then-place;
         extends = then-extends;
@@ -203,7 +203,7 @@ reads-as {A} {f} {g} {W} {G} {X} {H} e wx xw gh hg r =
     record {
       complete = λ t at a w m s. sym (e t at) ∙ r .complete t at a w (xw a w m) s;
       sound = λ t at a p h q. let x = r .sound t at a p h (e t at ∙ q) in record { word = x .word; member = wx a (x .word) (x .member); ends = x .ends; stands = x .stands };
-      lively = λ t at a w m s. subst (λ z. Lively z a (at + length w)) (e t at) (r .lively t at a w (hg a w m) s);
+      notMalformed = λ t at a w m s. subst (λ z. NotMalformed z a (at + length w)) (e t at) (r .notMalformed t at a w (hg a w m) s);
       same = λ t u at p h q k. sym (e u at) ∙ r .same t u at p h (e t at ∙ q) k;
       place = λ t at p h q. r .place t at p h (e t at ∙ q);
       extends = λ t at p h q. let x = r .extends t at p h (e t at ∙ q) in record { value = x .value; word = x .word; member = gh (x .value) (x .word) (x .member); rest = x .rest; whole = x .whole };

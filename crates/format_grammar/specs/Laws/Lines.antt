@@ -30,7 +30,7 @@ module _ {A : Type 0} (line : ℕ → ℕ → Step A) (count i at : ℕ) where
   lines-done h = let z : count - i ≡ 0 = omega arith in rw z
 
 -- At line i and offset at: where what is left ends, and what it stores, are where the whole ends and what that stores.
-pub record Left {A : Type 0} (line : ℕ → ℕ → Step A) (whole : Lines ℕ A) (count i at : ℕ) : Type 0 where
+pub record LinesLeft {A : Type 0} (line : ℕ → ℕ → Step A) (whole : Lines ℕ A) (count i at : ℕ) : Type 0 where
   pub upto : i ≤ count
   pub end : linesFrom line (count - i) i at .end ≡ whole .end
 
@@ -41,24 +41,24 @@ pub stored-length : {A : Type 0} {line : ℕ → ℕ → Step A} {whole : Lines 
 stored-length s = simp length-sets at (ap length (s .is))
 
 module _ {A : Type 0} (line : ℕ → ℕ → Step A) (count at : ℕ) where
-  pub left-start : Left line (linesFrom line count 0 at) count 0 at
+  pub left-start : LinesLeft line (linesFrom line count 0 at) count 0 at
   left-start = record { upto = omega arith; end = ap (λ (k : ℕ). linesFrom line k 0 at .end) (sub-zero count) }
 
   pub stored-start : (f : A → ℕ) (old : List ℕ) → Stored line (linesFrom line count 0 at) count 0 at f old old
   stored-start f old = record { is = ap (λ (k : ℕ). sets old 0 (map f (linesFrom line k 0 at .values))) (sub-zero count) }
 
 module _ {A : Type 0} (line : ℕ → ℕ → Step A) (whole : Lines ℕ A) (count i at : ℕ) where
-  pub left-more : {a : A} {next : ℕ} → i < count → line i at ≡ found a next → Left line whole count i at → Left line whole count (i + 1) next
+  pub left-more : {a : A} {next : ℕ} → i < count → line i at ≡ found a next → LinesLeft line whole count i at → LinesLeft line whole count (i + 1) next
   unfolding following
   left-more h e l = record { upto = h'; end = sym (ap (λ (r : Lines ℕ A). r .end) (lines-more line count i at h e)) ∙ l .end }
     where
       h' : i + 1 ≤ count
       h' = omega arith
 
-  pub left-stop : {n p : ℕ} → i < count → line i at ≡ refused n p → Left line whole count i at → refused n p ≡ whole .end
+  pub left-stop : {n p : ℕ} → i < count → line i at ≡ refused n p → LinesLeft line whole count i at → refused n p ≡ whole .end
   left-stop h e l = sym (ap (λ (r : Lines ℕ A). r .end) (lines-stop line count i at h e)) ∙ l .end
 
-  pub left-done : count ≤ i → Left line whole count i at → found 0 at ≡ whole .end
+  pub left-done : count ≤ i → LinesLeft line whole count i at → found 0 at ≡ whole .end
   left-done h l = sym (ap (λ (r : Lines ℕ A). r .end) (lines-done line count i at h)) ∙ l .end
 
   module _ (f : A → ℕ) (old buffer : List ℕ) where

@@ -8,7 +8,7 @@ use lib.ListN.{length, take, length-append}
 use Rattle.format_grammar.specs.Items.{ItemReader, itemsFrom, Goes, Standing, stop, item, Broken, here, later, textFrom, Lists}
 use Rattle.format_grammar.specs.Language.{Each, none, more, Word, Extends, Text}
 use Rattle.format_grammar.specs.Lines.{following, Lines}
-use Rattle.format_grammar.specs.Laws.Items.{items-back}
+use Rattle.format_grammar.specs.Laws.Items.{items-reads-back}
 use Rattle.format_grammar.specs.Laws.Language.{bound, text-stands}
 use Rattle.format_grammar.specs.Laws.Stands.{stands-none, stands-append, as-long}
 use Rattle.format_grammar.specs.Stands.{Stands}
@@ -164,7 +164,7 @@ module _ {S A : Type 0} {r : List ℕ → ItemReader S A} {P : A → Type 0} {te
       let l = standing-long u (as-long t u q k at h (omega arith)) (s .1) in
       let a = l .0 in
       let b = l .1 in
-      items-back (r u) (length u) (omega arith) (s .1)
+      items-reads-back (r u) (length u) (omega arith) (s .1)
 
   -- A loop that ends with 16 ends so again.
   pub items-broken-again : (t u : List ℕ) (low : S) (i at p : ℕ) → 0 < at → at ≤ length t → take (p + 1) t ≡ take (p + 1) u → itemsFrom (r t) (length t) low i at .end ≡ refused 16 p

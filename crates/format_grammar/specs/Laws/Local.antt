@@ -12,7 +12,7 @@ use borrow.Author.Tests.{leb-true, leb-false}
 use Rattle.base_limits.specs.declared.Verdict.{Verdict}
 use Rattle.base_limits.specs.declared.Verdict.the-variants.{Fine, Refused}
 use Rattle.format_grammar.specs.Bytes.{byteIs, fixedAt, endAt, byteStep}
-use Rattle.format_grammar.specs.Language.{Local, Any}
+use Rattle.format_grammar.specs.Language.{LooksWithin, Any}
 use Rattle.format_grammar.specs.Laws.Bytes.{fixed-step, byte-same}
 use Rattle.format_grammar.specs.Laws.Lines.{lines-unfold}
 use Rattle.format_grammar.specs.Laws.Stands.{take-less}
@@ -20,13 +20,13 @@ use Rattle.format_grammar.specs.Laws.Step.{then-found, then-refused, the
 use Rattle.format_grammar.specs.Lines.{linesFrom, whole}
 use Rattle.format_grammar.specs.Step.{Step, found, refused, _then_, checked}
 
-pub local-value : {B : Type 0} (b : B) → Local (λ t at. found b at) 0 Any
+pub local-value : {B : Type 0} (b : B) → LooksWithin (λ t at. found b at) 0 Any
 local-value {B} b = record { same = λ t u at e. refl; near = λ t at c p e. (end e, tt) }
   where
     end : {at p : ℕ} {c : B} → found b at ≡ found c p → p ≤ at + 0
     end {at} {p} e = let q : at ≡ p = cc in omega arith
 
-pub local-checked : {B : Type 0} (w : Verdict) (b : B) → Local (λ t at. checked w b at) 0 (λ c. (b ≡ c) × (w ≡ Fine))
+pub local-checked : {B : Type 0} (w : Verdict) (b : B) → LooksWithin (λ t at. checked w b at) 0 (λ c. (b ≡ c) × (w ≡ Fine))
 unfolding checked
 local-checked {B} Fine b = record { same = λ t u at e. refl; near = λ t at c p e. (end e, (cc, refl)) }
   where
@@ -37,7 +37,7 @@ local-checked {B} (Refused n q) b = record { same = λ t u at e. refl; near = λ
     never : {p : ℕ} {c : B} → refused n q ≡ found c p → ⊥
     never e = let z : _≡_ {A = ℕ} 0 1 = cc in omega arith
 
-pub local-then : {A B : Type 0} {f : List ℕ → ℕ → Step A} {g : A → List ℕ → ℕ → Step B} {b c : ℕ} {P : A → Type 0} {Q : B → Type 0} → Local f b P → ((a : A) → P a → Local (g a) c Q) → Local (λ t at. f t at then λ a p. g a t p) (b + c) Q
+pub local-then : {A B : Type 0} {f : List ℕ → ℕ → Step A} {g : A → List ℕ → ℕ → Step B} {b c : ℕ} {P : A → Type 0} {Q : B → Type 0} → LooksWithin f b P → ((a : A) → P a → LooksWithin (g a) c Q) → LooksWithin (λ t at. f t at then λ a p. g a t p) (b + c) Q
 local-then {A} {B} {f} {g} {b} {c} {P} {Q} r s =
     record {
       same = λ t u at e. by-first t u at (f t at) refl (r .same t u at (take-less t u (at + b) (at + (b + c)) (omega arith) e)) e;
@@ -59,7 +59,7 @@ local-then {A} {B} {f} {g} {b} {c} {P} {Q} r s =
         let j = m .0 in
         (omega arith, m .1)
 
-pub local-as : {A : Type 0} {f g : List ℕ → ℕ → Step A} {b c : ℕ} {P Q : A → Type 0} → ((t : List ℕ) (at : ℕ) → f t at ≡ g t at) → b ≤ c → ((a : A) → P a → Q a) → Local f b P → Local g c Q
+pub local-as : {A : Type 0} {f g : List ℕ → ℕ → Step A} {b c : ℕ} {P Q : A → Type 0} → ((t : List ℕ) (at : ℕ) → f t at ≡ g t at) → b ≤ c → ((a : A) → P a → Q a) → LooksWithin f b P → LooksWithin g c Q
 local-as {b = b} {c = c} e h k r =
     record {
       same = λ t u at q. sym (e t at) ∙ r .same t u at (take-less t u (at + b) (at + c) (omega arith) q) ∙ e u at;
@@ -74,7 +74,7 @@ both-same b t u at e = by-test (byteIs t at b) (byteIs u at b) refl refl
     by-test true false h k = byte-same b u t at k (sym e) ∙ sym k
     by-test false y h k = h ∙ sym (byte-same b t u at h e)
 
-local-byte : (b : ℕ) → Local (byteStep b) 1 Any
+local-byte : (b : ℕ) → LooksWithin (byteStep b) 1 Any
 unfolding byteStep
 local-byte b =
     record {
@@ -86,7 +86,7 @@ local-byte b =
     by-test at a p true e = let q : at + 1 ≡ p = cc in omega arith
     by-test at a p false e = let z : _≡_ {A = ℕ} 0 1 = cc in absurd (omega arith)
 
-pub local-fixed : (bytes : List ℕ) → Local (fixedAt bytes) (length bytes) Any
+pub local-fixed : (bytes : List ℕ) → LooksWithin (fixedAt bytes) (length bytes) Any
 unfolding fixedAt
 local-fixed [] = local-value 0
 local-fixed (b ∷ bytes) = local-as (fixed-step b bytes) (omega arith) (λ a x. tt) (local-then {Q = Any} (local-byte b) (λ a x. local-fixed bytes))
@@ -97,14 +97,14 @@ drop-take zero k t = ap (λ (n : ℕ). take n t) (zero-add k)
 drop-take (suc at) k [] = ap (drop (suc at)) (take-nil (suc at + k)) ∙ sym (take-nil k)
 drop-take (suc at) k (x ∷ t) = ap (λ (n : ℕ). drop (suc at) (take n (x ∷ t))) (suc-add at k) ∙ drop-take at k t
 
-pub local-lines : {A : Type 0} (line : List ℕ → ℕ → ℕ → Step A) (b : ℕ) → ((i : ℕ) → Local (λ t at. line t i at) b Any) → (count i : ℕ) → Local (λ t at. whole (linesFrom (line t) count i at)) (count * b) Any
+pub local-lines : {A : Type 0} (line : List ℕ → ℕ → ℕ → Step A) (b : ℕ) → ((i : ℕ) → LooksWithin (λ t at. line t i at) b Any) → (count i : ℕ) → LooksWithin (λ t at. whole (linesFrom (line t) count i at)) (count * b) Any
 unfolding linesFrom whole _then_
 local-lines line b r zero i = local-as (λ t at. refl) (omega arith) (λ a x. tt) (local-value [])
 local-lines line b r (suc count) i =
     local-as (λ t at. lines-unfold (line t) count i at) (omega arith) (λ a x. tt)
     (local-then {Q = Any} (r i) λ a x. local-then {Q = Any} (local-lines line b r count (i + 1)) λ l x. local-value (a ∷ l))
 
-pub local-end : Local endAt 1 Any
+pub local-end : LooksWithin endAt 1 Any
 unfolding endAt
 local-end =
     record {

@@ -105,9 +105,9 @@ reads-tested key limit positive test h = reads-as (λ t at. refl) to from to′ 
         }
 
 -- A key and a number with the byte that ends it, where they stand.
-pub keyed-back : (key : List ℕ) (limit b : ℕ) (t : List ℕ) (at x : ℕ) → 1 ≤ limit → x < 10 ^ limit → isDigit (classOf b) ≡ false → Stands t at (key ++ numberText b x)
+pub keyed-reads-back : (key : List ℕ) (limit b : ℕ) (t : List ℕ) (at x : ℕ) → 1 ≤ limit → x < 10 ^ limit → isDigit (classOf b) ≡ false → Stands t at (key ++ numberText b x)
     → (fixedAt key t at then λ z p. numberTo limit b t p) ≡ found x (at + length (key ++ numberText b x))
-keyed-back key limit b t at x pos h d s =
+keyed-reads-back key limit b t at x pos h d s =
     let f = reads-fixed key .complete t at 0 key (record { value = refl; word = refl }) (stands-first key (numberText b x) s) in
     let n = reads-number limit b pos d .complete t (at + length key) x (numberText b x) (record { below = h; word = refl }) (stands-second key (numberText b x) s) in
     let l = length-append key (numberText b x) in
@@ -115,10 +115,10 @@ keyed-back key limit b t at x pos h d s =
     then-found (λ z p. numberTo limit b t p) f ∙ n ∙ ap (λ (r : ℕ). found x r) q
 
 -- A number, where a byte that is no digit stands behind it.
-pub number-back : (limit b : ℕ) (t : List ℕ) (at x : ℕ) → 1 ≤ limit → x < 10 ^ limit → isDigit (classOf b) ≡ false → Stands t at (numberText b x)
+pub number-reads-back : (limit b : ℕ) (t : List ℕ) (at x : ℕ) → 1 ≤ limit → x < 10 ^ limit → isDigit (classOf b) ≡ false → Stands t at (numberText b x)
     → numberAt limit t at ≡ found x (at + length (decimal x))
 unfolding numberTo numberText
-number-back limit b t at x pos h d s =
+number-reads-back limit b t at x pos h d s =
     let n = reads-number limit b pos d .complete t at x (numberText b x) (record { below = h; word = refl }) s in
     let f = then-value (numberAt limit t at) _ n in
     let g = then-value (fixedAt (b ∷ []) t (f .1)) (λ z q. found (f .0) q) (f .3) in

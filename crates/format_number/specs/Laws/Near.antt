@@ -11,7 +11,7 @@ use Rattle.base_limits.specs.declared.Verdict.{Verdict}
 use Rattle.base_limits.specs.declared.Verdict.the-variants.{Fine}
 use Rattle.format_grammar.specs.Bytes.{fixedAt}
 use Rattle.format_grammar.specs.Items.{Goes}
-use Rattle.format_grammar.specs.Language.{Local, Any}
+use Rattle.format_grammar.specs.Language.{LooksWithin, Any}
 use Rattle.format_grammar.specs.Laws.Local.{local-checked, local-then, local-as, local-fixed, drop-take}
 use Rattle.format_grammar.specs.Laws.Stands.{take-less}
 use Rattle.format_grammar.specs.Laws.Step.{then-found, then-refused, then-value}
@@ -49,7 +49,7 @@ number-near limit t at v p h e =
     by-width true q = let z : _≡_ {A = ℕ} 0 1 = cc in absurd (omega arith)
     by-width false q = let w = numeral-width t limit at .most in let s : at + length (numeralAt limit t at) ≡ p = cc in omega arith
 
-pub local-number : (limit stop : ℕ) → 1 ≤ limit → Local (numberTo limit stop) (limit + 1) Any
+pub local-number : (limit stop : ℕ) → 1 ≤ limit → LooksWithin (numberTo limit stop) (limit + 1) Any
 unfolding numberTo
 local-number limit stop h =
     record {
@@ -79,13 +79,13 @@ local-number limit stop h =
         let q : g .1 ≡ p = cc (g .3) in
         omega arith
 
-pub local-tested : (key : List ℕ) (limit : ℕ) → 1 ≤ limit → (test : ℕ → Verdict) → Local (λ t at. numberLine key limit t at then λ x p. checked (test x) x p) (lineBytes key limit) (λ x. test x ≡ Fine)
+pub local-tested : (key : List ℕ) (limit : ℕ) → 1 ≤ limit → (test : ℕ → Verdict) → LooksWithin (λ t at. numberLine key limit t at then λ x p. checked (test x) x p) (lineBytes key limit) (λ x. test x ≡ Fine)
 unfolding numberLine
 local-tested key limit positive test =
     local-as (λ t at. refl) (omega arith) (λ a x. x)
     (local-then (local-then {Q = Any} (local-fixed key) (λ z x. local-number limit newline positive)) (λ n x. passed n))
   where
-    passed : (n : ℕ) → Local (λ t at. checked (test n) n at) 0 (λ x. test x ≡ Fine)
+    passed : (n : ℕ) → LooksWithin (λ t at. checked (test n) n at) 0 (λ x. test x ≡ Fine)
     passed n = local-as (λ t at. refl) (omega arith) (λ a x. subst (λ (k : ℕ). test k ≡ Fine) (x .0) (x .1)) (local-checked (test n) n)
 
 pub number-goes : (limit : ℕ) (t : List ℕ) (at : ℕ) {v p : ℕ} → numberAt limit t at ≡ found v p → Goes t at p

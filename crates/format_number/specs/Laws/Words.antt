@@ -106,9 +106,9 @@ number-is t limit at v e s =
     number-of t limit at (numeral-of-end t limit at (decimal v) e s) (n .some) ∙ ap (λ (x : ℕ). found x (at + length (decimal v))) (n .value)
 
 -- What stands at an offset: no digit, or a number.
-pub data Numbered (t : List ℕ) (limit at : ℕ) : Type 0 where
-  absent : isDigit (classOf (getD t at 0)) ≡ false → Numbered t limit at
-  present : (v : ℕ) → v < 10 ^ limit → Stands t at (decimal v) → numeralEnd limit t at ≡ at + length (decimal v) → Numbered t limit at
+pub data NumberOrNone (t : List ℕ) (limit at : ℕ) : Type 0 where
+  absent : isDigit (classOf (getD t at 0)) ≡ false → NumberOrNone t limit at
+  present : (v : ℕ) → v < 10 ^ limit → Stands t at (decimal v) → numeralEnd limit t at ≡ at + length (decimal v) → NumberOrNone t limit at
 
 pub no-digit-number : (t : List ℕ) (limit at : ℕ) → isDigit (classOf (getD t at 0)) ≡ false → numberAt limit t at ≡ refused 16 at
 unfolding numeralAt numeralEnd isDigit classOf
@@ -161,10 +161,10 @@ numeral-decimal t limit at (d ∷ ds) g h s e = by-zero (eqb d 48) refl
         above : (d ≡ 48 → ⊥) → Digits (d ∷ ds) → 48 < d
         above n (one low high r) = omega arith
 
-pub numbered : (t : List ℕ) (limit at : ℕ) → 1 ≤ limit → Numbered t limit at
-numbered t limit at h = by-digit (isDigit (classOf (getD t at 0))) refl
+pub number-or-none : (t : List ℕ) (limit at : ℕ) → 1 ≤ limit → NumberOrNone t limit at
+number-or-none t limit at h = by-digit (isDigit (classOf (getD t at 0))) refl
   where
-    by-digit : (b : Bool) → isDigit (classOf (getD t at 0)) ≡ b → Numbered t limit at
+    by-digit : (b : Bool) → isDigit (classOf (getD t at 0)) ≡ b → NumberOrNone t limit at
     by-digit false e = absent e
     by-digit true e =
         let i : at < length t = digit-inside t at (is-digit (classOf (getD t at 0)) e) in
@@ -216,7 +216,7 @@ module _ (limit stop : ℕ) (positive : 1 ≤ limit) (no-digit : isDigit (classO
 
   met : (t : List ℕ) (at : ℕ) → Met t at (numberTo limit stop t at)
   unfolding numberTo numberText
-  met t at = by-number (numbered t limit at positive)
+  met t at = by-number (number-or-none t limit at positive)
     where
       by-stop : (v : ℕ) → v < 10 ^ limit → Stands t at (decimal v) → numeralEnd limit t at ≡ at + length (decimal v) → (b : Bool) → byteIs t (at + length (decimal v)) stop ≡ b → Met t at (numberTo limit stop t at)
       by-stop v k s e true h =
@@ -225,7 +225,7 @@ module _ (limit stop : ℕ) (positive : 1 ≤ limit) (no-digit : isDigit (classO
           (then-found _ (number-is t limit at v e s) ∙ stop-found t stop v (at + length (decimal v)) h ∙ ap (λ (n : ℕ). found v n) (text-length v at))
       by-stop v k s e false h = unended v k s e h (then-found _ (number-is t limit at v e s) ∙ stop-refused t stop v (at + length (decimal v)) h)
 
-      by-number : Numbered t limit at → Met t at (numberTo limit stop t at)
+      by-number : NumberOrNone t limit at → Met t at (numberTo limit stop t at)
       by-number (absent e) = no-number e (then-refused _ (no-digit-number t limit at e))
       by-number (present v k s e) = by-stop v k s e (byteIs t (at + length (decimal v)) stop) refl
 
@@ -286,7 +286,7 @@ module _ (limit stop : ℕ) (positive : 1 ≤ limit) (no-digit : isDigit (classO
       record {
         complete = number-complete;
         sound = number-sound;
-        lively = λ t at a w m s. read (number-complete t at a w m s);
+        notMalformed = λ t at a w m s. read (number-complete t at a w m s);
         same = number-same;
         place = number-place;
         extends = number-extends;

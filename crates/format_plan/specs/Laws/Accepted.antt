@@ -1,5 +1,5 @@
 -- A printed plan is accepted only if it is a rendering of what was read (document 01, 'Survey text and printed plan').
-use Prim.Native.Nat.{ℕ, _+_, _*_, _-_, _^_, _≤_, _<_}
+use Prim.Native.Nat.{ℕ, _+_, _-_, _^_, _≤_, _<_}
 use native.Mathlib.Omega.{arith}
 use mathlib.Core.Path.{_≡_, refl, ap, sym, _∙_, subst}
 use mathlib.Core.Logic.{_↔_}
@@ -10,7 +10,7 @@ use lib.Seq.{take-all}
 use lib.Dec.{leb}
 use borrow.Author.Tests.{leb-true, leb-false}
 use Rattle.format_number.specs.Number.{numberLine, OfDigits}
-use Rattle.base_limits.specs.Limits.{recordBytes, maxDuals, keptDigits, figureDigits}
+use Rattle.base_limits.specs.Limits.{maxDuals, keptDigits, figureDigits}
 use Rattle.base_limits.specs.Verdict.{answer, outcome}
 use Rattle.format_key.specs.Key.{keptKey, terminalsKey, costKey, boundKey, roundsKey}
 use Rattle.format_write.specs.Text.{lineOf, countLines}
@@ -27,13 +27,14 @@ use Rattle.format_grammar.specs.Items.{ItemReader, Standing, stop, item, Lists}
 use Rattle.format_plan_lines.specs.Lines.{keepReader, keptAt, memberReader, membersAt, memberNumbers, PrintedDual, dualLineAt, dualReader, dualsAt}
 use Rattle.format_plan.specs.Plan.{Claims, claimsAt, Plan, bodyAt, planAt, withRoom, planReading}
 use Rattle.format_plan_lines.specs.Laws.Tests.{risen-next}
-use Rattle.format_plan_lines.specs.Laws.Lines.{keep-passed, risen-back}
+use Rattle.format_plan_lines.specs.Laws.Lines.{keep-passed, risen-rises}
 use Rattle.format_grammar.specs.Laws.Items.{items-stop}
 use Rattle.format_plan.specs.Laws.Reading.{room-fine}
 use Rattle.format_plan.specs.Laws.Room.{room-answer, dual-passed}
-use Rattle.format_plan.specs.Laws.Back.{Rising, ended, rising, DualDigits, Printed, ClaimDigits, Printable, dualText, claimsText, planWords, plan-back}
+use Rattle.format_plan.specs.Laws.RoundTrip.{plan-reads-back}
 use Rattle.format_grammar.specs.Laws.Listing.{standing-words, items-standing}
 use Rattle.format_plan.specs.Laws.Listed.{lists-kept, lists-duals, dual-parts-read, text-from}
+use Rattle.format_plan.specs.WellFormed.{Rising, ended, rising, DualDigits, Printed, ClaimDigits, dualText, claimsText, planWords, Rendering, RoomFor, FewParts}
 
 -- ---- the counts
 
@@ -117,7 +118,7 @@ unfolding memberReader
 members-rise t h (stop e) = (h, ended)
 members-rise t {low} h (item {a = v} {l = vs} e f s) =
     let r = members-rise t h s in
-    let k = risen-back low v (r .0) in
+    let k = risen-rises low v (r .0) in
     let k0 = k .0 in
     let k1 = k .1 in
     (omega arith, rising k0 k1 (subst (λ (x : ℕ). Rising memberNumbers x vs) (risen-next low v k0 k1) (r .1)))
@@ -145,7 +146,7 @@ duals-printed t {low} {i} {at} h (more {a = d} w ws) (item {next = next} e f s) 
 -- ---- the whole plan
 
 -- A plan that is read, part by part.
-pub record PlanRead (t : List ℕ) (m at : ℕ) (p : Plan) (q : ℕ) : Type 0 where
+pub record AcceptedPlan (t : List ℕ) (m at : ℕ) (p : Plan) (q : ℕ) : Type 0 where
   pub claims : Claims
   pub from : ℕ
   pub last : ℕ
@@ -157,21 +158,21 @@ pub record PlanRead (t : List ℕ) (m at : ℕ) (p : Plan) (q : ℕ) : Type 0 wh
   pub plan : record { claims = claims; kept = keptAt t m from .values; duals = dualsAt t middle .values } ≡ p
 
 -- A plan is read only by reading its counts, its keep lines and its moats.
-pub plan-read : (t : List ℕ) (m at : ℕ) (p : Plan) (q : ℕ) → planAt t m at ≡ found p q → PlanRead t m at p q
+pub plan-read : (t : List ℕ) (m at : ℕ) (p : Plan) (q : ℕ) → planAt t m at ≡ found p q → AcceptedPlan t m at p q
 unfolding planAt bodyAt linesAfter _then_
 plan-read t m at p q e =
     let h = then-value (claimsAt t at) _ e in
     by-kept (h .0) (h .1) (keptAt t m (h .1) .end) (h .2) refl (h .3)
   where
     by-duals : (c : Claims) (from last middle : ℕ) (s : Step ℕ) → claimsAt t at ≡ found c from → keptAt t m from .end ≡ found last middle → dualsAt t middle .end ≡ s
-        → (s then λ count y. found (record { claims = c; kept = keptAt t m from .values; duals = dualsAt t middle .values }) y) ≡ found p q → PlanRead t m at p q
+        → (s then λ count y. found (record { claims = c; kept = keptAt t m from .values; duals = dualsAt t middle .values }) y) ≡ found p q → AcceptedPlan t m at p q
     by-duals c from last middle (found count y) h k d e =
         let same : y ≡ q = cc in
         record { claims = c; from = from; last = last; middle = middle; count = count; head = h; kept = k; duals = d ∙ ap (λ (z : ℕ). found count z) same; plan = cc }
     by-duals c from last middle (refused n y) h k d e = let z : _≡_ {A = ℕ} 0 1 = cc in absurd (omega arith)
 
     by-kept : (c : Claims) (from : ℕ) (s : Step ℕ) → claimsAt t at ≡ found c from → keptAt t m from .end ≡ s
-        → (linesAfter s (dualsAt t) .end then λ count y. found (record { claims = c; kept = keptAt t m from .values; duals = linesAfter s (dualsAt t) .values }) y) ≡ found p q → PlanRead t m at p q
+        → (linesAfter s (dualsAt t) .end then λ count y. found (record { claims = c; kept = keptAt t m from .values; duals = linesAfter s (dualsAt t) .values }) y) ≡ found p q → AcceptedPlan t m at p q
     by-kept c from (found last middle) h k e = by-duals c from last middle (dualsAt t middle .end) h k refl e
     by-kept c from (refused n y) h k e = let z : _≡_ {A = ℕ} 0 1 = cc in absurd (omega arith)
 
@@ -181,13 +182,6 @@ pub lines-words : {A : Type 0} {r : List ℕ → ItemReader ℕ A} {P : A → Ty
 lines-words {f = f} x t {i = i} {l = l} h s =
     let w = standing-words x t h s in
     record { word = w .word; member = record { holds = w .member .holds; word = w .member .word ∙ text-from f i l }; ends = w .ends; stands = w .stands }
-
--- A plan that is printed from an offset of a text to its end.
-pub record Rendering (t : List ℕ) (m at : ℕ) (p : Plan) (q : ℕ) : Type 0 where
-  pub printable : Printable m p
-  pub stands : Stands t at (planWords p)
-  pub ends : at + length (planWords p) ≡ length t
-  pub next : q ≡ length t
 
 -- What is accepted is a rendering.
 pub accepted-rendering : (t : List ℕ) (m at : ℕ) → at ≤ length t → {p : Plan} {q : ℕ} → planAt t m at ≡ found p q → Rendering t m at p q
@@ -231,7 +225,7 @@ rendering-whole {t} {at = at} {p = p} r =
 
 -- A rendering is accepted.
 pub rendering-accepted : (t : List ℕ) (m at : ℕ) → m ≤ 10 ^ keptDigits → {p : Plan} {q : ℕ} → Rendering t m at p q → planAt t m at ≡ found p q
-rendering-accepted t m at few {p} r = plan-back t m at p few (r .printable) (r .stands) (r .ends) ∙ ap (λ (z : ℕ). found p z) (sym (r .next))
+rendering-accepted t m at few {p} r = plan-reads-back t m at p few (r .printable) (r .stands) (r .ends) ∙ ap (λ (z : ℕ). found p z) (sym (r .next))
 
 -- At the end of a text, or behind it, no plan stands: the first byte of its first key is missing.
 pub plan-missing : (t : List ℕ) (m at : ℕ) → length t ≤ at → planAt t m at ≡ refused 16 at
@@ -254,11 +248,6 @@ pub accepted-iff : (t : List ℕ) (m at : ℕ) → m ≤ 10 ^ keptDigits → (p 
 accepted-iff t m at few p q = (found-rendering t m at, rendering-accepted t m at few)
 
 -- ---- with lent buffers
-
--- Marks and records with room for a plan of m tracks.
-pub record RoomFor (m : ℕ) (p : Plan) (marks records : List ℕ) : Type 0 where
-  pub tracks : m ≤ length marks
-  pub duals : recordBytes * length (p .duals) ≤ length records
 
 -- Reading answers a plan exactly if the text from there to its end is the plan's rendering and the lent buffers have room for it.
 pub reading-accepted : (t : List ℕ) (from m : ℕ) (marks records : List ℕ) → m ≤ 10 ^ keptDigits → (p : Plan)
@@ -284,12 +273,6 @@ reading-accepted t from m marks records few p = (to, back)
 rising-few : {m low : ℕ} {l : List ℕ} → Rising m low l → length l ≤ m - low
 rising-few ended = omega arith
 rising-few (rising h k r) = let n = rising-few r in omega arith
-
--- A plan of m tracks keeps at most m, and has at most 511 moats of at most 256 members.
-pub record FewParts (m : ℕ) (p : Plan) : Type 0 where
-  pub kept : length (p .kept) ≤ m
-  pub duals : length (p .duals) ≤ maxDuals
-  pub members : Each (λ d. length (d .members) ≤ memberNumbers) (p .duals)
 
 -- Moats that rise have few members.
 members-few : {ds : List PrintedDual} → Each Printed ds → Each (λ d. length (d .members) ≤ memberNumbers) ds

@@ -25,13 +25,14 @@ use Rattle.format_grammar.specs.Stands.{Stands}
 use Rattle.format_grammar.specs.Laws.Stands.{stands-append, stands-byte, stands-same, take-less, as-long}
 use Rattle.format_grammar.specs.Language.{Reads, Word, Extends, Fixed, Text, none}
 use Rattle.format_grammar.specs.Laws.Language.{bound, read-again, text-stands}
-use Rattle.format_number.specs.Laws.Words.{Numbered, absent, present, numbered, number-is, no-digit-number, numeral-same}
+use Rattle.format_number.specs.Laws.Words.{NumberOrNone, absent, present, number-or-none, number-is, no-digit-number, numeral-same}
 use Rattle.format_number.specs.Laws.Keyed.{Passes, reads-keyed, reads-tested}
-use Rattle.format_survey.specs.Laws.WellFormed.{one-spares, two-spare}
+use Rattle.format_survey.specs.Laws.WellFormed.{one-not-malformed, two-not-malformed}
 use Rattle.format_grammar.specs.Items.{Broken, Lists, textFrom}
 use Rattle.format_plan_lines.specs.Lines.{keptTest, keepLine, keepReader, separator, memberAt, memberReader, membersAt, PrintedDual, dualTest, dualHead, listedDual, dualLineAt, dualReader}
 use Rattle.format_grammar.specs.Laws.Items.{items-stop}
-use Rattle.format_plan.specs.Laws.Back.{DualDigits, dualText, dual-some, line-some, colon-ends, memberText, later-text, listed-text}
+use Rattle.format_plan.specs.WellFormed.{DualDigits, dualText}
+use Rattle.format_plan.specs.Laws.RoundTrip.{dual-some, line-some, colon-ends, memberText, later-text, listed-text}
 use Rattle.format_grammar.specs.Laws.Listing.{standing-words, standing-long, items-standing, items-broken, item-goes, broken-place, broken-extends, items-again, items-broken-again}
 
 -- ---- bytes and ends that texts have in common
@@ -70,14 +71,14 @@ end-alike t u at q h k = by-test (leb (length t) at) (leb (length u) at) refl re
 -- ---- keep lines
 
 -- A kept track's test never gives 16.
-pub kept-spares : (m low i e n p : ℕ) → keptTest m low i e ≡ Refused n p → n ≡ 16 → ⊥
+pub kept-not-malformed : (m low i e n p : ℕ) → keptTest m low i e ≡ Refused n p → n ≡ 16 → ⊥
 unfolding keptTest
-kept-spares m low i e n p = one-spares (ltb e low || leb m e) 26 i n p (λ z. omega arith)
+kept-not-malformed m low i e n p = one-not-malformed (ltb e low || leb m e) 26 i n p (λ z. omega arith)
 
 -- A keep line is read where its text stands, unless its test fails.
 reads-keep : (m low i : ℕ) → Reads (λ t at. keepLine t m low i at) (Text (Passes keptDigits (keptTest m low i)) (lineOf keptKey)) (Text (OfDigits keptDigits) (lineOf keptKey))
 unfolding keepLine
-reads-keep m low i = reads-tested keptKey keptDigits (omega arith) (keptTest m low i) (kept-spares m low i)
+reads-keep m low i = reads-tested keptKey keptDigits (omega arith) (keptTest m low i) (kept-not-malformed m low i)
 
 -- Keep lines are the texts of their tracks.
 pub lists-kept : (m : ℕ) → Lists (λ t. keepReader t m) (OfDigits keptDigits) (λ i. lineOf keptKey)
@@ -100,9 +101,9 @@ lists-kept m =
 
 -- A number without the byte that ends it.
 number-sound : (limit : ℕ) → 1 ≤ limit → (t : List ℕ) (at v p : ℕ) → numberAt limit t at ≡ found v p → Word (Text (OfDigits limit) decimal) t at v p
-number-sound limit positive t at v p e = by-case (numbered t limit at positive)
+number-sound limit positive t at v p e = by-case (number-or-none t limit at positive)
   where
-    by-case : Numbered t limit at → Word (Text (OfDigits limit) decimal) t at v p
+    by-case : NumberOrNone t limit at → Word (Text (OfDigits limit) decimal) t at v p
     by-case (absent x) = let z : _≡_ {A = ℕ} 0 1 = cc (no-digit-number t limit at x) in absurd (omega arith)
     by-case (present y k s x) =
         let f = number-is t limit at y x s in
@@ -112,17 +113,17 @@ number-sound limit positive t at v p e = by-case (numbered t limit at positive)
 
 -- A number is refused where no digit stands, and there.
 number-refused : (limit : ℕ) → 1 ≤ limit → (t : List ℕ) (at n p : ℕ) → numberAt limit t at ≡ refused n p → (isDigit (classOf (getD t at 0)) ≡ false) × (p ≡ at)
-number-refused limit positive t at n p e = by-case (numbered t limit at positive)
+number-refused limit positive t at n p e = by-case (number-or-none t limit at positive)
   where
-    by-case : Numbered t limit at → (isDigit (classOf (getD t at 0)) ≡ false) × (p ≡ at)
+    by-case : NumberOrNone t limit at → (isDigit (classOf (getD t at 0)) ≡ false) × (p ≡ at)
     by-case (absent x) = (x, cc (no-digit-number t limit at x))
     by-case (present y k s x) = let z : _≡_ {A = ℕ} 0 1 = cc (number-is t limit at y x s) in absurd (omega arith)
 
 -- A number is read again from a text with the same bytes up to the one behind it.
 number-again : (limit : ℕ) → 1 ≤ limit → (t u : List ℕ) (at v p q : ℕ) → p ≤ q → take (q + 1) t ≡ take (q + 1) u → numberAt limit t at ≡ found v p → numberAt limit u at ≡ found v p
-number-again limit positive t u at v p q h k e = by-case (numbered t limit at positive)
+number-again limit positive t u at v p q h k e = by-case (number-or-none t limit at positive)
   where
-    by-case : Numbered t limit at → numberAt limit u at ≡ found v p
+    by-case : NumberOrNone t limit at → numberAt limit u at ≡ found v p
     by-case (absent x) = let z : _≡_ {A = ℕ} 0 1 = cc (no-digit-number t limit at x) in absurd (omega arith)
     by-case (present y l s x) =
         let f = number-is t limit at y x s in
@@ -312,9 +313,9 @@ data DualStops (t : List ℕ) (at p : ℕ) : Type 0 where
   among : (amount from : ℕ) → dualHead t at ≡ found amount from → membersAt t from .end ≡ refused 16 p → DualStops t at p
 
 -- A moat's test never gives 16.
-pub dual-spares : (i low n p : ℕ) → dualTest i low ≡ Refused n p → n ≡ 16 → ⊥
+pub dual-not-malformed : (i low n p : ℕ) → dualTest i low ≡ Refused n p → n ≡ 16 → ⊥
 unfolding dualTest
-dual-spares i low n p = two-spare _ _ 27 28 i i n p (λ z. omega arith) (λ z. omega arith)
+dual-not-malformed i low n p = two-not-malformed _ _ 27 28 i i n p (λ z. omega arith) (λ z. omega arith)
 
 -- Nothing else refuses a moat line with 16.
 dual-stops : (t : List ℕ) (i at p : ℕ) → dualLineAt t i at ≡ refused 16 p → DualStops t at p
@@ -327,7 +328,7 @@ dual-stops t i at p e = by-head (then-stops (dualHead t at) _ e)
     by-list : (amount c : ℕ) → dualHead t at ≡ found amount c → Stops (membersAt t c .end) (ends amount c) 16 p → DualStops t at p
     by-list amount c h (early q) = among amount c h q
     by-list amount c h (late low d x y) =
-        absurd (dual-spares i low 16 p (checked-stops (dualTest i low) (listedDual t amount c) (d + 1) y) refl)
+        absurd (dual-not-malformed i low 16 p (checked-stops (dualTest i low) (listedDual t amount c) (d + 1) y) refl)
 
     by-head : Stops (dualHead t at) (λ amount c. membersAt t c .end then ends amount c) 16 p → DualStops t at p
     by-head (early q) = before q

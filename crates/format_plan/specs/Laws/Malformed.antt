@@ -21,23 +21,18 @@ use Rattle.format_grammar.specs.Bytes.{byteIs}
 use Rattle.format_grammar.specs.Laws.Step.{then-found, then-refused}
 use Rattle.format_grammar.specs.Stands.{Stands}
 use Rattle.format_grammar.specs.Laws.Stands.{stands-first, stands-second, stands-end}
-use Rattle.format_grammar.specs.Language.{Lively, read, otherwise, Each, none, more}
+use Rattle.format_grammar.specs.Language.{NotMalformed, read, otherwise, Each, none, more}
 use Rattle.format_grammar.specs.Laws.Language.{bound, read-again, text-stands}
 use Rattle.format_grammar.specs.Items.{ItemReader, Standing, stop, item, Broken, here, later}
 use Rattle.format_plan_lines.specs.Lines.{keptTest, keepReader, keptAt, PrintedDual, dualTest, dualReader, dualsAt}
 use Rattle.format_plan.specs.Plan.{Claims, claimsAt, Plan, bodyAt, planAt, withRoom, planReading}
 use Rattle.format_plan.specs.Laws.Room.{room-refusal}
-use Rattle.format_grammar.specs.Laws.Items.{items-back}
-use Rattle.format_plan.specs.Laws.Back.{keep-line-back, DualDigits, dual-line-back, dualText, ClaimDigits, claimsText, claims-back, claims-some, planWords, lines-long, line-some, dual-some, no-keep}
+use Rattle.format_grammar.specs.Laws.Items.{items-reads-back}
+use Rattle.format_plan.specs.Laws.RoundTrip.{keep-line-reads-back, dual-line-reads-back, claims-reads-back, claims-some, lines-long, line-some, dual-some, no-keep}
 use Rattle.format_grammar.specs.Laws.Listing.{items-standing, items-broken, broken-items, item-goes, standing-long, broken-place, broken-extends, items-again, items-broken-again}
-use Rattle.format_plan.specs.Laws.Listed.{kept-spares, dual-spares, lists-kept, lists-duals, text-from}
+use Rattle.format_plan.specs.Laws.Listed.{kept-not-malformed, dual-not-malformed, lists-kept, lists-duals, text-from}
 use Rattle.format_plan.specs.Laws.Accepted.{reads-claims, lines-words, plan-missing}
-
--- A well-formed plan: any counts, tracks, amounts and members of at most so many digits, whether or not they rise or pass their limits.
-pub record WellFormedPlan (p : Plan) : Type 0 where
-  pub few : ClaimDigits (p .claims)
-  pub kept : Each (OfDigits keptDigits) (p .kept)
-  pub duals : Each DualDigits (p .duals)
+use Rattle.format_plan.specs.WellFormed.{DualDigits, dualText, claimsText, planWords, WellFormedPlan, PlanBegins}
 
 -- ---- a well-formed plan is not refused with 16
 
@@ -49,7 +44,7 @@ data Met {A : Type 0} (r : ItemReader ℕ A) (low i at : ℕ) (l : List A) (end 
 -- A line where it stands: only a test of its value is left.
 record Tested {A : Type 0} (r : ItemReader ℕ A) (low i at : ℕ) (a : A) (next : ℕ) : Type 0 where
   test : Verdict
-  spares : (n p : ℕ) → test ≡ Refused n p → n ≡ 16 → ⊥
+  notMalformed : (n p : ℕ) → test ≡ Refused n p → n ≡ 16 → ⊥
   begins : r .stop at ≡ false
   line : r .item low i at ≡ checked test a next
 
@@ -64,7 +59,7 @@ met-lines {A} r t P f tested (more {a = a} {l = l} p ps) low i at end s q e =
     let n = length-append (f a) (textOf f l) in
     let next = at + length (f a) in
     let x = tested low i at a p (stands-first (f a) (textOf f l) s) in
-    by-test (x .test) (x .spares) (x .begins) (x .line) (met-lines r t P f tested ps (r .after low a) (i + 1) next end (stands-second (f a) (textOf f l) s) (omega arith) e)
+    by-test (x .test) (x .notMalformed) (x .begins) (x .line) (met-lines r t P f tested ps (r .after low a) (i + 1) next end (stands-second (f a) (textOf f l) s) (omega arith) e)
   where
     by-test : {next : ℕ} (v : Verdict) → ((n p : ℕ) → v ≡ Refused n p → n ≡ 16 → ⊥) → r .stop at ≡ false → r .item low i at ≡ checked v a next → Met r (r .after low a) (i + 1) next l end → Met r low i at (a ∷ l) end
     by-test Fine h b c (all-read last s) = all-read last (item b c s)
@@ -78,7 +73,7 @@ unfolding keepReader
 met-kept t m w at end s q e = met-lines (keepReader t m) t (OfDigits keptDigits) (lineOf keptKey) tested w 0 0 at end s q (ap not e)
   where
     tested : (low i at e : ℕ) → OfDigits keptDigits e → Stands t at (lineOf keptKey e) → Tested (keepReader t m) low i at e (at + length (lineOf keptKey e))
-    tested low i at e h s = let b = keep-line-back t m low i at e h s in record { test = keptTest m low i e; spares = kept-spares m low i e; begins = b .0; line = b .1 }
+    tested low i at e h s = let b = keep-line-reads-back t m low i at e h s in record { test = keptTest m low i e; notMalformed = kept-not-malformed m low i e; begins = b .0; line = b .1 }
 
 -- Moat lines that stand to the end of the text.
 met-duals : (t : List ℕ) {ds : List PrintedDual} → Each DualDigits ds → (at : ℕ) → Stands t at (textOf dualText ds) → at + length (textOf dualText ds) ≡ length t → Met (dualReader t) 0 0 at ds (length t)
@@ -87,13 +82,13 @@ met-duals t w at s q = met-lines (dualReader t) t DualDigits dualText tested w 0
   where
     tested : (low i at : ℕ) (d : PrintedDual) → DualDigits d → Stands t at (dualText d) → Tested (dualReader t) low i at d (at + length (dualText d))
     tested low i at d h s =
-        let b = dual-line-back t i at d h s in
+        let b = dual-line-reads-back t i at d h s in
         let n = dual-some d in
         let f = s .fits in
-        record { test = dualTest i (b .last); spares = dual-spares i (b .last); begins = lt-leb (length t) at (omega arith); line = b .line }
+        record { test = dualTest i (b .last); notMalformed = dual-not-malformed i (b .last); begins = lt-leb (length t) at (omega arith); line = b .line }
 
 -- A well-formed plan that stands to the end of a text is read, or refused for another reason than its form.
-pub plan-lively : (t : List ℕ) (m at : ℕ) (p : Plan) → WellFormedPlan p → Stands t at (planWords p) → at + length (planWords p) ≡ length t → Lively (planAt t m at) p (length t)
+pub plan-lively : (t : List ℕ) (m at : ℕ) (p : Plan) → WellFormedPlan p → Stands t at (planWords p) → at + length (planWords p) ≡ length t → NotMalformed (planAt t m at) p (length t)
 unfolding planAt bodyAt planWords keptAt dualsAt _then_ linesAfter
 plan-lively t m at p w s q =
     let C = claimsText (p .claims) in
@@ -104,7 +99,7 @@ plan-lively t m at p w s q =
     let l₂ = length-append (C ++ K) D in
     let y = at + length (C ++ K) in
     let d = stands-second (C ++ K) D s in
-    by-kept (claims-back t at (p .claims) (w .few) (stands-first C K a))
+    by-kept (claims-reads-back t at (p .claims) (w .few) (stands-first C K a))
     (met-kept t m (w .kept) (at + length C) y (stands-second C K a) (omega arith) (no-keep t (p .duals) y d (omega arith)))
     (met-duals t (w .duals) y d (omega arith))
   where
@@ -123,12 +118,12 @@ plan-lively t m at p w s q =
     last : List ℕ → Lines ℕ PrintedDual → Step Plan
     last ks l = l .end then λ count z. found (record { claims = p .claims; kept = ks; duals = l .values }) z
 
-    by-duals : {y : ℕ} → planAt t m at ≡ last (p .kept) (dualsAt t y) → Met (dualReader t) 0 0 y (p .duals) (length t) → Lively (planAt t m at) p (length t)
-    by-duals e (all-read n s) = let z = many in read (e ∙ ap (last (p .kept)) (items-back (dualReader t) (length t) (omega arith) s))
+    by-duals : {y : ℕ} → planAt t m at ≡ last (p .kept) (dualsAt t y) → Met (dualReader t) 0 0 y (p .duals) (length t) → NotMalformed (planAt t m at) p (length t)
+    by-duals e (all-read n s) = let z = many in read (e ∙ ap (last (p .kept)) (items-reads-back (dualReader t) (length t) (omega arith) s))
     by-duals e (one-refused b k n) = let z = many in otherwise (e ∙ ap (last (p .kept)) (broken-items (dualReader t) (length t) (omega arith) b)) n
 
-    by-kept : {x y : ℕ} → claimsAt t at ≡ found (p .claims) x → Met (keepReader t m) 0 0 x (p .kept) y → Met (dualReader t) 0 0 y (p .duals) (length t) → Lively (planAt t m at) p (length t)
-    by-kept c (all-read n s) d = let z = many in by-duals (then-found _ c ∙ ap rest (items-back (keepReader t m) (length t) (omega arith) s)) d
+    by-kept : {x y : ℕ} → claimsAt t at ≡ found (p .claims) x → Met (keepReader t m) 0 0 x (p .kept) y → Met (dualReader t) 0 0 y (p .duals) (length t) → NotMalformed (planAt t m at) p (length t)
+    by-kept c (all-read n s) d = let z = many in by-duals (then-found _ c ∙ ap rest (items-reads-back (keepReader t m) (length t) (omega arith) s)) d
     by-kept c (one-refused b k n) d = let z = many in otherwise (then-found _ c ∙ ap rest (broken-items (keepReader t m) (length t) (omega arith) b)) n
 
 -- ---- where 16 comes from
@@ -237,15 +232,6 @@ module _ (t : List ℕ) (m at : ℕ) (h : at ≤ length t) where
 
 -- ---- the place of 16
 
--- The bytes before an offset go on to a text that ends with a well-formed plan.
-pub record PlanBegins (t : List ℕ) (at q : ℕ) : Type 0 where
-  pub after : at ≤ q
-  pub inside : q ≤ length t
-  pub rest : List ℕ
-  pub plan : Plan
-  pub well : WellFormedPlan plan
-  pub whole : take q t ++ rest ≡ take at t ++ planWords plan
-
 -- What goes on from behind a word goes on from before it.
 before-word : {t : List ℕ} {at from : ℕ} {l : List ℕ} (w x : List ℕ) → Stands t at w → from ≡ at + length w → l ≡ take from t ++ x → l ≡ take at t ++ (w ++ x)
 before-word {t} {at} w x s e q = q ∙ ap (λ (k : ℕ). take k t ++ x) e ∙ ap (λ (y : List ℕ). y ++ x) (s .is) ∙ append-assoc (take at t) w x
@@ -326,7 +312,7 @@ plan-malformed-stops t m at h {q} e l rest p w whole =
     let s′ : Stands u at W = subst (λ (x : List ℕ). Stands x at W) (sym whole) (subst (λ (x : ℕ). Stands (take at t ++ W) x W) k s) in
     by-lively u (plan-same t m at h u q e same) (plan-lively u m at p w s′ (omega arith))
   where
-    by-lively : (u : List ℕ) → planAt u m at ≡ refused 16 q → Lively (planAt u m at) p (length u) → ⊥
+    by-lively : (u : List ℕ) → planAt u m at ≡ refused 16 q → NotMalformed (planAt u m at) p (length u) → ⊥
     by-lively u f (read x) = let z : _≡_ {A = ℕ} 0 1 = cc in omega arith
     by-lively u f (otherwise {n = i} x y) = let z : 16 ≡ i = cc in y (sym z)
 

@@ -1,5 +1,5 @@
 -- Printing a plan and reading it back gives the same counts, kept tracks and moats (document 01, 'Survey text and printed plan').
-use Prim.Native.Nat.{ℕ, zero, suc, _/_, _^_, _≤_, _<_}
+use Prim.Native.Nat.{ℕ, zero, suc, _/_, _≤_, _<_}
 use native.Mathlib.Omega.{arith}
 use mathlib.Core.Path.{_≡_, refl, ap, sym, _∙_, subst}
 use mathlib.Core.Bool.{Bool, true, false, cond}
@@ -8,8 +8,8 @@ use lib.ListN.{length, getD, length-append}
 use lib.Dec.{eqb}
 use Rattle.base_finite.specs.Below.{thoseBelow, tabulate}
 use Rattle.base_finite.specs.Laws.Below.{length-tabulate}
-use Rattle.base_limits.specs.Limits.{recordBytes, maxEdges, maxDuals, valueDigits}
-use Rattle.format_record.specs.Record.{valueIn, memberIn, recordAt}
+use Rattle.base_limits.specs.Limits.{recordBytes}
+use Rattle.format_record.specs.Record.{memberIn, recordAt}
 use Rattle.format_key.specs.Key.{keptKey}
 use Rattle.format_write.specs.Text.{lineOf, membersOf, dualLine, textBelow, keptLine, keptLines, dualLines, countLines, planText}
 use Rattle.format_grammar.specs.Step.{found}
@@ -18,22 +18,9 @@ use Rattle.format_grammar.specs.Stands.{Stands}
 use Rattle.format_grammar.specs.Laws.Stands.{stands-end}
 use Rattle.format_grammar.specs.Language.{Each, none, more}
 use Rattle.format_plan_lines.specs.Lines.{memberNumbers, PrintedDual}
-use Rattle.format_plan.specs.Plan.{Claims, Plan, planAt}
-use Rattle.format_plan.specs.Laws.Back.{Rising, ended, rising, Printed, ClaimDigits, Printable, dualText, claimsText, planWords, plan-back}
-
--- The tracks that marks keep, rising.
-unfoldable pub keptIn : List ℕ → List ℕ
-keptIn marks = thoseBelow (length marks) (λ e. eqb (getD marks e 0) 2)
-
--- A record's moat, and those of all whole records.
-unfoldable pub printedDual : List ℕ → PrintedDual
-printedDual r = record { value = valueIn r; members = membersOf r }
-
-unfoldable pub printedDuals : List ℕ → List PrintedDual
-printedDuals records = tabulate (length records / recordBytes) (λ i. printedDual (recordAt records i))
-
-unfoldable pub planIn : Claims → (marks records : List ℕ) → Plan
-planIn claims marks records = record { claims = claims; kept = keptIn marks; duals = printedDuals records }
+use Rattle.format_plan.specs.Plan.{Claims, planAt}
+use Rattle.format_plan.specs.Laws.RoundTrip.{plan-reads-back}
+use Rattle.format_plan.specs.WellFormed.{Rising, ended, rising, Printed, Printable, dualText, claimsText, planWords, keptIn, printedDual, printedDuals, planIn, PlanFits}
 
 text-append : {A : Type 0} (f : A → List ℕ) (a b : List A) → textOf f (a ++ b) ≡ textOf f a ++ textOf f b
 unfolding textOf
@@ -94,14 +81,7 @@ unfolding tabulate
 each-printed zero h p = none
 each-printed (suc n) h p = each-snoc (each-printed n h (λ i k. p i (omega arith))) (p n (omega arith))
 
--- What a printed plan is asked: counts of at most ten digits, tracks and moats within the limits, amounts of at most seven digits.
-pub record Fits (claims : Claims) (marks records : List ℕ) : Type 0 where
-  pub few : ClaimDigits claims
-  pub tracks : length marks ≤ maxEdges
-  pub duals : length records / recordBytes ≤ maxDuals
-  pub values : (i : ℕ) → i < length records / recordBytes → valueIn (recordAt records i) < 10 ^ valueDigits
-
-printable : (claims : Claims) (marks records : List ℕ) → Fits claims marks records → Printable (length marks) (planIn claims marks records)
+printable : (claims : Claims) (marks records : List ℕ) → PlanFits claims marks records → Printable (length marks) (planIn claims marks records)
 unfolding planIn keptIn printedDuals printedDual membersOf
 printable claims marks records f =
     let n = length records / recordBytes in
@@ -115,7 +95,7 @@ printable claims marks records f =
     }
 
 -- Printing a plan behind any text and reading it back.
-pub read-back : (u : List ℕ) (k c b r : ℕ) (marks records : List ℕ) → Fits (record { terminals = k; cost = c; bound = b; rounds = r }) marks records
+pub read-back : (u : List ℕ) (k c b r : ℕ) (marks records : List ℕ) → PlanFits (record { terminals = k; cost = c; bound = b; rounds = r }) marks records
     → planAt (u ++ planText k c b r marks records) (length marks) (length u)
     ≡ found (planIn (record { terminals = k; cost = c; bound = b; rounds = r }) marks records) (length (u ++ planText k c b r marks records))
 read-back u k c b r marks records f =
@@ -126,4 +106,4 @@ read-back u k c b r marks records f =
     let l = length-append u W in
     let n : length W ≡ length (planWords p) = ap length e in
     let few = f .tracks in
-    plan-back (u ++ W) (length marks) (length u) p (omega arith) (printable _ marks records f) (subst (Stands (u ++ W) (length u)) e s) (omega arith)
+    plan-reads-back (u ++ W) (length marks) (length u) p (omega arith) (printable _ marks records f) (subst (Stands (u ++ W) (length u)) e s) (omega arith)

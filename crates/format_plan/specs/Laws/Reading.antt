@@ -16,7 +16,7 @@ use Rattle.format_grammar.specs.Language.{Each}
 use Rattle.format_plan_lines.specs.Lines.{keptAt, dualsAt, putMark, putDual}
 use Rattle.format_plan_lines.specs.Laws.Puts.{mark-length, dual-length}
 use Rattle.format_grammar.specs.Laws.Items.{empty-pass}
-use Rattle.format_plan.specs.Plan.{Claims, Plan, Body, claimsAt, bodyAt, planAt, marksOf, dualRecords, cleared, roomTest, withRoom, planReading, marksAfter, recordsAfter}
+use Rattle.format_plan.specs.Plan.{Claims, Plan, PlanLines, claimsAt, bodyAt, planAt, marksOf, dualRecords, cleared, roomTest, withRoom, planReading, marksAfter, recordsAfter}
 use Rattle.format_plan.specs.Answer.{roomed, readOf, PlanStored, PlanFilled, PlanRead}
 use Rattle.format_plan.specs.Laws.Fill.{kept-below, duals-count, marks-filled, records-filled}
 
@@ -34,7 +34,7 @@ module _ (t : List ℕ) (m at : ℕ) {marks marks′ records records′ : List �
   stores-read e a s r = rw e record { end = s; intoMarks = a; intoRecords = r }
 
 -- What the lines after the counts are, once they are all read.
-pub record Whole (b : Body) (m count : ℕ) : Type 0 where
+pub record Whole (b : PlanLines) (m count : ℕ) : Type 0 where
   pub below : Each (λ e. e < m) (b .kept)
   pub many : count ≡ length (b .duals)
 
@@ -63,7 +63,7 @@ module _ (m count marks records : ℕ) where
   unfolding roomTest refuseIf
   room-fine h k = rw (le-ltb marks m h, le-ltb (records / recordBytes) count k)
 
-module _ (b : Body) (m : ℕ) {marks marks′ records records′ : List ℕ} (sameMarks : marks′ ≡ marks) (sameRecords : records′ ≡ records) where
+module _ (b : PlanLines) (m : ℕ) {marks marks′ records records′ : List ℕ} (sameMarks : marks′ ≡ marks) (sameRecords : records′ ≡ records) where
   fills-stopped : {n p : ℕ} → b .end ≡ refused n p → PlanFilled b m (refused n p) marks marks′ records records′
   unfolding roomed storedIf _then_
   fills-stopped e = record { end = rw e refl; intoMarks = sameMarks; intoRecords = sameRecords }

@@ -16,7 +16,7 @@ use Rattle.format_grammar.specs.Lines.{linesAfter, following}
 use Rattle.format_survey.specs.Reading.{outcomeOf}
 use Rattle.format_grammar.specs.Laws.Step.{then-value, checked-fine}
 use Rattle.format_grammar.specs.Items.{itemsFrom}
-use Rattle.format_plan_lines.specs.Lines.{PrintedDual, dualHead, membersAt, dualTest, dualLineAt, dualReader, dualsAt, keptAt}
+use Rattle.format_plan_lines.specs.Lines.{PrintedDual, dualHead, membersAt, dualTest, dualLineAt, dualReader, dualsAt, keptAt, memberNumbers}
 use Rattle.format_plan.specs.Plan.{Plan, bodyAt, claimsAt, planAt, roomTest, withRoom}
 use Rattle.format_plan_lines.specs.Laws.Tests.{dual-falls, dual-many}
 use Rattle.format_plan.specs.Laws.Reading.{room-marks, room-records, room-fine}
@@ -59,15 +59,15 @@ room-refusal (found y next) m marks records {n} {q} h e = by-test (ltb marks m |
 room-refusal (refused i j) m marks records {n} {q} h e = let a : i ≡ n = cc in let b : j ≡ q = cc in cc
 
 -- What a moat's test says that passes.
-pub dual-passed : (i low : ℕ) → dualTest i low ≡ Fine → (low ≤ 256) × (i < 511)
-dual-passed i low f = by-tests (ltb 256 low) (leb 511 i) refl refl
+pub dual-passed : (i low : ℕ) → dualTest i low ≡ Fine → (low ≤ memberNumbers) × (i < maxDuals)
+dual-passed i low f = by-tests (ltb memberNumbers low) (leb maxDuals i) refl refl
   where
-    by-tests : (a b : Bool) → ltb 256 low ≡ a → leb 511 i ≡ b → (low ≤ 256) × (i < 511)
-    by-tests true b p q = absurd (no-refusal (dual-falls i low (ltb-true 256 low p)) f)
-    by-tests false true p q = absurd (no-refusal (dual-many i low (ltb-false 256 low p) (leb-true 511 i q)) f)
-    by-tests false false p q = (ltb-false 256 low p, leb-false 511 i q)
+    by-tests : (a b : Bool) → ltb memberNumbers low ≡ a → leb maxDuals i ≡ b → (low ≤ memberNumbers) × (i < maxDuals)
+    by-tests true b p q = absurd (no-refusal (dual-falls i low (ltb-true memberNumbers low p)) f)
+    by-tests false true p q = absurd (no-refusal (dual-many i low (ltb-false memberNumbers low p) (leb-true maxDuals i q)) f)
+    by-tests false false p q = (ltb-false memberNumbers low p, leb-false maxDuals i q)
 
-line-passed : (t : List ℕ) (i at : ℕ) {d : PrintedDual} {p : ℕ} → dualLineAt t i at ≡ found d p → i < 511
+line-passed : (t : List ℕ) (i at : ℕ) {d : PrintedDual} {p : ℕ} → dualLineAt t i at ≡ found d p → i < maxDuals
 unfolding dualLineAt
 line-passed t i at e =
     let one = then-value (dualHead t at) _ e in
@@ -75,13 +75,13 @@ line-passed t i at e =
     dual-passed i (two .0) (checked-fine _ _ _ (two .3)) .1
 
 -- No more than 511 moats are read.
-items-few : (t : List ℕ) (fuel low i at : ℕ) → i ≤ 511 → length (itemsFrom (dualReader t) fuel low i at .values) + i ≤ 511
+items-few : (t : List ℕ) (fuel low i at : ℕ) → i ≤ maxDuals → length (itemsFrom (dualReader t) fuel low i at .values) + i ≤ maxDuals
 unfolding itemsFrom following dualReader
 items-few t zero low i at h = omega arith
 items-few t (suc fuel) low i at h = by-stop (dualReader t .stop at) (dualLineAt t i at) refl (λ l k b. items-few t fuel l (i + 1) k b)
   where
-    by-stop : (b : Bool) (s : Step PrintedDual) → dualLineAt t i at ≡ s → ((l k : ℕ) → i + 1 ≤ 511 → length (itemsFrom (dualReader t) fuel l (i + 1) k .values) + (i + 1) ≤ 511)
-        → length (cond b (record { values = []; end = found low at }) (following s (λ d next. itemsFrom (dualReader t) fuel (low + 1) (i + 1) next)) .values) + i ≤ 511
+    by-stop : (b : Bool) (s : Step PrintedDual) → dualLineAt t i at ≡ s → ((l k : ℕ) → i + 1 ≤ maxDuals → length (itemsFrom (dualReader t) fuel l (i + 1) k .values) + (i + 1) ≤ maxDuals)
+        → length (cond b (record { values = []; end = found low at }) (following s (λ d next. itemsFrom (dualReader t) fuel (low + 1) (i + 1) next)) .values) + i ≤ maxDuals
     by-stop true s e ih = omega arith
     by-stop false (found d next) e ih =
         let few = line-passed t i at e in
@@ -89,21 +89,21 @@ items-few t (suc fuel) low i at h = by-stop (dualReader t .stop at) (dualLineAt 
         omega arith
     by-stop false (refused n p) e ih = omega arith
 
-body-few : (t : List ℕ) (m at : ℕ) → length (bodyAt t m at .duals) ≤ 511
+body-few : (t : List ℕ) (m at : ℕ) → length (bodyAt t m at .duals) ≤ maxDuals
 unfolding bodyAt linesAfter dualsAt
 body-few t m at = by-kept (keptAt t m at .end)
   where
-    by-kept : (s : Step ℕ) → length (linesAfter s (dualsAt t) .values) ≤ 511
+    by-kept : (s : Step ℕ) → length (linesAfter s (dualsAt t) .values) ≤ maxDuals
     by-kept (found z p) = let few = items-few t (length t) 0 0 p (omega arith) in omega arith
     by-kept (refused n p) = omega arith
 
-plan-few : (t : List ℕ) (m at : ℕ) {p : Plan} {q : ℕ} → planAt t m at ≡ found p q → length (p .duals) ≤ 511
+plan-few : (t : List ℕ) (m at : ℕ) {p : Plan} {q : ℕ} → planAt t m at ≡ found p q → length (p .duals) ≤ maxDuals
 unfolding planAt
 plan-few t m at {p} {q} e =
     let one = then-value (claimsAt t at) _ e in
     let two = then-value (bodyAt t m (one .1) .end) _ (one .3) in
     let same : _≡_ {A = Plan} (record { claims = one .0; kept = bodyAt t m (one .1) .kept; duals = bodyAt t m (one .1) .duals }) p = cc (two .3) in
-    subst (λ (x : Plan). length (x .duals) ≤ 511) same (body-few t m (one .1))
+    subst (λ (x : Plan). length (x .duals) ≤ maxDuals) same (body-few t m (one .1))
 
 -- Where there is room for every plan within the limits 7 cannot come: what is answered is what the text says.
 pub room-enough : (t : List ℕ) (m at : ℕ) → m ≤ maxEdges → withRoom (planAt t m at) m maxEdges (recordBytes * maxDuals) ≡ outcomeOf (planAt t m at)

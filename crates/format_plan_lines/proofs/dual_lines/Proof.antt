@@ -6,14 +6,14 @@ use lib.ListN.{length}
 use borrow.Author.Tests.{le-leb}
 use Rattle.format_number.specs.Answer.{numberStep}
 use Rattle.format_plan_lines.specs.Lines.{dualReader, dualsAt, putDual}
-use Rattle.format_grammar.specs.Laws.Items.{Left, left-start, left-stop, left-out, left-length}
+use Rattle.format_grammar.specs.Laws.Items.{ItemsLeft, left-start, left-stop, left-out, left-length}
 use Rattle.format_plan_lines.specs.Laws.Puts.{dual-length}
 use Rattle.format_plan_lines.specs.Laws.Lines.{duals-more, duals-refused}
 use Rattle.format_plan_lines.proofs.dual_lines.Statement.{statement}
 use Rattle.format_plan_lines.proofs.dual_lines.Tie as tie
 
 abbrev Inv-loop : tie.InvT-loop
-Inv-loop text records₀ next₀ i₀ records next i = Left (dualReader text) putDual (dualsAt text (next₀ .at)) records₀ (length text) i i (next .at) records
+Inv-loop text records₀ next₀ i₀ records next i = ItemsLeft (dualReader text) putDual (dualsAt text (next₀ .at)) records₀ (length text) i i (next .at) records
 
 abbrev μ-loop : tie.MeasureT-loop
 μ-loop text records₀ next₀ i₀ records next i = length text - i

@@ -16,7 +16,7 @@ use Rattle.format_record.specs.Laws.Bits.{bytes-cong}
 use Rattle.format_record.specs.Record.{recordOf, startedAs}
 use Rattle.format_record.specs.Laws.Record.{started-whole, member-added-record, length-record}
 use Rattle.format_key.specs.Key.{newline}
-use Rattle.format_plan_lines.specs.Lines.{keptTest, keepLine, risen, memberReader, membersAt, dualTest, dualLineAt, dualHead, listedDual, PrintedDual, dualRecord, dualReader, putMember, putDual, isIn}
+use Rattle.format_plan_lines.specs.Lines.{keptTest, keepLine, risen, memberReader, membersAt, dualTest, dualLineAt, dualHead, listedDual, PrintedDual, dualRecord, dualReader, putMember, putDual, isIn, memberNumbers}
 use Rattle.format_plan_lines.specs.Answer.{Members, forgotten, dualStored, DualRead}
 use Rattle.format_plan_lines.specs.Laws.Tests.{kept-low, kept-high, risen-low, risen-high}
 use Rattle.format_plan_lines.specs.Laws.Puts.{dual-length}
@@ -24,7 +24,7 @@ use Rattle.format_grammar.specs.Items.{itemsFrom, puts, Ends}
 use Rattle.format_grammar.specs.Language.{none, more}
 use Rattle.format_grammar.specs.Lines.{following, Lines}
 use Rattle.format_grammar.specs.Laws.Bytes.{byte-inside}
-use Rattle.format_grammar.specs.Laws.Items.{left-length, Left, left-more, left-refused, items-stop}
+use Rattle.format_grammar.specs.Laws.Items.{left-length, ItemsLeft, left-more, left-refused, items-stop}
 use Rattle.format_grammar.specs.Laws.Step.{then-value, checked-fine, checked-value}
 use Rattle.format_grammar.specs.Step.{Step, found, refused, checked, _then_}
 
@@ -52,18 +52,18 @@ keep-passed t m low i at {e} {next} q =
 
 -- Members that rise to their end are all members.
 record Risen (low : ℕ) (vs : List ℕ) : Type 0 where
-  start : low ≤ 256
+  start : low ≤ memberNumbers
   all : Members vs
 
-pub risen-back : (low v : ℕ) → risen low v ≤ 256 → (low ≤ v) × (v < 256)
-risen-back low v h = by-tests (ltb v low) (leb 256 v) refl refl
+pub risen-rises : (low v : ℕ) → risen low v ≤ memberNumbers → (low ≤ v) × (v < memberNumbers)
+risen-rises low v h = by-tests (ltb v low) (leb memberNumbers v) refl refl
   where
-    by-tests : (a b : Bool) → ltb v low ≡ a → leb 256 v ≡ b → (low ≤ v) × (v < 256)
+    by-tests : (a b : Bool) → ltb v low ≡ a → leb memberNumbers v ≡ b → (low ≤ v) × (v < memberNumbers)
     by-tests true b p q = let z = risen-low low v (ltb-true v low p) in absurd (omega arith)
-    by-tests false true p q = let z = risen-high low v (ltb-false v low p) (leb-true 256 v q) in absurd (omega arith)
-    by-tests false false p q = (ltb-false v low p, leb-false 256 v q)
+    by-tests false true p q = let z = risen-high low v (ltb-false v low p) (leb-true memberNumbers v q) in absurd (omega arith)
+    by-tests false false p q = (ltb-false v low p, leb-false memberNumbers v q)
 
-items-risen : (t : List ℕ) (fuel low i at : ℕ) {n p : ℕ} → itemsFrom (memberReader t) fuel low i at .end ≡ found n p → n ≤ 256 → Risen low (itemsFrom (memberReader t) fuel low i at .values)
+items-risen : (t : List ℕ) (fuel low i at : ℕ) {n p : ℕ} → itemsFrom (memberReader t) fuel low i at .end ≡ found n p → n ≤ memberNumbers → Risen low (itemsFrom (memberReader t) fuel low i at .values)
 unfolding itemsFrom following memberReader
 items-risen t zero low i at e h = let z : _≡_ {A = ℕ} 0 1 = cc in absurd (omega arith)
 items-risen t (suc fuel) low i at {n} {p} e h = by-stop (memberReader t .stop at) (memberReader t .item low i at) (λ l k e. items-risen t fuel l (i + 1) k e h) e
@@ -74,13 +74,13 @@ items-risen t (suc fuel) low i at {n} {p} e h = by-stop (memberReader t .stop at
     by-stop true s ih e = let same : low ≡ n = cc in record { start = omega arith; all = none }
     by-stop false (found a next) ih e =
         let r = ih (risen low a) next e in
-        let k = risen-back low a (r .start) in
+        let k = risen-rises low a (r .start) in
         let k0 = k .0 in
         let k1 = k .1 in
         record { start = omega arith; all = more k1 (r .all) }
     by-stop false (refused x y) ih e = let z : _≡_ {A = ℕ} 0 1 = cc in absurd (omega arith)
 
-pub members-below : (t : List ℕ) (at : ℕ) {low p : ℕ} → membersAt t at .end ≡ found low p → low ≤ 256 → Members (membersAt t at .values)
+pub members-below : (t : List ℕ) (at : ℕ) {low p : ℕ} → membersAt t at .end ≡ found low p → low ≤ memberNumbers → Members (membersAt t at .values)
 unfolding membersAt
 members-below t at e h = items-risen t (length t) 0 0 at e h .all
 
@@ -152,18 +152,18 @@ module _ (t : List ℕ) (i at : ℕ) {records records′ : List ℕ} where
 -- One turn of the loop over the moat lines.
 module _ (t : List ℕ) (whole : Lines ℕ PrintedDual) (old : List ℕ) (i at : ℕ) (buffer buffer′ : List ℕ) where
   pub duals-more : {z next : ℕ} → i < length t → at < length t → found z next ≡ forgotten (dualLineAt t i at) → buffer′ ≡ dualStored (dualLineAt t i at) buffer i
-      → Left (dualReader t) putDual whole old (length t) i i at buffer → Left (dualReader t) putDual whole old (length t) (i + 1) (i + 1) next buffer′
+      → ItemsLeft (dualReader t) putDual whole old (length t) i i at buffer → ItemsLeft (dualReader t) putDual whole old (length t) (i + 1) (i + 1) next buffer′
   unfolding forgotten dualStored dualReader
   duals-more {z} {next} h k e s l = by-line (dualLineAt t i at) refl e s
     where
-      by-line : (x : Step PrintedDual) → dualLineAt t i at ≡ x → found z next ≡ forgotten x → buffer′ ≡ dualStored x buffer i → Left (dualReader t) putDual whole old (length t) (i + 1) (i + 1) next buffer′
+      by-line : (x : Step PrintedDual) → dualLineAt t i at ≡ x → found z next ≡ forgotten x → buffer′ ≡ dualStored x buffer i → ItemsLeft (dualReader t) putDual whole old (length t) (i + 1) (i + 1) next buffer′
       by-line (found d p) q e s =
           let same : p ≡ next = cc in
-          rw s (subst (λ (x : ℕ). Left (dualReader t) putDual whole old (length t) (i + 1) (i + 1) x (putDual buffer i d)) same (left-more (dualReader t) putDual whole old (length t) i i at buffer h (lt-leb (length t) at k) q l))
+          rw s (subst (λ (x : ℕ). ItemsLeft (dualReader t) putDual whole old (length t) (i + 1) (i + 1) x (putDual buffer i d)) same (left-more (dualReader t) putDual whole old (length t) i i at buffer h (lt-leb (length t) at k) q l))
       by-line (refused n p) q e s = let w : _≡_ {A = ℕ} 0 1 = cc in absurd (omega arith)
 
   pub duals-refused : {n p : ℕ} → i < length t → at < length t → refused n p ≡ forgotten (dualLineAt t i at) → buffer′ ≡ dualStored (dualLineAt t i at) buffer i
-      → Left (dualReader t) putDual whole old (length t) i i at buffer → Ends putDual whole old (refused n p) buffer′ × (length buffer′ ≡ length old)
+      → ItemsLeft (dualReader t) putDual whole old (length t) i i at buffer → Ends putDual whole old (refused n p) buffer′ × (length buffer′ ≡ length old)
   unfolding forgotten dualStored dualReader
   duals-refused {n} {p} h k e s l = by-line (dualLineAt t i at) refl e s
     where

@@ -6,7 +6,7 @@ use mathlib.Core.List.{List}
 use lib.ListN.{length, take, drop, length-set, length-append, take-append-drop}
 use lib.Seq.{length-sets, sets}
 use lib.Dec.{ltb}
-use Rattle.base_limits.specs.Limits.{valueBytes}
+use Rattle.base_limits.specs.Limits.{valueBytes, recordBytes}
 use Rattle.format_record.specs.Bits.{withMember}
 use Rattle.format_record.specs.Record.{withMemberIn}
 use Rattle.format_record.specs.Laws.Bits.{length-with-member}
@@ -25,8 +25,8 @@ member-length l i v =
 
 pub dual-length : (l : List ℕ) (i : ℕ) (d : PrintedDual) → length (putDual l i d) ≡ length l
 unfolding putDual
-dual-length l i d = by-room (ltb i (length l / 40))
+dual-length l i d = by-room (ltb i (length l / recordBytes))
   where
-    by-room : (b : Bool) → length (cond b (sets l (40 * i) (dualRecord d)) l) ≡ length l
-    by-room true = length-sets l (40 * i) (dualRecord d)
+    by-room : (b : Bool) → length (cond b (sets l (recordBytes * i) (dualRecord d)) l) ≡ length l
+    by-room true = length-sets l (recordBytes * i) (dualRecord d)
     by-room false = refl

@@ -13,15 +13,15 @@ use Rattle.format_key.specs.Key.{comma, newline, nodesKey, linksKey, nodeKey, l
 use Rattle.format_survey_lines.specs.Line.{Tests, testsFor, verticesTest, edgesTest, groupTest, countLine, groupLine, groupLines, edgeLine, edgeLines}
 use Rattle.format_survey.specs.Reading.{surveyOf, surveyAt, outcomeOf, reading}
 use Rattle.format_survey_lines.specs.Laws.Tests.{vertices-passed, edges-passed}
-use Rattle.format_survey.specs.Laws.Said.{saidAt, said-survey}
+use Rattle.format_survey.specs.Laws.Content.{contentAt, content-survey}
 use Rattle.format_grammar.specs.Bytes.{endAt}
-use Rattle.format_grammar.specs.Language.{Local, Any}
+use Rattle.format_grammar.specs.Language.{LooksWithin, Any}
 use Rattle.format_grammar.specs.Laws.Local.{local-value, local-then, local-as, local-fixed, local-lines, local-end}
 use Rattle.format_grammar.specs.Lines.{linesFrom, whole}
 use Rattle.format_grammar.specs.Step.{found, _then_}
 use Rattle.format_number.specs.Laws.Near.{local-number, local-tested}
 
-local-edge : (e : ℕ) → Local (λ t at. edgeLine t e at) edgeBytes Any
+local-edge : (e : ℕ) → LooksWithin (λ t at. edgeLine t e at) edgeBytes Any
 unfolding edgeLine
 local-edge e =
     local-as (λ t at. refl) (omega arith) (λ a x. tt)
@@ -39,28 +39,28 @@ module _ (a b c d : ℕ) where
   abbrev tests : Tests
   tests = testsFor a b c d
 
-  local-said : Local (saidAt tests) (lineBytes nodesKey countDigits + (lineBytes linksKey countDigits + (maxVertices * lineBytes nodeKey groupDigits + (maxEdges * edgeBytes + 0)))) Any
-  unfolding saidAt countLine groupLines groupLine edgeLines testsFor
-  local-said =
+  local-content : LooksWithin (contentAt tests) (lineBytes nodesKey countDigits + (lineBytes linksKey countDigits + (maxVertices * lineBytes nodeKey groupDigits + (maxEdges * edgeBytes + 0)))) Any
+  unfolding contentAt countLine groupLines groupLine edgeLines testsFor
+  local-content =
       local-then {Q = Any} (local-tested nodesKey countDigits (omega arith) (verticesTest a)) λ n x.
       local-then {Q = Any} (local-tested linksKey countDigits (omega arith) (edgesTest b c d)) λ m y.
       local-then {Q = Any} (few-groups n (vertices-passed a n x .most)) λ gs z.
       local-then {Q = Any} (few-edges m (edges-passed b c d m y .most)) λ es z.
       local-value (record { counts = record { vertices = n; edges = m }; groups = gs; edges = es })
     where
-      few-groups : (n : ℕ) → n ≤ maxVertices → Local (λ t at. whole (linesFrom (groupLine groupTest t) n 0 at)) (maxVertices * lineBytes nodeKey groupDigits) Any
+      few-groups : (n : ℕ) → n ≤ maxVertices → LooksWithin (λ t at. whole (linesFrom (groupLine groupTest t) n 0 at)) (maxVertices * lineBytes nodeKey groupDigits) Any
       few-groups n h = local-as (λ t at. refl) (omega arith) (λ a x. tt) (local-lines (groupLine groupTest) (lineBytes nodeKey groupDigits) (λ i. local-as (λ t at. refl) (omega arith) (λ a x. tt) (local-tested nodeKey groupDigits (omega arith) (groupTest i))) n 0)
 
-      few-edges : (m : ℕ) → m ≤ maxEdges → Local (λ t at. whole (linesFrom (edgeLine t) m 0 at)) (maxEdges * edgeBytes) Any
+      few-edges : (m : ℕ) → m ≤ maxEdges → LooksWithin (λ t at. whole (linesFrom (edgeLine t) m 0 at)) (maxEdges * edgeBytes) Any
       few-edges m h = local-as (λ t at. refl) (omega arith) (λ a x. tt) (local-lines edgeLine edgeBytes local-edge m 0)
 
   survey-same : (t u : List ℕ) → take farthest t ≡ take farthest u → surveyAt tests t ≡ surveyAt tests u
-  survey-same t u e = said-survey tests t ∙ whole-survey .same t u 0 e ∙ sym (said-survey tests u)
+  survey-same t u e = content-survey tests t ∙ whole-survey .same t u 0 e ∙ sym (content-survey tests u)
     where
-      whole-survey : Local (λ t at. saidAt tests t at then λ x p. endAt t p then λ z q. found (surveyOf (x .counts) (x .groups) (x .edges)) q) farthest Any
+      whole-survey : LooksWithin (λ t at. contentAt tests t at then λ x p. endAt t p then λ z q. found (surveyOf (x .counts) (x .groups) (x .edges)) q) farthest Any
       whole-survey =
           local-as (λ t at. refl) (omega arith) (λ a x. tt)
-          (local-then {Q = Any} local-said λ x y. local-then {Q = Any} local-end λ z y. local-value (surveyOf (x .counts) (x .groups) (x .edges)))
+          (local-then {Q = Any} local-content λ x y. local-then {Q = Any} local-end λ z y. local-value (surveyOf (x .counts) (x .groups) (x .edges)))
 
 -- Bytes beyond the first k change nothing.
 pub reading-cut : (k : ℕ) (t groups firsts seconds weights : List ℕ) → farthest ≤ k → reading (take k t) groups firsts seconds weights ≡ reading t groups firsts seconds weights

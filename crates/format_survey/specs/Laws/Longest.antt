@@ -11,13 +11,14 @@ use Rattle.format_key.specs.Key.{nodesKey, linksKey, nodeKey, linkKey, comma, n
 use Rattle.format_write.specs.Decimal.{decimal}
 use Rattle.format_write.specs.Text.{lineOf}
 use Rattle.format_survey_lines.specs.Line.{Edge, EdgeDigits}
-use Rattle.format_survey.specs.Reading.{Survey, reading}
+use Rattle.format_survey.specs.Reading.{SurveyText, reading}
 use Rattle.format_number.specs.Number.{numberText, OfDigits, lineBytes}
 use Rattle.format_survey_lines.specs.Render.{edgeText}
 use Rattle.format_grammar.specs.Lines.{textOf}
 use Rattle.format_survey.specs.Render.{render, edgeBytes, longestText}
 use Rattle.format_grammar.specs.Language.{EachFrom, noneFrom, moreFrom}
-use Rattle.format_survey.specs.Laws.WellFormed.{WellFormed, Within, accepted-render}
+use Rattle.format_survey.specs.WellFormed.{WellFormed, WithinCounts}
+use Rattle.format_survey.specs.Laws.WellFormed.{accepted-render}
 use Rattle.format_grammar.specs.Laws.Lines.{each-map}
 
 line-most : (key : List ℕ) (limit x : ℕ) → 1 ≤ limit → OfDigits limit x → length (lineOf key x) ≤ lineBytes key limit
@@ -78,7 +79,7 @@ longest-text {t} w h k =
     omega arith
 
 -- The text of a survey within the counts is no longer.
-pub longest-within : {groups : List ℕ} {edges : List Edge} → Within groups edges → length (render groups edges) ≤ longestText
+pub longest-within : {groups : List ℕ} {edges : List Edge} → WithinCounts groups edges → length (render groups edges) ≤ longestText
 longest-within {groups} {edges} w =
     let few = w .fewGroups in
     let some = w .fewEdges in
@@ -95,7 +96,7 @@ longest-within {groups} {edges} w =
     few some
 
 -- A text that is read is no longer.
-pub longest-read : (t gb fb sb wb : List ℕ) (s : Survey) → reading t gb fb sb wb ≡ answer s → length t ≤ longestText
+pub longest-read : (t gb fb sb wb : List ℕ) (s : SurveyText) → reading t gb fb sb wb ≡ answer s → length t ≤ longestText
 longest-read t gb fb sb wb s e =
     let a = accepted-render gb fb sb wb t s e in
     subst (λ (x : List ℕ). length x ≤ longestText) (sym (a .word)) (longest-within (a .within))

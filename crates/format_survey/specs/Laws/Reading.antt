@@ -18,7 +18,7 @@ use Rattle.format_number.specs.declared.Number.the-variants.{Value, Refused}
 use Rattle.format_survey_lines.specs.Answer.{countsStep}
 use Rattle.format_survey_lines.specs.declared.Head.{Head}
 use Rattle.format_survey_lines.specs.declared.Head.the-variants.{Counts as CountsRead, Refused as HeadRefused}
-use Rattle.format_survey.specs.Reading.{bodyAt, bodyOf, Survey, surveyOf, surveyAt, outcomeOf, reading, filled}
+use Rattle.format_survey.specs.Reading.{bodyAt, bodyOf, SurveyText, surveyOf, surveyAt, outcomeOf, reading, filled}
 use Rattle.format_grammar.specs.Bytes.{endAt}
 use Rattle.format_survey.specs.Answer.{countsOf, LinesFilled}
 use Rattle.format_grammar.specs.Laws.Step.{then-value, stored-found, stored-refused}
@@ -38,7 +38,7 @@ SurveyRead t counts groups groups′ firsts firsts′ seconds seconds′ weights
     × ((firsts′ ≡ filled read (λ s. s .firsts) firsts) × ((seconds′ ≡ filled read (λ s. s .seconds) seconds) × (weights′ ≡ filled read (λ s. s .weights) weights))))
 
 -- A buffer at the end, by the outcome.
-module _ {o : Outcome Survey} (values : Survey → List ℕ) where
+module _ {o : Outcome SurveyText} (values : SurveyText → List ℕ) where
   pub buffer-kept : {n p : ℕ} (old : List ℕ) → o ≡ refusal n p → old ≡ filled o values old
   unfolding filled
   buffer-kept old r = sym (ap (λ x. filled x values old) r)
@@ -46,7 +46,7 @@ module _ {o : Outcome Survey} (values : Survey → List ℕ) where
   pub buffer-refused : {end : Step ℕ} {n p i q : ℕ} (new old : List ℕ) → o ≡ refusal n p → end ≡ refused i q → storedIf end new old ≡ filled o values old
   buffer-refused new old r e = stored-refused new old e ∙ buffer-kept old r
 
-  pub buffer-found : {end : Step ℕ} {z p : ℕ} (s : Survey) (old : List ℕ) → o ≡ answer s → end ≡ found z p → length (values s) ≤ length old → storedIf end (sets old 0 (values s)) old ≡ filled o values old
+  pub buffer-found : {end : Step ℕ} {z p : ℕ} (s : SurveyText) (old : List ℕ) → o ≡ answer s → end ≡ found z p → length (values s) ≤ length old → storedIf end (sets old 0 (values s)) old ≡ filled o values old
   unfolding filled
   buffer-found s old r e h = stored-found (sets old 0 (values s)) old e ∙ sets-filled (values s) old h ∙ sym (ap (λ x. filled x values old) r)
 

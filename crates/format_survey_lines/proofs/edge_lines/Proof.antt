@@ -9,12 +9,12 @@ use Rattle.format_survey_lines.specs.Line.{edgeLine, edgeLines, firstsOf
 use Rattle.format_number.specs.Answer.{numberStep}
 use Rattle.format_survey_lines.specs.Answer.{edgeStep}
 use Rattle.format_survey_lines.specs.Laws.Tests.{edge-below, below-word}
-use Rattle.format_grammar.specs.Laws.Lines.{Left, Stored, stored-length, left-start, stored-start, left-more, left-stop, left-done, stored-more, stored-stop, stored-done}
+use Rattle.format_grammar.specs.Laws.Lines.{LinesLeft, Stored, stored-length, left-start, stored-start, left-more, left-stop, left-done, stored-more, stored-stop, stored-done}
 use Rattle.format_survey_lines.proofs.edge_lines.Statement.{statement}
 use Rattle.format_survey_lines.proofs.edge_lines.Tie as tie
 
 record Inv (text : List ℕ) (count at₀ : ℕ) (firsts₀ seconds₀ weights₀ firsts seconds weights : List ℕ) (at edge : ℕ) : Type 0 where
-  left : Left (edgeLine text) (edgeLines text count at₀) count edge at
+  left : LinesLeft (edgeLine text) (edgeLines text count at₀) count edge at
   one : Stored (edgeLine text) (edgeLines text count at₀) count edge at (λ e. e .first) firsts₀ firsts
   two : Stored (edgeLine text) (edgeLines text count at₀) count edge at (λ e. e .second) seconds₀ seconds
   three : Stored (edgeLine text) (edgeLines text count at₀) count edge at (λ e. e .weight) weights₀ weights

@@ -24,13 +24,13 @@ use Rattle.format_survey_lines.specs.Laws.Content.{reads-edge}
 use Rattle.format_grammar.specs.Laws.Lines.{reads-lines}
 
 -- What a text says before its end is looked for.
-pub record Said : Type 0 where
+pub record SurveyContent : Type 0 where
   pub counts : Counts
   pub groups : List ℕ
   pub edges : List Edge
 
-unfoldable pub saidAt : Tests → List ℕ → ℕ → Step Said
-saidAt tests t at =
+unfoldable pub contentAt : Tests → List ℕ → ℕ → Step SurveyContent
+contentAt tests t at =
     countLine nodesKey (tests .vertices) t at then λ n p.
     countLine linksKey (tests .edges) t p then λ m q.
     whole (groupLines (tests .group) t n q) then λ gs r.
@@ -38,7 +38,7 @@ saidAt tests t at =
     found (record { counts = record { vertices = n; edges = m }; groups = gs; edges = es }) s
 
 -- The text of a survey whose counts and groups satisfy these.
-pub record Rendered (N M : ℕ → Type 0) (P : ℕ → ℕ → Type 0) (x : Said) (w : List ℕ) : Type 0 where
+pub record Rendered (N M : ℕ → Type 0) (P : ℕ → ℕ → Type 0) (x : SurveyContent) (w : List ℕ) : Type 0 where
   pub vertices : x .counts .vertices ≡ length (x .groups)
   pub edges : x .counts .edges ≡ length (x .edges)
   pub someVertices : N (length (x .groups))
@@ -48,12 +48,12 @@ pub record Rendered (N M : ℕ → Type 0) (P : ℕ → ℕ → Type 0) (x : Sai
   pub word : w ≡ render (x .groups) (x .edges)
 
 module _ (N M : ℕ → Type 0) (P : ℕ → ℕ → Type 0) where
-  abbrev Parts : Said → List ℕ → Type 0
+  abbrev Parts : SurveyContent → List ℕ → Type 0
   Parts =
       Seq (Text N (lineOf nodesKey)) λ n. Seq (Text M (lineOf linksKey)) λ m. Seq (Texts P (lineOf nodeKey) n 0) λ gs. Seq (Texts (λ i. EdgeDigits) edgeText m 0) λ es.
       Empty (record { counts = record { vertices = n; edges = m }; groups = gs; edges = es })
 
-  to : (x : Said) (w : List ℕ) → Parts x w → Rendered N M P x w
+  to : (x : SurveyContent) (w : List ℕ) → Parts x w → Rendered N M P x w
   unfolding render
   to x w k =
       let a = k .second in
@@ -63,7 +63,7 @@ module _ (N M : ℕ → Type 0) (P : ℕ → ℕ → Type 0) where
       let gs = b .first .size in
       let es = c .first .size in
       let e : record { counts = record { vertices = k .value; edges = a .value }; groups = b .value; edges = c .value } ≡ x = sym (d .value) in
-      subst (λ (z : Said). Rendered N M P z w) e
+      subst (λ (z : SurveyContent). Rendered N M P z w) e
       record {
         vertices = sym gs;
         edges = sym es;
@@ -79,7 +79,7 @@ module _ (N M : ℕ → Type 0) (P : ℕ → ℕ → Type 0) where
             ∙ joined (lineOf nodesKey (length (b .value))) (lineOf linksKey (length (c .value))) (textOf (lineOf nodeKey) (b .value)) (textOf edgeText (c .value));
       }
 
-  from : (x : Said) (w : List ℕ) → Rendered N M P x w → Parts x w
+  from : (x : SurveyContent) (w : List ℕ) → Rendered N M P x w → Parts x w
   unfolding render
   from x w k =
       let g = x .groups in
@@ -116,20 +116,20 @@ module _ (N M : ℕ → Type 0) (P : ℕ → ℕ → Type 0) where
       }
 
 -- The tests give no 16.
-pub record Sparing (tests : Tests) : Type 0 where
+pub record NeverMalformed (tests : Tests) : Type 0 where
   pub vertices : (x n p : ℕ) → tests .vertices x ≡ Refused n p → n ≡ 16 → ⊥
   pub edges : (x n p : ℕ) → tests .edges x ≡ Refused n p → n ≡ 16 → ⊥
   pub group : (v x n p : ℕ) → tests .group v x ≡ Refused n p → n ≡ 16 → ⊥
 
-abbrev pub Accepted : Tests → Said → List ℕ → Type 0
+abbrev pub Accepted : Tests → SurveyContent → List ℕ → Type 0
 Accepted tests = Rendered (Passes countDigits (tests .vertices)) (Passes countDigits (tests .edges)) (λ v. Passes groupDigits (tests .group v))
 
-abbrev pub Formed : Said → List ℕ → Type 0
+abbrev pub Formed : SurveyContent → List ℕ → Type 0
 Formed = Rendered (OfDigits countDigits) (OfDigits countDigits) (λ v. OfDigits groupDigits)
 
-pub reads-said : (tests : Tests) → Sparing tests → Reads (saidAt tests) (Accepted tests) Formed
-unfolding saidAt countLine groupLines groupLine edgeLines
-reads-said tests h =
+pub reads-content : (tests : Tests) → NeverMalformed tests → Reads (contentAt tests) (Accepted tests) Formed
+unfolding contentAt countLine groupLines groupLine edgeLines
+reads-content tests h =
     reads-as (λ t at. refl) (to _ _ _) (from _ _ _) (to _ _ _) (from _ _ _)
     (reads-then (reads-tested nodesKey countDigits (omega arith) (tests .vertices) (h .vertices)) λ n.
     reads-then (reads-tested linksKey countDigits (omega arith) (tests .edges) (h .edges)) λ m.
@@ -138,16 +138,16 @@ reads-said tests h =
     reads-value (record { counts = record { vertices = n; edges = m }; groups = gs; edges = es }))
 
 -- The groups and the edges from an offset on, and what is read behind them.
-abbrev pub linesThen : {B : Type 0} → Tests → List ℕ → (Said → ℕ → Step B) → Counts → ℕ → Step B
+abbrev pub linesThen : {B : Type 0} → Tests → List ℕ → (SurveyContent → ℕ → Step B) → Counts → ℕ → Step B
 linesThen tests t last c p =
     let gs = groupLines (tests .group) t (c .vertices) p in
     let es = linesAfter (gs .end) (edgeLines t (c .edges)) in
     es .end then λ z q. last (record { counts = c; groups = gs .values; edges = es .values }) q
 
 -- What is read behind the lines of a survey is read behind what they say.
-pub said-then : {B : Type 0} (tests : Tests) (t : List ℕ) (last : Said → ℕ → Step B) → (countsAt tests t then linesThen tests t last) ≡ (saidAt tests t 0 then last)
-unfolding saidAt countsAt linesAfter whole _then_
-said-then tests t last = by-vertices (countLine nodesKey (tests .vertices) t 0)
+pub content-then : {B : Type 0} (tests : Tests) (t : List ℕ) (last : SurveyContent → ℕ → Step B) → (countsAt tests t then linesThen tests t last) ≡ (contentAt tests t 0 then last)
+unfolding contentAt countsAt linesAfter whole _then_
+content-then tests t last = by-vertices (countLine nodesKey (tests .vertices) t 0)
   where
     by-edges : (c : Counts) (gs : List ℕ) (es : List Edge) (s : Step ℕ)
         → (s then λ z q. last (record { counts = c; groups = gs; edges = es }) q) ≡ (((s then λ z p. found es p) then λ l q. found (record { counts = c; groups = gs; edges = l }) q) then last)
@@ -182,8 +182,8 @@ said-then tests t last = by-vertices (countLine nodesKey (tests .vertices) t 0)
     by-vertices (refused i p) = refl
 
 -- A survey's text, read to its end.
-pub said-survey : (tests : Tests) (t : List ℕ) → surveyAt tests t ≡ (saidAt tests t 0 then λ x p. endAt t p then λ z q. found (surveyOf (x .counts) (x .groups) (x .edges)) q)
+pub content-survey : (tests : Tests) (t : List ℕ) → surveyAt tests t ≡ (contentAt tests t 0 then λ x p. endAt t p then λ z q. found (surveyOf (x .counts) (x .groups) (x .edges)) q)
 unfolding surveyAt bodyAt linesOf
-said-survey tests t =
+content-survey tests t =
     ap (λ k. countsAt tests t then k) (fun-ext (λ c. fun-ext (λ p. then-then (linesAfter (groupLines (tests .group) t (c .vertices) p .end) (edgeLines t (c .edges)) .end) _ _)))
-    ∙ said-then tests t (λ x p. endAt t p then λ z q. found (surveyOf (x .counts) (x .groups) (x .edges)) q)
+    ∙ content-then tests t (λ x p. endAt t p then λ z q. found (surveyOf (x .counts) (x .groups) (x .edges)) q)

@@ -16,7 +16,7 @@ use Rattle.format_write.specs.Text.{lineOf, listed, countLines}
 use Rattle.format_number.specs.Number.{isDigit, classOf, numberAt, numberTo, numberText, numberLine, OfDigits}
 use Rattle.format_number.specs.Laws.Digits.{Digits, one}
 use Rattle.format_number.specs.Laws.Decimal.{decimal-numeral}
-use Rattle.format_number.specs.Laws.Keyed.{newline-no-digit, comma-no-digit, keyed-back, number-back}
+use Rattle.format_number.specs.Laws.Keyed.{newline-no-digit, comma-no-digit, keyed-reads-back, number-reads-back}
 use Rattle.format_plan_lines.specs.Laws.Tests.{kept-fine, risen-next, dual-fine}
 use Rattle.format_plan_lines.specs.Lines.{keptTest, keepLine, keepReader, separator, memberNumbers, memberAt, risen, memberReader, membersAt, PrintedDual, dualTest, dualHead, listedDual, dualLineAt, dualReader, dualsAt, keptAt}
 use Rattle.format_plan.specs.Plan.{Claims, claimsAt, bodyAt, Plan, planAt}
@@ -24,49 +24,45 @@ use Rattle.format_grammar.specs.Bytes.{byteIs}
 use Rattle.format_grammar.specs.Items.{Standing, stop, item}
 use Rattle.format_grammar.specs.Language.{Each, none, more}
 use Rattle.format_grammar.specs.Laws.Bytes.{byte-is, byte-inside, reads-fixed, other-byte}
-use Rattle.format_grammar.specs.Laws.Items.{items-back}
+use Rattle.format_grammar.specs.Laws.Items.{items-reads-back}
 use Rattle.format_grammar.specs.Laws.Stands.{stands-append, stands-first, stands-second, stands-head}
 use Rattle.format_grammar.specs.Laws.Step.{then-found}
 use Rattle.format_grammar.specs.Lines.{Lines, linesAfter, textOf}
 use Rattle.format_grammar.specs.Stands.{Stands}
 use Rattle.format_grammar.specs.Step.{found, _then_, checked}
+use Rattle.format_plan.specs.WellFormed.{Rising, ended, rising, dualText, DualDigits, Printed, ClaimDigits, claimsText, planWords, Printable}
 
 -- A line of a key and a number, where it stands.
-pub value-back : (key : List ℕ) (limit : ℕ) (t : List ℕ) (at x : ℕ) → 1 ≤ limit → x < 10 ^ limit → Stands t at (lineOf key x)
+pub value-reads-back : (key : List ℕ) (limit : ℕ) (t : List ℕ) (at x : ℕ) → 1 ≤ limit → x < 10 ^ limit → Stands t at (lineOf key x)
     → numberLine key limit t at ≡ found x (at + length (lineOf key x))
 unfolding numberLine lineOf numberText
-value-back key limit t at x pos h s =
+value-reads-back key limit t at x pos h s =
     let e : key ++ decimal x ++ (newline ∷ []) ≡ key ++ numberText newline x = append-assoc key (decimal x) (newline ∷ []) in
-    keyed-back key limit newline t at x pos h newline-no-digit (subst (Stands t at) e s) ∙ ap (λ (w : List ℕ). found x (at + length w)) (sym e)
-
--- Tracks below m that rise, the first not below low.
-pub data Rising (m : ℕ) : (low : ℕ) → List ℕ → Type 0 where
-  ended : {low : ℕ} → Rising m low []
-  rising : {low e : ℕ} {es : List ℕ} → low ≤ e → e < m → Rising m (e + 1) es → Rising m low (e ∷ es)
+    keyed-reads-back key limit newline t at x pos h newline-no-digit (subst (Stands t at) e s) ∙ ap (λ (w : List ℕ). found x (at + length w)) (sym e)
 
 -- A keep line where it stands: a line begins there, and only the test of its track is left.
-pub keep-line-back : (t : List ℕ) (m low i at e : ℕ) → OfDigits keptDigits e → Stands t at (lineOf keptKey e)
+pub keep-line-reads-back : (t : List ℕ) (m low i at e : ℕ) → OfDigits keptDigits e → Stands t at (lineOf keptKey e)
     → (keepReader t m .stop at ≡ false) × (keepLine t m low i at ≡ checked (keptTest m low i e) e (at + length (lineOf keptKey e)))
 unfolding keepReader keepLine lineOf keptKey
-keep-line-back t m low i at e h s =
+keep-line-reads-back t m low i at e h s =
     let f = s .fits in
     let here : byteIs t at (code "k") ≡ true = byte-is t at (code "k") (omega arith) (stands-head s) in
-    (ap not here, then-found (λ x p. checked (keptTest m low i x) x p) (value-back keptKey keptDigits t at e (omega arith) h s))
+    (ap not here, then-found (λ x p. checked (keptTest m low i x) x p) (value-reads-back keptKey keptDigits t at e (omega arith) h s))
 
 -- Keep lines, where the byte behind them begins none.
-pub keep-back : (t : List ℕ) (m : ℕ) → m ≤ 10 ^ keptDigits → {low : ℕ} {ks : List ℕ} → Rising m low ks → (i at end : ℕ) → Stands t at (textOf (lineOf keptKey) ks)
+pub keep-reads-back : (t : List ℕ) (m : ℕ) → m ≤ 10 ^ keptDigits → {low : ℕ} {ks : List ℕ} → Rising m low ks → (i at end : ℕ) → Stands t at (textOf (lineOf keptKey) ks)
     → end ≡ at + length (textOf (lineOf keptKey) ks) → byteIs t end (code "k") ≡ false → (last : ℕ) × Standing (keepReader t m) low i at ks last end
 unfolding keepReader textOf checked
-keep-back t m few {low} ended i at end s q e =
+keep-reads-back t m few {low} ended i at end s q e =
     let same : end ≡ at = omega arith in
     (low, subst (λ (z : ℕ). Standing (keepReader t m) low i at [] low z) (sym same) (stop (ap not (subst (λ (z : ℕ). byteIs t z (code "k") ≡ false) same e))))
-keep-back t m few {low} (rising {e = e} {es = es} h k r) i at end s q f =
+keep-reads-back t m few {low} (rising {e = e} {es = es} h k r) i at end s q f =
     let line = lineOf keptKey e in
     let a : Stands t at line = stands-first line (textOf (lineOf keptKey) es) s in
     let b : Stands t (at + length line) (textOf (lineOf keptKey) es) = stands-second line (textOf (lineOf keptKey) es) s in
-    let w = keep-line-back t m low i at e (omega arith) a in
+    let w = keep-line-reads-back t m low i at e (omega arith) a in
     let l = length-append line (textOf (lineOf keptKey) es) in
-    let rest = keep-back t m few r (i + 1) (at + length line) end b (omega arith) f in
+    let rest = keep-reads-back t m few r (i + 1) (at + length line) end b (omega arith) f in
     (rest .0, item (w .0) (w .1 ∙ ap (λ (x : Verdict). checked x e (at + length line)) (kept-fine m low i e h k)) (rest .1))
 
 -- Members behind the first, each after a comma.
@@ -128,14 +124,14 @@ no-end zero t at v s = by-digits (decimal v) s (decimal-numeral v .digits) (deci
 no-end (suc i) t at v s = other-byte t at comma newline (stands-head s) (λ q. omega arith)
 
 -- Members, where their line ends behind them.
-pub members-back : (t : List ℕ) {vs : List ℕ} → Each (OfDigits memberDigits) vs → (low i at end : ℕ) → Stands t at (memberText i vs ++ (newline ∷ []))
+pub members-reads-back : (t : List ℕ) {vs : List ℕ} → Each (OfDigits memberDigits) vs → (low i at end : ℕ) → Stands t at (memberText i vs ++ (newline ∷ []))
     → end ≡ at + length (memberText i vs) → (last : ℕ) × Standing (memberReader t) low i at vs last end
 unfolding memberReader memberAt memberText numberText
-members-back t none low i at end s q =
+members-reads-back t none low i at end s q =
     let same : at ≡ end = omega arith in
     let f = s .fits in
     (low, subst (λ (z : ℕ). Standing (memberReader t) low i at [] low z) same (stop (byte-is t at newline (omega arith) (stands-head s))))
-members-back t (more {a = v} {l = vs} h r) low i at end s q =
+members-reads-back t (more {a = v} {l = vs} h r) low i at end s q =
     let R = followers vs ++ (newline ∷ []) in
     let p = at + length (separator i) in
     let e : separator i ++ decimal v ++ followers vs ++ (newline ∷ []) ≡ separator i ++ decimal v ++ R = append-assoc (separator i ++ decimal v) (followers vs) (newline ∷ []) in
@@ -149,14 +145,14 @@ members-back t (more {a = v} {l = vs} h r) low i at end s q =
     let l₁ : at + length (separator i ++ decimal v) ≡ p + length (decimal v) = omega arith in
     let rest′ : Stands t (p + length (decimal v)) (n .0 ∷ n .1) = subst (λ (x : ℕ). Stands t x (n .0 ∷ n .1)) l₁ (subst (Stands t (at + length (separator i ++ decimal v))) (n .2) rest) in
     let y′ : Stands t p (numberText (n .0) v) = stands-append (decimal v) (n .0 ∷ []) y (stands-first (n .0 ∷ []) (n .1) rest′) in
-    let x = number-back memberDigits (n .0) t p v (omega arith) h (n .3) y′ in
+    let x = number-reads-back memberDigits (n .0) t p v (omega arith) h (n .3) y′ in
     let f = reads-fixed (separator i) .complete t at 0 (separator i) (record { value = refl; word = refl }) z in
     let w = length-append (separator i ++ decimal v) (followers vs) in
     let m = later-text i vs in
     let lm : length (memberText (i + 1) vs) ≡ length (followers vs) = ap length m in
     let text : Stands t (p + length (decimal v)) (memberText (i + 1) vs ++ (newline ∷ [])) =
     subst (λ (g : List ℕ). Stands t (p + length (decimal v)) (g ++ (newline ∷ []))) (sym m) (subst (λ (g : ℕ). Stands t g R) l₁ rest) in
-    let tail = members-back t r (risen low v) (i + 1) (p + length (decimal v)) end text (omega arith) in
+    let tail = members-reads-back t r (risen low v) (i + 1) (p + length (decimal v)) end text (omega arith) in
     (tail .0, item (no-end i t at v a) (then-found (λ z q. numberAt memberDigits t q) f ∙ x) (tail .1))
 
 rising-small : {low : ℕ} {vs : List ℕ} → Rising memberNumbers low vs → Each (OfDigits memberDigits) vs
@@ -170,24 +166,15 @@ rising-last t few ended (stop e) = few
 rising-last t {low} {i} {at} {last} {end} few (rising {e = v} {es = vs} h k r) (item {next = next} e f s) =
     rising-last t (omega arith) r (subst (λ (g : ℕ). Standing (memberReader t) g (i + 1) next vs last end) (risen-next low v h k) s)
 
--- A moat line as it is printed.
-unfoldable pub dualText : PrintedDual → List ℕ
-dualText d = dualKey ++ decimal (d .value) ++ (colon ∷ []) ++ listed (d .members) ++ (newline ∷ [])
-
 pub colon-ends : isDigit (classOf colon) ≡ false
 unfolding isDigit classOf
 colon-ends = refl
 
-head-back : (t : List ℕ) (at x : ℕ) → OfDigits valueDigits x → Stands t at (dualKey ++ decimal x ++ (colon ∷ [])) → dualHead t at ≡ found x (at + length (dualKey ++ decimal x ++ (colon ∷ [])))
+head-reads-back : (t : List ℕ) (at x : ℕ) → OfDigits valueDigits x → Stands t at (dualKey ++ decimal x ++ (colon ∷ [])) → dualHead t at ≡ found x (at + length (dualKey ++ decimal x ++ (colon ∷ [])))
 unfolding dualHead numberTo numberText
-head-back t at x h s =
+head-reads-back t at x h s =
     let e : dualKey ++ decimal x ++ (colon ∷ []) ≡ dualKey ++ numberText colon x = append-assoc dualKey (decimal x) (colon ∷ []) in
-    keyed-back dualKey valueDigits colon t at x (omega arith) h colon-ends (subst (Stands t at) e s) ∙ ap (λ (w : List ℕ). found x (at + length w)) (sym e)
-
--- A moat whose numbers fit its line.
-pub record DualDigits (d : PrintedDual) : Type 0 where
-  pub value : OfDigits valueDigits (d .value)
-  pub members : Each (OfDigits memberDigits) (d .members)
+    keyed-reads-back dualKey valueDigits colon t at x (omega arith) h colon-ends (subst (Stands t at) e s) ∙ ap (λ (w : List ℕ). found x (at + length w)) (sym e)
 
 -- A moat line where it stands: its members are read, and only the test of what they leave is left.
 pub record DualStands (t : List ℕ) (i at : ℕ) (d : PrintedDual) : Type 0 where
@@ -197,9 +184,9 @@ pub record DualStands (t : List ℕ) (i at : ℕ) (d : PrintedDual) : Type 0 whe
   pub members : Standing (memberReader t) 0 0 from (d .members) last end
   pub line : dualLineAt t i at ≡ checked (dualTest i last) d (at + length (dualText d))
 
-pub dual-line-back : (t : List ℕ) (i at : ℕ) (d : PrintedDual) → DualDigits d → Stands t at (dualText d) → DualStands t i at d
+pub dual-line-reads-back : (t : List ℕ) (i at : ℕ) (d : PrintedDual) → DualDigits d → Stands t at (dualText d) → DualStands t i at d
 unfolding dualText dualLineAt membersAt _then_
-dual-line-back t i at d p s =
+dual-line-reads-back t i at d p s =
     let H = dualKey ++ decimal (d .value) ++ (colon ∷ []) in
     let M = memberText 0 (d .members) in
     let x = listed-text (d .members) in
@@ -208,13 +195,13 @@ dual-line-back t i at d p s =
     let a = stands-first H (M ++ (newline ∷ [])) s′ in
     let b = stands-second H (M ++ (newline ∷ [])) s′ in
     let c = at + length H in
-    let ms = members-back t (p .members) 0 0 c (c + length M) b refl in
+    let ms = members-reads-back t (p .members) 0 0 c (c + length M) b refl in
     let f = b .fits in
     let l = members-long 0 (d .members) in
     let n = length-append M (newline ∷ []) in
     let o = length-append H (M ++ (newline ∷ [])) in
     let u : length (H ++ listed (d .members) ++ (newline ∷ [])) ≡ length (H ++ (M ++ (newline ∷ []))) = ap length e in
-    let g = items-back (memberReader t) (length t) (omega arith) (ms .1) in
+    let g = items-reads-back (memberReader t) (length t) (omega arith) (ms .1) in
     let q : c + length M + 1 ≡ at + length (H ++ listed (d .members) ++ (newline ∷ [])) = omega arith in
     record {
       from = c;
@@ -222,20 +209,15 @@ dual-line-back t i at d p s =
       end = c + length M;
       members = ms .1;
       line =
-          then-found (λ amount k. membersAt t k .end then λ low y. checked (dualTest i low) (listedDual t amount k) (y + 1)) (head-back t at (d .value) (p .value) a)
+          then-found (λ amount k. membersAt t k .end then λ low y. checked (dualTest i low) (listedDual t amount k) (y + 1)) (head-reads-back t at (d .value) (p .value) a)
           ∙ ap (λ (L : Lines ℕ ℕ). L .end then λ low y. checked (dualTest i low) (record { value = d .value; members = L .values }) (y + 1)) g
           ∙ ap (λ (k : ℕ). checked (dualTest i (ms .0)) d k) q;
     }
 
--- A moat that fits its line.
-pub record Printed (d : PrintedDual) : Type 0 where
-  pub small : OfDigits valueDigits (d .value)
-  pub rises : Rising memberNumbers 0 (d .members)
-
-pub dual-back : (t : List ℕ) (i at : ℕ) (d : PrintedDual) → Printed d → i < maxDuals → Stands t at (dualText d) → dualLineAt t i at ≡ found d (at + length (dualText d))
+pub dual-reads-back : (t : List ℕ) (i at : ℕ) (d : PrintedDual) → Printed d → i < maxDuals → Stands t at (dualText d) → dualLineAt t i at ≡ found d (at + length (dualText d))
 unfolding checked
-dual-back t i at d p few s =
-    let m = dual-line-back t i at d (record { value = p .small; members = rising-small (p .rises) }) s in
+dual-reads-back t i at d p few s =
+    let m = dual-line-reads-back t i at d (record { value = p .small; members = rising-small (p .rises) }) s in
     m .line ∙ ap (λ (v : Verdict). checked v d (at + length (dualText d))) (dual-fine i (m .last) (rising-last t (omega arith) (p .rises) (m .members)) few)
 
 -- Every line has a byte, so that there are no more lines than bytes.
@@ -257,33 +239,23 @@ unfolding dualText
 dual-some d = let n = length-append (dualKey ++ decimal (d .value) ++ (colon ∷ []) ++ listed (d .members)) (newline ∷ []) in omega arith
 
 -- Moat lines that stand to the end of the text.
-pub duals-back : (t : List ℕ) {ds : List PrintedDual} → Each Printed ds → (low i at : ℕ) → i + length ds ≤ maxDuals → Stands t at (textOf dualText ds) → at + length (textOf dualText ds) ≡ length t
+pub duals-reads-back : (t : List ℕ) {ds : List PrintedDual} → Each Printed ds → (low i at : ℕ) → i + length ds ≤ maxDuals → Stands t at (textOf dualText ds) → at + length (textOf dualText ds) ≡ length t
     → (last : ℕ) × Standing (dualReader t) low i at ds last (length t)
 unfolding dualReader textOf
-duals-back t none low i at few s q =
+duals-reads-back t none low i at few s q =
     let same : at ≡ length t = omega arith in
     (low, subst (λ (z : ℕ). Standing (dualReader t) low i at [] low z) same (stop (le-leb (length t) at (omega arith))))
-duals-back t (more {a = d} {l = ds} p r) low i at few s q =
+duals-reads-back t (more {a = d} {l = ds} p r) low i at few s q =
     let a = stands-first (dualText d) (textOf dualText ds) s in
     let b = stands-second (dualText d) (textOf dualText ds) s in
     let n = length-append (dualText d) (textOf dualText ds) in
     let k = dual-some d in
-    let rest = duals-back t r (low + 1) (i + 1) (at + length (dualText d)) (omega arith) b (omega arith) in
-    (rest .0, item (lt-leb (length t) at (omega arith)) (dual-back t i at d p (omega arith) a) (rest .1))
+    let rest = duals-reads-back t r (low + 1) (i + 1) (at + length (dualText d)) (omega arith) b (omega arith) in
+    (rest .0, item (lt-leb (length t) at (omega arith)) (dual-reads-back t i at d p (omega arith) a) (rest .1))
 
--- Counts that fit their lines.
-pub record ClaimDigits (c : Claims) : Type 0 where
-  pub terminals : OfDigits figureDigits (c .terminals)
-  pub cost : OfDigits figureDigits (c .cost)
-  pub bound : OfDigits figureDigits (c .bound)
-  pub rounds : OfDigits figureDigits (c .rounds)
-
-unfoldable pub claimsText : Claims → List ℕ
-claimsText c = countLines (c .terminals) (c .cost) (c .bound) (c .rounds)
-
-pub claims-back : (t : List ℕ) (at : ℕ) (c : Claims) → ClaimDigits c → Stands t at (claimsText c) → claimsAt t at ≡ found c (at + length (claimsText c))
+pub claims-reads-back : (t : List ℕ) (at : ℕ) (c : Claims) → ClaimDigits c → Stands t at (claimsText c) → claimsAt t at ≡ found c (at + length (claimsText c))
 unfolding claimsAt claimsText countLines _then_
-claims-back t at c few s =
+claims-reads-back t at c few s =
     let K = lineOf terminalsKey (c .terminals) in
     let C = lineOf costKey (c .cost) in
     let B = lineOf boundKey (c .bound) in
@@ -296,21 +268,11 @@ claims-back t at c few s =
     let e₂ : at + length (K ++ C) ≡ at + length K + length C = omega arith in
     let e₃ : at + length (K ++ C ++ B) ≡ at + length K + length C + length B = omega arith in
     let e₄ : at + length K + length C + length B + length R ≡ at + length (K ++ C ++ B ++ R) = omega arith in
-    let k = value-back terminalsKey figureDigits t at (c .terminals) (omega arith) (few .terminals) (stands-first K C s₂) in
-    let x = value-back costKey figureDigits t (at + length K) (c .cost) (omega arith) (few .cost) (stands-second K C s₂) in
-    let y = value-back boundKey figureDigits t (at + length K + length C) (c .bound) (omega arith) (few .bound) (subst (λ (z : ℕ). Stands t z B) e₂ (stands-second (K ++ C) B s₃)) in
-    let r = value-back roundsKey figureDigits t (at + length K + length C + length B) (c .rounds) (omega arith) (few .rounds) (subst (λ (z : ℕ). Stands t z R) e₃ (stands-second (K ++ C ++ B) R s)) in
+    let k = value-reads-back terminalsKey figureDigits t at (c .terminals) (omega arith) (few .terminals) (stands-first K C s₂) in
+    let x = value-reads-back costKey figureDigits t (at + length K) (c .cost) (omega arith) (few .cost) (stands-second K C s₂) in
+    let y = value-reads-back boundKey figureDigits t (at + length K + length C) (c .bound) (omega arith) (few .bound) (subst (λ (z : ℕ). Stands t z B) e₂ (stands-second (K ++ C) B s₃)) in
+    let r = value-reads-back roundsKey figureDigits t (at + length K + length C + length B) (c .rounds) (omega arith) (few .rounds) (subst (λ (z : ℕ). Stands t z R) e₃ (stands-second (K ++ C ++ B) R s)) in
     rw (k, x, y, r) (ap (λ (z : ℕ). found c z) e₄)
-
--- A plan as it is printed, and what makes it fit: counts of ten digits, tracks that rise below m, moats that rise and are few.
-unfoldable pub planWords : Plan → List ℕ
-planWords p = claimsText (p .claims) ++ textOf (lineOf keptKey) (p .kept) ++ textOf dualText (p .duals)
-
-pub record Printable (m : ℕ) (p : Plan) : Type 0 where
-  pub few : ClaimDigits (p .claims)
-  pub kept : Rising m 0 (p .kept)
-  pub duals : Each Printed (p .duals)
-  pub count : length (p .duals) ≤ maxDuals
 
 -- No keep line begins where the moats do.
 pub no-keep : (t : List ℕ) (ds : List PrintedDual) (at : ℕ) → Stands t at (textOf dualText ds) → at + length (textOf dualText ds) ≡ length t → byteIs t at (code "k") ≡ false
@@ -330,9 +292,9 @@ claims-some c =
     omega arith
 
 -- A printed plan that stands at the end of a text is read back.
-pub plan-back : (t : List ℕ) (m at : ℕ) (p : Plan) → m ≤ 10 ^ keptDigits → Printable m p → Stands t at (planWords p) → at + length (planWords p) ≡ length t → planAt t m at ≡ found p (length t)
+pub plan-reads-back : (t : List ℕ) (m at : ℕ) (p : Plan) → m ≤ 10 ^ keptDigits → Printable m p → Stands t at (planWords p) → at + length (planWords p) ≡ length t → planAt t m at ≡ found p (length t)
 unfolding planAt bodyAt planWords keptAt dualsAt _then_ linesAfter
-plan-back t m at p few w s q =
+plan-reads-back t m at p few w s q =
     let C = claimsText (p .claims) in
     let K = textOf (lineOf keptKey) (p .kept) in
     let D = textOf dualText (p .duals) in
@@ -343,15 +305,15 @@ plan-back t m at p few w s q =
     let y = at + length (C ++ K) in
     let f = s .fits in
     let d = stands-second (C ++ K) D s in
-    let c = claims-back t at (p .claims) (w .few) (stands-first C K a) in
-    let ks = keep-back t m few (w .kept) 0 x y (stands-second C K a) (omega arith) (no-keep t (p .duals) y d (omega arith)) in
+    let c = claims-reads-back t at (p .claims) (w .few) (stands-first C K a) in
+    let ks = keep-reads-back t m few (w .kept) 0 x y (stands-second C K a) (omega arith) (no-keep t (p .duals) y d (omega arith)) in
     let few-duals = w .count in
-    let ds = duals-back t (w .duals) 0 0 y (omega arith) d (omega arith) in
+    let ds = duals-reads-back t (w .duals) 0 0 y (omega arith) d (omega arith) in
     let n₁ = lines-long (lineOf keptKey) (line-some keptKey) (p .kept) in
     let n₂ = lines-long dualText dual-some (p .duals) in
     let n₃ = claims-some (p .claims) in
-    let g = items-back (keepReader t m) (length t) (omega arith) (ks .1) in
-    let h = items-back (dualReader t) (length t) (omega arith) (ds .1) in
+    let g = items-reads-back (keepReader t m) (length t) (omega arith) (ks .1) in
+    let h = items-reads-back (dualReader t) (length t) (omega arith) (ds .1) in
     then-found _ c
     ∙ ap (λ (k : Lines ℕ ℕ). let l = linesAfter (k .end) (dualsAt t) in l .end then λ count z. found (record { claims = p .claims; kept = k .values; duals = l .values }) z) g
     ∙ ap (λ (l : Lines ℕ PrintedDual). l .end then λ count z. found (record { claims = p .claims; kept = p .kept; duals = l .values }) z) h
