@@ -43,6 +43,32 @@ maxDuals = dualsOf maxVertices
 abbrev pub recordsRoom : ℕ
 recordsRoom = recordBytes * maxDuals
 
--- digits of a number in a text, at most
+-- digits of a number in a survey's text, at most: a count, a group, an end, a price
+abbrev pub countDigits : ℕ
+countDigits = 7
+
+abbrev pub groupDigits : ℕ
+groupDigits = 7
+
+abbrev pub endpointDigits : ℕ
+endpointDigits = 7
+
+abbrev pub weightDigits : ℕ
+weightDigits = 7
+
+-- digits of a number in a printed plan, at most: a figure (sites, cost, bound, rounds), a kept track, an amount, a member
+abbrev pub figureDigits : ℕ
+figureDigits = 10
+
+abbrev pub keptDigits : ℕ
+keptDigits = 7
+
+abbrev pub valueDigits : ℕ
+valueDigits = 7
+
+abbrev pub memberDigits : ℕ
+memberDigits = 7
+
+-- no number of a text has more digits
 abbrev pub maxDigits : ℕ
-maxDigits = 7
+maxDigits = figureDigits

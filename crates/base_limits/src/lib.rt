@@ -25,8 +25,26 @@ pub const MAX_DUALS: usize = 2 * MAX_VERTICES - 1;
 
 pub const RECORDS_ROOM: usize = RECORD_BYTES * MAX_DUALS;
 
-// Digits of a number in a text, at most.
-pub const MAX_DIGITS: usize = 7;
+// Digits of a number in a survey's text, at most: a count, a group, an endpoint, a weight.
+pub const COUNT_DIGITS: usize = 7;
+
+pub const GROUP_DIGITS: usize = 7;
+
+pub const ENDPOINT_DIGITS: usize = 7;
+
+pub const WEIGHT_DIGITS: usize = 7;
+
+// Digits of a number in a printed plan, at most: a figure (sites, cost, bound, rounds), a kept edge, a dual's value, a member.
+pub const FIGURE_DIGITS: usize = 10;
+
+pub const KEPT_DIGITS: usize = 7;
+
+pub const VALUE_DIGITS: usize = 7;
+
+pub const MEMBER_DIGITS: usize = 7;
+
+// No number of a text has more digits.
+pub const MAX_DIGITS: usize = FIGURE_DIGITS;
 
 // A refusal is its number and its place; `Fine` where none applies.
 pub enum Verdict {

@@ -1,3 +1,4 @@
 pub mod Verify
+pub mod Pair
 pub mod Answer
 pub mod Laws

@@ -7,20 +7,12 @@ use lib.Dec.{eqb}
 use Rattle.base_limits.specs.Limits.{maxVertices, maxEdges, recordBytes, maxDuals}
 use Rattle.base_limits.specs.Verdict.{refuseIf, _before_, Outcome, refusal, answer, outcome}
 use Rattle.base_limits.specs.declared.Verdict.{Verdict}
-use Rattle.format_number.specs.Step.{Step, found, refused, _then_}
-use Rattle.format_survey_lines.specs.Lines.{linesAfter}
-use Rattle.format_survey.specs.Reading.{Body, surveyOf, Survey as SurveyText}
-use Rattle.format_survey_lines.specs.Line.{Counts, Tests, testsFor, groupTest, groupLines, edgeLines, countsAt}
+use Rattle.format_grammar.specs.Step.{Step, found, refused, _then_}
+use Rattle.format_survey.specs.Reading.{surveyOf, SurveyText}
+use Rattle.format_survey_lines.specs.Line.{Counts, Tests, testsFor, countsAt, linesAt}
 use Rattle.survey_core.specs.Survey.{Survey, surveyFrom, edgeCount}
 use Rattle.check_rule.specs.Check.{Checked, checking}
-use Rattle.format_plan.specs.Plan.{Plan, planAt, withRoom, marksOf, moatRecords}
-
--- The lines of a survey after its counts, behind which more may follow.
-unfoldable pub linesAt : List ℕ → (vertices edges at : ℕ) → Body
-linesAt t vertices edges at =
-    let gs = groupLines groupTest t vertices at in
-    let es = linesAfter (gs .end) (edgeLines t edges) in
-    record { groups = gs .values; edges = es .values; end = es .end }
+use Rattle.format_plan.specs.Plan.{Plan, planAt, withRoom, marksOf, dualRecords}
 
 -- The survey of these counts, and the offset behind its lines.
 unfoldable pub surveyAt : List ℕ → Counts → (at : ℕ) → Step SurveyText
@@ -47,7 +39,7 @@ judged (answer c) terminals cost bound = outcome (claimTest c terminals cost bou
 unfoldable pub planVerified : Survey → Outcome Plan → Outcome Checked
 planVerified s (refusal number place) = refusal number place
 planVerified s (answer p) =
-    judged (checking s (marksOf (edgeCount s) (p .kept)) (moatRecords (p .moats))) (p .claims .terminals) (p .claims .cost) (p .claims .bound)
+    judged (checking s (marksOf (edgeCount s) (p .kept)) (dualRecords (p .duals))) (p .claims .terminals) (p .claims .cost) (p .claims .bound)
 
 -- The plan from an offset on, with room for every plan within the limits.
 unfoldable pub planFrom : List ℕ → Survey → (at : ℕ) → Outcome Plan

@@ -1,15 +1,13 @@
-// Checks a survey text with a printed plan behind it: the survey is read, then the plan, then the checker looks at both, and at last the
-// claimed counts are held against what it finds. Definitions in specs/.
+// Checks a survey text with a printed plan behind it: the survey is read, then the plan, then the checker looks at
+// both, and at last the claimed counts are held against what it finds. Definitions in specs/.
 ghost use Rattle.base_buffer.specs.Lent.{old, new};
 ghost use mathlib.Core.Path.{_≡_};
 ghost use Prim.Native.Nat.{_≤_};
 ghost use lib.ListN.{length};
 ghost use Rattle.base_limits.specs.Limits.{maxVertices, maxEdges};
-ghost use Rattle.format_number.specs.Answer.{numberStep};
-ghost use Rattle.format_survey.specs.Answer.{Stores};
 ghost use Rattle.survey_core.specs.Survey.{lentSurvey};
 ghost use Rattle.check_rule.specs.Check.{checking};
-ghost use Rattle.check_text.specs.Verify.{linesAt, surveyAt, judged, planVerified, planFrom, verifiedFrom, verifying};
+ghost use Rattle.check_text.specs.Verify.{surveyAt, judged, planVerified, planFrom, verifiedFrom, verifying};
 ghost use Rattle.check_text.specs.Answer.{verifiedOutcome};
 use base_limits::MAX_EDGES;
 use base_limits::MAX_VERTICES;
@@ -46,7 +44,9 @@ fn judge(
     cost: u64,
     bound: u64,
 ) -> Verified
-    ensures { λ r. ⌜ verifiedOutcome r ≡ judged (checking (lentSurvey groups firsts seconds weights) (old marks) (old records)) terminals cost bound ⌝ }
+    ensures { λ r.
+        let s = lentSurvey groups firsts seconds weights in
+        ⌜ verifiedOutcome r ≡ judged (checking s (old marks) (old records)) terminals cost bound ⌝ }
 {
     match check_core::check(groups, firsts, seconds, weights, marks, records) {
         Checking::Refused { number, place } => Verified::Refused { number, place },
@@ -92,7 +92,9 @@ fn verify_plan(
     weights: &[u32],
 ) -> Verified
     requires { ⌜ length (now firsts) ≤ maxEdges ⌝ }
-    ensures { λ r. ⌜ verifiedOutcome r ≡ planVerified (lentSurvey groups firsts seconds weights) (planFrom (old text) (lentSurvey groups firsts seconds weights) at) ⌝ }
+    ensures { λ r.
+        let s = lentSurvey groups firsts seconds weights in
+        ⌜ verifiedOutcome r ≡ planVerified s (planFrom (old text) s at) ⌝ }
 {
     let mut marks = [0u8; MAX_EDGES];
     let mut records = [0u8; RECORDS_ROOM];
@@ -104,9 +106,9 @@ fn verify_plan(
             cost,
             bound,
             rounds: _,
-            moats,
+            duals,
         } => {
-            let size = RECORD_BYTES * moats;
+            let size = RECORD_BYTES * duals;
             judge(
                 groups,
                 firsts,
@@ -122,36 +124,18 @@ fn verify_plan(
     }
 }
 
-// The lines of a survey after its counts; the values up to the first refusal go into the buffers, as far as these reach.
-fn survey_lines(
-    text: &[u8],
-    cursor: Cursor,
-    vertices: usize,
-    edges: usize,
-    groups: &mut [u8],
-    firsts: &mut [u32],
-    seconds: &mut [u32],
-    weights: &mut [u32],
-) -> Number
-    ensures { λ r. ⌜ Stores (linesAt (old text) vertices edges (cursor .at)) (numberStep r) (old groups) (new groups) (old firsts) (new firsts) (old seconds) (new seconds) (old weights) (new weights) ⌝ }
-{
-    let heads = format_survey_lines::group_lines(text, cursor, vertices, groups);
-    let Number::Value { value: _, next } = heads else {
-        return heads;
-    };
-    format_survey_lines::edge_lines(text, next, edges, firsts, seconds, weights)
-}
-
 // The lines of a survey after its counts, and the printed plan behind them.
 fn verify_lines(text: &[u8], cursor: Cursor, vertices: usize, edges: usize) -> Verified
     requires { ⌜ (vertices ≤ maxVertices) × (edges ≤ maxEdges) ⌝ }
-    ensures { λ r. ⌜ verifiedOutcome r ≡ verifiedFrom (old text) (surveyAt (old text) (record { vertices = vertices; edges = edges }) (cursor .at)) ⌝ }
+    ensures { λ r.
+        let survey = surveyAt (old text) (record { vertices = vertices; edges = edges }) (cursor .at) in
+        ⌜ verifiedOutcome r ≡ verifiedFrom (old text) survey ⌝ }
 {
     let mut groups = [0u8; MAX_VERTICES];
     let mut firsts = [0u32; MAX_EDGES];
     let mut seconds = [0u32; MAX_EDGES];
     let mut weights = [0u32; MAX_EDGES];
-    let step = survey_lines(
+    let step = format_survey_lines::survey_lines(
         text,
         cursor,
         vertices,

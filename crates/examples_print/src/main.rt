@@ -1,4 +1,4 @@
-// Prints document 01's plan of P3 from marks and records written by hand, moat lines, and what is refused.
+// Prints document 01's survey text of P3 and its plan from marks and records written by hand, moat lines, and what is refused.
 use format_print::Printed;
 
 fn write(out: &[u8], n: usize) {
@@ -18,6 +18,25 @@ fn show(out: &[u8], answer: Printed) {
             }
         }
     }
+}
+
+// P3's survey: three vertices, of which the ends have group 1, and two edges.
+fn survey() {
+    let groups = [1u8, 0u8, 1u8];
+    let firsts = [0u32, 1u32];
+    let seconds = [1u32, 2u32];
+    let weights = [3u32, 4u32];
+    let mut out = [0u8; 1024];
+    let answer = format_survey_print::print_survey(&groups, &firsts, &seconds, &weights, &mut out);
+    show(&out, answer);
+    let answer = format_survey_print::print_survey(
+        &groups,
+        &firsts,
+        &seconds,
+        &weights[0..1],
+        &mut out,
+    );
+    show(&out, answer);
 }
 
 // P3: two marks, and three records of 40 bytes: the amount's lowest byte and the first member byte of each.
@@ -72,6 +91,7 @@ fn cut() {
 }
 
 fn main() {
+    survey();
     plan();
     empty();
     exact();

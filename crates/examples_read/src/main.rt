@@ -1,6 +1,8 @@
 // Reads document 01's example texts and prints what each says, or its refusal.
 ghost use Prim.Native.Nat.{_≤_};
 ghost use lib.ListN.{length};
+use base_limits::MAX_EDGES;
+use base_limits::MAX_VERTICES;
 use format_survey::Reading;
 
 fn field(before: &[u8], n: u64) {
@@ -16,10 +18,10 @@ fn refused(n: u64, place: usize) {
 
 // The counts, the first three groups and the first two edges.
 fn show(text: &[u8]) {
-    let mut groups = [9u8; 256];
-    let mut firsts = [9u32; 2048];
-    let mut seconds = [9u32; 2048];
-    let mut weights = [9u32; 2048];
+    let mut groups = [9u8; MAX_VERTICES];
+    let mut firsts = [9u32; MAX_EDGES];
+    let mut seconds = [9u32; MAX_EDGES];
+    let mut weights = [9u32; MAX_EDGES];
     match format_survey::read(text, &mut groups, &mut firsts, &mut seconds, &mut weights) {
         Reading::Refused { number, place } => refused(number, place),
         Reading::Survey { vertices, edges } => {

@@ -3,7 +3,6 @@ pub mod Number
 pub mod Step
 pub mod Digits
 pub mod Decimal
-pub mod Stands
-pub mod Spells
 pub mod Words
 pub mod Keyed
+pub mod Near

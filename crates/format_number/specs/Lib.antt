@@ -1,4 +1,3 @@
-pub mod Step
 pub mod Number
 pub mod Answer
 pub mod Laws

@@ -1,17 +1,17 @@
 -- The parts of a line (document 01, 'Survey text and printed plan'): fixed bytes, and numbers of so many decimal digits with no
 -- leading zero. Past its end a text reads as 0, which is no byte of a well-formed text, so that a text that stops early is refused
 -- at its length.
-use Prim.Native.Nat.{ℕ, zero, suc, _+_, _*_, _-_}
+use Prim.Native.Nat.{ℕ, zero, suc, _+_, _*_, _-_, _^_, _<_}
 use mathlib.Core.Bool.{Bool, true, false, _&&_, cond}
 use mathlib.Core.List.{List, [], _∷_, _++_}
 use lib.ListN.{length, getD, take, drop}
-use lib.Dec.{eqb, ltb, leb}
-use Rattle.format_write.specs.Key.{comma, newline}
-use Rattle.format_number.specs.Step.{Step, found, refused, _then_}
+use lib.Dec.{eqb, leb}
+use Rattle.format_key.specs.Key.{comma, newline}
 use Rattle.format_number.specs.declared.Class.{Class}
 use Rattle.format_number.specs.declared.Class.the-variants.{Digit, LineEnd, Comma, Other}
-use Rattle.base_limits.specs.Limits.{maxDigits}
-use Rattle.format_write.specs.Decimal.{decimal}
+use Rattle.format_write.specs.Decimal.{decimal, spelledAfter}
+use Rattle.format_grammar.specs.Bytes.{fixedAt}
+use Rattle.format_grammar.specs.Step.{Step, found, refused, _then_}
 
 -- The digit 0.
 abbrev pub zeroDigit : ℕ
@@ -27,15 +27,6 @@ isDigit LineEnd = false
 isDigit Comma = false
 isDigit Other = false
 
--- The byte b stands at an offset.
-unfoldable pub byteIs : List ℕ → (at b : ℕ) → Bool
-byteIs t at b = ltb at (length t) && eqb (getD t at 0) b
-
--- Fixed bytes, whose value is 0.
-unfoldable pub fixedAt : (bytes t : List ℕ) → (at : ℕ) → Step ℕ
-fixedAt [] t at = found 0 at
-fixedAt (b ∷ bytes) t at = cond (byteIs t at b) (fixedAt bytes t (at + 1)) (refused 16 at)
-
 -- Where the digits from offset at on end, of which at most limit are taken.
 unfoldable pub digitsEnd : (limit : ℕ) → List ℕ → (at : ℕ) → ℕ
 digitsEnd zero t at = at
@@ -48,17 +39,12 @@ numeralEnd limit t at = cond (eqb (getD t at 0) zeroDigit) (at + 1) (digitsEnd l
 unfoldable pub numeralAt : (limit : ℕ) → List ℕ → (at : ℕ) → List ℕ
 numeralAt limit t at = take (numeralEnd limit t at - at) (drop at t)
 
--- The number that decimal digits write, the digits before them having written n.
-unfoldable pub decimalFrom : (n : ℕ) → List ℕ → ℕ
-decimalFrom n [] = n
-decimalFrom n (d ∷ ds) = decimalFrom (n * 10 + (d - zeroDigit)) ds
-
 -- A number of at most limit digits.
 unfoldable pub numberAt : (limit : ℕ) → List ℕ → (at : ℕ) → Step ℕ
 numberAt limit t at =
     cond (eqb (length (numeralAt limit t at)) 0)
     (refused 16 at)
-    (found (decimalFrom 0 (numeralAt limit t at)) (at + length (numeralAt limit t at)))
+    (found (spelledAfter 0 (numeralAt limit t at)) (at + length (numeralAt limit t at)))
 
 -- The byte that ends a number.
 unfoldable pub stopOf : (isComma : Bool) → ℕ
@@ -69,10 +55,18 @@ stopOf false = newline
 unfoldable pub numberTo : (limit stop : ℕ) → List ℕ → (at : ℕ) → Step ℕ
 numberTo limit stop t at = numberAt limit t at then λ n p. fixedAt (stop ∷ []) t p then λ z q. found n q
 
--- A line of a key and one number.
-unfoldable pub numberLine : (key t : List ℕ) → (at : ℕ) → Step ℕ
-numberLine key t at = fixedAt key t at then λ z p. numberTo maxDigits newline t p
+-- A line of a key and one number of at most limit digits.
+unfoldable pub numberLine : (key : List ℕ) (limit : ℕ) → List ℕ → (at : ℕ) → Step ℕ
+numberLine key limit t at = fixedAt key t at then λ z p. numberTo limit newline t p
 
 -- The text of a number and the byte that ends it.
 unfoldable pub numberText : (stop x : ℕ) → List ℕ
 numberText stop x = decimal x ++ (stop ∷ [])
+
+-- A number of at most limit digits.
+abbrev pub OfDigits : (limit x : ℕ) → Type 0
+OfDigits limit x = x < 10 ^ limit
+
+-- The bytes that a line of a key and a number can take.
+abbrev pub lineBytes : (key : List ℕ) (limit : ℕ) → ℕ
+lineBytes key limit = length key + (limit + 1)

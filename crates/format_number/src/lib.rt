@@ -1,10 +1,14 @@
-// Reads the bytes and numbers of a text: fixed bytes, a number with the byte that ends it, a line of a key and a number. Each step
-// answers a value with the next cursor, or a refusal.
+// Reads the bytes and numbers of a text: fixed bytes, a number with the byte that ends it, a line of a key and a
+// number. Each step answers a value with the next cursor, or a refusal.
 ghost use Rattle.base_buffer.specs.Lent.{old};
 ghost use mathlib.Core.Path.{_≡_};
 ghost use Prim.Native.Nat.{_-_, _≤_, min};
 ghost use lib.ListN.{length};
-ghost use Rattle.format_number.specs.Number.{classOf, digitsEnd, numeralEnd, numeralAt, decimalFrom, numberAt, byteIs, stopOf, fixedAt, numberTo, numberLine};
+ghost use Rattle.base_limits.specs.Limits.{maxDigits};
+ghost use Rattle.format_write.specs.Decimal.{spelledAfter};
+ghost use Rattle.format_number.specs.Number.{classOf, digitsEnd, numeralEnd, numeralAt, numberAt, stopOf};
+ghost use Rattle.format_number.specs.Number.{numberTo, numberLine};
+ghost use Rattle.format_grammar.specs.Bytes.{byteIs, fixedAt};
 ghost use Rattle.format_number.specs.Answer.{numberStep};
 use base_buffer::at8;
 use base_limits::MAX_DIGITS;
@@ -88,8 +92,8 @@ fn digit(b: u8) -> u64
 
 // The number that decimal digits write.
 fn value(digits: &[u8]) -> u64
-    requires { ⌜ length (now digits) ≤ 10 ⌝ }
-    ensures { λ r. ⌜ r ≡ decimalFrom 0 (old digits) ⌝ }
+    requires { ⌜ length (now digits) ≤ maxDigits ⌝ }
+    ensures { λ r. ⌜ r ≡ spelledAfter 0 (old digits) ⌝ }
 {
     let mut n: u64 = 0;
     let mut i = 0;
@@ -100,19 +104,19 @@ fn value(digits: &[u8]) -> u64
     n
 }
 
-// A digit limit, which is at most 10, so that a number fits.
+// A digit limit, with which a number fits.
 fn capped(limit: usize) -> usize
-    ensures { λ r. ⌜ r ≡ min limit 10 ⌝ }
+    ensures { λ r. ⌜ r ≡ min limit maxDigits ⌝ }
 {
-    if limit < 10 {
+    if limit < MAX_DIGITS {
         return limit;
     }
-    10
+    MAX_DIGITS
 }
 
 // The number of at most limit digits at the cursor.
 pub fn number_at(text: &[u8], cursor: Cursor, limit: usize) -> Number
-    ensures { λ r. ⌜ numberStep r ≡ numberAt (min limit 10) (old text) (cursor .at) ⌝ }
+    ensures { λ r. ⌜ numberStep r ≡ numberAt (min limit maxDigits) (old text) (cursor .at) ⌝ }
 {
     let at = cursor.at;
     let part = digits(text, at, capped(limit));
@@ -144,7 +148,7 @@ fn ends(text: &[u8], at: usize, comma: bool) -> bool
 
 // A number, and the byte that ends it.
 pub fn number_to(text: &[u8], cursor: Cursor, limit: usize, comma: bool) -> Number
-    ensures { λ r. ⌜ numberStep r ≡ numberTo (min limit 10) (stopOf comma) (old text) (cursor .at) ⌝ }
+    ensures { λ r. ⌜ numberStep r ≡ numberTo (min limit maxDigits) (stopOf comma) (old text) (cursor .at) ⌝ }
 {
     let step = number_at(text, cursor, limit);
     let Number::Value { value, next } = step else {
@@ -191,13 +195,13 @@ pub fn fixed(text: &[u8], cursor: Cursor, bytes: &[u8]) -> Number
     }
 }
 
-// A line of a key and one number.
-pub fn number_line(text: &[u8], cursor: Cursor, key: &[u8]) -> Number
-    ensures { λ r. ⌜ numberStep r ≡ numberLine (old key) (old text) (cursor .at) ⌝ }
+// A line of a key and one number of at most limit digits.
+pub fn number_line(text: &[u8], cursor: Cursor, key: &[u8], limit: usize) -> Number
+    ensures { λ r. ⌜ numberStep r ≡ numberLine (old key) (min limit maxDigits) (old text) (cursor .at) ⌝ }
 {
     let step = fixed(text, cursor, key);
     let Number::Value { value: _, next } = step else {
         return step;
     };
-    number_to(text, next, MAX_DIGITS, false)
+    number_to(text, next, limit, false)
 }

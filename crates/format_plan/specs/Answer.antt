@@ -5,12 +5,12 @@ use mathlib.Core.List.{List, _++_}
 use lib.ListN.{length, drop}
 use Rattle.base_limits.specs.Limits.{recordBytes}
 use Rattle.base_limits.specs.Verdict.{Outcome, refusal, answer}
-use Rattle.format_number.specs.Step.{Step, found, refused, _then_, checked}
-use Rattle.format_plan_lines.specs.Items.{puts}
-use Rattle.format_plan_lines.specs.Lines.{putMark, putMoat}
-use Rattle.format_plan.specs.Plan.{Claims, Plan, Body, marksOf, moatRecords, roomTest, marksAfter, recordsAfter}
+use Rattle.format_grammar.specs.Step.{Step, found, refused, _then_, checked, storedIf}
+use Rattle.format_grammar.specs.Items.{puts}
+use Rattle.format_plan_lines.specs.Lines.{putMark, putDual}
+use Rattle.format_plan.specs.Plan.{Claims, Plan, PlanLines, marksOf, dualRecords, roomTest, marksAfter, recordsAfter}
 use Rattle.format_plan.specs.declared.PlanText.{PlanText}
-use Rattle.format_plan.specs.declared.PlanText.the-variants.{Plan as PlanRead, Refused as PlanRefused}
+use Rattle.format_plan.specs.declared.PlanText.the-variants.{Plan as PlanFound, Refused as PlanRefused}
 use Rattle.format_plan.specs.declared.Claims.{Claims as ClaimsLines}
 use Rattle.format_plan.specs.declared.Claims.the-variants.{Found, Refused}
 
@@ -19,41 +19,36 @@ claimsStep (Found k c b r next) = found (record { terminals = k; cost = c; bound
 claimsStep (Refused number place) = refused number place
 
 -- What one pass over the lines after the counts answers and stores: as far as a buffer reaches.
-pub record Stores (b : Body) (step : Step ℕ) (marks marks′ records records′ : List ℕ) : Type 0 where
+pub record PlanStored (b : PlanLines) (step : Step ℕ) (marks marks′ records records′ : List ℕ) : Type 0 where
   pub end : step ≡ b .end
   pub intoMarks : marks′ ≡ puts putMark marks 0 (b .kept)
-  pub intoRecords : records′ ≡ puts putMoat records 0 (b .moats)
+  pub intoRecords : records′ ≡ puts putDual records 0 (b .duals)
 
 -- Where the lines after the counts end, once there is room for what they say.
-unfoldable pub roomed : Body → (m marks records : ℕ) → Step ℕ
+unfoldable pub roomed : PlanLines → (m marks records : ℕ) → Step ℕ
 roomed b m marks records = b .end then λ count next. checked (roomTest m count marks records) count next
 
--- What a buffer holds after a step: where that is refused, what it held.
-unfoldable pub storedIf : Step ℕ → (new old : List ℕ) → List ℕ
-storedIf (found z next) new old = new
-storedIf (refused number place) new old = old
-
 -- The same of two passes, of which only the second stores.
-pub record Fills (b : Body) (m : ℕ) (step : Step ℕ) (marks marks′ records records′ : List ℕ) : Type 0 where
+pub record PlanFilled (b : PlanLines) (m : ℕ) (step : Step ℕ) (marks marks′ records records′ : List ℕ) : Type 0 where
   pub end : step ≡ roomed b m (length marks) (length records)
   pub intoMarks : marks′ ≡ storedIf step (marksOf m (b .kept) ++ drop m marks) marks
-  pub intoRecords : records′ ≡ storedIf step (moatRecords (b .moats) ++ drop (recordBytes * length (b .moats)) records) records
+  pub intoRecords : records′ ≡ storedIf step (dualRecords (b .duals) ++ drop (recordBytes * length (b .duals)) records) records
 
 -- The answer of reading: the counts, and the number of moats.
 pub record Read : Type 0 where
   pub claims : Claims
-  pub moats : ℕ
+  pub duals : ℕ
 
 unfoldable pub planOutcome : PlanText → Outcome Read
-planOutcome (PlanRead k c b r moats) = answer (record { claims = record { terminals = k; cost = c; bound = b; rounds = r }; moats = moats })
+planOutcome (PlanFound k c b r duals) = answer (record { claims = record { terminals = k; cost = c; bound = b; rounds = r }; duals = duals })
 planOutcome (PlanRefused number place) = refusal number place
 
 unfoldable pub readOf : Outcome Plan → Outcome Read
 readOf (refusal number place) = refusal number place
-readOf (answer p) = answer (record { claims = p .claims; moats = length (p .moats) })
+readOf (answer p) = answer (record { claims = p .claims; duals = length (p .duals) })
 
 -- What reading a plan answers, and what each lent buffer, with its primed content at the end, then holds.
-pub record Reads (o : Outcome Plan) (m : ℕ) (read : Outcome Read) (marks marks′ records records′ : List ℕ) : Type 0 where
+pub record PlanRead (o : Outcome Plan) (m : ℕ) (read : Outcome Read) (marks marks′ records records′ : List ℕ) : Type 0 where
   pub answered : read ≡ readOf o
   pub intoMarks : marks′ ≡ marksAfter o m marks
   pub intoRecords : records′ ≡ recordsAfter o records

@@ -5,14 +5,16 @@ use mathlib.Core.List.{[], _∷_, _++_}
 use lib.Dec.{eqb}
 use Rattle.base_limits.specs.Verdict.{refuseIf, _before_}
 use Rattle.format_record.specs.Record.{recordOf}
-use Rattle.format_write.specs.Key.{ascii, terminalsKey, costKey, boundKey, roundsKey, keptKey, dualKey}
+use Rattle.format_key.specs.Key.{ascii, terminalsKey, costKey, boundKey, roundsKey, keptKey, dualKey}
 use Rattle.format_write.specs.Text.{planText}
 use Rattle.format_print.specs.Examples.{p3-printed}
-use Rattle.format_number.specs.Step.{found, checked, _then_}
-use Rattle.format_survey_lines.specs.Lines.{linesAfter}
-use Rattle.format_number.specs.Number.{classOf, isDigit, byteIs, fixedAt, digitsEnd, numeralEnd, numeralAt, decimalFrom, numberAt, numberTo}
-use Rattle.format_plan_lines.specs.Items.{following, itemsFrom}
-use Rattle.format_plan_lines.specs.Lines.{valueLine, keptTest, keepLine, keepReader, keptAt, separator, memberAt, risen, memberReader, membersAt, moatTest, moatHead, moatLine, moatReader, moatsAt}
+use Rattle.format_grammar.specs.Step.{found, checked, _then_}
+use Rattle.format_grammar.specs.Lines.{linesAfter, following}
+use Rattle.format_write.specs.Decimal.{spelledAfter}
+use Rattle.format_number.specs.Number.{classOf, isDigit, digitsEnd, numeralEnd, numeralAt, numberAt, numberTo, numberLine}
+use Rattle.format_grammar.specs.Bytes.{byteIs, fixedAt}
+use Rattle.format_grammar.specs.Items.{itemsFrom}
+use Rattle.format_plan_lines.specs.Lines.{keptTest, keepLine, keepReader, keptAt, separator, memberAt, risen, memberReader, membersAt, dualTest, dualHead, dualLineAt, dualReader, dualsAt}
 use Rattle.format_plan.specs.Plan.{Plan, claimsAt, bodyAt, planAt}
 
 -- What P3's plan says.
@@ -21,13 +23,13 @@ p3 =
     record {
       claims = record { terminals = 2; cost = 7; bound = 14; rounds = 2 };
       kept = 0 ∷ 1 ∷ [];
-      moats = record { value = 6; members = 0 ∷ [] } ∷ record { value = 7; members = 2 ∷ [] } ∷ record { value = 1; members = 0 ∷ 1 ∷ [] } ∷ [];
+      duals = record { value = 6; members = 0 ∷ [] } ∷ record { value = 7; members = 2 ∷ [] } ∷ record { value = 1; members = 0 ∷ 1 ∷ [] } ∷ [];
     }
 
 p3-said : planAt (ascii "sites=2\ncost=7\nbound=14\nrounds=2\nkeep=0\nkeep=1\nmoat=6:0\nmoat=7:2\nmoat=1:0,1\n") 2 0 ≡ found p3 76
 unfolding refuseIf _before_ terminalsKey costKey boundKey roundsKey keptKey dualKey _then_ checked linesAfter classOf isDigit byteIs fixedAt digitsEnd
-    numeralEnd numeralAt decimalFrom numberAt numberTo following itemsFrom valueLine claimsAt keptTest keepLine keepReader keptAt separator memberAt risen
-    memberReader membersAt moatTest moatHead moatLine moatReader moatsAt bodyAt planAt p3
+    numeralEnd numeralAt spelledAfter numberAt numberTo following itemsFrom numberLine claimsAt keptTest keepLine keepReader keptAt separator memberAt risen
+    memberReader membersAt dualTest dualHead dualLineAt dualReader dualsAt bodyAt planAt p3
 p3-said = refl
 
 pub p3-read-back : planAt
@@ -37,7 +39,7 @@ pub p3-read-back : planAt
     (record {
       claims = record { terminals = 2; cost = 7; bound = 14; rounds = 2 };
       kept = 0 ∷ 1 ∷ [];
-      moats = record { value = 6; members = 0 ∷ [] } ∷ record { value = 7; members = 2 ∷ [] } ∷ record { value = 1; members = 0 ∷ 1 ∷ [] } ∷ [];
+      duals = record { value = 6; members = 0 ∷ [] } ∷ record { value = 7; members = 2 ∷ [] } ∷ record { value = 1; members = 0 ∷ 1 ∷ [] } ∷ [];
     })
     76
 unfolding p3

@@ -2,9 +2,8 @@ pub mod Fill
 pub mod Reading
 pub mod Room
 pub mod Fuel
-pub mod Back
+pub mod RoundTrip
 pub mod Printed
-pub mod Listing
 pub mod Listed
 pub mod Accepted
 pub mod Malformed

@@ -1,4 +1,5 @@
 pub mod Plan
+pub mod WellFormed
 pub mod Examples
 pub mod Answer
 pub mod Laws

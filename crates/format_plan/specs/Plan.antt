@@ -5,14 +5,15 @@ use mathlib.Core.Bool.{_||_, cond}
 use mathlib.Core.List.{List, [], _∷_, _++_}
 use lib.ListN.{length, set, drop}
 use lib.Dec.{ltb}
+use Rattle.format_number.specs.Number.{numberLine}
 use Rattle.base_finite.specs.Below.{tabulate}
-use Rattle.base_limits.specs.Limits.{recordBytes}
+use Rattle.base_limits.specs.Limits.{recordBytes, figureDigits}
 use Rattle.base_limits.specs.Verdict.{refuseIf, Outcome, refusal, answer, outcome}
 use Rattle.base_limits.specs.declared.Verdict.{Verdict}
-use Rattle.format_write.specs.Key.{terminalsKey, costKey, boundKey, roundsKey}
-use Rattle.format_number.specs.Step.{Step, found, refused, _then_}
-use Rattle.format_survey_lines.specs.Lines.{linesAfter}
-use Rattle.format_plan_lines.specs.Lines.{countDigits, valueLine, keptAt, Moat, moatsAt, isIn, moatRecord}
+use Rattle.format_key.specs.Key.{terminalsKey, costKey, boundKey, roundsKey}
+use Rattle.format_grammar.specs.Step.{Step, found, refused, _then_}
+use Rattle.format_grammar.specs.Lines.{linesAfter}
+use Rattle.format_plan_lines.specs.Lines.{keptAt, PrintedDual, dualsAt, isIn, dualRecord}
 
 -- The counts that a plan claims: sites, cost and bound; and its rounds, which nothing decides.
 pub record Claims : Type 0 where
@@ -23,35 +24,35 @@ pub record Claims : Type 0 where
 
 unfoldable pub claimsAt : List ℕ → (at : ℕ) → Step Claims
 claimsAt t at =
-    valueLine terminalsKey countDigits t at then λ k a.
-    valueLine costKey countDigits t a then λ c b.
-    valueLine boundKey countDigits t b then λ y d.
-    valueLine roundsKey countDigits t d then λ r e.
+    numberLine terminalsKey figureDigits t at then λ k a.
+    numberLine costKey figureDigits t a then λ c b.
+    numberLine boundKey figureDigits t b then λ y d.
+    numberLine roundsKey figureDigits t d then λ r e.
     found (record { terminals = k; cost = c; bound = y; rounds = r }) e
 
 -- What a printed plan says.
 pub record Plan : Type 0 where
   pub claims : Claims
   pub kept : List ℕ
-  pub moats : List Moat
+  pub duals : List PrintedDual
 
 -- The lines after the counts, up to the first refusal; where they end, with the number of moats.
-pub record Body : Type 0 where
+pub record PlanLines : Type 0 where
   pub kept : List ℕ
-  pub moats : List Moat
+  pub duals : List PrintedDual
   pub end : Step ℕ
 
-unfoldable pub bodyAt : List ℕ → (m at : ℕ) → Body
+unfoldable pub bodyAt : List ℕ → (m at : ℕ) → PlanLines
 bodyAt t m at =
     let ks = keptAt t m at in
-    let ds = linesAfter (ks .end) (moatsAt t) in
-    record { kept = ks .values; moats = ds .values; end = ds .end }
+    let ds = linesAfter (ks .end) (dualsAt t) in
+    record { kept = ks .values; duals = ds .values; end = ds .end }
 
 unfoldable pub planAt : List ℕ → (m at : ℕ) → Step Plan
 planAt t m at =
     claimsAt t at then λ claims p.
     let body = bodyAt t m p in
-    body .end then λ count q. found (record { claims = claims; kept = body .kept; moats = body .moats }) q
+    body .end then λ count q. found (record { claims = claims; kept = body .kept; duals = body .duals }) q
 
 -- ---- marks and records
 
@@ -59,16 +60,16 @@ planAt t m at =
 unfoldable pub marksOf : (m : ℕ) (kept : List ℕ) → List ℕ
 marksOf m kept = tabulate m (λ e. cond (isIn kept e) 2 0)
 
-unfoldable pub moatRecords : List Moat → List ℕ
-moatRecords [] = []
-moatRecords (d ∷ ds) = moatRecord d ++ moatRecords ds
+unfoldable pub dualRecords : List PrintedDual → List ℕ
+dualRecords [] = []
+dualRecords (d ∷ ds) = dualRecord d ++ dualRecords ds
 
 -- 7 where a buffer is short, once the text is read: m marks and 40 bytes for each moat are wanted.
 unfoldable pub roomTest : (m count marks records : ℕ) → Verdict
 roomTest m count marks records = refuseIf (ltb marks m || ltb (records / recordBytes) count) 7 0
 
 unfoldable pub withRoom : Step Plan → (m : ℕ) (marks records : ℕ) → Outcome Plan
-withRoom (found plan next) m marks records = outcome (roomTest m (length (plan .moats)) marks records) plan
+withRoom (found plan next) m marks records = outcome (roomTest m (length (plan .duals)) marks records) plan
 withRoom (refused number place) m marks records = refusal number place
 
 -- Reading a printed plan of m tracks from an offset of a text on; of the lent buffers only the lengths matter.
@@ -82,7 +83,7 @@ marksAfter (answer plan) m marks = marksOf m (plan .kept) ++ drop m marks
 
 unfoldable pub recordsAfter : Outcome Plan → (records : List ℕ) → List ℕ
 recordsAfter (refusal number place) records = records
-recordsAfter (answer plan) records = moatRecords (plan .moats) ++ drop (recordBytes * length (plan .moats)) records
+recordsAfter (answer plan) records = dualRecords (plan .duals) ++ drop (recordBytes * length (plan .duals)) records
 
 -- The first m marks set to 0, one after another.
 unfoldable pub cleared : (m : ℕ) → List ℕ → List ℕ

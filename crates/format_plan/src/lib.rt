@@ -1,16 +1,15 @@
-// Reads a printed plan behind a survey text: the counts, the kept tracks, the moats. Definitions in specs/. Each step answers a value with
-// the next cursor, or a refusal.
+// Reads a printed plan behind a survey text: the counts, the kept tracks, the moats. Definitions in specs/. Each step
+// answers a value with the next cursor, or a refusal.
 ghost use Rattle.base_buffer.specs.Lent.{old, new};
 ghost use mathlib.Core.Path.{_≡_};
-ghost use Rattle.format_number.specs.Answer.{numberStep, stopped};
+ghost use Rattle.format_number.specs.Answer.{numberStep};
+ghost use Rattle.format_grammar.specs.Step.{stopped};
 ghost use Rattle.format_plan.specs.Plan.{bodyAt, claimsAt, cleared, planReading};
-ghost use Rattle.format_plan.specs.Answer.{Stores, Fills, Reads, claimsStep, planOutcome};
+ghost use Rattle.format_plan.specs.Answer.{PlanStored, PlanFilled, PlanRead, claimsStep, planOutcome};
+use base_limits::FIGURE_DIGITS;
 use base_limits::RECORD_BYTES;
 use format_number::Cursor;
 use format_number::Number;
-
-// Digits of a count of the plan, at most.
-const COUNT_DIGITS: usize = 10;
 
 // The counts that a plan claims, with the next cursor.
 pub enum Claims {
@@ -44,7 +43,7 @@ fn stopped_claims(step: Number) -> Claims
 fn claim_lines(text: &[u8], cursor: Cursor) -> Claims
     ensures { λ r. ⌜ claimsStep r ≡ claimsAt (old text) (cursor .at) ⌝ }
 {
-    let one = format_plan_lines::value_line(text, cursor, b"sites=", COUNT_DIGITS);
+    let one = format_number::number_line(text, cursor, &format_key::TERMINALS, FIGURE_DIGITS);
     let Number::Value {
         value: terminals,
         next: a,
@@ -52,7 +51,7 @@ fn claim_lines(text: &[u8], cursor: Cursor) -> Claims
     else {
         return stopped_claims(one);
     };
-    let two = format_plan_lines::value_line(text, a, b"cost=", COUNT_DIGITS);
+    let two = format_number::number_line(text, a, &format_key::COST, FIGURE_DIGITS);
     let Number::Value {
         value: cost,
         next: b,
@@ -60,7 +59,7 @@ fn claim_lines(text: &[u8], cursor: Cursor) -> Claims
     else {
         return stopped_claims(two);
     };
-    let three = format_plan_lines::value_line(text, b, b"bound=", COUNT_DIGITS);
+    let three = format_number::number_line(text, b, &format_key::BOUND, FIGURE_DIGITS);
     let Number::Value {
         value: bound,
         next: c,
@@ -68,7 +67,7 @@ fn claim_lines(text: &[u8], cursor: Cursor) -> Claims
     else {
         return stopped_claims(three);
     };
-    let four = format_plan_lines::value_line(text, c, b"rounds=", COUNT_DIGITS);
+    let four = format_number::number_line(text, c, &format_key::ROUNDS, FIGURE_DIGITS);
     let Number::Value {
         value: rounds,
         next,
@@ -104,13 +103,15 @@ fn plan_body(
     marks: &mut [u8],
     records: &mut [u8],
 ) -> Number
-    ensures { λ r. ⌜ Stores (bodyAt (old text) edges (cursor .at)) (numberStep r) (old marks) (new marks) (old records) (new records) ⌝ }
+    ensures { λ r.
+        let lines = bodyAt (old text) edges (cursor .at) in
+        ⌜ PlanStored lines (numberStep r) (old marks) (new marks) (old records) (new records) ⌝ }
 {
     let kept = format_plan_lines::keep_lines(text, cursor, edges, marks);
     let Number::Value { value: _, next } = kept else {
         return kept;
     };
-    format_plan_lines::moat_lines(text, next, records)
+    format_plan_lines::dual_lines(text, next, records)
 }
 
 // The two passes over the lines after the counts: the first decides, into buffers of no length, and the second stores.
@@ -121,7 +122,9 @@ fn plan_lines(
     marks: &mut [u8],
     records: &mut [u8],
 ) -> Number
-    ensures { λ r. ⌜ Fills (bodyAt (old text) edges (cursor .at)) edges (numberStep r) (old marks) (new marks) (old records) (new records) ⌝ }
+    ensures { λ r.
+        let lines = bodyAt (old text) edges (cursor .at) in
+        ⌜ PlanFilled lines edges (numberStep r) (old marks) (new marks) (old records) (new records) ⌝ }
 {
     let found = plan_body(text, cursor, edges, &mut marks[0..0], &mut records[0..0]);
     let Number::Value {
@@ -154,7 +157,7 @@ pub enum PlanText {
         cost: u64,
         bound: u64,
         rounds: u64,
-        moats: usize,
+        duals: usize,
     },
     Refused {
         number: u64,
@@ -162,7 +165,8 @@ pub enum PlanText {
     },
 }
 
-// Reads a printed plan for so many tracks, from an offset of the text on, into the lent buffers; a refusal writes nothing.
+// Reads a printed plan for so many tracks, from an offset of the text on, into the lent buffers; a refusal writes
+// nothing.
 pub fn read_plan(
     text: &[u8],
     from: usize,
@@ -170,7 +174,9 @@ pub fn read_plan(
     marks: &mut [u8],
     records: &mut [u8],
 ) -> PlanText
-    ensures { λ r. ⌜ Reads (planReading (old text) from edges (old marks) (old records)) edges (planOutcome r) (old marks) (new marks) (old records) (new records) ⌝ }
+    ensures { λ r.
+        let plan = planReading (old text) from edges (old marks) (old records) in
+        ⌜ PlanRead plan edges (planOutcome r) (old marks) (new marks) (old records) (new records) ⌝ }
 {
     match claim_lines(text, Cursor { at: from }) {
         Claims::Refused { number, place } => PlanText::Refused { number, place },
@@ -187,7 +193,7 @@ pub fn read_plan(
                 cost,
                 bound,
                 rounds,
-                moats: value as usize,
+                duals: value as usize,
             },
         },
     }

@@ -2,9 +2,9 @@
 use Prim.Native.Nat.{ℕ, _<_}
 use mathlib.Core.Path.{_≡_}
 use mathlib.Core.List.{List}
-use Rattle.format_number.specs.Step.{Step, found, refused}
-use Rattle.format_plan_lines.specs.Items.{Each}
-use Rattle.format_plan_lines.specs.Lines.{Moat, putMoat, memberNumbers}
+use Rattle.format_grammar.specs.Step.{Step, found, refused}
+use Rattle.format_grammar.specs.Language.{Each}
+use Rattle.format_plan_lines.specs.Lines.{PrintedDual, putDual, memberNumbers}
 
 -- A step without its value.
 unfoldable pub forgotten : {A : Type 0} → Step A → Step ℕ
@@ -12,14 +12,14 @@ forgotten (found a next) = found 0 next
 forgotten (refused number place) = refused number place
 
 -- What a moat line stores: nothing where it is refused.
-unfoldable pub moatStored : Step Moat → (records : List ℕ) (i : ℕ) → List ℕ
-moatStored (found d next) records i = putMoat records i d
-moatStored (refused number place) records i = records
+unfoldable pub dualStored : Step PrintedDual → (records : List ℕ) (i : ℕ) → List ℕ
+dualStored (found d next) records i = putDual records i d
+dualStored (refused number place) records i = records
 
 -- What a moat line answers, and what it leaves in the buffer.
-pub record MoatRead (line : Step Moat) (step : Step ℕ) (i : ℕ) (records records′ : List ℕ) : Type 0 where
+pub record DualRead (line : Step PrintedDual) (step : Step ℕ) (i : ℕ) (records records′ : List ℕ) : Type 0 where
   pub end : step ≡ forgotten line
-  pub stored : records′ ≡ moatStored line records i
+  pub stored : records′ ≡ dualStored line records i
 
 -- All are numbers of members.
 abbrev pub Members : List ℕ → Type 0

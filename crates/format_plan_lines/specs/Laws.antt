@@ -1,4 +1,3 @@
-pub mod Items
 pub mod Tests
 pub mod Puts
 pub mod Lines

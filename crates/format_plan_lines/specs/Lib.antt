@@ -1,4 +1,3 @@
-pub mod Items
 pub mod Lines
 pub mod Answer
 pub mod Laws

@@ -1,20 +1,29 @@
-// Reads the lines of a printed plan: a key with a number, the kept tracks, the moats. Definitions in specs/. Each step answers a value with
-// the next cursor, or a refusal.
+// Reads the lines of a printed plan: the kept edges and the duals. Each step answers a value with the next cursor, or a
+// refusal.
 ghost use Rattle.base_buffer.specs.Lent.{old, new};
 ghost use mathlib.Core.Path.{_≡_};
-ghost use Prim.Native.Nat.{min};
 ghost use lib.ListN.{length};
 ghost use Rattle.base_limits.specs.Limits.{recordBytes};
-ghost use Rattle.format_number.specs.Number.{byteIs};
+ghost use Rattle.format_grammar.specs.Bytes.{byteIs};
 ghost use Rattle.format_number.specs.Answer.{numberStep};
-ghost use Rattle.format_plan_lines.specs.Lines.{valueLine, keepLine, keptAt, putMark, memberAt, risen, membersAt, putMember, putMoat, moatHead, moatOf, moatRecord, moatLine, moatsAt};
-ghost use Rattle.format_plan_lines.specs.Answer.{Members, MoatRead};
-ghost use Rattle.format_plan_lines.specs.Laws.Items.{Ends};
-use base_limits::MAX_DIGITS;
+ghost use Rattle.format_plan_lines.specs.Lines.{keepLine, keptAt, putMark, memberAt, risen, membersAt};
+ghost use Rattle.format_plan_lines.specs.Lines.{putMember, putDual, dualHead, listedDual, dualRecord};
+ghost use Rattle.format_plan_lines.specs.Lines.{dualLineAt, dualsAt};
+ghost use Rattle.format_plan_lines.specs.Answer.{Members, DualRead};
+ghost use Rattle.format_grammar.specs.Items.{Ends};
+use base_limits::KEPT_DIGITS;
 use base_limits::MAX_DUALS;
+use base_limits::MAX_VERTICES;
+use base_limits::MEMBER_DIGITS;
 use base_limits::RECORD_BYTES;
+use base_limits::VALUE_DIGITS;
 use format_number::Cursor;
 use format_number::Number;
+
+// Members lie below the first; the second is past all that may stand in a list of members.
+const MEMBER_NUMBERS: u64 = MAX_VERTICES as u64;
+
+const NOT_RISEN: u64 = MEMBER_NUMBERS + 1;
 
 // The byte b stands at an offset.
 fn byte_is(text: &[u8], at: usize, b: u8) -> bool
@@ -26,22 +35,11 @@ fn byte_is(text: &[u8], at: usize, b: u8) -> bool
     text[at] == b
 }
 
-// A line of a key and one number.
-pub fn value_line(text: &[u8], cursor: Cursor, key: &[u8], limit: usize) -> Number
-    ensures { λ r. ⌜ numberStep r ≡ valueLine (old key) (min limit 10) (old text) (cursor .at) ⌝ }
-{
-    let step = format_number::fixed(text, cursor, key);
-    let Number::Value { value: _, next } = step else {
-        return step;
-    };
-    format_number::number_to(text, next, limit, false)
-}
-
 // `keep=e`, line i of its kind: 26 where e is below low or no track.
 fn keep_line(text: &[u8], cursor: Cursor, edges: usize, low: u64, i: usize) -> Number
     ensures { λ r. ⌜ numberStep r ≡ keepLine (old text) edges low i (cursor .at) ⌝ }
 {
-    let step = value_line(text, cursor, b"keep=", MAX_DIGITS);
+    let step = format_number::number_line(text, cursor, &format_key::KEPT, KEPT_DIGITS);
     let Number::Value { value, next: _ } = step else {
         return step;
     };
@@ -85,18 +83,18 @@ pub fn keep_lines(text: &[u8], cursor: Cursor, edges: usize, marks: &mut [u8]) -
     Number::Refused { number: 16, place }
 }
 
-// Member i of a moat, with the comma before it unless it is the first.
+// Member i of a dual, with the comma before it unless it is the first.
 fn member_at(text: &[u8], cursor: Cursor, low: u64, i: usize) -> Number
     ensures { λ r. ⌜ numberStep r ≡ memberAt (old text) low i (cursor .at) ⌝ }
 {
     if i == 0 {
-        return format_number::number_at(text, cursor, MAX_DIGITS);
+        return format_number::number_at(text, cursor, MEMBER_DIGITS);
     }
     let step = format_number::fixed(text, cursor, b",");
     let Number::Value { value: _, next } = step else {
         return step;
     };
-    format_number::number_at(text, next, MAX_DIGITS)
+    format_number::number_at(text, next, MEMBER_DIGITS)
 }
 
 // The lowest member that may follow v; past all members once one is none or does not rise.
@@ -104,15 +102,15 @@ fn risen_after(low: u64, v: u64) -> u64
     ensures { λ r. ⌜ r ≡ risen low v ⌝ }
 {
     if v < low {
-        return 257;
+        return NOT_RISEN;
     }
-    if 256 <= v {
-        return 257;
+    if MEMBER_NUMBERS <= v {
+        return NOT_RISEN;
     }
     v + 1
 }
 
-// The members of a moat, up to byte 10; they are added to the part up to the first refusal, as far as it reaches.
+// The members of a dual, up to byte 10; they are added to the part up to the first refusal, as far as it reaches.
 fn members(text: &[u8], cursor: Cursor, part: &mut [u8]) -> Number
     ensures { λ r. ⌜ Ends putMember (membersAt (old text) (cursor .at)) (old part) (numberStep r) (new part) ⌝ }
 {
@@ -137,15 +135,15 @@ fn members(text: &[u8], cursor: Cursor, part: &mut [u8]) -> Number
     Number::Refused { number: 16, place }
 }
 
-// The start of a moat line, `moat=amount:`.
-fn moat_head(text: &[u8], cursor: Cursor) -> Number
-    ensures { λ r. ⌜ numberStep r ≡ moatHead (old text) (cursor .at) ⌝ }
+// The start of a dual's line, `moat=amount:`.
+fn dual_head(text: &[u8], cursor: Cursor) -> Number
+    ensures { λ r. ⌜ numberStep r ≡ dualHead (old text) (cursor .at) ⌝ }
 {
-    let key = format_number::fixed(text, cursor, b"moat=");
+    let key = format_number::fixed(text, cursor, &format_key::DUAL);
     let Number::Value { value: _, next: a } = key else {
         return key;
     };
-    let sum = format_number::number_at(text, a, MAX_DIGITS);
+    let sum = format_number::number_at(text, a, VALUE_DIGITS);
     let Number::Value {
         value: amount,
         next: b,
@@ -163,19 +161,19 @@ fn moat_head(text: &[u8], cursor: Cursor) -> Number
     }
 }
 
-// Writes the record of a moat whose members stand at the cursor.
+// Writes the record of a dual whose members stand at the cursor.
 fn fill_record(text: &[u8], list: Cursor, amount: u64, part: &mut [u8])
     requires { ⌜ (length (now part) ≡ recordBytes) × Members (membersAt (now text) (list .at) .values) ⌝ }
-    ensures { λ _. ⌜ new part ≡ moatRecord (moatOf (old text) amount (list .at)) ⌝ }
+    ensures { λ _. ⌜ new part ≡ dualRecord (listedDual (old text) amount (list .at)) ⌝ }
 {
     format_record::start_record(part, amount);
     members(text, list, part);
 }
 
 // The same for record i of a buffer, where it has room.
-fn put_moat(text: &[u8], list: Cursor, amount: u64, i: usize, records: &mut [u8])
+fn store_dual(text: &[u8], list: Cursor, amount: u64, i: usize, records: &mut [u8])
     requires { ⌜ Members (membersAt (now text) (list .at) .values) ⌝ }
-    ensures { λ _. ⌜ new records ≡ putMoat (old records) i (moatOf (old text) amount (list .at)) ⌝ }
+    ensures { λ _. ⌜ new records ≡ putDual (old records) i (listedDual (old text) amount (list .at)) ⌝ }
 {
     if i < records.len() / RECORD_BYTES {
         let start = RECORD_BYTES * i;
@@ -184,11 +182,11 @@ fn put_moat(text: &[u8], list: Cursor, amount: u64, i: usize, records: &mut [u8]
     }
 }
 
-// Moat line i; its record is stored where it is not refused and the buffer has room.
-fn moat_line(text: &[u8], cursor: Cursor, i: usize, records: &mut [u8]) -> Number
-    ensures { λ r. ⌜ MoatRead (moatLine (old text) i (cursor .at)) (numberStep r) i (old records) (new records) ⌝ }
+// Dual line i; its record is stored where it is not refused and the buffer has room.
+fn dual_line(text: &[u8], cursor: Cursor, i: usize, records: &mut [u8]) -> Number
+    ensures { λ r. ⌜ DualRead (dualLineAt (old text) i (cursor .at)) (numberStep r) i (old records) (new records) ⌝ }
 {
-    let head = moat_head(text, cursor);
+    let head = dual_head(text, cursor);
     let Number::Value {
         value: amount,
         next: list,
@@ -204,7 +202,7 @@ fn moat_line(text: &[u8], cursor: Cursor, i: usize, records: &mut [u8]) -> Numbe
     else {
         return step;
     };
-    if 256 < low {
+    if MEMBER_NUMBERS < low {
         return Number::Refused {
             number: 27,
             place: i,
@@ -216,7 +214,7 @@ fn moat_line(text: &[u8], cursor: Cursor, i: usize, records: &mut [u8]) -> Numbe
             place: i,
         };
     }
-    put_moat(text, list, amount, i, records);
+    store_dual(text, list, amount, i, records);
     let end = last.at;
     Number::Value {
         value: 0,
@@ -224,9 +222,10 @@ fn moat_line(text: &[u8], cursor: Cursor, i: usize, records: &mut [u8]) -> Numbe
     }
 }
 
-// The moat lines, to the end of the text; their records are stored up to the first refusal, as far as the buffer reaches.
-pub fn moat_lines(text: &[u8], cursor: Cursor, records: &mut [u8]) -> Number
-    ensures { λ r. ⌜ Ends putMoat (moatsAt (old text) (cursor .at)) (old records) (numberStep r) (new records) ⌝ }
+// The dual lines, to the end of the text; their records are stored up to the first refusal, as far as the buffer
+// reaches.
+pub fn dual_lines(text: &[u8], cursor: Cursor, records: &mut [u8]) -> Number
+    ensures { λ r. ⌜ Ends putDual (dualsAt (old text) (cursor .at)) (old records) (numberStep r) (new records) ⌝ }
 {
     let mut next = cursor;
     let mut i = 0;
@@ -238,7 +237,7 @@ pub fn moat_lines(text: &[u8], cursor: Cursor, records: &mut [u8]) -> Number
                 next,
             };
         }
-        let step = moat_line(text, next, i, records);
+        let step = dual_line(text, next, i, records);
         let Number::Value {
             value: _,
             next: after,

@@ -33,10 +33,10 @@ fn put_counts(
 ) -> usize
     ensures { λ r. ⌜ Wrote (old out) at (countLines terminals cost bound rounds) (new out) r ⌝ }
 {
-    let next = put_line(out, at, b"sites=", terminals);
-    let next = put_line(out, next, b"cost=", cost);
-    let next = put_line(out, next, b"bound=", bound);
-    put_line(out, next, b"rounds=", rounds)
+    let next = put_line(out, at, &format_key::TERMINALS, terminals);
+    let next = put_line(out, next, &format_key::COST, cost);
+    let next = put_line(out, next, &format_key::BOUND, bound);
+    put_line(out, next, &format_key::ROUNDS, rounds)
 }
 
 // Writes a whole plan.
@@ -61,8 +61,8 @@ fn put_plan(
 fn put_refusal(out: &mut [u8], at: usize, number: u64, place: usize) -> usize
     ensures { λ r. ⌜ Wrote (old out) at (refusalText number place) (new out) r ⌝ }
 {
-    let next = put_line(out, at, b"refused=", number);
-    put_line(out, next, b"place=", base_buffer::wide(place))
+    let next = put_line(out, at, &format_key::REFUSED, number);
+    put_line(out, next, &format_key::PLACE, base_buffer::wide(place))
 }
 
 // Prints the moat line of a record. Each print measures its text on an empty part of the buffer before it writes.

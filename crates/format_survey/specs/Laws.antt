@@ -1,6 +1,6 @@
 pub mod Body
 pub mod Reading
-pub mod Said
+pub mod Content
 pub mod WellFormed
 pub mod Longest
 pub mod Cut

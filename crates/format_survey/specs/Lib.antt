@@ -1,4 +1,5 @@
 pub mod Reading
 pub mod Render
+pub mod WellFormed
 pub mod Answer
 pub mod Laws

@@ -1,36 +1,24 @@
 -- Reading a whole survey text (document 01, 'Survey text and printed plan'): the counts, the lines after them, and the end.
 use Prim.Native.Nat.{ℕ}
-use mathlib.Core.Bool.{cond}
 use mathlib.Core.List.{List, _++_}
 use lib.ListN.{length, drop}
-use lib.Dec.{leb}
 use Rattle.base_limits.specs.Verdict.{Outcome, refusal, answer}
 use Rattle.base_limits.specs.declared.Verdict.{Verdict}
-use Rattle.format_number.specs.Step.{Step, found, refused, _then_}
-use Rattle.format_survey_lines.specs.Lines.{linesAfter}
-use Rattle.format_survey_lines.specs.Line.{Tests, groupTest, testsFor, Edge, firstsOf, secondsOf, weightsOf, Counts, countsAt, groupLines, edgeLines}
+use Rattle.format_survey_lines.specs.Line.{Tests, groupTest, testsFor, Edge, firstsOf, secondsOf, weightsOf, Counts, countsAt, SurveyLines, linesOf}
+use Rattle.format_grammar.specs.Bytes.{endAt}
+use Rattle.format_grammar.specs.Step.{Step, found, refused, _then_}
 
--- The text ends here.
-unfoldable pub endAt : List ℕ → (at : ℕ) → Step ℕ
-endAt t at = cond (leb (length t) at) (found 0 at) (refused 16 at)
-
--- The lines after the counts: what they say up to the first refusal, and where they end.
-pub record Body : Type 0 where
-  pub groups : List ℕ
-  pub edges : List Edge
-  pub end : Step ℕ
-
-unfoldable pub bodyAt : (ℕ → ℕ → Verdict) → List ℕ → Counts → (at : ℕ) → Body
+-- The lines after the counts, to the end of the text.
+unfoldable pub bodyAt : (ℕ → ℕ → Verdict) → List ℕ → Counts → (at : ℕ) → SurveyLines
 bodyAt test t counts at =
-    let gs = groupLines test t (counts .vertices) at in
-    let es = linesAfter (gs .end) (edgeLines t (counts .edges)) in
-    record { groups = gs .values; edges = es .values; end = es .end then λ z p. endAt t p }
+    let lines = linesOf test t counts at in
+    record { groups = lines .groups; edges = lines .edges; end = lines .end then λ z p. endAt t p }
 
-unfoldable pub bodyOf : List ℕ → (vertices edges at : ℕ) → Body
+unfoldable pub bodyOf : List ℕ → (vertices edges at : ℕ) → SurveyLines
 bodyOf t vertices edges at = bodyAt groupTest t (record { vertices = vertices; edges = edges }) at
 
 -- What a text says: n and m, and the first n groups and m ends and prices.
-pub record Survey : Type 0 where
+pub record SurveyText : Type 0 where
   pub vertices : ℕ
   pub edges : ℕ
   pub groups : List ℕ
@@ -38,7 +26,7 @@ pub record Survey : Type 0 where
   pub seconds : List ℕ
   pub weights : List ℕ
 
-unfoldable pub surveyOf : Counts → (groups : List ℕ) → (edges : List Edge) → Survey
+unfoldable pub surveyOf : Counts → (groups : List ℕ) → (edges : List Edge) → SurveyText
 surveyOf counts groups edges =
     record {
       vertices = counts .vertices;
@@ -49,7 +37,7 @@ surveyOf counts groups edges =
       weights = weightsOf edges;
     }
 
-unfoldable pub surveyAt : Tests → List ℕ → Step Survey
+unfoldable pub surveyAt : Tests → List ℕ → Step SurveyText
 surveyAt tests t =
     countsAt tests t then λ counts p.
     let body = bodyAt (tests .group) t counts p in
@@ -60,11 +48,11 @@ outcomeOf (found a next) = answer a
 outcomeOf (refused number place) = refusal number place
 
 -- The four lists are what the lent buffers hold; only their lengths matter.
-unfoldable pub reading : (t groups firsts seconds weights : List ℕ) → Outcome Survey
+unfoldable pub reading : (t groups firsts seconds weights : List ℕ) → Outcome SurveyText
 reading t groups firsts seconds weights =
     outcomeOf (surveyAt (testsFor (length groups) (length firsts) (length seconds) (length weights)) t)
 
 -- What a lent buffer holds at the end: the values read and, behind them, what it held; a refusal writes nothing.
-unfoldable pub filled : Outcome Survey → (Survey → List ℕ) → (old : List ℕ) → List ℕ
+unfoldable pub filled : Outcome SurveyText → (SurveyText → List ℕ) → (old : List ℕ) → List ℕ
 filled (refusal number place) values old = old
 filled (answer survey) values old = values survey ++ drop (length (values survey)) old

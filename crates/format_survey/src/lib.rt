@@ -1,21 +1,23 @@
 // Reads a survey text: the counts, then the lines after them, into the lent buffers.
 ghost use Rattle.base_buffer.specs.Lent.{old, new};
+ghost use mathlib.Core.Path.{_≡_};
 ghost use Rattle.format_number.specs.Answer.{numberStep};
-ghost use Rattle.format_survey.specs.Reading.{bodyOf};
-ghost use Rattle.format_survey.specs.Answer.{Stores, Fills, Reads, countsOutcome};
+ghost use Rattle.format_survey_lines.specs.Answer.{LinesStored};
+ghost use Rattle.format_survey.specs.Reading.{bodyOf, reading, filled};
+ghost use Rattle.format_survey.specs.Answer.{LinesFilled, countsOf, countsOutcome};
 use format_number::Cursor;
 use format_number::Number;
 use format_survey_lines::Head;
 use format_survey_lines::counts;
-use format_survey_lines::edge_lines;
-use format_survey_lines::group_lines;
+use format_survey_lines::survey_lines;
 
 pub enum Reading {
     Survey { vertices: usize, edges: usize },
     Refused { number: u64, place: usize },
 }
 
-// The lines after the counts, to the end of the text; the values up to the first refusal go into the buffers, as far as these reach.
+// The lines after the counts, to the end of the text; the values up to the first refusal go into the buffers, as far
+// as these reach.
 fn body(
     text: &[u8],
     cursor: Cursor,
@@ -26,19 +28,27 @@ fn body(
     seconds: &mut [u32],
     weights: &mut [u32],
 ) -> Number
-    ensures { λ r. ⌜ Stores (bodyOf (old text) vertices edges (cursor .at)) (numberStep r) (old groups) (new groups) (old firsts) (new firsts) (old seconds) (new seconds) (old weights) (new weights) ⌝ }
+    ensures { λ r.
+        let lines = bodyOf (old text) vertices edges (cursor .at) in
+        ⌜ LinesStored lines (numberStep r) (old groups) (new groups) (old firsts) (new firsts)
+        (old seconds) (new seconds) (old weights) (new weights) ⌝ }
 {
-    let heads = group_lines(text, cursor, vertices, groups);
-    let Number::Value { value: _, next } = heads else {
-        return heads;
-    };
-    let links = edge_lines(text, next, edges, firsts, seconds, weights);
+    let lines = survey_lines(
+        text,
+        cursor,
+        vertices,
+        edges,
+        groups,
+        firsts,
+        seconds,
+        weights,
+    );
     let Number::Value {
         value: _,
         next: last,
-    } = links
+    } = lines
     else {
-        return links;
+        return lines;
     };
     let end = last.at;
     if end < text.len() {
@@ -64,7 +74,10 @@ fn read_body(
     seconds: &mut [u32],
     weights: &mut [u32],
 ) -> Number
-    ensures { λ r. ⌜ Fills (bodyOf (old text) vertices edges (cursor .at)) (numberStep r) (old groups) (new groups) (old firsts) (new firsts) (old seconds) (new seconds) (old weights) (new weights) ⌝ }
+    ensures { λ r.
+        let lines = bodyOf (old text) vertices edges (cursor .at) in
+        ⌜ LinesFilled lines (numberStep r) (old groups) (new groups) (old firsts) (new firsts)
+        (old seconds) (new seconds) (old weights) (new weights) ⌝ }
 {
     let found = body(
         text,
@@ -99,7 +112,20 @@ pub fn read(
     seconds: &mut [u32],
     weights: &mut [u32],
 ) -> Reading
-    ensures { λ r. ⌜ Reads (old text) (countsOutcome r) (old groups) (new groups) (old firsts) (new firsts) (old seconds) (new seconds) (old weights) (new weights) ⌝ }
+    ensures { λ r.
+        ⌜ countsOutcome r ≡ countsOf (reading (old text) (old groups) (old firsts) (old seconds) (old weights)) ⌝ }
+    ensures { λ _.
+        let read = reading (old text) (old groups) (old firsts) (old seconds) (old weights) in
+        ⌜ new groups ≡ filled read (λ s. s .groups) (old groups) ⌝ }
+    ensures { λ _.
+        let read = reading (old text) (old groups) (old firsts) (old seconds) (old weights) in
+        ⌜ new firsts ≡ filled read (λ s. s .firsts) (old firsts) ⌝ }
+    ensures { λ _.
+        let read = reading (old text) (old groups) (old firsts) (old seconds) (old weights) in
+        ⌜ new seconds ≡ filled read (λ s. s .seconds) (old seconds) ⌝ }
+    ensures { λ _.
+        let read = reading (old text) (old groups) (old firsts) (old seconds) (old weights) in
+        ⌜ new weights ≡ filled read (λ s. s .weights) (old weights) ⌝ }
 {
     match counts(
         text,

@@ -3,26 +3,14 @@ use Prim.Native.Nat.{ℕ}
 use mathlib.Core.Bool.{_||_}
 use mathlib.Core.List.{List, map}
 use lib.Dec.{eqb, ltb, leb}
-use Rattle.base_limits.specs.Limits.{maxVertices, maxEdges, groupNumbers, maxDigits}
+use Rattle.base_limits.specs.Limits.{maxVertices, maxEdges, groupNumbers, countDigits, groupDigits, endpointDigits, weightDigits}
 use Rattle.base_limits.specs.Verdict.{refuseIf, _before_}
 use Rattle.base_limits.specs.declared.Verdict.{Verdict}
-use Rattle.format_write.specs.Key.{ascii, comma, newline}
-use Rattle.format_number.specs.Step.{Step, found, _then_, checked}
-use Rattle.format_survey_lines.specs.Lines.{Lines, linesFrom}
-use Rattle.format_number.specs.Number.{fixedAt, numberTo, numberLine}
-
--- The keys.
-abbrev pub nodesKey : List ℕ
-nodesKey = ascii "nodes="
-
-abbrev pub linksKey : List ℕ
-linksKey = ascii "links="
-
-abbrev pub nodeKey : List ℕ
-nodeKey = ascii "node="
-
-abbrev pub linkKey : List ℕ
-linkKey = ascii "link="
+use Rattle.format_key.specs.Key.{nodesKey, linksKey, nodeKey, linkKey, comma, newline}
+use Rattle.format_grammar.specs.Step.{Step, found, _then_, checked}
+use Rattle.format_grammar.specs.Lines.{Lines, linesFrom, linesAfter}
+use Rattle.format_grammar.specs.Bytes.{fixedAt}
+use Rattle.format_number.specs.Number.{numberTo, numberLine, OfDigits}
 
 -- What is tested when a line is complete: a count, and the group of vertex v.
 pub record Tests : Type 0 where
@@ -48,16 +36,26 @@ testsFor groups firsts seconds weights =
     record { vertices = verticesTest groups; edges = edgesTest firsts seconds weights; group = groupTest }
 
 unfoldable pub countLine : (key : List ℕ) → (ℕ → Verdict) → List ℕ → (at : ℕ) → Step ℕ
-countLine key test t at = numberLine key t at then λ n p. checked (test n) n p
+countLine key test t at = numberLine key countDigits t at then λ n p. checked (test n) n p
 
 unfoldable pub groupLine : (ℕ → ℕ → Verdict) → List ℕ → (v at : ℕ) → Step ℕ
-groupLine test t v at = numberLine nodeKey t at then λ g p. checked (test v g) g p
+groupLine test t v at = numberLine nodeKey groupDigits t at then λ g p. checked (test v g) g p
 
 -- A track's two ends and its price.
 pub record Edge : Type 0 where
   pub first : ℕ
   pub second : ℕ
   pub weight : ℕ
+
+-- Numbers of 32 bits lie below this.
+abbrev pub wordNumbers : ℕ
+wordNumbers = 4294967296
+
+-- The numbers of an edge's line have no more digits than a line may give them.
+pub record EdgeDigits (x : Edge) : Type 0 where
+  pub first : OfDigits endpointDigits (x .first)
+  pub second : OfDigits endpointDigits (x .second)
+  pub weight : OfDigits weightDigits (x .weight)
 
 unfoldable pub firstsOf : List Edge → List ℕ
 firstsOf = map (λ e. e .first)
@@ -71,9 +69,9 @@ weightsOf = map (λ e. e .weight)
 unfoldable pub edgeLine : List ℕ → (e at : ℕ) → Step Edge
 edgeLine t e at =
     fixedAt linkKey t at then λ z a.
-    numberTo maxDigits comma t a then λ u b.
-    numberTo maxDigits comma t b then λ v c.
-    numberTo maxDigits newline t c then λ w d.
+    numberTo endpointDigits comma t a then λ u b.
+    numberTo endpointDigits comma t b then λ v c.
+    numberTo weightDigits newline t c then λ w d.
     found (record { first = u; second = v; weight = w }) d
 
 pub record Counts : Type 0 where
@@ -86,8 +84,24 @@ countsAt tests t =
     countLine linksKey (tests .edges) t p then λ m q.
     found (record { vertices = n; edges = m }) q
 
-unfoldable pub groupLines : (ℕ → ℕ → Verdict) → List ℕ → (count at : ℕ) → Lines ℕ
+unfoldable pub groupLines : (ℕ → ℕ → Verdict) → List ℕ → (count at : ℕ) → Lines ℕ ℕ
 groupLines test t count at = linesFrom (groupLine test t) count 0 at
 
-unfoldable pub edgeLines : List ℕ → (count at : ℕ) → Lines Edge
+unfoldable pub edgeLines : List ℕ → (count at : ℕ) → Lines ℕ Edge
 edgeLines t count at = linesFrom (edgeLine t) count 0 at
+
+-- The lines of a survey after its counts: what they say up to the first refusal, and where they end.
+pub record SurveyLines : Type 0 where
+  pub groups : List ℕ
+  pub edges : List Edge
+  pub end : Step ℕ
+
+unfoldable pub linesOf : (ℕ → ℕ → Verdict) → List ℕ → Counts → (at : ℕ) → SurveyLines
+linesOf test t counts at =
+    let gs = groupLines test t (counts .vertices) at in
+    let es = linesAfter (gs .end) (edgeLines t (counts .edges)) in
+    record { groups = gs .values; edges = es .values; end = es .end }
+
+-- The same with the test of groups; more may stand behind these lines.
+unfoldable pub linesAt : List ℕ → (vertices edges at : ℕ) → SurveyLines
+linesAt t vertices edges at = linesOf groupTest t (record { vertices = vertices; edges = edges }) at

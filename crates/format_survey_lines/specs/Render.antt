@@ -1,15 +1,10 @@
 -- The text of an edge's line, and of lines one after another (document 01, 'Survey text and printed plan').
 use Prim.Native.Nat.{ℕ}
-use mathlib.Core.List.{List, [], _∷_, _++_}
-use Rattle.format_write.specs.Key.{comma, newline}
-use Rattle.format_survey_lines.specs.Line.{linkKey, Edge}
+use mathlib.Core.List.{List, _++_}
+use Rattle.format_key.specs.Key.{comma, newline, linkKey}
+use Rattle.format_survey_lines.specs.Line.{Edge}
 use Rattle.format_number.specs.Number.{numberText}
 
 unfoldable pub edgeText : Edge → List ℕ
 edgeText e =
     linkKey ++ numberText comma (e .first) ++ numberText comma (e .second) ++ numberText newline (e .weight)
-
--- The texts of the members of a list, one after another.
-unfoldable pub textOf : {A : Type 0} → (A → List ℕ) → List A → List ℕ
-textOf f [] = []
-textOf f (a ∷ more) = f a ++ textOf f more

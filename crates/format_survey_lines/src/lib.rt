@@ -1,25 +1,34 @@
-// Reads the lines of a survey text, each key=value, from the first towards the last. Each step answers a value with the next cursor, or
-// a refusal.
+// Reads the lines of a survey text, each key=value, from the first towards the last. Each step answers a value with
+// the next cursor, or a refusal.
 ghost use Rattle.base_buffer.specs.Lent.{old, new};
 ghost use mathlib.Core.Path.{_≡_};
 ghost use Prim.Native.Nat.{_<_};
 ghost use lib.ListN.{set};
 ghost use lib.Seq.{sets};
+ghost use Rattle.base_limits.specs.Limits.{countDigits, groupNumbers};
 ghost use Rattle.format_number.specs.Number.{numberLine};
-ghost use Rattle.format_number.specs.Answer.{numberStep, stopped};
-ghost use Rattle.format_survey_lines.specs.Line.{nodesKey, linksKey, edgeLines, firstsOf, secondsOf, weightsOf, testsFor, countsAt, groupLines, verticesTest, edgesTest, groupTest, countLine, groupLine, edgeLine};
-ghost use Rattle.format_survey_lines.specs.Answer.{edgeStep, countsStep};
+ghost use Rattle.format_number.specs.Answer.{numberStep};
+ghost use Rattle.format_grammar.specs.Step.{stopped};
+ghost use Rattle.format_key.specs.Key.{nodesKey, linksKey};
+ghost use Rattle.format_survey_lines.specs.Line.{edgeLines, firstsOf, secondsOf, weightsOf, testsFor, countsAt};
+ghost use Rattle.format_survey_lines.specs.Line.{groupLines, verticesTest, edgesTest, groupTest, countLine};
+ghost use Rattle.format_survey_lines.specs.Line.{groupLine, edgeLine, linesAt, wordNumbers};
+ghost use Rattle.format_survey_lines.specs.Answer.{edgeStep, countsStep, LinesStored};
+use base_limits::COUNT_DIGITS;
+use base_limits::ENDPOINT_DIGITS;
+use base_limits::GROUP_DIGITS;
 use base_limits::GROUP_NUMBERS;
-use base_limits::MAX_DIGITS;
 use base_limits::MAX_EDGES;
 use base_limits::MAX_VERTICES;
+use base_limits::WEIGHT_DIGITS;
 use format_number::Cursor;
 use format_number::Number;
 use format_number::fixed;
 use format_number::number_line;
 use format_number::number_to;
 
-// The text and how far it has been read. Each function over it takes it apart, for a function on the slice and the offset.
+// The text and how far it has been read. Each function over it takes it apart, for a function on the slice and the
+// offset.
 pub struct Reader<'a> {
     pub text: &'a [u8],
     pub at: usize,
@@ -58,20 +67,20 @@ fn opened<'a>(text: &'a [u8]) -> Reader<'a>
 
 // `nodes=n` at an offset.
 fn nodes_at(text: &[u8], at: usize) -> Number
-    ensures { λ r. ⌜ numberStep r ≡ numberLine nodesKey (old text) at ⌝ }
+    ensures { λ r. ⌜ numberStep r ≡ numberLine nodesKey countDigits (old text) at ⌝ }
 {
-    number_line(text, Cursor { at }, b"nodes=")
+    number_line(text, Cursor { at }, &format_key::NODES, COUNT_DIGITS)
 }
 
 fn nodes_line<'a>(r: Reader<'a>) -> Number
-    ensures { λ s. ⌜ numberStep s ≡ numberLine nodesKey (now (r .entry .text)) (r .entry .at) ⌝ }
+    ensures { λ s. ⌜ numberStep s ≡ numberLine nodesKey countDigits (now (r .entry .text)) (r .entry .at) ⌝ }
 {
     nodes_at(r.text, r.at)
 }
 
 // The line with which a text begins.
 fn first_line(text: &[u8]) -> Number
-    ensures { λ r. ⌜ numberStep r ≡ numberLine nodesKey (old text) 0 ⌝ }
+    ensures { λ r. ⌜ numberStep r ≡ numberLine nodesKey countDigits (old text) 0 ⌝ }
 {
     nodes_line(opened(text))
 }
@@ -110,7 +119,7 @@ fn vertices_line(text: &[u8], lent: usize) -> Number
 fn edges_line(text: &[u8], cursor: Cursor, firsts: usize, seconds: usize, weights: usize) -> Number
     ensures { λ r. ⌜ numberStep r ≡ countLine linksKey (edgesTest firsts seconds weights) (old text) (cursor .at) ⌝ }
 {
-    let step = number_line(text, cursor, b"links=");
+    let step = number_line(text, cursor, &format_key::LINKS, COUNT_DIGITS);
     let Number::Value { value, next: _ } = step else {
         return step;
     };
@@ -146,7 +155,7 @@ fn edges_line(text: &[u8], cursor: Cursor, firsts: usize, seconds: usize, weight
 fn group_line(text: &[u8], cursor: Cursor, vertex: usize) -> Number
     ensures { λ r. ⌜ numberStep r ≡ groupLine groupTest (old text) vertex (cursor .at) ⌝ }
 {
-    let step = number_line(text, cursor, b"node=");
+    let step = number_line(text, cursor, &format_key::NODE, GROUP_DIGITS);
     let Number::Value { value, next: _ } = step else {
         return step;
     };
@@ -177,11 +186,11 @@ fn stopped_edge(step: Number) -> EdgeLine
 fn edge_line(text: &[u8], cursor: Cursor, edge: usize) -> EdgeLine
     ensures { λ r. ⌜ edgeStep r ≡ edgeLine (old text) edge (cursor .at) ⌝ }
 {
-    let key = fixed(text, cursor, b"link=");
+    let key = fixed(text, cursor, &format_key::LINK);
     let Number::Value { value: _, next: a } = key else {
         return stopped_edge(key);
     };
-    let one = number_to(text, a, MAX_DIGITS, true);
+    let one = number_to(text, a, ENDPOINT_DIGITS, true);
     let Number::Value {
         value: first,
         next: b,
@@ -189,7 +198,7 @@ fn edge_line(text: &[u8], cursor: Cursor, edge: usize) -> EdgeLine
     else {
         return stopped_edge(one);
     };
-    let two = number_to(text, b, MAX_DIGITS, true);
+    let two = number_to(text, b, ENDPOINT_DIGITS, true);
     let Number::Value {
         value: second,
         next: c,
@@ -197,7 +206,7 @@ fn edge_line(text: &[u8], cursor: Cursor, edge: usize) -> EdgeLine
     else {
         return stopped_edge(two);
     };
-    let three = number_to(text, c, MAX_DIGITS, false);
+    let three = number_to(text, c, WEIGHT_DIGITS, false);
     let Number::Value {
         value: weight,
         next,
@@ -251,14 +260,14 @@ pub fn counts(text: &[u8], groups: usize, firsts: usize, seconds: usize, weights
 
 // Stores where the buffer reaches.
 fn store8(buffer: &mut [u8], at: usize, value: u64)
-    requires { ⌜ value < 256 ⌝ }
+    requires { ⌜ value < groupNumbers ⌝ }
     ensures { λ r. ⌜ new buffer ≡ set (old buffer) at value ⌝ }
 {
     base_buffer::put8(buffer, at, value as u8);
 }
 
 fn store32(buffer: &mut [u32], at: usize, value: u64)
-    requires { ⌜ value < 4294967296 ⌝ }
+    requires { ⌜ value < wordNumbers ⌝ }
     ensures { λ r. ⌜ new buffer ≡ set (old buffer) at value ⌝ }
 {
     base_buffer::put32(buffer, at, value as u32);
@@ -266,7 +275,9 @@ fn store32(buffer: &mut [u32], at: usize, value: u64)
 
 // So many lines `node=g`; the groups up to the first refusal go into the buffer, as far as it reaches.
 pub fn group_lines(text: &[u8], cursor: Cursor, count: usize, groups: &mut [u8]) -> Number
-    ensures { λ r. ⌜ (numberStep r ≡ groupLines groupTest (old text) count (cursor .at) .end) × (new groups ≡ sets (old groups) 0 (groupLines groupTest (old text) count (cursor .at) .values)) ⌝ }
+    ensures { λ r.
+        let lines = groupLines groupTest (old text) count (cursor .at) in
+        ⌜ (numberStep r ≡ lines .end) × (new groups ≡ sets (old groups) 0 (lines .values)) ⌝ }
 {
     let mut next = cursor;
     let mut vertex = 0;
@@ -291,7 +302,12 @@ pub fn edge_lines(
     seconds: &mut [u32],
     weights: &mut [u32],
 ) -> Number
-    ensures { λ r. ⌜ (numberStep r ≡ edgeLines (old text) count (cursor .at) .end) × (new firsts ≡ sets (old firsts) 0 (firstsOf (edgeLines (old text) count (cursor .at) .values))) × (new seconds ≡ sets (old seconds) 0 (secondsOf (edgeLines (old text) count (cursor .at) .values))) × (new weights ≡ sets (old weights) 0 (weightsOf (edgeLines (old text) count (cursor .at) .values))) ⌝ }
+    ensures { λ r.
+        let lines = edgeLines (old text) count (cursor .at) in
+        ⌜ (numberStep r ≡ lines .end)
+        × (new firsts ≡ sets (old firsts) 0 (firstsOf (lines .values)))
+        × (new seconds ≡ sets (old seconds) 0 (secondsOf (lines .values)))
+        × (new weights ≡ sets (old weights) 0 (weightsOf (lines .values))) ⌝ }
 {
     let mut next = cursor;
     let mut edge = 0;
@@ -313,4 +329,28 @@ pub fn edge_lines(
         }
     }
     Number::Value { value: 0, next }
+}
+
+// The lines of a survey after its counts; the values up to the first refusal go into the buffers, as far as these
+// reach.
+pub fn survey_lines(
+    text: &[u8],
+    cursor: Cursor,
+    vertices: usize,
+    edges: usize,
+    groups: &mut [u8],
+    firsts: &mut [u32],
+    seconds: &mut [u32],
+    weights: &mut [u32],
+) -> Number
+    ensures { λ r.
+        let lines = linesAt (old text) vertices edges (cursor .at) in
+        ⌜ LinesStored lines (numberStep r) (old groups) (new groups) (old firsts) (new firsts)
+        (old seconds) (new seconds) (old weights) (new weights) ⌝ }
+{
+    let heads = group_lines(text, cursor, vertices, groups);
+    let Number::Value { value: _, next } = heads else {
+        return heads;
+    };
+    edge_lines(text, next, edges, firsts, seconds, weights)
 }

@@ -1,4 +1,3 @@
-pub mod Key
 pub mod Decimal
 pub mod Text
 pub mod Wrote

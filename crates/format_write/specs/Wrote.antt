@@ -6,7 +6,7 @@ use mathlib.Core.Bool.{Bool, true, false, cond}
 use mathlib.Core.List.{List, [], _∷_, _++_}
 use lib.ListN.{length}
 use lib.Seq.{sets}
-use Rattle.format_write.specs.Key.{comma}
+use Rattle.format_key.specs.Key.{comma}
 use Rattle.format_write.specs.Decimal.{decimal}
 
 abbrev pub farthest : ℕ

@@ -13,7 +13,7 @@ ghost use Rattle.format_write.specs.Wrote.{Wrote, itemOf, memberText};
 const FARTHEST: usize = 9223372036854775808;
 
 // Writes a byte where there is room, and gives the place behind it. The writers below are made of it.
-fn put(out: &mut [u8], at: usize, b: u8) -> usize
+pub fn put(out: &mut [u8], at: usize, b: u8) -> usize
     ensures { λ r. ⌜ Wrote (old out) at (b ∷ []) (new out) r ⌝ }
 {
     base_buffer::put8(out, at, b);
@@ -24,7 +24,7 @@ fn put(out: &mut [u8], at: usize, b: u8) -> usize
 }
 
 // Writes bytes one after another.
-fn put_bytes(out: &mut [u8], at: usize, bytes: &[u8]) -> usize
+pub fn put_bytes(out: &mut [u8], at: usize, bytes: &[u8]) -> usize
     ensures { λ r. ⌜ Wrote (old out) at (old bytes) (new out) r ⌝ }
 {
     let mut next = at;
@@ -44,7 +44,7 @@ fn last_digit(x: u64) -> u8
 }
 
 // Writes a number in decimal.
-fn put_number(out: &mut [u8], at: usize, x: u64) -> usize
+pub fn put_number(out: &mut [u8], at: usize, x: u64) -> usize
     ensures { λ r. ⌜ Wrote (old out) at (decimal x) (new out) r ⌝ }
 {
     if x < 10 {
@@ -114,7 +114,7 @@ fn put_members(out: &mut [u8], at: usize, part: &[u8]) -> usize
 pub fn put_dual(out: &mut [u8], at: usize, part: &[u8]) -> usize
     ensures { λ r. ⌜ Wrote (old out) at (dualLine (old part)) (new out) r ⌝ }
 {
-    let next = put_bytes(out, at, b"moat=");
+    let next = put_bytes(out, at, &format_key::DUAL);
     let next = put_number(out, next, format_record::value(part));
     let next = put(out, next, b':');
     let next = put_members(out, next, part);
@@ -128,7 +128,7 @@ fn put_mark(out: &mut [u8], at: usize, mark: u8, e: usize) -> usize
     match mark {
         0 => at,
         1 => at,
-        2 => put_line(out, at, b"keep=", base_buffer::wide(e)),
+        2 => put_line(out, at, &format_key::KEPT, base_buffer::wide(e)),
         _ => at,
     }
 }

@@ -16,13 +16,13 @@ fn show(found: Verified) {
             bound,
         } => {
             io::write_all(1, b"passed\n");
-            line(b"sites=", terminals);
-            line(b"cost=", cost);
-            line(b"bound=", bound);
+            line(&format_key::TERMINALS, terminals);
+            line(&format_key::COST, cost);
+            line(&format_key::BOUND, bound);
         }
         Verified::Refused { number, place } => {
-            line(b"refused=", number);
-            line(b"place=", base_buffer::wide(place));
+            line(&format_key::REFUSED, number);
+            line(&format_key::PLACE, base_buffer::wide(place));
         }
     }
 }

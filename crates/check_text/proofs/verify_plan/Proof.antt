@@ -2,6 +2,7 @@
 use native.Mathlib.Omega.{arith}
 use borrow.Author.Needs.{needs}
 use mathlib.Core.Path.{ap, _∙_}
+use Rattle.base_limits.specs.Limits.{maxEdges, recordsRoom}
 use Rattle.survey_core.specs.Survey.{surveyFrom, edgeCount}
 use Rattle.format_plan.specs.Plan.{planReading}
 use Rattle.check_text.specs.Verify.{planFrom}
@@ -30,7 +31,7 @@ mul-size : tie.Need-mul-size
 unfolding planOutcome planReading
 mul-size c =
     let a = c .before .before .before .before .before .before .before .before .before .before .before .before .before .args in
-    let few = plan-room (a .text .now) (a .at) _ 2048 20440 (c .before .before .before .before .before .read-plan .ensures .answered) (ap planOutcome (c .before .terminals .given .1)) in
+    let few = plan-room (a .text .now) (a .at) _ maxEdges recordsRoom (c .before .before .before .before .before .read-plan .ensures .answered) (ap planOutcome (c .before .terminals .given .1)) in
     omega (arith, few)
 
 sub-judge : tie.Need-sub-judge
@@ -52,7 +53,7 @@ part-judge-end-2 : tie.Need-part-judge-end-2
 unfolding planOutcome planReading
 part-judge-end-2 c =
     let a = c .before .before .before .before .before .before .before .before .before .before .before .before .before .before .before .before .args in
-    let few = plan-room (a .text .now) (a .at) _ 2048 20440 (c .before .before .before .before .before .before .before .before .read-plan .ensures .answered) (ap planOutcome (c .before .before .before .before .terminals .given .1)) in
+    let few = plan-room (a .text .now) (a .at) _ maxEdges recordsRoom (c .before .before .before .before .before .before .before .before .read-plan .ensures .answered) (ap planOutcome (c .before .before .before .before .terminals .given .1)) in
     search (needs, few)
 
 judge-requires : tie.Need-judge-requires

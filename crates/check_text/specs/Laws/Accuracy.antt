@@ -11,38 +11,34 @@ use Rattle.base_limits.specs.Limits.{maxVertices, maxEdges, groupNumbers}
 use Rattle.base_limits.specs.Verdict.{refuseIf, _before_, Outcome, refusal, answer, outcome}
 use Rattle.base_limits.specs.declared.Verdict.{Verdict}
 use Rattle.base_limits.specs.declared.Verdict.the-variants.{Fine, Refused}
-use Rattle.format_number.specs.Step.{Step, found, refused}
-use Rattle.format_survey_lines.specs.Lines.{more, linesFrom}
-use Rattle.format_survey_lines.specs.Line.{testsFor, groupTest, groupLine, groupLines, countsAt}
-use Rattle.format_survey.specs.Reading.{surveyOf, Survey as SurveyText}
-use Rattle.format_number.specs.Laws.Step.{then-value}
+use Rattle.format_grammar.specs.Step.{Step, found, refused}
+use Rattle.format_grammar.specs.Lines.{following, linesFrom}
+use Rattle.format_survey_lines.specs.Line.{testsFor, groupTest, groupLine, groupLines, countsAt, linesAt, linesOf}
+use Rattle.format_survey.specs.Reading.{surveyOf, SurveyText}
+use Rattle.format_grammar.specs.Laws.Step.{then-value}
 use Rattle.format_survey_lines.specs.Laws.Tests.{group-below}
-use Rattle.survey_core.specs.Survey.{Survey, surveyFrom, edgeCount}
-use Rattle.survey_core.specs.Accuracy.{Accurate}
+use Rattle.survey_core.specs.Survey.{edgeCount}
 use Rattle.survey_core.specs.Sound.{Numbered}
 use Rattle.check_rule.specs.Check.{Checked, checking}
 use Rattle.check_rule.specs.Laws.Accuracy.{checking-accurate}
-use Rattle.format_plan.specs.Plan.{Claims, Plan, marksOf, moatRecords}
-use Rattle.check_text.specs.Verify.{linesAt, surveyAt, prefixAt, claimTest, judged, planVerified, planFrom, verifiedFrom, verifying}
-
--- The survey that a text says.
-abbrev pub surveyIn : SurveyText → Survey
-surveyIn s = surveyFrom (s .groups) (s .firsts) (s .seconds) (s .weights)
+use Rattle.format_plan.specs.Plan.{Claims, Plan, marksOf, dualRecords}
+use Rattle.check_text.specs.Verify.{surveyAt, prefixAt, claimTest, judged, planVerified, planFrom, verifiedFrom, verifying}
+use Rattle.check_text.specs.Pair.{surveyIn, Claimed, Worth}
 
 groups-below : (t : List ℕ) (count i at v : ℕ) → getD (linesFrom (groupLine groupTest t) count i at .values) v 0 < groupNumbers
-unfolding linesFrom more
+unfolding linesFrom following
 groups-below t zero i at v = omega arith
 groups-below t (suc count) i at v = by-line (groupLine groupTest t i at) v refl (λ next w. groups-below t count (i + 1) next w)
   where
     by-line : (s : Step ℕ) (v : ℕ) → groupLine groupTest t i at ≡ s → ((next w : ℕ) → getD (linesFrom (groupLine groupTest t) count (i + 1) next .values) w 0 < groupNumbers)
-        → getD (more s (λ next. linesFrom (groupLine groupTest t) count (i + 1) next) .values) v 0 < groupNumbers
+        → getD (following s (λ a next. linesFrom (groupLine groupTest t) count (i + 1) next) .values) v 0 < groupNumbers
     by-line (found g next) zero e ih = group-below t i at e
     by-line (found g next) (suc v) e ih = ih next v
     by-line (refused n p) v e ih = omega arith
 
 -- Groups that are read are group numbers.
 pub prefix-numbered : (a b c d : ℕ) (t : List ℕ) {s : SurveyText} {at : ℕ} → prefixAt (testsFor a b c d) t ≡ found s at → Numbered (surveyIn s)
-unfolding prefixAt surveyAt linesAt surveyOf groupLines
+unfolding prefixAt surveyAt linesAt linesOf surveyOf groupLines
 prefix-numbered a b c d t {s} {at} e =
     let one = then-value (countsAt (testsFor a b c d) t) _ e in
     let two = then-value (linesAt t (one .0 .vertices) (one .0 .edges) (one .1) .end) _ (one .3) in
@@ -58,12 +54,6 @@ judged-answer (answer y) k c b {x} e = by-test (claimTest y k c b) e
     by-test : (v : Verdict) → outcome v y ≡ answer x → answer y ≡ answer x
     by-test Fine e = e
     by-test (Refused n p) e = let z : _≡_ {A = ℕ} 0 1 = cc in absurd (omega arith)
-
--- Counts that are what the checker found.
-pub record Claimed (x : Claims) (c : Checked) : Type 0 where
-  pub terminals : c .terminals ≡ x .terminals
-  pub cost : c .cost ≡ x .cost
-  pub bound : c .bound ≡ x .bound
 
 judged-claims : (o : Outcome Checked) (x : Claims) {c : Checked} → judged o (x .terminals) (x .cost) (x .bound) ≡ answer c → Claimed x c
 unfolding judged claimTest refuseIf _before_ outcome
@@ -86,7 +76,7 @@ pub record Parts (t : List ℕ) (c : Checked) : Type 0 where
   pub plan : Plan
   pub read : prefixAt (testsFor maxVertices maxEdges maxEdges maxEdges) t ≡ found survey next
   pub behind : planFrom t (surveyIn survey) next ≡ answer plan
-  pub passes : checking (surveyIn survey) (marksOf (edgeCount (surveyIn survey)) (plan .kept)) (moatRecords (plan .moats)) ≡ answer c
+  pub passes : checking (surveyIn survey) (marksOf (edgeCount (surveyIn survey)) (plan .kept)) (dualRecords (plan .duals)) ≡ answer c
   pub claims : Claimed (plan .claims) c
 
 -- Nothing else passes.
@@ -103,13 +93,6 @@ verified-parts t c e = by-survey (prefixAt (testsFor maxVertices maxEdges maxEdg
     by-survey (found s at) q e = by-plan s at (planFrom t (surveyIn s) at) q refl e
     by-survey (refused n p) q e = let z : _≡_ {A = ℕ} 0 1 = cc in absurd (omega arith)
 
--- What passes: the text begins with a survey, of which the k and the cost that are reported obey the accuracy rule.
-pub record Worth (t : List ℕ) (c : Checked) : Type 0 where
-  pub survey : SurveyText
-  pub next : ℕ
-  pub read : prefixAt (testsFor maxVertices maxEdges maxEdges maxEdges) t ≡ found survey next
-  pub accurate : Accurate (surveyIn survey) (c .terminals) (c .cost)
-
 pub verified-accurate : (t : List ℕ) (c : Checked) → verifying t ≡ answer c → Worth t c
 verified-accurate t c e =
     let v = verified-parts t c e in
@@ -118,5 +101,5 @@ verified-accurate t c e =
       survey = v .survey;
       next = v .next;
       read = v .read;
-      accurate = checking-accurate s (prefix-numbered maxVertices maxEdges maxEdges maxEdges t (v .read)) (marksOf (edgeCount s) (v .plan .kept)) (moatRecords (v .plan .moats)) c (v .passes);
+      accurate = checking-accurate s (prefix-numbered maxVertices maxEdges maxEdges maxEdges t (v .read)) (marksOf (edgeCount s) (v .plan .kept)) (dualRecords (v .plan .duals)) c (v .passes);
     }

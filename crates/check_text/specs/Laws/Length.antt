@@ -6,35 +6,37 @@ use mathlib.Core.Path.{_≡_, ap, sym, _∙_}
 use mathlib.Core.Logic.{⊎-elim}
 use mathlib.Core.List.{List, [], _∷_, _++_}
 use lib.ListN.{length, length-append}
+use Rattle.format_number.specs.Laws.Words.{digits-most}
 use Rattle.base_finite.specs.Below.{sumBelow}
 use Rattle.base_finite.specs.Laws.Below.{lt-or-ge}
-use Rattle.base_limits.specs.Limits.{recordBytes, maxVertices, maxEdges, maxDuals}
+use Rattle.base_limits.specs.Limits.{recordBytes, maxVertices, maxEdges, maxDuals, valueDigits}
 use Rattle.base_limits.specs.Verdict.{answer}
-use Rattle.format_write.specs.Key.{keptKey, comma}
+use Rattle.format_key.specs.Key.{keptKey, comma}
 use Rattle.format_write.specs.Decimal.{decimal}
 use Rattle.format_write.specs.Text.{lineOf, listed, keptLine}
 use Rattle.format_print.specs.Room.{longestDual, planRoom}
-use Rattle.format_write.specs.Laws.Decimal.{length-decimal}
 use Rattle.format_print.specs.Laws.Room.{roomBelow, room-of-members, length-dual, kept-line-le, length-count-lines}
-use Rattle.format_number.specs.Step.{found}
+use Rattle.format_grammar.specs.Step.{found}
 use Rattle.format_survey_lines.specs.Line.{testsFor}
-use Rattle.format_survey.specs.Reading.{Survey as SurveyText}
-use Rattle.format_survey_lines.specs.Render.{textOf}
-use Rattle.format_survey.specs.Render.{render}
-use Rattle.format_number.specs.Laws.Step.{then-value}
-use Rattle.format_survey.specs.Laws.Said.{saidAt, reads-said}
-use Rattle.format_survey.specs.Laws.WellFormed.{sparing, accepted-within}
-use Rattle.format_survey.specs.Laws.Longest.{longestText, longest-within}
+use Rattle.format_survey.specs.Reading.{SurveyText}
+use Rattle.format_grammar.specs.Lines.{textOf}
+use Rattle.format_survey.specs.Render.{render, longestText}
+use Rattle.format_grammar.specs.Laws.Step.{then-value}
+use Rattle.format_survey.specs.Laws.Content.{contentAt, reads-content}
+use Rattle.format_survey.specs.Laws.WellFormed.{never-malformed, accepted-within}
+use Rattle.format_survey.specs.Laws.Longest.{longest-within}
 use Rattle.survey_core.specs.Survey.{edgeCount}
 use Rattle.check_rule.specs.Check.{Checked}
-use Rattle.format_plan_lines.specs.Items.{Each, none, more}
-use Rattle.format_plan_lines.specs.Lines.{separator, memberNumbers, Moat}
+use Rattle.format_grammar.specs.Language.{Each, none, more}
+use Rattle.format_plan_lines.specs.Lines.{separator, memberNumbers, PrintedDual}
 use Rattle.format_plan.specs.Plan.{Plan, planAt}
 use Rattle.check_text.specs.Verify.{prefixAt, planFrom, verifying}
-use Rattle.check_text.specs.Laws.Accuracy.{surveyIn, verified-parts}
-use Rattle.check_text.specs.Laws.Prefix.{prefix-said}
+use Rattle.check_text.specs.Pair.{surveyIn}
+use Rattle.check_text.specs.Laws.Accuracy.{verified-parts}
+use Rattle.check_text.specs.Laws.Prefix.{prefix-content}
 use Rattle.format_plan.specs.Laws.Room.{room-answer}
-use Rattle.format_plan.specs.Laws.Back.{Rising, ended, rising, followers, memberText, listed-text, moatText, claimsText, planWords, Printed, Printable}
+use Rattle.format_plan.specs.WellFormed.{Rising, ended, rising, dualText, claimsText, planWords, Printed, Printable}
+use Rattle.format_plan.specs.Laws.RoundTrip.{followers, memberText, listed-text}
 use Rattle.format_plan.specs.Laws.Accepted.{found-rendering}
 
 -- ---- moat lines
@@ -77,22 +79,22 @@ listed-most (v ∷ vs) r =
     omega arith
 
 -- A moat line takes no more than the longest.
-moat-most : (d : Moat) → Printed d → length (moatText d) ≤ longestDual
-unfolding moatText
-moat-most d p =
+dual-most : (d : PrintedDual) → Printed d → length (dualText d) ≤ longestDual
+unfolding dualText
+dual-most d p =
     let l = length-dual (d .value) (d .members) in
-    let x = length-decimal 6 (d .value) (p .small) in
+    let x = digits-most valueDigits (d .value) (omega arith) (p .small) in
     let m = listed-most (d .members) (p .rises) in
     omega arith
 
 -- Nor do moat lines one after another.
-moats-most : {ds : List Moat} → Each Printed ds → length (textOf moatText ds) ≤ longestDual * length ds
+duals-most : {ds : List PrintedDual} → Each Printed ds → length (textOf dualText ds) ≤ longestDual * length ds
 unfolding textOf
-moats-most none = omega arith
-moats-most (more {a = d} {l = ds} p r) =
-    let ih = moats-most r in
-    let x = moat-most d p in
-    let l = length-append (moatText d) (textOf moatText ds) in
+duals-most none = omega arith
+duals-most (more {a = d} {l = ds} p r) =
+    let ih = duals-most r in
+    let x = dual-most d p in
+    let l = length-append (dualText d) (textOf dualText ds) in
     omega arith
 
 -- ---- keep lines
@@ -115,7 +117,7 @@ unfolding planWords claimsText
 words-most m p few w =
     let C = claimsText (p .claims) in
     let K = textOf (lineOf keptKey) (p .kept) in
-    let D = textOf moatText (p .moats) in
+    let D = textOf dualText (p .duals) in
     let a = length-append C K in
     let b = length-append (C ++ K) D in
     let f = w .few in
@@ -125,7 +127,7 @@ words-most m p few w =
     let z = f .rounds in
     let c = length-count-lines (p .claims .terminals) (p .claims .cost) (p .claims .bound) (p .claims .rounds) (omega arith) (omega arith) (omega arith) (omega arith) in
     let d = kept-most few (omega arith) (w .kept) in
-    let e = moats-most (w .moats) in
+    let e = duals-most (w .duals) in
     let n = w .count in
     omega arith
 
@@ -133,8 +135,8 @@ words-most m p few w =
 pub prefix-most : (a b c d : ℕ) (t : List ℕ) {s : SurveyText} {at : ℕ} → prefixAt (testsFor a b c d) t ≡ found s at → at ≤ longestText
 prefix-most a b c d t {s} {at} e =
     let tests = testsFor a b c d in
-    let g = then-value (saidAt tests t 0) _ (sym (prefix-said a b c d t) ∙ e) in
-    let w = reads-said tests (sparing _ _ _ _) .sound t 0 (g .0) (g .1) (omega arith) (g .2) in
+    let g = then-value (contentAt tests t 0) _ (sym (prefix-content a b c d t) ∙ e) in
+    let w = reads-content tests (never-malformed _ _ _ _) .sound t 0 (g .0) (g .1) (omega arith) (g .2) in
     let l = longest-within (accepted-within a b c d (w .member)) in
     let same : length (w .word) ≡ length (render (g .0 .groups) (g .0 .edges)) = ap length (w .member .word) in
     let x = w .ends in

@@ -4,31 +4,32 @@ use native.Mathlib.Omega.{arith}
 use mathlib.Core.Path.{_≡_, refl, ap, sym, _∙_, subst}
 use mathlib.Core.List.{List, [], _++_}
 use lib.ListN.{length, length-append}
-use Rattle.base_limits.specs.Limits.{maxVertices, maxEdges}
+use Rattle.base_limits.specs.Limits.{maxVertices, maxEdges, figureDigits}
 use Rattle.base_limits.specs.Verdict.{answer}
 use Rattle.format_record.specs.Bits.{Bytes}
 use Rattle.format_print.specs.Room.{planRoom}
 use Rattle.format_write.specs.Text.{planText}
 use Rattle.format_print.specs.Laws.Room.{plan-text-le}
-use Rattle.format_number.specs.Step.{found}
+use Rattle.format_grammar.specs.Step.{found}
 use Rattle.format_survey_lines.specs.Line.{Edge}
-use Rattle.format_survey.specs.Reading.{outcomeOf, reading, Survey as SurveyText}
-use Rattle.format_survey.specs.Render.{render}
-use Rattle.format_survey.specs.Laws.WellFormed.{Within, accepted-render}
-use Rattle.format_survey.specs.Laws.WellFormed.{surveyFrom as surveyOfText}
-use Rattle.format_survey.specs.Laws.Longest.{longestText, longest-read}
+use Rattle.format_survey.specs.Reading.{outcomeOf, reading, SurveyText}
+use Rattle.format_survey.specs.Render.{render, longestText}
+use Rattle.format_survey.specs.WellFormed.{WithinCounts, surveyOfText}
+use Rattle.format_survey.specs.Laws.WellFormed.{accepted-render}
+use Rattle.format_survey.specs.Laws.Longest.{longest-read}
 use Rattle.survey_core.specs.Survey.{Survey, edgeCount}
 use Rattle.survey_core.specs.Sound.{Numbered}
 use Rattle.check_rule.specs.Check.{Checked, dualAt, checkedOf, checking}
 use Rattle.check_core.specs.Stage.{DualsFit, CountsFit}
 use Rattle.check_rule.specs.Laws.Accuracy.{checking-passing}
 use Rattle.check_core.specs.Laws.Duals.{counts-fit}
-use Rattle.format_plan_lines.specs.Lines.{countDigits}
 use Rattle.format_plan.specs.Plan.{Claims, planAt}
 use Rattle.check_text.specs.Verify.{planVerified, planFrom, verifiedFrom, verifying}
 use Rattle.check_text.specs.Laws.Verify.{claim-fine, room-suffices}
-use Rattle.check_text.specs.Laws.Accuracy.{surveyIn, prefix-numbered}
-use Rattle.format_plan.specs.Laws.Printed.{planIn, Fits, read-back}
+use Rattle.check_text.specs.Pair.{surveyIn}
+use Rattle.check_text.specs.Laws.Accuracy.{prefix-numbered}
+use Rattle.format_plan.specs.WellFormed.{planIn, PlanFits}
+use Rattle.format_plan.specs.Laws.Printed.{read-back}
 use Rattle.check_text.specs.Laws.Prefix.{prefix-render}
 use Rattle.check_text.specs.Laws.Same.{drawn-passes}
 
@@ -42,7 +43,7 @@ printed c rounds marks records = planText (c .terminals) (c .cost) (c .bound) ro
 
 module _ (s : Survey) (numbered : Numbered s) (marks records : List ℕ) (c : Checked) (passed : checking s marks records ≡ answer c) where
   -- What passes fits the digits and the limits of a printed plan.
-  passed-fits : (rounds : ℕ) → rounds < 10 ^ countDigits → Fits (claimsOf c rounds) marks records
+  passed-fits : (rounds : ℕ) → rounds < 10 ^ figureDigits → PlanFits (claimsOf c rounds) marks records
   unfolding checkedOf dualAt edgeCount
   passed-fits rounds h =
       let law = checking-passing s numbered marks records in
@@ -58,19 +59,19 @@ module _ (s : Survey) (numbered : Numbered s) (marks records : List ℕ) (c : Ch
       record {
         few = record { terminals = omega arith; cost = omega arith; bound = omega arith; rounds = h };
         tracks = omega arith;
-        moats = p .records-few;
+        duals = p .records-few;
         values = λ i l. let small = p .duals-sound i l .small in omega arith;
       }
 
   -- The text of what passes is no longer than any plan's.
-  passed-length : Bytes records → (rounds : ℕ) → rounds < 10 ^ countDigits → length (printed c rounds marks records) ≤ planRoom
+  passed-length : Bytes records → (rounds : ℕ) → rounds < 10 ^ figureDigits → length (printed c rounds marks records) ≤ planRoom
   passed-length bytes rounds h =
       let f = passed-fits rounds h in
       let k = f .few .terminals in
       let x = f .few .cost in
       let b = f .few .bound in
       let whole = checking-passing s numbered marks records .0 c passed .records-whole in
-      let few = f .moats in
+      let few = f .duals in
       plan-text-le (c .terminals) (c .cost) (c .bound) rounds marks records
       record {
         terminals-fit = omega arith;
@@ -83,7 +84,7 @@ module _ (s : Survey) (numbered : Numbered s) (marks records : List ℕ) (c : Ch
       }
 
   -- The plan behind any text is read back and passes.
-  plan-passes : Bytes records → (u : List ℕ) (rounds : ℕ) → rounds < 10 ^ countDigits → planVerified s (planFrom (u ++ printed c rounds marks records) s (length u)) ≡ answer c
+  plan-passes : Bytes records → (u : List ℕ) (rounds : ℕ) → rounds < 10 ^ figureDigits → planVerified s (planFrom (u ++ printed c rounds marks records) s (length u)) ≡ answer c
   unfolding planVerified planIn outcomeOf edgeCount
   plan-passes bytes u rounds h =
       let t = u ++ printed c rounds marks records in
@@ -95,7 +96,7 @@ module _ (s : Survey) (numbered : Numbered s) (marks records : List ℕ) (c : Ch
       ∙ claim-fine (c .terminals) (c .cost) (c .bound) (drawn-passes s numbered marks records c bytes passed) refl refl refl
 
 -- The groups of a rendering are group numbers.
-render-numbered : (groups : List ℕ) (edges : List Edge) → Within groups edges → Numbered (surveyIn (surveyOfText groups edges))
+render-numbered : (groups : List ℕ) (edges : List Edge) → WithinCounts groups edges → Numbered (surveyIn (surveyOfText groups edges))
 render-numbered groups edges w = prefix-numbered maxVertices maxEdges maxEdges maxEdges (render groups edges ++ []) (prefix-render groups edges [] w)
 
 -- So are those of a text that is read.
@@ -105,7 +106,7 @@ read-numbered t gb fb sb wb s e =
     subst (λ (x : SurveyText). Numbered (surveyIn x)) (sym (a .says)) (render-numbered (a .groups) (a .edges) (a .within))
 
 -- Behind a rendering.
-render-passes : (groups : List ℕ) (edges : List Edge) → Within groups edges → (marks records : List ℕ) → Bytes records → (rounds : ℕ) → rounds < 10 ^ countDigits → (c : Checked)
+render-passes : (groups : List ℕ) (edges : List Edge) → WithinCounts groups edges → (marks records : List ℕ) → Bytes records → (rounds : ℕ) → rounds < 10 ^ figureDigits → (c : Checked)
     → checking (surveyIn (surveyOfText groups edges)) marks records ≡ answer c → verifying (render groups edges ++ printed c rounds marks records) ≡ answer c
 unfolding verifying verifiedFrom
 render-passes groups edges w marks records bytes rounds h c passed =
@@ -114,7 +115,7 @@ render-passes groups edges w marks records bytes rounds h c passed =
     ap (verifiedFrom t) read
     ∙ plan-passes (surveyIn (surveyOfText groups edges)) (render-numbered groups edges w) marks records c passed bytes (render groups edges) rounds h
 
-module _ (t gb fb sb wb : List ℕ) (s : SurveyText) (read : reading t gb fb sb wb ≡ answer s) (marks records : List ℕ) (bytes : Bytes records) (rounds : ℕ) (few : rounds < 10 ^ countDigits) where
+module _ (t gb fb sb wb : List ℕ) (s : SurveyText) (read : reading t gb fb sb wb ≡ answer s) (marks records : List ℕ) (bytes : Bytes records) (rounds : ℕ) (few : rounds < 10 ^ figureDigits) where
   -- A plan that the checker passes for the survey of a text, printed behind this text, passes with the same counts.
   pub printed-passes : (c : Checked) → checking (surveyIn s) marks records ≡ answer c → verifying (t ++ printed c rounds marks records) ≡ answer c
   printed-passes c passed =

@@ -27,9 +27,9 @@ use Rattle.survey_core.specs.Sound.{Numbered}
 use Rattle.check_rule.specs.Check.{Checked, dualsIn, keptBy, checkedOf, checking}
 use Rattle.check_rule.specs.Passing.{Passing}
 use Rattle.check_rule.specs.Laws.Accuracy.{checking-passing}
-use Rattle.format_plan_lines.specs.Lines.{Moat, isIn, moatRecord}
-use Rattle.format_plan.specs.Plan.{marksOf, moatRecords}
-use Rattle.format_plan.specs.Laws.Printed.{keptIn, moatIn, moatsIn}
+use Rattle.format_plan_lines.specs.Lines.{PrintedDual, isIn, dualRecord}
+use Rattle.format_plan.specs.Plan.{marksOf, dualRecords}
+use Rattle.format_plan.specs.WellFormed.{keptIn, printedDual, printedDuals}
 use Rattle.check_text.specs.Laws.Verify.{length-marks}
 
 -- ---- numbers in a list
@@ -103,8 +103,8 @@ kept-same marks = fun-ext (λ e. ⊎-elim (inside e) (outside e) (lt-or-ge e (le
 -- ---- records
 
 -- The record of a record's moat is the record.
-record-same : (r : List ℕ) → length r ≡ recordBytes → Bytes r → moatRecord (moatIn r) ≡ r
-unfolding moatRecord moatIn recordOf valueIn membersOf memberIn
+record-same : (r : List ℕ) → length r ≡ recordBytes → Bytes r → dualRecord (printedDual r) ≡ r
+unfolding dualRecord printedDual recordOf valueIn membersOf memberIn
 record-same r h k =
     let low : length (take valueBytes r) ≡ valueBytes = length-take-le valueBytes r (omega arith) in
     let high : length (drop valueBytes r) ≡ memberBytes = length-drop valueBytes r ∙ omega arith in
@@ -117,27 +117,27 @@ record-same r h k =
     ∙ bytes-of-members (drop valueBytes r) (subst Bytes all (bytes-part memberBytes valueBytes r k)) in
     ap₂ (λ (a b : List ℕ). a ++ b) value members ∙ take-append-drop valueBytes r
 
-moats-append : (a b : List Moat) → moatRecords (a ++ b) ≡ moatRecords a ++ moatRecords b
-unfolding moatRecords
-moats-append [] b = refl
-moats-append (d ∷ a) b = ap (λ (l : List ℕ). moatRecord d ++ l) (moats-append a b) ∙ sym (append-assoc (moatRecord d) (moatRecords a) (moatRecords b))
+duals-append : (a b : List PrintedDual) → dualRecords (a ++ b) ≡ dualRecords a ++ dualRecords b
+unfolding dualRecords
+duals-append [] b = refl
+duals-append (d ∷ a) b = ap (λ (l : List ℕ). dualRecord d ++ l) (duals-append a b) ∙ sym (append-assoc (dualRecord d) (dualRecords a) (dualRecords b))
 
-records-upto : (records : List ℕ) → Bytes records → (n : ℕ) → recordBytes * n ≤ length records → moatRecords (tabulate n (λ i. moatIn (recordAt records i))) ≡ take (recordBytes * n) records
-unfolding tabulate moatRecords recordAt
+records-upto : (records : List ℕ) → Bytes records → (n : ℕ) → recordBytes * n ≤ length records → dualRecords (tabulate n (λ i. printedDual (recordAt records i))) ≡ take (recordBytes * n) records
+unfolding tabulate dualRecords recordAt
 records-upto records k zero h = refl
 records-upto records k (suc n) h =
     let rest = length-drop (recordBytes * n) records in
     let whole : length (recordAt records n) ≡ recordBytes = length-take-le recordBytes (drop (recordBytes * n) records) (omega arith) in
     let one = record-same (recordAt records n) whole (bytes-record-at records n k) in
     let next : recordBytes * n + recordBytes ≡ recordBytes * suc n = omega arith in
-    moats-append (tabulate n (λ i. moatIn (recordAt records i))) (moatIn (recordAt records n) ∷ [])
-    ∙ ap₂ (λ (a b : List ℕ). a ++ b) (records-upto records k n (omega arith)) (append-nil (moatRecord (moatIn (recordAt records n))) ∙ one)
+    duals-append (tabulate n (λ i. printedDual (recordAt records i))) (printedDual (recordAt records n) ∷ [])
+    ∙ ap₂ (λ (a b : List ℕ). a ++ b) (records-upto records k n (omega arith)) (append-nil (dualRecord (printedDual (recordAt records n))) ∙ one)
     ∙ sym (take-add (recordBytes * n) recordBytes records)
     ∙ ap (λ (i : ℕ). take i records) next
 
 -- Whole records of bytes are what their moats draw.
-pub records-same : (records : List ℕ) → Bytes records → length records % recordBytes ≡ 0 → moatRecords (moatsIn records) ≡ records
-unfolding moatsIn
+pub records-same : (records : List ℕ) → Bytes records → length records % recordBytes ≡ 0 → dualRecords (printedDuals records) ≡ records
+unfolding printedDuals
 records-same records k h =
     records-upto records k (length records / recordBytes) (omega arith) ∙ take-all (recordBytes * (length records / recordBytes)) records (omega arith)
 
@@ -178,7 +178,7 @@ marks-pass s numbered marks marks′ records c long known same h =
 
 -- What is drawn for a printed plan passes if what was printed does, with the same counts.
 pub drawn-passes : (s : Survey) → Numbered s → (marks records : List ℕ) (c : Checked) → Bytes records → checking s marks records ≡ answer c
-    → checking s (marksOf (edgeCount s) (keptIn marks)) (moatRecords (moatsIn records)) ≡ answer c
+    → checking s (marksOf (edgeCount s) (keptIn marks)) (dualRecords (printedDuals records)) ≡ answer c
 drawn-passes s numbered marks records c bytes h =
     let p = checking-passing s numbered marks records .0 c h in
     let kept : keptBy (marksOf (edgeCount s) (keptIn marks)) ≡ keptBy marks = ap (λ (m : ℕ). keptBy (marksOf m (keptIn marks))) (sym (p .marks-long)) ∙ kept-same marks in

@@ -7,24 +7,23 @@ use mathlib.Core.List.{List, [], _∷_}
 use lib.ListN.{length, take, drop, length-map, length-append}
 use lib.Seq.{sets, take-at}
 use borrow.Author.Tests.{eq-eqb, ne-eqb}
+use Rattle.format_survey_lines.specs.Answer.{LinesStored}
+use Rattle.format_survey_lines.specs.Laws.Body.{lines-sizes}
 use Rattle.base_finite.specs.Laws.Below.{length-tabulate}
-use Rattle.base_limits.specs.Limits.{recordBytes, maxEdges}
+use Rattle.base_limits.specs.Limits.{recordBytes, maxEdges, maxVertices}
 use Rattle.base_limits.specs.Verdict.{refuseIf, Outcome, refusal, answer, outcome, _before_}
-use Rattle.format_number.specs.Step.{Step, found, refused, _then_}
-use Rattle.format_survey_lines.specs.Lines.{linesAfter}
-use Rattle.format_survey.specs.Reading.{Body, surveyOf, outcomeOf}
-use Rattle.format_survey_lines.specs.Line.{Counts, testsFor, groupTest, groupLines, edgeLines, countsAt, firstsOf, secondsOf, weightsOf}
-use Rattle.format_survey.specs.Answer.{Stores}
-use Rattle.format_survey_lines.specs.Laws.Lines.{lines-length}
+use Rattle.format_grammar.specs.Step.{Step, found, refused, _then_}
+use Rattle.format_survey.specs.Reading.{surveyOf, outcomeOf}
+use Rattle.format_survey_lines.specs.Line.{Counts, testsFor, countsAt, firstsOf, secondsOf, weightsOf, SurveyLines, linesAt}
 use Rattle.format_survey_lines.specs.Laws.Tests.{counts-fit}
 use Rattle.format_survey.specs.Laws.Reading.{sets-filled}
 use Rattle.survey_core.specs.Survey.{Survey, surveyFrom, edgeCount}
 use Rattle.check_rule.specs.Check.{Checked, checking}
-use Rattle.format_plan_lines.specs.Lines.{Moat, moatRecord}
-use Rattle.format_plan.specs.Plan.{Claims, Plan, planAt, withRoom, marksOf, moatRecords, marksAfter, recordsAfter}
-use Rattle.check_text.specs.Verify.{linesAt, surveyAt, prefixAt, claimTest, judged, planVerified, planFrom, verifiedFrom, verifying}
-use Rattle.format_plan.specs.Answer.{Read, Reads, readOf}
-use Rattle.format_plan_lines.specs.Laws.Lines.{length-moat}
+use Rattle.format_plan_lines.specs.Lines.{PrintedDual, dualRecord}
+use Rattle.format_plan.specs.Plan.{Claims, Plan, planAt, withRoom, marksOf, dualRecords, marksAfter, recordsAfter}
+use Rattle.check_text.specs.Verify.{surveyAt, prefixAt, claimTest, judged, planVerified, planFrom, verifiedFrom, verifying}
+use Rattle.format_plan.specs.Answer.{Read, readOf, PlanRead}
+use Rattle.format_plan_lines.specs.Laws.Lines.{length-dual-record}
 use Rattle.format_plan.specs.Laws.Room.{room-answer, room-enough}
 
 -- ---- claims
@@ -61,46 +60,46 @@ pub length-marks : (m : ℕ) (kept : List ℕ) → length (marksOf m kept) ≡ m
 unfolding marksOf
 length-marks m kept = length-tabulate m _
 
-length-records : (ds : List Moat) → length (moatRecords ds) ≡ recordBytes * length ds
-unfolding moatRecords
+length-records : (ds : List PrintedDual) → length (dualRecords ds) ≡ recordBytes * length ds
+unfolding dualRecords
 length-records [] = refl
-length-records (d ∷ ds) = omega (arith, length-append (moatRecord d) (moatRecords ds), length-moat d, length-records ds)
+length-records (d ∷ ds) = omega (arith, length-append (dualRecord d) (dualRecords ds), length-dual-record d, length-records ds)
 
-plan-read : (s : Survey) (o : Outcome Plan) {claims : Claims} {moats : ℕ} {marks marks′ records records′ : List ℕ}
-    → Reads o (edgeCount s) (answer (record { claims = claims; moats = moats })) marks marks′ records records′
-    → planVerified s o ≡ judged (checking s (take (edgeCount s) marks′) (take (recordBytes * moats) records′)) (claims .terminals) (claims .cost) (claims .bound)
+plan-read : (s : Survey) (o : Outcome Plan) {claims : Claims} {duals : ℕ} {marks marks′ records records′ : List ℕ}
+    → PlanRead o (edgeCount s) (answer (record { claims = claims; duals = duals })) marks marks′ records records′
+    → planVerified s o ≡ judged (checking s (take (edgeCount s) marks′) (take (recordBytes * duals) records′)) (claims .terminals) (claims .cost) (claims .bound)
 unfolding readOf marksAfter recordsAfter planVerified
-plan-read s o {claims} {moats} {marks} {marks′} {records} {records′} r = by-outcome o (r .answered) (r .intoMarks) (r .intoRecords)
+plan-read s o {claims} {duals} {marks} {marks′} {records} {records′} r = by-outcome o (r .answered) (r .intoMarks) (r .intoRecords)
   where
-    by-outcome : (x : Outcome Plan) → answer (record { claims = claims; moats = moats }) ≡ readOf x → marks′ ≡ marksAfter x (edgeCount s) marks → records′ ≡ recordsAfter x records
-        → planVerified s x ≡ judged (checking s (take (edgeCount s) marks′) (take (recordBytes * moats) records′)) (claims .terminals) (claims .cost) (claims .bound)
+    by-outcome : (x : Outcome Plan) → answer (record { claims = claims; duals = duals }) ≡ readOf x → marks′ ≡ marksAfter x (edgeCount s) marks → records′ ≡ recordsAfter x records
+        → planVerified s x ≡ judged (checking s (take (edgeCount s) marks′) (take (recordBytes * duals) records′)) (claims .terminals) (claims .cost) (claims .bound)
     by-outcome (refusal n p) a b c = let z : _≡_ {A = ℕ} 0 1 = cc in absurd (omega arith)
     by-outcome (answer p) a b c =
-        let read : _≡_ {A = Read} (record { claims = claims; moats = moats }) (record { claims = p .claims; moats = length (p .moats) }) = cc in
+        let read : _≡_ {A = Read} (record { claims = claims; duals = duals }) (record { claims = p .claims; duals = length (p .duals) }) = cc in
         let same : claims ≡ p .claims = ap (λ (r : Read). r .claims) read in
-        let many : moats ≡ length (p .moats) = ap (λ (r : Read). r .moats) read in
+        let many : duals ≡ length (p .duals) = ap (λ (r : Read). r .duals) read in
         let tm : take (edgeCount s) marks′ ≡ marksOf (edgeCount s) (p .kept) = ap (take (edgeCount s)) b ∙ take-at (marksOf (edgeCount s) (p .kept)) (drop (edgeCount s) marks) (edgeCount s) (length-marks (edgeCount s) (p .kept)) in
-        let tr : take (recordBytes * moats) records′ ≡ moatRecords (p .moats) = ap (λ n. take (recordBytes * n) records′) many ∙ ap (take (recordBytes * length (p .moats))) c ∙ take-at (moatRecords (p .moats)) (drop (recordBytes * length (p .moats)) records) (recordBytes * length (p .moats)) (length-records (p .moats)) in
+        let tr : take (recordBytes * duals) records′ ≡ dualRecords (p .duals) = ap (λ n. take (recordBytes * n) records′) many ∙ ap (take (recordBytes * length (p .duals))) c ∙ take-at (dualRecords (p .duals)) (drop (recordBytes * length (p .duals)) records) (recordBytes * length (p .duals)) (length-records (p .duals)) in
         rw (tm, tr, same) refl
 
 -- The same of the parts that are lent.
-pub plan-judged : (s : Survey) (o : Outcome Plan) {read : Outcome Read} {claims : Claims} {moats : ℕ} {marks marks′ records records′ : List ℕ}
-    → Reads o (edgeCount s) read marks marks′ records records′ → read ≡ answer (record { claims = claims; moats = moats })
-    → judged (checking s (take (edgeCount s - 0) marks′) (take (recordBytes * moats - 0) records′)) (claims .terminals) (claims .cost) (claims .bound) ≡ planVerified s o
-plan-judged s o {claims = claims} {moats = moats} {marks = marks} {marks′ = marks′} {records = records} {records′ = records′} r e =
-    rw (sub-zero (edgeCount s), sub-zero (recordBytes * moats)) (sym (plan-read s o (subst (λ (x : Outcome Read). Reads o (edgeCount s) x marks marks′ records records′) e r)))
+pub plan-judged : (s : Survey) (o : Outcome Plan) {read : Outcome Read} {claims : Claims} {duals : ℕ} {marks marks′ records records′ : List ℕ}
+    → PlanRead o (edgeCount s) read marks marks′ records records′ → read ≡ answer (record { claims = claims; duals = duals })
+    → judged (checking s (take (edgeCount s - 0) marks′) (take (recordBytes * duals - 0) records′)) (claims .terminals) (claims .cost) (claims .bound) ≡ planVerified s o
+plan-judged s o {claims = claims} {duals = duals} {marks = marks} {marks′ = marks′} {records = records} {records′ = records′} r e =
+    rw (sub-zero (edgeCount s), sub-zero (recordBytes * duals)) (sym (plan-read s o (subst (λ (x : Outcome Read). PlanRead o (edgeCount s) x marks marks′ records records′) e r)))
 
 -- No more moats are read than there is room for.
-pub plan-room : (t : List ℕ) (at m marks records : ℕ) {read : Outcome Read} {claims : Claims} {moats : ℕ} → read ≡ readOf (withRoom (planAt t m at) m marks records) → read ≡ answer (record { claims = claims; moats = moats })
-    → recordBytes * moats ≤ records
+pub plan-room : (t : List ℕ) (at m marks records : ℕ) {read : Outcome Read} {claims : Claims} {duals : ℕ} → read ≡ readOf (withRoom (planAt t m at) m marks records) → read ≡ answer (record { claims = claims; duals = duals })
+    → recordBytes * duals ≤ records
 unfolding readOf
-plan-room t at m marks records {read} {claims} {moats} a e = by-outcome (withRoom (planAt t m at) m marks records) refl (sym e ∙ a)
+plan-room t at m marks records {read} {claims} {duals} a e = by-outcome (withRoom (planAt t m at) m marks records) refl (sym e ∙ a)
   where
-    by-outcome : (o : Outcome Plan) → withRoom (planAt t m at) m marks records ≡ o → answer (record { claims = claims; moats = moats }) ≡ readOf o → recordBytes * moats ≤ records
+    by-outcome : (o : Outcome Plan) → withRoom (planAt t m at) m marks records ≡ o → answer (record { claims = claims; duals = duals }) ≡ readOf o → recordBytes * duals ≤ records
     by-outcome (refusal n q) r e = let z : _≡_ {A = ℕ} 0 1 = cc in absurd (omega arith)
     by-outcome (answer p) r e =
-        let same : _≡_ {A = Read} (record { claims = claims; moats = moats }) (record { claims = p .claims; moats = length (p .moats) }) = cc e in
-        subst (λ (n : ℕ). recordBytes * n ≤ records) (sym (ap (λ (r : Read). r .moats) same)) (room-answer (planAt t m at) m marks records r .3)
+        let same : _≡_ {A = Read} (record { claims = claims; duals = duals }) (record { claims = p .claims; duals = length (p .duals) }) = cc e in
+        subst (λ (n : ℕ). recordBytes * n ≤ records) (sym (ap (λ (r : Read). r .duals) same)) (room-answer (planAt t m at) m marks records r .3)
 
 -- 7 cannot come: the check answers what the text says.
 pub room-suffices : (t : List ℕ) (s : Survey) (at : ℕ) → edgeCount s ≤ maxEdges → planFrom t s at ≡ outcomeOf (planAt t (edgeCount s) at)
@@ -109,45 +108,18 @@ room-suffices t s at h = room-enough t (edgeCount s) at h
 
 -- ---- the survey
 
-module _ (t : List ℕ) (n m at : ℕ) {groups groups′ firsts firsts′ seconds seconds′ weights weights′ : List ℕ} where
-  pub lines-stopped : {number place : ℕ} → groupLines groupTest t n at .end ≡ refused number place → groups′ ≡ sets groups 0 (groupLines groupTest t n at .values) → firsts′ ≡ firsts → seconds′ ≡ seconds → weights′ ≡ weights
-      → Stores (linesAt t n m at) (refused number place) groups groups′ firsts firsts′ seconds seconds′ weights weights′
-  unfolding linesAt linesAfter firstsOf secondsOf weightsOf
-  lines-stopped e a b c d = rw e record { end = refl; intoGroups = a; intoFirsts = b; intoSeconds = c; intoWeights = d }
-
-  pub lines-read : {z p : ℕ} {step : Step ℕ} → groupLines groupTest t n at .end ≡ found z p → step ≡ edgeLines t m p .end → groups′ ≡ sets groups 0 (groupLines groupTest t n at .values)
-      → firsts′ ≡ sets firsts 0 (firstsOf (edgeLines t m p .values)) → seconds′ ≡ sets seconds 0 (secondsOf (edgeLines t m p .values)) → weights′ ≡ sets weights 0 (weightsOf (edgeLines t m p .values))
-      → Stores (linesAt t n m at) step groups groups′ firsts firsts′ seconds seconds′ weights weights′
-  unfolding linesAt linesAfter
-  lines-read e s a b c d = rw e record { end = s; intoGroups = a; intoFirsts = b; intoSeconds = c; intoWeights = d }
-
-record Sizes (b : Body) (n m : ℕ) : Type 0 where
-  groups : length (b .groups) ≡ n
-  edges : length (b .edges) ≡ m
-
-lines-sizes : (t : List ℕ) (n m at : ℕ) {z p : ℕ} → linesAt t n m at .end ≡ found z p → Sizes (linesAt t n m at) n m
-unfolding linesAt linesAfter groupLines edgeLines
-lines-sizes t n m at {z} {p} e = by-groups (groupLines groupTest t n at .end) refl e
-  where
-    by-groups : (s : Step ℕ) → groupLines groupTest t n at .end ≡ s → linesAfter s (edgeLines t m) .end ≡ found z p
-        → Sizes (record { groups = groupLines groupTest t n at .values; edges = linesAfter s (edgeLines t m) .values; end = linesAfter s (edgeLines t m) .end }) n m
-    by-groups (found y q) g e = record { groups = lines-length _ n 0 at g; edges = lines-length _ m 0 q e }
-    by-groups (refused x q) g e =
-        let f : _≡_ {A = Step ℕ} (refused x q) (found z p) = e in
-        let w : _≡_ {A = ℕ} 0 1 = cc in absurd (omega arith)
-
 take-stored : (values old : List ℕ) (n : ℕ) {new : List ℕ} → length values ≡ n → n ≤ length old → new ≡ sets old 0 values → take n new ≡ values
 take-stored values old n h k e = ap (take n) (e ∙ sets-filled values old (omega arith)) ∙ take-at values (drop (length values) old) n h
 
 -- What the parts of the buffers are, once the lines of the survey are read.
-record Parts (b : Body) (n m : ℕ) (groups firsts seconds weights : List ℕ) : Type 0 where
+record Parts (b : SurveyLines) (n m : ℕ) (groups firsts seconds weights : List ℕ) : Type 0 where
   groupsPart : take n groups ≡ b .groups
   firstsPart : take m firsts ≡ firstsOf (b .edges)
   secondsPart : take m seconds ≡ secondsOf (b .edges)
   weightsPart : take m weights ≡ weightsOf (b .edges)
 
 survey-parts : (t : List ℕ) (n m at : ℕ) {z p : ℕ} {step : Step ℕ} {groups groups′ firsts firsts′ seconds seconds′ weights weights′ : List ℕ}
-    → Stores (linesAt t n m at) step groups groups′ firsts firsts′ seconds seconds′ weights weights′ → step ≡ found z p
+    → LinesStored (linesAt t n m at) step groups groups′ firsts firsts′ seconds seconds′ weights weights′ → step ≡ found z p
     → n ≤ length groups → m ≤ length firsts → m ≤ length seconds → m ≤ length weights → Parts (linesAt t n m at) n m groups′ firsts′ seconds′ weights′
 unfolding firstsOf secondsOf weightsOf
 survey-parts t n m at {groups = groups} {firsts = firsts} {seconds = seconds} {weights = weights} s e hg hf hs hw =
@@ -166,7 +138,7 @@ module _ (t : List ℕ) (n m at : ℕ) {step : Step ℕ} where
   lines-refused s e = rw (sym s ∙ e)
 
   pub lines-verified : {z q : ℕ} {groups groups′ firsts firsts′ seconds seconds′ weights weights′ : List ℕ} → n ≤ length groups → m ≤ length firsts → m ≤ length seconds → m ≤ length weights
-      → Stores (linesAt t n m at) step groups groups′ firsts firsts′ seconds seconds′ weights weights′ → step ≡ found z q
+      → LinesStored (linesAt t n m at) step groups groups′ firsts firsts′ seconds seconds′ weights weights′ → step ≡ found z q
       → planVerified (surveyFrom (take (n - 0) groups′) (take (m - 0) firsts′) (take (m - 0) seconds′) (take (m - 0) weights′)) (planFrom t (surveyFrom (take (n - 0) groups′) (take (m - 0) firsts′) (take (m - 0) seconds′) (take (m - 0) weights′)) q)
       ≡ verifiedFrom t (surveyAt t (record { vertices = n; edges = m }) at)
   unfolding verifiedFrom surveyAt _then_ surveyOf
@@ -176,7 +148,7 @@ module _ (t : List ℕ) (n m at : ℕ) {step : Step ℕ} where
 
 -- ---- the whole
 
-module _ (t : List ℕ) {step : Step Counts} (read : step ≡ countsAt (testsFor 256 2048 2048 2048) t) where
+module _ (t : List ℕ) {step : Step Counts} (read : step ≡ countsAt (testsFor maxVertices maxEdges maxEdges maxEdges) t) where
   pub verified-uncounted : {n p : ℕ} → step ≡ refused n p → refusal n p ≡ verifying t
   unfolding verifying verifiedFrom prefixAt _then_
   verified-uncounted e = rw (sym read ∙ e)
@@ -186,5 +158,5 @@ module _ (t : List ℕ) {step : Step Counts} (read : step ≡ countsAt (testsFor
     unfolding verifying prefixAt _then_
     verified-counted = rw (sym read ∙ counted) refl
 
-    pub counted-few : (n ≤ 256) × (m ≤ 2048)
-    counted-few = let f = counts-fit 256 2048 2048 2048 t (sym read ∙ counted) in (f .vertices .most, f .edges .most)
+    pub counted-few : (n ≤ maxVertices) × (m ≤ maxEdges)
+    counted-few = let f = counts-fit maxVertices maxEdges maxEdges maxEdges t (sym read ∙ counted) in (f .vertices .most, f .edges .most)

@@ -7,40 +7,27 @@ use mathlib.Core.List.{List, _++_}
 use lib.ListN.{length, take, length-append, length-map}
 use Rattle.base_limits.specs.Limits.{recordBytes, maxVertices, maxEdges, maxDuals}
 use Rattle.base_limits.specs.Verdict.{answer}
-use Rattle.format_number.specs.Step.{found}
+use Rattle.format_grammar.specs.Step.{found}
 use Rattle.format_survey_lines.specs.Line.{Edge, testsFor, firstsOf}
-use Rattle.format_survey.specs.Reading.{surveyOf, outcomeOf, Survey as SurveyText}
+use Rattle.format_survey.specs.Reading.{surveyOf, outcomeOf, SurveyText}
 use Rattle.format_survey.specs.Render.{render}
-use Rattle.format_number.specs.Laws.Step.{then-value}
-use Rattle.format_number.specs.Laws.Stands.{stands-end}
-use Rattle.format_survey.specs.Laws.Said.{saidAt, reads-said}
-use Rattle.format_survey.specs.Laws.WellFormed.{Within, sparing, accepted-within}
-use Rattle.format_survey.specs.Laws.WellFormed.{surveyFrom as surveyOfText}
-use Rattle.survey_core.specs.Survey.{Survey, edgeCount}
+use Rattle.format_grammar.specs.Laws.Step.{then-value}
+use Rattle.format_grammar.specs.Laws.Stands.{stands-end}
+use Rattle.format_survey.specs.Laws.Content.{contentAt, reads-content}
+use Rattle.format_survey.specs.Laws.WellFormed.{never-malformed, accepted-within}
+use Rattle.survey_core.specs.Survey.{edgeCount}
 use Rattle.check_rule.specs.Check.{Checked, checking}
-use Rattle.format_plan.specs.Plan.{Plan, planAt, marksOf, moatRecords}
+use Rattle.format_plan.specs.Plan.{planAt, marksOf, dualRecords}
 use Rattle.check_text.specs.Verify.{prefixAt, planVerified, planFrom, verifiedFrom, verifying}
 use Rattle.check_text.specs.Laws.Verify.{claim-fine, room-suffices}
-use Rattle.check_text.specs.Laws.Accuracy.{surveyIn, Claimed, verified-parts}
+use Rattle.check_text.specs.Laws.Accuracy.{verified-parts}
 use Rattle.format_plan.specs.Laws.Room.{room-answer}
-use Rattle.format_plan.specs.Laws.Back.{Printable, planWords, plan-back}
-use Rattle.check_text.specs.Laws.Prefix.{prefix-said, prefix-render}
+use Rattle.format_plan.specs.Laws.RoundTrip.{plan-reads-back}
+use Rattle.check_text.specs.Laws.Prefix.{prefix-content, prefix-render}
 use Rattle.format_plan.specs.Laws.Accepted.{found-rendering, rendering-whole}
-
--- The survey of groups and edges.
-abbrev pub surveyWith : List ℕ → List Edge → Survey
-surveyWith groups edges = surveyIn (surveyOfText groups edges)
-
--- A survey's text with a plan's behind it that passes with these counts.
-pub record Pair (t : List ℕ) (c : Checked) : Type 0 where
-  pub groups : List ℕ
-  pub edges : List Edge
-  pub plan : Plan
-  pub within : Within groups edges
-  pub printable : Printable (length edges) plan
-  pub word : t ≡ render groups edges ++ planWords plan
-  pub passes : checking (surveyWith groups edges) (marksOf (length edges) (plan .kept)) (moatRecords (plan .moats)) ≡ answer c
-  pub claims : Claimed (plan .claims) c
+use Rattle.check_text.specs.Pair.{surveyIn, surveyWith, Pair}
+use Rattle.format_plan.specs.WellFormed.{Printable, planWords}
+use Rattle.format_survey.specs.WellFormed.{WithinCounts, surveyOfText}
 
 count-is : (groups : List ℕ) (edges : List Edge) → edgeCount (surveyWith groups edges) ≡ length edges
 unfolding edgeCount surveyOfText surveyOf firstsOf
@@ -50,7 +37,7 @@ count-is groups edges = length-map edges (λ e. e .first)
 record Start (t : List ℕ) (s : SurveyText) (at : ℕ) : Type 0 where
   groups : List ℕ
   edges : List Edge
-  within : Within groups edges
+  within : WithinCounts groups edges
   word : take at t ≡ render groups edges
   says : s ≡ surveyOfText groups edges
 
@@ -58,8 +45,8 @@ prefix-start : (t : List ℕ) (s : SurveyText) (at : ℕ) → prefixAt (testsFor
 unfolding surveyOfText
 prefix-start t s at e =
     let tests = testsFor maxVertices maxEdges maxEdges maxEdges in
-    let g = then-value (saidAt tests t 0) _ (sym (prefix-said maxVertices maxEdges maxEdges maxEdges t) ∙ e) in
-    let w = reads-said tests (sparing _ _ _ _) .sound t 0 (g .0) (g .1) (omega arith) (g .2) in
+    let g = then-value (contentAt tests t 0) _ (sym (prefix-content maxVertices maxEdges maxEdges maxEdges t) ∙ e) in
+    let w = reads-content tests (never-malformed _ _ _ _) .sound t 0 (g .0) (g .1) (omega arith) (g .2) in
     let m = w .member in
     let next : g .1 ≡ at = cc (g .3) in
     let same : surveyOf (g .0 .counts) (g .0 .groups) (g .0 .edges) ≡ s = cc (g .3) in
@@ -82,7 +69,7 @@ verified-pair t c e =
     let r = found-rendering t m (v .next) (a .1) in
     let s = prefix-start t (v .survey) (v .next) (v .read) in
     let n : m ≡ length (s .edges) = ap (λ (x : SurveyText). edgeCount (surveyIn x)) (s .says) ∙ count-is (s .groups) (s .edges) in
-    let p : checking (surveyIn (v .survey)) (marksOf (length (s .edges)) (v .plan .kept)) (moatRecords (v .plan .moats)) ≡ answer c = rw n at (v .passes) in
+    let p : checking (surveyIn (v .survey)) (marksOf (length (s .edges)) (v .plan .kept)) (dualRecords (v .plan .duals)) ≡ answer c = rw n at (v .passes) in
     record {
       groups = s .groups;
       edges = s .edges;
@@ -90,7 +77,7 @@ verified-pair t c e =
       within = s .within;
       printable = subst (λ (k : ℕ). Printable k (v .plan)) n (r .printable);
       word = rendering-whole r ∙ ap (λ (u : List ℕ). u ++ planWords (v .plan)) (s .word);
-      passes = subst (λ (x : SurveyText). checking (surveyIn x) (marksOf (length (s .edges)) (v .plan .kept)) (moatRecords (v .plan .moats)) ≡ answer c) (s .says) p;
+      passes = subst (λ (x : SurveyText). checking (surveyIn x) (marksOf (length (s .edges)) (v .plan .kept)) (dualRecords (v .plan .duals)) ≡ answer c) (s .says) p;
       claims = v .claims;
     }
 
@@ -105,8 +92,8 @@ pair-verified t c x =
     let few = x .within .fewEdges in
     let l = length-append u w in
     let read : planAt (u ++ w) (edgeCount s) (length u) ≡ found (x .plan) (length (u ++ w)) =
-    ap (λ (m : ℕ). planAt (u ++ w) m (length u)) n ∙ plan-back (u ++ w) (length (x .edges)) (length u) (x .plan) (omega arith) (x .printable) (stands-end u w) (sym l) in
-    let passed : checking s (marksOf (edgeCount s) (x .plan .kept)) (moatRecords (x .plan .moats)) ≡ answer c = rw n (x .passes) in
+    ap (λ (m : ℕ). planAt (u ++ w) m (length u)) n ∙ plan-reads-back (u ++ w) (length (x .edges)) (length u) (x .plan) (omega arith) (x .printable) (stands-end u w) (sym l) in
+    let passed : checking s (marksOf (edgeCount s) (x .plan .kept)) (dualRecords (x .plan .duals)) ≡ answer c = rw n (x .passes) in
     ap verifying (x .word)
     ∙ ap (verifiedFrom (u ++ w)) (prefix-render (x .groups) (x .edges) w (x .within))
     ∙ ap (planVerified s) (room-suffices (u ++ w) s (length u) (omega (arith, n, few)) ∙ ap outcomeOf read)

@@ -3,9 +3,9 @@ use borrow.Author.Needs.{needs}
 use Prim.Native.Nat.{_≤_, _-_}
 use mathlib.Core.Path.{_≡_, refl, sym, _∙_}
 use lib.ListN.{length, drop}
-use Rattle.format_number.specs.Number.{fixedAt}
+use Rattle.format_grammar.specs.Bytes.{fixedAt}
 use Rattle.format_number.specs.Answer.{numberStep}
-use Rattle.format_number.specs.Laws.Step.{fixed-more, fixed-short, fixed-other, fixed-done}
+use Rattle.format_grammar.specs.Laws.Bytes.{fixed-more, fixed-short, fixed-other, fixed-done}
 use Rattle.format_number.proofs.fixed.Statement.{statement}
 use Rattle.format_number.proofs.fixed.Tie as tie
 

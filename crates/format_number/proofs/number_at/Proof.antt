@@ -5,6 +5,7 @@ use Prim.Native.Nat.{ℕ, min}
 use mathlib.Core.Path.{_≡_, sym, ap, _∙_}
 use borrow.Author.Tests.{eq-eqb, ne-eqb}
 use lib.ListN.{length}
+use Rattle.base_limits.specs.Limits.{maxDigits}
 use Rattle.format_number.specs.Number.{numeralAt, numberAt}
 use Rattle.format_number.specs.Answer.{numberStep}
 use Rattle.format_number.specs.Laws.Number.{numeral-width}
@@ -23,7 +24,7 @@ returns c =
     let d = c .before in
     let a = d .before .before .before .args in
     let e = d .digits .ensures ∙ ap (λ (k : ℕ). numeralAt k (a .text .now) (a .cursor .at)) (d .before .capped .ensures) in
-    sym (simp (eq-eqb (length (numeralAt (min (a .limit) 10) (a .text .now) (a .cursor .at))) 0 (sym (ap length e) ∙ c .if1 .taken)))
+    sym (simp (eq-eqb (length (numeralAt (min (a .limit) maxDigits) (a .text .now) (a .cursor .at))) 0 (sym (ap length e) ∙ c .if1 .taken)))
 
 value-requires : tie.Need-value-requires
 value-requires c κs =
@@ -46,7 +47,7 @@ returns-2 c =
     let d = c .before .before in
     let a = d .before .before .before .args in
     let e = d .digits .ensures ∙ ap (λ (k : ℕ). numeralAt k (a .text .now) (a .cursor .at)) (d .before .capped .ensures) in
-    let ne : length (numeralAt (min (a .limit) 10) (a .text .now) (a .cursor .at)) ≡ 0 → ⊥ = λ z. c .before .if1 .left (ap length e ∙ z) in
+    let ne : length (numeralAt (min (a .limit) maxDigits) (a .text .now) (a .cursor .at)) ≡ 0 → ⊥ = λ z. c .before .if1 .left (ap length e ∙ z) in
     rw (c .value .ensures, e) (sym (simp (ne-eqb _ 0 ne)))
 
 pub number-at-spec : {M : Type 1} → statement M

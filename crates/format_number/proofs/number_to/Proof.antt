@@ -3,9 +3,9 @@ use native.Mathlib.Omega.{arith}
 use borrow.Author.Needs.{needs}
 use mathlib.Core.Path.{sym, _∙_}
 use Rattle.format_number.specs.Number.{numberTo, stopOf}
-use Rattle.format_number.specs.Laws.Byte.{byte-inside}
+use Rattle.format_grammar.specs.Laws.Bytes.{byte-inside, stop-found, stop-refused}
 use Rattle.format_number.specs.Answer.{numberStep}
-use Rattle.format_number.specs.Laws.Step.{refusal-stays, value-goes, stop-found, stop-refused}
+use Rattle.format_number.specs.Laws.Step.{refusal-stays, value-goes}
 use Rattle.format_number.proofs.number_to.Statement.{statement}
 use Rattle.format_number.proofs.number_to.Tie as tie
 

@@ -4,7 +4,7 @@ use borrow.Author.Needs.{needs}
 use mathlib.Core.Path.{sym, _∙_}
 use borrow.Author.Tests.{eq-eqb, ne-eqb}
 use Rattle.format_number.specs.Number.{numeralEnd}
-use Rattle.format_number.specs.Laws.Byte.{read-inside}
+use Rattle.format_grammar.specs.Laws.Bytes.{read-inside}
 use Rattle.format_number.proofs.numeral_end.Statement.{statement}
 use Rattle.format_number.proofs.numeral_end.Tie as tie
 

@@ -5,7 +5,7 @@ use Prim.Native.Nat.{ℕ, _+_, _*_, _-_, _^_, _≤_}
 use mathlib.Core.Path.{_≡_, _∙_, sym, ap, refl}
 use mathlib.Core.List.{List}
 use lib.ListN.{length, getD, drop, drop-of-length-le}
-use Rattle.format_number.specs.Number.{decimalFrom}
+use Rattle.format_write.specs.Decimal.{spelledAfter}
 use Rattle.format_number.specs.Laws.Number.{value-step, value-fits, decimal-more}
 use Rattle.format_number.proofs.value.Statement.{statement}
 use Rattle.format_number.proofs.value.Tie as tie
@@ -13,7 +13,7 @@ use Rattle.format_number.proofs.value.Tie as tie
 record Inv (s : List ℕ) (n i : ℕ) : Type 0 where
   upto : i ≤ length s
   room : n + 23 ≤ 23 * 10 ^ i
-  rest : decimalFrom n (drop i s) ≡ decimalFrom 0 s
+  rest : spelledAfter n (drop i s) ≡ spelledAfter 0 s
 
 abbrev Inv-loop : tie.InvT-loop
 Inv-loop digits n₀ i₀ n i = Inv digits n i
@@ -59,11 +59,11 @@ loop-again c =
     }
 
 returns : tie.Need-returns Inv-loop μ-loop
-unfolding decimalFrom
+unfolding spelledAfter
 returns c =
     let l = c .before .loop in
     let s = c .before .before .before .args .digits .now in
-    sym (ap (decimalFrom (l .n)) (drop-of-length-le s (c .loop-test .left))) ∙ l .inv .rest
+    sym (ap (spelledAfter (l .n)) (drop-of-length-le s (c .loop-test .left))) ∙ l .inv .rest
 
 pub value-spec : {M : Type 1} → statement M
 value-spec =

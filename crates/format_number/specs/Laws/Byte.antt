@@ -4,12 +4,14 @@ use native.Mathlib.Omega.{arith}
 use mathlib.Core.Path.{_≡_, refl, ap}
 use mathlib.Core.Bool.{Bool, true, false, not, _&&_, cond}
 use mathlib.Core.List.{List}
-use lib.ListN.{length, getD, List·getD-eq-default}
-use lib.Dec.{eqb, ltb, leb}
-use borrow.Author.Tests.{leb-true, eqb-true, ltb-true, ltb-false, le-leb, lt-leb, ne-eqb, eq-eqb, lt-ltb, le-ltb}
-use Rattle.format_number.specs.Number.{classOf, byteIs, stopOf}
+use lib.ListN.{length, getD}
+use lib.Dec.{eqb, leb}
+use borrow.Author.Tests.{leb-true, eqb-true, le-leb, lt-leb, ne-eqb}
+use Rattle.format_number.specs.Number.{classOf, stopOf}
 use Rattle.format_number.specs.declared.Class.{Class}
 use Rattle.format_number.specs.declared.Class.the-variants.{Digit, LineEnd, Comma, Other}
+use Rattle.format_grammar.specs.Bytes.{byteIs}
+use Rattle.format_grammar.specs.Laws.Bytes.{read-inside, byte-is, byte-not}
 
 pub class-digit : (b : ℕ) → 48 ≤ b → b ≤ 57 → classOf b ≡ Digit
 unfolding classOf
@@ -56,43 +58,8 @@ class-facts b = by-low (leb 48 b) (leb b 57) (eqb b 10) (eqb b 44) refl refl ref
     by-low false q false true ep eq er es = record { digit = λ e. no-class (cc); end = λ e. no-class (cc); comma = λ _. eqb-true b 44 es }
     by-low false q false false ep eq er es = record { digit = λ e. no-class (cc); end = λ e. no-class (cc); comma = λ e. no-class (cc) }
 
--- Past the end a text reads as 0.
-pub read-inside : (t : List ℕ) (at : ℕ) → 0 < getD t at 0 → at < length t
-read-inside t at h = by-end (ltb at (length t)) refl
-  where
-    by-end : (b : Bool) → ltb at (length t) ≡ b → at < length t
-    by-end true e = ltb-true at (length t) e
-    by-end false e =
-        let z : getD t at 0 ≡ 0 = List·getD-eq-default t 0 (ltb-false at (length t) e) in
-        absurd (omega arith)
-
 pub digit-inside : (t : List ℕ) (at : ℕ) → classOf (getD t at 0) ≡ Digit → at < length t
 digit-inside t at e = let f = class-facts (getD t at 0) .digit e in read-inside t at (omega arith)
-
-pub byte-inside : (t : List ℕ) (at b : ℕ) → byteIs t at b ≡ true → (at < length t) × (getD t at 0 ≡ b)
-unfolding byteIs
-byte-inside t at b e = by-end (ltb at (length t)) (eqb (getD t at 0) b) refl refl e
-  where
-    by-end : (p q : Bool) → ltb at (length t) ≡ p → eqb (getD t at 0) b ≡ q → (p && q) ≡ true → (at < length t) × (getD t at 0 ≡ b)
-    by-end true true ep eq e = (ltb-true at (length t) ep, eqb-true (getD t at 0) b eq)
-    by-end true false ep eq e = no-class (cc)
-    by-end false q ep eq e = no-class (cc)
-
-pub byte-is : (t : List ℕ) (at b : ℕ) → at < length t → getD t at 0 ≡ b → byteIs t at b ≡ true
-unfolding byteIs
-byte-is t at b h e = simp (lt-ltb at (length t) h, eq-eqb (getD t at 0) b e)
-
-pub byte-short : (t : List ℕ) (at b : ℕ) → length t ≤ at → byteIs t at b ≡ false
-unfolding byteIs
-byte-short t at b h = simp (le-ltb at (length t) h)
-
-pub byte-not : (t : List ℕ) (at b : ℕ) → (getD t at 0 ≡ b → ⊥) → byteIs t at b ≡ false
-unfolding byteIs
-byte-not t at b n = by-end (ltb at (length t))
-  where
-    by-end : (p : Bool) → (p && eqb (getD t at 0) b) ≡ false
-    by-end true = ne-eqb (getD t at 0) b n
-    by-end false = refl
 
 -- A number has ended, by the class of the byte after it.
 unfoldable pub stopClass : Class → (isComma : Bool) → Bool

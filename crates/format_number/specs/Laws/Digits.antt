@@ -10,11 +10,14 @@ use lib.ListN.{length, getD, take, drop}
 use lib.Seq.{drop-cons}
 use lib.Dec.{eqb}
 use borrow.Author.Tests.{eqb-true}
-use Rattle.format_number.specs.Step.{found, refused, _then_}
-use Rattle.format_number.specs.Number.{classOf, isDigit, digitsEnd, numeralEnd, numeralAt, decimalFrom, numberAt, numberTo, fixedAt}
-use Rattle.format_number.specs.Laws.Byte.{class-facts, digit-inside, read-inside}
+use Rattle.format_grammar.specs.Step.{found, refused, _then_}
+use Rattle.format_write.specs.Decimal.{spelledAfter}
+use Rattle.format_number.specs.Number.{classOf, isDigit, digitsEnd, numeralEnd, numeralAt, numberAt, numberTo}
+use Rattle.format_grammar.specs.Bytes.{fixedAt}
+use Rattle.format_number.specs.Laws.Byte.{class-facts, digit-inside}
+use Rattle.format_grammar.specs.Laws.Bytes.{read-inside}
 use Rattle.format_number.specs.Laws.Number.{digits-range, numeral-width}
-use Rattle.format_number.specs.Laws.Step.{then-value}
+use Rattle.format_grammar.specs.Laws.Step.{then-value}
 use Rattle.format_number.specs.declared.Class.{Class}
 use Rattle.format_number.specs.declared.Class.the-variants.{Digit, LineEnd, Comma, Other}
 
@@ -62,12 +65,12 @@ numeral-digits t limit at = by-zero (eqb (getD t at 0) 48) refl
         rw (between-more t at (at + 1) h m, between-none t (at + 1)) (one {d = getD t at 0} (omega arith) (omega arith) none)
     by-zero false e = run-digits t limit at
 
-pub decimal-below : (n : ℕ) {ds : List ℕ} → Digits ds → decimalFrom n ds < (n + 1) * 10 ^ length ds
-unfolding decimalFrom
+pub decimal-below : (n : ℕ) {ds : List ℕ} → Digits ds → spelledAfter n ds < (n + 1) * 10 ^ length ds
+unfolding spelledAfter
 decimal-below n none = omega arith
 decimal-below n (one {d = d} {ds = ds} low high r) =
     let m : ℕ = n * 10 + (d - 48) in
-    let ih : decimalFrom m ds < (m + 1) * 10 ^ length ds = decimal-below m r in
+    let ih : spelledAfter m ds < (m + 1) * 10 ^ length ds = decimal-below m r in
     let k : m + 1 ≤ (n + 1) * 10 = omega arith in
     let p : (m + 1) * 10 ^ length ds ≤ (n + 1) * 10 * 10 ^ length ds = mul-le-mul-right (10 ^ length ds) k in
     rw (pow-suc) (omega arith)
@@ -76,13 +79,13 @@ pub number-below : (t : List ℕ) (limit at v next : ℕ) → 1 ≤ limit → nu
 unfolding numberAt
 number-below t limit at v next h e = by-width (eqb (length (numeralAt limit t at)) 0) e
   where
-    by-width : (z : Bool) → cond z (refused 16 at) (found (decimalFrom 0 (numeralAt limit t at)) (at + length (numeralAt limit t at))) ≡ found v next → v < 10 ^ limit
+    by-width : (z : Bool) → cond z (refused 16 at) (found (spelledAfter 0 (numeralAt limit t at)) (at + length (numeralAt limit t at))) ≡ found v next → v < 10 ^ limit
     by-width true q = let z : _≡_ {A = ℕ} 0 1 = cc in absurd (omega arith)
     by-width false q =
         let b = decimal-below 0 (numeral-digits t limit at) in
         let w = numeral-width t limit at .most in
         let p : 10 ^ length (numeralAt limit t at) ≤ 10 ^ limit = pow-le-pow-right {n = 10} (omega arith) {i = length (numeralAt limit t at)} {j = limit} (omega arith) in
-        let s : decimalFrom 0 (numeralAt limit t at) ≡ v = cc in
+        let s : spelledAfter 0 (numeralAt limit t at) ≡ v = cc in
         omega arith
 
 pub number-to-below : (t : List ℕ) (limit stop at v next : ℕ) → 1 ≤ limit → numberTo limit stop t at ≡ found v next → v < 10 ^ limit

@@ -1,22 +1,22 @@
 -- Laws of the digits of a number: where they end, and how large the number is.
 use Prim.Native.Nat.{ℕ, zero, suc, _+_, _*_, _-_, _^_, max, _≤_, _<_}
 use native.Mathlib.Omega.{arith}
+use native.Mathlib.Nat.{le-of-lt, pow-le-pow-right, pow-suc}
+use native.Mathlib.Numerals.{add-one}
 use mathlib.Core.Path.{_≡_, refl, ap, _∙_}
 use mathlib.Core.Bool.{Bool, true, false, cond}
 use mathlib.Core.List.{List, []}
 use lib.ListN.{length, getD, take, drop, drop-of-length-le, length-take, length-drop}
 use lib.Dec.{eqb, leb}
 use lib.Seq.{take-nil, drop-cons}
-use native.Mathlib.Nat.{le-of-lt, pow-le-pow-right, pow-suc}
-use native.Mathlib.Numerals.{add-one}
 use borrow.Author.Tests.{eqb-true, leb-true, leb-false}
-use Rattle.format_number.specs.Number.{classOf, isDigit, digitsEnd, numeralEnd, numeralAt, decimalFrom}
-use Rattle.format_number.specs.Laws.Byte.{digit-inside, read-inside}
+use Rattle.format_write.specs.Decimal.{spelledAfter}
+use Rattle.format_number.specs.Number.{classOf, isDigit, digitsEnd, numeralEnd, numeralAt}
+use Rattle.format_number.specs.Laws.Byte.{digit-inside}
 use Rattle.format_number.specs.declared.Class.{Class}
 use Rattle.format_number.specs.declared.Class.the-variants.{Digit, LineEnd, Comma, Other}
-
-pub one-less : {i n : ℕ} → i < n → n - i ≡ suc (n - (i + 1))
-one-less h = omega arith
+use Rattle.format_grammar.specs.Laws.Bytes.{read-inside}
+use Rattle.format_grammar.specs.Laws.Lines.{one-less}
 
 -- One turn of a loop over the digits.
 pub digits-more : (t : List ℕ) (limit i at : ℕ) → i < limit → classOf (getD t at 0) ≡ Digit → digitsEnd (limit - i) t at ≡ digitsEnd (limit - (i + 1)) t (at + 1)
@@ -90,8 +90,8 @@ value-step n d i h k = rw (add-one, pow-suc) (omega arith)
 pub value-fits : (n i : ℕ) → n + 23 ≤ 23 * 10 ^ i → i < 10 → n ≤ 23000000000
 value-fits n i h k = let p : 10 ^ i ≤ 10 ^ 9 = pow-le-pow-right {n = 10} (omega arith) {i = i} {j = 9} (omega arith) in omega arith
 
-pub decimal-more : (n i : ℕ) (s : List ℕ) → i < length s → decimalFrom n (drop i s) ≡ decimalFrom (n * 10 + (getD s i 0 - 48)) (drop (i + 1) s)
-unfolding decimalFrom
+pub decimal-more : (n i : ℕ) (s : List ℕ) → i < length s → spelledAfter n (drop i s) ≡ spelledAfter (n * 10 + (getD s i 0 - 48)) (drop (i + 1) s)
+unfolding spelledAfter
 decimal-more n i s h = rw (add-one, drop-cons s i 0 h)
 
 pub record Width (t : List ℕ) (limit at width : ℕ) : Type 0 where

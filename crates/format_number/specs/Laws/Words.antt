@@ -6,132 +6,25 @@ use mathlib.Core.Path.{_≡_, refl, ap, sym, _∙_, subst}
 use mathlib.Core.Bool.{Bool, true, false, cond}
 use mathlib.Core.List.{List, [], _∷_, _++_, append-assoc}
 use lib.ListN.{length, getD, take, drop, length-append, length-drop}
-use lib.Seq.{take-add, drop-at, getD-take, length-take-le}
+use lib.Seq.{length-take-le}
 use lib.Dec.{eqb}
 use borrow.Author.Tests.{eq-eqb, ne-eqb, eqb-true, eqb-false}
-use Rattle.format_write.specs.Decimal.{decimal}
+use Rattle.format_write.specs.Decimal.{decimal, spelledAfter}
 use Rattle.format_write.specs.Laws.Decimal.{length-decimal, decimal-small}
-use Rattle.format_number.specs.Step.{Step, found, refused, _then_}
-use Rattle.format_number.specs.Number.{classOf, isDigit, byteIs, fixedAt, digitsEnd, numeralEnd, numeralAt, decimalFrom, numberAt, numberTo, numberText}
-use Rattle.format_number.specs.Laws.Byte.{class-digit, byte-is, byte-inside, digit-inside}
+use Rattle.format_number.specs.Number.{classOf, isDigit, digitsEnd, numeralEnd, numeralAt, numberAt, numberTo, numberText}
+use Rattle.format_number.specs.Laws.Byte.{class-digit, digit-inside}
 use Rattle.format_number.specs.Laws.Number.{digits-none, digits-range, numeral-range}
 use Rattle.format_number.specs.Laws.Digits.{Digits, none, one, numeral-digits, number-below}
 use Rattle.format_number.specs.Laws.Decimal.{decimal-of-digits, decimal-numeral}
-use Rattle.format_number.specs.Laws.Step.{then-found, then-refused, stop-found, stop-refused}
-use Rattle.format_number.specs.Laws.Stands.{Stands, stands-byte, stands-append, stands-first, stands-second, stands-head, stands-same}
-use Rattle.format_number.specs.Laws.Spells.{Reads, Word, Extends, Seq, read, reads-then, reads-as, reads-value, Empty}
 use Rattle.format_number.specs.declared.Class.{Class}
 use Rattle.format_number.specs.declared.Class.the-variants.{Digit, LineEnd, Comma, Other}
-
--- These bytes, with the value 0.
-pub record Fixed (bytes : List ℕ) (a : ℕ) (w : List ℕ) : Type 0 where
-  pub value : a ≡ 0
-  pub word : w ≡ bytes
-
-no-bool : {A : Type 0} → true ≡ false → A
-no-bool e = let z : _≡_ {A = ℕ} 0 1 = cc in absurd (omega arith)
-
-unfoldable pub byteStep : ℕ → List ℕ → ℕ → Step ℕ
-byteStep b t at = cond (byteIs t at b) (found 0 (at + 1)) (refused 16 at)
-
-byte-complete : (b : ℕ) (t : List ℕ) (at a : ℕ) (w : List ℕ) → Fixed (b ∷ []) a w → Stands t at w → byteStep b t at ≡ found a (at + length w)
-unfolding byteStep
-byte-complete b t at a w m s =
-    let s′ : Stands t at (b ∷ []) = subst (Stands t at) (m .word) s in
-    let f = s′ .fits in
-    let l : length w ≡ 1 = ap length (m .word) in
-    let e : at + 1 ≡ at + length w = omega arith in
-    rw (byte-is t at b (omega arith) (stands-head s′), m .value) (ap (λ (k : ℕ). found 0 k) e)
-
-data Byte (b : ℕ) (t : List ℕ) (at : ℕ) (s : Step ℕ) : Type 0 where
-  there : byteIs t at b ≡ true → s ≡ found 0 (at + 1) → Byte b t at s
-  missing : byteIs t at b ≡ false → s ≡ refused 16 at → Byte b t at s
-
-byte-case : (b : ℕ) (t : List ℕ) (at : ℕ) → Byte b t at (byteStep b t at)
-unfolding byteStep
-byte-case b t at = by-test (byteIs t at b) refl
-  where
-    by-test : (x : Bool) → byteIs t at b ≡ x → Byte b t at (cond x (found 0 (at + 1)) (refused 16 at))
-    by-test true e = there e refl
-    by-test false e = missing e refl
-
-pub byte-sound : (b : ℕ) (t : List ℕ) (at a p : ℕ) → at ≤ length t → byteStep b t at ≡ found a p → Word (Fixed (b ∷ [])) t at a p
-byte-sound b t at a p h e = by-case (byte-case b t at)
-  where
-    by-case : Byte b t at (byteStep b t at) → Word (Fixed (b ∷ [])) t at a p
-    by-case (there x y) =
-        let i = byte-inside t at b x in
-        record { word = b ∷ []; member = record { value = cc; word = refl }; ends = cc; stands = stands-byte t at b (i .0) (i .1) }
-    by-case (missing x y) = let z : _≡_ {A = ℕ} 0 1 = cc in absurd (omega arith)
-
--- Where a byte is refused, and that it is not there.
-byte-refused : (b : ℕ) (t : List ℕ) (at p : ℕ) → byteStep b t at ≡ refused 16 p → (byteIs t at b ≡ false) × (p ≡ at)
-byte-refused b t at p e = by-case (byte-case b t at)
-  where
-    by-case : Byte b t at (byteStep b t at) → (byteIs t at b ≡ false) × (p ≡ at)
-    by-case (there x y) = let z : _≡_ {A = ℕ} 0 1 = cc in absurd (omega arith)
-    by-case (missing x y) = (x, cc)
-
-pub byte-same : (b : ℕ) (t u : List ℕ) (at : ℕ) → byteIs t at b ≡ false → take (at + 1) t ≡ take (at + 1) u → byteIs u at b ≡ false
-byte-same b t u at e k = by-test (byteIs u at b) refl
-  where
-    by-test : (x : Bool) → byteIs u at b ≡ x → byteIs u at b ≡ false
-    by-test true h =
-        let i = byte-inside u at b h in
-        let s : Stands t at (b ∷ []) = stands-same (at + 1) (sym k) (omega arith) (stands-byte u at b (i .0) (i .1)) in
-        let f = s .fits in
-        no-bool (sym (byte-is t at b (omega arith) (stands-head s)) ∙ e)
-    by-test false h = h
-
-missing-refused : (b : ℕ) (t : List ℕ) (at : ℕ) → byteIs t at b ≡ false → byteStep b t at ≡ refused 16 at
-unfolding byteStep
-missing-refused b t at e = rw e
-
-reads-byte : (b : ℕ) → Reads (byteStep b) (Fixed (b ∷ [])) (Fixed (b ∷ []))
-reads-byte b =
-    record {
-      complete = byte-complete b;
-      sound = byte-sound b;
-      lively = λ t at a w m s. read (byte-complete b t at a w m s);
-      same = λ t u at p h e k. refuse t u at p (byte-refused b t at p e) k;
-      place = λ t at p h e. let r = byte-refused b t at p e .1 in (omega arith, omega arith);
-      extends = λ t at p h e. record { value = 0; word = b ∷ []; member = record { value = refl; word = refl }; rest = b ∷ []; whole = ap (λ (k : ℕ). take k t ++ (b ∷ [])) (byte-refused b t at p e .1) };
-      some = (0, b ∷ [], record { value = refl; word = refl });
-      well = λ a w m. m;
-    }
-  where
-    refuse : (t u : List ℕ) (at p : ℕ) → (byteIs t at b ≡ false) × (p ≡ at) → take (p + 1) t ≡ take (p + 1) u → byteStep b u at ≡ refused 16 p
-    refuse t u at p (x, y) k =
-        missing-refused b u at (byte-same b t u at x (subst (λ (q : ℕ). take (q + 1) t ≡ take (q + 1) u) y k)) ∙ ap (λ (q : ℕ). refused 16 q) (sym y)
-
-pub fixed-step : (b : ℕ) (bytes t : List ℕ) (at : ℕ) → (byteStep b t at then λ z p. fixedAt bytes t p) ≡ fixedAt (b ∷ bytes) t at
-unfolding byteStep fixedAt _then_
-fixed-step b bytes t at = by-test (byteIs t at b)
-  where
-    by-test : (x : Bool) → _then_ {A = ℕ} (cond x (found 0 (at + 1)) (refused 16 at)) (λ z p. fixedAt bytes t p) ≡ cond x (fixedAt bytes t (at + 1)) (refused 16 at)
-    by-test true = refl
-    by-test false = refl
-
-pub reads-fixed : (bytes : List ℕ) → Reads (fixedAt bytes) (Fixed bytes) (Fixed bytes)
-unfolding fixedAt
-reads-fixed [] = reads-as (λ t at. refl) to from to from (reads-value 0)
-  where
-    to : (a : ℕ) (w : List ℕ) → Empty 0 a w → Fixed [] a w
-    to a w m = record { value = m .value; word = m .word }
-
-    from : (a : ℕ) (w : List ℕ) → Fixed [] a w → Empty 0 a w
-    from a w m = record { value = m .value; word = m .word }
-reads-fixed (b ∷ bytes) = reads-as (fixed-step b bytes) to from to from (reads-then (reads-byte b) (λ a. reads-fixed bytes))
-  where
-    to : (a : ℕ) (w : List ℕ) → Seq (Fixed (b ∷ [])) (λ x. Fixed bytes) a w → Fixed (b ∷ bytes) a w
-    to a w m = record { value = m .second .value; word = cc (m .whole, m .first .word, m .second .word) }
-
-    from : (a : ℕ) (w : List ℕ) → Fixed (b ∷ bytes) a w → Seq (Fixed (b ∷ [])) (λ x. Fixed bytes) a w
-    from a w m = record { value = 0; left = b ∷ []; right = bytes; first = record { value = refl; word = refl }; second = record { value = m .value; word = refl }; whole = m .word }
-
--- Two texts with the same beginning read the same there.
-pub read-same : (t u : List ℕ) (q i : ℕ) → take q t ≡ take q u → i < q → getD t i 0 ≡ getD u i 0
-read-same t u q i e h = sym (getD-take q t i 0 h) ∙ ap (λ (l : List ℕ). getD l i 0) e ∙ getD-take q u i 0 h
+use Rattle.format_grammar.specs.Bytes.{byteIs}
+use Rattle.format_grammar.specs.Language.{Reads, Word, Extends, read}
+use Rattle.format_grammar.specs.Laws.Bytes.{byte-is, byte-inside, stop-found, stop-refused, no-bool, byte-same, read-same}
+use Rattle.format_grammar.specs.Laws.Stands.{stands-byte, stands-append, stands-first, stands-second, stands-head, stands-same, stands-part, part-stands}
+use Rattle.format_grammar.specs.Laws.Step.{then-found, then-refused}
+use Rattle.format_grammar.specs.Stands.{Stands}
+use Rattle.format_grammar.specs.Step.{Step, found, refused}
 
 digits-same : (t u : List ℕ) (limit at q : ℕ) → take q t ≡ take q u → digitsEnd limit t at < q → digitsEnd limit u at ≡ digitsEnd limit t at
 unfolding digitsEnd isDigit
@@ -158,21 +51,6 @@ numeral-same t u limit at q e h i =
     by-zero true c s h = rw (← s, c) refl
     by-zero false c s h = rw (← s, c) (digits-same t u limit at q e h)
 
--- The bytes that stand at an offset are the part of the text there.
-stands-part : {t : List ℕ} {at : ℕ} (w : List ℕ) → Stands t at w → take (length w) (drop at t) ≡ w
-stands-part {t} {at} w s =
-    let f = s .fits in
-    let n : length (take at t) ≡ at = length-take-le at t (omega arith) in
-    sym (drop-at (take at t) (take (length w) (drop at t)) at n)
-    ∙ ap (drop at) (sym (take-add at (length w) t) ∙ s .is)
-    ∙ drop-at (take at t) w at n
-
-part-stands : (t : List ℕ) (at k : ℕ) → at + k ≤ length t → Stands t at (take k (drop at t))
-part-stands t at k h =
-    let d = length-drop at t in
-    let l : length (take k (drop at t)) ≡ k = length-take-le k (drop at t) (omega arith) in
-    record { is = ap (λ (n : ℕ). take (at + n) t) l ∙ take-add at k t; fits = omega arith }
-
 -- Digits that stand at an offset and are not followed by another.
 run-is : (t : List ℕ) (limit at : ℕ) {w : List ℕ} → Digits w → Stands t at w → length w ≤ limit → isDigit (classOf (getD t (at + length w) 0)) ≡ false → digitsEnd limit t at ≡ at + length w
 unfolding digitsEnd isDigit
@@ -187,7 +65,7 @@ run-is t (suc limit) at (one {d = d} {ds = ds} low high r) s h e =
     let ih = run-is t limit (at + 1) r (stands-second (d ∷ []) ds s) (omega arith) (subst (λ (n : ℕ). isDigit (classOf (getD t n 0)) ≡ false) (sym z) e) in
     rw k (ih ∙ z)
 
-number-of : (t : List ℕ) (limit at : ℕ) {w : List ℕ} → numeralAt limit t at ≡ w → 0 < length w → numberAt limit t at ≡ found (decimalFrom 0 w) (at + length w)
+number-of : (t : List ℕ) (limit at : ℕ) {w : List ℕ} → numeralAt limit t at ≡ w → 0 < length w → numberAt limit t at ≡ found (spelledAfter 0 w) (at + length w)
 unfolding numberAt
 number-of t limit at {w} e h = let n : length w ≡ 0 → ⊥ = λ z. omega arith in rw (e, ne-eqb (length w) 0 n)
 
@@ -199,7 +77,8 @@ first-byte : {t : List ℕ} {at : ℕ} (w : List ℕ) → 0 < length w → Stand
 first-byte [] h s = absurd (omega arith)
 first-byte (b ∷ w) h s = stands-head s
 
-digits-most : (limit v : ℕ) → 1 ≤ limit → v < 10 ^ limit → length (decimal v) ≤ limit
+-- A number of at most limit digits has so many.
+pub digits-most : (limit v : ℕ) → 1 ≤ limit → v < 10 ^ limit → length (decimal v) ≤ limit
 digits-most zero v h k = absurd (omega arith)
 digits-most (suc limit) v h k = length-decimal limit v k
 
@@ -227,9 +106,9 @@ number-is t limit at v e s =
     number-of t limit at (numeral-of-end t limit at (decimal v) e s) (n .some) ∙ ap (λ (x : ℕ). found x (at + length (decimal v))) (n .value)
 
 -- What stands at an offset: no digit, or a number.
-pub data Numbered (t : List ℕ) (limit at : ℕ) : Type 0 where
-  absent : isDigit (classOf (getD t at 0)) ≡ false → Numbered t limit at
-  present : (v : ℕ) → v < 10 ^ limit → Stands t at (decimal v) → numeralEnd limit t at ≡ at + length (decimal v) → Numbered t limit at
+pub data NumberOrNone (t : List ℕ) (limit at : ℕ) : Type 0 where
+  absent : isDigit (classOf (getD t at 0)) ≡ false → NumberOrNone t limit at
+  present : (v : ℕ) → v < 10 ^ limit → Stands t at (decimal v) → numeralEnd limit t at ≡ at + length (decimal v) → NumberOrNone t limit at
 
 pub no-digit-number : (t : List ℕ) (limit at : ℕ) → isDigit (classOf (getD t at 0)) ≡ false → numberAt limit t at ≡ refused 16 at
 unfolding numeralAt numeralEnd isDigit classOf
@@ -260,20 +139,20 @@ is-digit LineEnd e = no-bool (sym e)
 is-digit Comma e = no-bool (sym e)
 is-digit Other e = no-bool (sym e)
 
-numeral-decimal : (t : List ℕ) (limit at : ℕ) (w : List ℕ) → Digits w → 0 < length w → Stands t at w → numeralEnd limit t at ≡ at + length w → decimal (decimalFrom 0 w) ≡ w
-unfolding numeralEnd decimalFrom
+numeral-decimal : (t : List ℕ) (limit at : ℕ) (w : List ℕ) → Digits w → 0 < length w → Stands t at w → numeralEnd limit t at ≡ at + length w → decimal (spelledAfter 0 w) ≡ w
+unfolding numeralEnd spelledAfter
 numeral-decimal t limit at [] g h s e = absurd (omega arith)
 numeral-decimal t limit at (d ∷ ds) g h s e = by-zero (eqb d 48) refl
   where
-    by-zero : (z : Bool) → eqb d 48 ≡ z → decimal (decimalFrom 0 (d ∷ ds)) ≡ d ∷ ds
+    by-zero : (z : Bool) → eqb d 48 ≡ z → decimal (spelledAfter 0 (d ∷ ds)) ≡ d ∷ ds
     by-zero true q =
         let b : d ≡ 48 = eqb-true d 48 q in
         let r : eqb (getD t at 0) 48 ≡ true = eq-eqb (getD t at 0) 48 (stands-head s ∙ b) in
         let l : at + 1 ≡ at + suc (length ds) = sym (ap (λ z. cond z (at + 1) (digitsEnd limit t at)) r) ∙ e in
         alone ds (omega arith) b
       where
-        alone : (ds : List ℕ) → length ds ≡ 0 → d ≡ 48 → decimal (decimalFrom 0 (d ∷ ds)) ≡ d ∷ ds
-        alone [] l b = ap (λ (x : ℕ). decimal (decimalFrom 0 (x ∷ []))) b ∙ decimal-small 0 (omega arith) ∙ ap (λ (x : ℕ). x ∷ []) (sym b)
+        alone : (ds : List ℕ) → length ds ≡ 0 → d ≡ 48 → decimal (spelledAfter 0 (d ∷ ds)) ≡ d ∷ ds
+        alone [] l b = ap (λ (x : ℕ). decimal (spelledAfter 0 (x ∷ []))) b ∙ decimal-small 0 (omega arith) ∙ ap (λ (x : ℕ). x ∷ []) (sym b)
         alone (x ∷ xs) l b = absurd (omega arith)
     by-zero false q =
         let n = eqb-false d 48 q in
@@ -282,10 +161,10 @@ numeral-decimal t limit at (d ∷ ds) g h s e = by-zero (eqb d 48) refl
         above : (d ≡ 48 → ⊥) → Digits (d ∷ ds) → 48 < d
         above n (one low high r) = omega arith
 
-pub numbered : (t : List ℕ) (limit at : ℕ) → 1 ≤ limit → Numbered t limit at
-numbered t limit at h = by-digit (isDigit (classOf (getD t at 0))) refl
+pub number-or-none : (t : List ℕ) (limit at : ℕ) → 1 ≤ limit → NumberOrNone t limit at
+number-or-none t limit at h = by-digit (isDigit (classOf (getD t at 0))) refl
   where
-    by-digit : (b : Bool) → isDigit (classOf (getD t at 0)) ≡ b → Numbered t limit at
+    by-digit : (b : Bool) → isDigit (classOf (getD t at 0)) ≡ b → NumberOrNone t limit at
     by-digit false e = absent e
     by-digit true e =
         let i : at < length t = digit-inside t at (is-digit (classOf (getD t at 0)) e) in
@@ -299,10 +178,10 @@ numbered t limit at h = by-digit (isDigit (classOf (getD t at 0))) refl
         let q : numeralEnd limit t at ≡ at + length w = omega arith in
         let m : numeralAt limit t at ≡ w = numeral-of-end t limit at w q s in
         let g : Digits w = subst Digits m (numeral-digits t limit at) in
-        let x : decimal (decimalFrom 0 w) ≡ w = numeral-decimal t limit at w g (omega arith) s q in
-        let f : numberAt limit t at ≡ found (decimalFrom 0 w) (at + length w) = number-of t limit at m (omega arith) in
-        present (decimalFrom 0 w)
-        (number-below t limit at (decimalFrom 0 w) (at + length w) h f)
+        let x : decimal (spelledAfter 0 w) ≡ w = numeral-decimal t limit at w g (omega arith) s q in
+        let f : numberAt limit t at ≡ found (spelledAfter 0 w) (at + length w) = number-of t limit at m (omega arith) in
+        present (spelledAfter 0 w)
+        (number-below t limit at (spelledAfter 0 w) (at + length w) h f)
         (subst (Stands t at) (sym x) s)
         (q ∙ ap (λ (z : List ℕ). at + length z) (sym x))
 
@@ -337,7 +216,7 @@ module _ (limit stop : ℕ) (positive : 1 ≤ limit) (no-digit : isDigit (classO
 
   met : (t : List ℕ) (at : ℕ) → Met t at (numberTo limit stop t at)
   unfolding numberTo numberText
-  met t at = by-number (numbered t limit at positive)
+  met t at = by-number (number-or-none t limit at positive)
     where
       by-stop : (v : ℕ) → v < 10 ^ limit → Stands t at (decimal v) → numeralEnd limit t at ≡ at + length (decimal v) → (b : Bool) → byteIs t (at + length (decimal v)) stop ≡ b → Met t at (numberTo limit stop t at)
       by-stop v k s e true h =
@@ -346,7 +225,7 @@ module _ (limit stop : ℕ) (positive : 1 ≤ limit) (no-digit : isDigit (classO
           (then-found _ (number-is t limit at v e s) ∙ stop-found t stop v (at + length (decimal v)) h ∙ ap (λ (n : ℕ). found v n) (text-length v at))
       by-stop v k s e false h = unended v k s e h (then-found _ (number-is t limit at v e s) ∙ stop-refused t stop v (at + length (decimal v)) h)
 
-      by-number : Numbered t limit at → Met t at (numberTo limit stop t at)
+      by-number : NumberOrNone t limit at → Met t at (numberTo limit stop t at)
       by-number (absent e) = no-number e (then-refused _ (no-digit-number t limit at e))
       by-number (present v k s e) = by-stop v k s e (byteIs t (at + length (decimal v)) stop) refl
 
@@ -407,7 +286,7 @@ module _ (limit stop : ℕ) (positive : 1 ≤ limit) (no-digit : isDigit (classO
       record {
         complete = number-complete;
         sound = number-sound;
-        lively = λ t at a w m s. read (number-complete t at a w m s);
+        notMalformed = λ t at a w m s. read (number-complete t at a w m s);
         same = number-same;
         place = number-place;
         extends = number-extends;

@@ -25,8 +25,8 @@ returns c =
     rw (c .enum-told .given .1)
     (stores-stopped (a .text .now) (a .edges) (a .cursor .at) (sym (c .before .before .before .before .keep-lines .ensures .end) ∙ ap numberStep (c .enum-told .given .1)) (c .before .before .before .before .keep-lines .ensures .stored) refl)
 
-moat-lines-requires : tie.Need-moat-lines-requires
-moat-lines-requires c κs = search needs
+dual-lines-requires : tie.Need-dual-lines-requires
+dual-lines-requires c κs = search needs
 
 same-length-2 : tie.Need-same-length-2
 same-length-2 c = search needs
@@ -39,7 +39,7 @@ unfolding numberStep
 returns-2 c =
     let a = c .before .before .before .before .before .before .before .before .before .before .before .before .before .before .args in
     stores-read (a .text .now) (a .edges) (a .cursor .at) (sym (c .before .before .before .before .before .before .before .before .before .keep-lines .ensures .end) ∙ ap numberStep (c .before .before .before .before .before .kept .given .1)) (c .before .before .before .before .before .before .before .before .before .keep-lines .ensures .stored)
-    (c .before .before .moat-lines .ensures .end) (c .before .before .moat-lines .ensures .stored)
+    (c .before .before .dual-lines .ensures .end) (c .before .before .dual-lines .ensures .stored)
 
 pub plan-body-spec : {M : Type 1} → statement M
 plan-body-spec =
@@ -50,7 +50,7 @@ plan-body-spec =
     enum-told
     same-length
     returns
-    moat-lines-requires
+    dual-lines-requires
     same-length-2
     same-length-3
     returns-2)

@@ -1,7 +1,8 @@
 -- `format_plan::stopped_claims` meets its contract, by the case that the step is.
 use borrow.Author.Needs.{needs}
 use mathlib.Core.Path.{sym, ap}
-use Rattle.format_number.specs.Answer.{numberStep, stopped}
+use Rattle.format_number.specs.Answer.{numberStep}
+use Rattle.format_grammar.specs.Step.{stopped}
 use Rattle.format_plan.specs.Plan.{Claims}
 use Rattle.format_plan.specs.Answer.{claimsStep}
 use Rattle.format_plan.proofs.stopped_claims.Statement.{statement}

@@ -12,12 +12,15 @@ use borrow.Author.Tests.{ltb-true, ltb-false, eqb-true, eqb-false, ne-eqb, lt-lt
 use Rattle.base_finite.specs.Below.{tabulate}
 use Rattle.base_finite.specs.Laws.Below.{length-tabulate, getD-tabulate}
 use Rattle.base_limits.specs.Limits.{recordBytes}
-use Rattle.format_number.specs.Step.{Step, found, refused}
-use Rattle.format_plan_lines.specs.Items.{following, itemsFrom, puts, Each, none, more}
-use Rattle.format_plan_lines.specs.Lines.{keepReader, keptAt, moatReader, moatsAt, Moat, isIn, moatRecord, putMark, putMoat}
-use Rattle.format_plan.specs.Plan.{marksOf, moatRecords, cleared}
-use Rattle.format_plan_lines.specs.Laws.Puts.{puts-length, mark-length}
-use Rattle.format_plan_lines.specs.Laws.Lines.{keep-passed, length-moat, moat-put}
+use Rattle.format_grammar.specs.Step.{Step, found, refused}
+use Rattle.format_grammar.specs.Items.{itemsFrom, puts}
+use Rattle.format_grammar.specs.Language.{Each, none, more}
+use Rattle.format_grammar.specs.Lines.{following}
+use Rattle.format_plan_lines.specs.Lines.{keepReader, keptAt, dualReader, dualsAt, PrintedDual, isIn, dualRecord, putMark, putDual}
+use Rattle.format_plan.specs.Plan.{marksOf, dualRecords, cleared}
+use Rattle.format_grammar.specs.Laws.Items.{puts-length}
+use Rattle.format_plan_lines.specs.Laws.Puts.{mark-length}
+use Rattle.format_plan_lines.specs.Laws.Lines.{keep-passed, length-dual-record, dual-put}
 
 -- ---- what the lines hold
 
@@ -38,21 +41,21 @@ unfolding keptAt
 kept-below t m at = items-kept t m (length t) 0 0 at
 
 -- The number behind the moats is how many there are.
-items-count : (t : List ℕ) (fuel low i at : ℕ) {n p : ℕ} → itemsFrom (moatReader t) fuel low i at .end ≡ found n p → n ≡ low + length (itemsFrom (moatReader t) fuel low i at .values)
-unfolding itemsFrom following moatReader
+items-count : (t : List ℕ) (fuel low i at : ℕ) {n p : ℕ} → itemsFrom (dualReader t) fuel low i at .end ≡ found n p → n ≡ low + length (itemsFrom (dualReader t) fuel low i at .values)
+unfolding itemsFrom following dualReader
 items-count t zero low i at e = let z : _≡_ {A = ℕ} 0 1 = cc in absurd (omega arith)
-items-count t (suc fuel) low i at {n} {p} e = by-stop (moatReader t .stop at) (moatReader t .item low i at) (λ l k e. items-count t fuel l (i + 1) k e) e
+items-count t (suc fuel) low i at {n} {p} e = by-stop (dualReader t .stop at) (dualReader t .item low i at) (λ l k e. items-count t fuel l (i + 1) k e) e
   where
-    by-stop : (b : Bool) (s : Step Moat) → ((l k : ℕ) → itemsFrom (moatReader t) fuel l (i + 1) k .end ≡ found n p → n ≡ l + length (itemsFrom (moatReader t) fuel l (i + 1) k .values))
-        → cond b (record { values = []; end = found low at }) (following s (λ d next. itemsFrom (moatReader t) fuel (low + 1) (i + 1) next)) .end ≡ found n p
-        → n ≡ low + length (cond b (record { values = []; end = found low at }) (following s (λ d next. itemsFrom (moatReader t) fuel (low + 1) (i + 1) next)) .values)
+    by-stop : (b : Bool) (s : Step PrintedDual) → ((l k : ℕ) → itemsFrom (dualReader t) fuel l (i + 1) k .end ≡ found n p → n ≡ l + length (itemsFrom (dualReader t) fuel l (i + 1) k .values))
+        → cond b (record { values = []; end = found low at }) (following s (λ d next. itemsFrom (dualReader t) fuel (low + 1) (i + 1) next)) .end ≡ found n p
+        → n ≡ low + length (cond b (record { values = []; end = found low at }) (following s (λ d next. itemsFrom (dualReader t) fuel (low + 1) (i + 1) next)) .values)
     by-stop true s ih e = let same : low ≡ n = cc in omega arith
     by-stop false (found d next) ih e = omega (arith, ih (low + 1) next e)
     by-stop false (refused x y) ih e = let z : _≡_ {A = ℕ} 0 1 = cc in absurd (omega arith)
 
-pub moats-count : (t : List ℕ) (at : ℕ) {n p : ℕ} → moatsAt t at .end ≡ found n p → n ≡ length (moatsAt t at .values)
-unfolding moatsAt
-moats-count t at e = omega (arith, items-count t (length t) 0 0 at e)
+pub duals-count : (t : List ℕ) (at : ℕ) {n p : ℕ} → dualsAt t at .end ≡ found n p → n ≡ length (dualsAt t at .values)
+unfolding dualsAt
+duals-count t at e = omega (arith, items-count t (length t) 0 0 at e)
 
 -- ---- marks
 
@@ -140,30 +143,30 @@ marks-filled m marks es h each =
 
 -- ---- records
 
-pub records-filled : (ds : List Moat) (done rest : List ℕ) (i : ℕ) → length done ≡ recordBytes * i → length ds ≤ length rest / recordBytes
-    → puts putMoat (done ++ rest) i ds ≡ done ++ (moatRecords ds ++ drop (recordBytes * length ds) rest)
-unfolding puts moatRecords
+pub records-filled : (ds : List PrintedDual) (done rest : List ℕ) (i : ℕ) → length done ≡ recordBytes * i → length ds ≤ length rest / recordBytes
+    → puts putDual (done ++ rest) i ds ≡ done ++ (dualRecords ds ++ drop (recordBytes * length ds) rest)
+unfolding puts dualRecords
 records-filled [] done rest i h k = refl
 records-filled (d ∷ ds) done rest i h k =
-    ap (λ (l : List ℕ). puts putMoat l (i + 1) ds) stored
-    ∙ records-filled ds (done ++ moatRecord d) (drop recordBytes rest) (i + 1) long (omega (arith, length-drop recordBytes rest))
-    ∙ append-assoc done (moatRecord d) (moatRecords ds ++ drop (recordBytes * length ds) (drop recordBytes rest))
-    ∙ ap (λ (l : List ℕ). done ++ l) (sym (append-assoc (moatRecord d) (moatRecords ds) (drop (recordBytes * length ds) (drop recordBytes rest)))
-    ∙ ap (λ (l : List ℕ). (moatRecord d ++ moatRecords ds) ++ l) (drop-drop (recordBytes * length ds) recordBytes rest ∙ ap (λ (n : ℕ). drop n rest) size))
+    ap (λ (l : List ℕ). puts putDual l (i + 1) ds) stored
+    ∙ records-filled ds (done ++ dualRecord d) (drop recordBytes rest) (i + 1) long (omega (arith, length-drop recordBytes rest))
+    ∙ append-assoc done (dualRecord d) (dualRecords ds ++ drop (recordBytes * length ds) (drop recordBytes rest))
+    ∙ ap (λ (l : List ℕ). done ++ l) (sym (append-assoc (dualRecord d) (dualRecords ds) (drop (recordBytes * length ds) (drop recordBytes rest)))
+    ∙ ap (λ (l : List ℕ). (dualRecord d ++ dualRecords ds) ++ l) (drop-drop (recordBytes * length ds) recordBytes rest ∙ ap (λ (n : ℕ). drop n rest) size))
   where
     size : recordBytes + recordBytes * length ds ≡ recordBytes * suc (length ds)
     size = omega arith
 
-    long : length (done ++ moatRecord d) ≡ recordBytes * (i + 1)
-    long = length-append done (moatRecord d) ∙ omega (arith, length-moat d)
+    long : length (done ++ dualRecord d) ≡ recordBytes * (i + 1)
+    long = length-append done (dualRecord d) ∙ omega (arith, length-dual-record d)
 
     room : i < length (done ++ rest) / recordBytes
     room = let a = length-append done rest in let b : suc (length ds) ≤ length rest / recordBytes = k in omega arith
 
-    stored : putMoat (done ++ rest) i d ≡ (done ++ moatRecord d) ++ drop recordBytes rest
+    stored : putDual (done ++ rest) i d ≡ (done ++ dualRecord d) ++ drop recordBytes rest
     stored =
         let at : recordBytes * i + recordBytes ≡ length done + recordBytes = omega arith in
-        moat-put (done ++ rest) i d room
-        ∙ ap (λ (l : List ℕ). l ++ (moatRecord d ++ drop (recordBytes * i + recordBytes) (done ++ rest))) (take-at done rest (recordBytes * i) h)
-        ∙ ap (λ (l : List ℕ). done ++ (moatRecord d ++ l)) (ap (λ (n : ℕ). drop n (done ++ rest)) at ∙ drop-append-add done rest recordBytes)
-        ∙ sym (append-assoc done (moatRecord d) (drop recordBytes rest))
+        dual-put (done ++ rest) i d room
+        ∙ ap (λ (l : List ℕ). l ++ (dualRecord d ++ drop (recordBytes * i + recordBytes) (done ++ rest))) (take-at done rest (recordBytes * i) h)
+        ∙ ap (λ (l : List ℕ). done ++ (dualRecord d ++ l)) (ap (λ (n : ℕ). drop n (done ++ rest)) at ∙ drop-append-add done rest recordBytes)
+        ∙ sym (append-assoc done (dualRecord d) (drop recordBytes rest))

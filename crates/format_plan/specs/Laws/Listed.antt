@@ -8,30 +8,32 @@ use mathlib.Core.List.{List, [], _∷_, _++_, append-assoc, append-nil}
 use lib.ListN.{length, getD, take, length-append}
 use lib.Dec.{ltb, leb}
 use borrow.Author.Tests.{leb-true, leb-false}
-use Rattle.base_limits.specs.Limits.{maxDigits}
+use Rattle.base_limits.specs.Limits.{keptDigits, valueDigits, memberDigits}
 use Rattle.base_limits.specs.declared.Verdict.{Verdict}
 use Rattle.base_limits.specs.declared.Verdict.the-variants.{Fine, Refused}
-use Rattle.format_write.specs.Key.{keptKey, dualKey, colon, newline}
+use Rattle.format_key.specs.Key.{keptKey, dualKey, colon, newline}
 use Rattle.format_write.specs.Decimal.{decimal}
 use Rattle.format_write.specs.Text.{lineOf, listed}
-use Rattle.format_number.specs.Step.{Step, found, refused, _then_, checked}
-use Rattle.format_survey_lines.specs.Lines.{Lines}
-use Rattle.format_number.specs.Number.{isDigit, classOf, byteIs, fixedAt, numberAt, numberTo, numberLine}
-use Rattle.format_survey_lines.specs.Render.{textOf}
-use Rattle.format_number.specs.Laws.Byte.{byte-inside}
+use Rattle.format_grammar.specs.Step.{Step, found, refused, _then_, checked}
+use Rattle.format_grammar.specs.Lines.{Lines, textOf}
+use Rattle.format_number.specs.Number.{isDigit, classOf, numberAt, numberTo, OfDigits}
+use Rattle.format_grammar.specs.Bytes.{byteIs, fixedAt}
+use Rattle.format_grammar.specs.Laws.Bytes.{byte-inside, read-same, byte-same, reads-fixed}
 use Rattle.format_number.specs.Laws.Decimal.{decimal-numeral}
-use Rattle.format_number.specs.Laws.Step.{then-found, then-refused, then-value, Stops, early, late, then-stops, checked-fine, checked-value}
-use Rattle.format_number.specs.Laws.Stands.{Stands, stands-append, stands-byte, stands-same, take-less}
-use Rattle.format_number.specs.Laws.Spells.{Reads, Word, Extends, bound, read-again}
-use Rattle.format_number.specs.Laws.Words.{Numbered, absent, present, numbered, number-is, no-digit-number, numeral-same, read-same, byte-same, Fixed, reads-fixed}
-use Rattle.format_number.specs.Laws.Keyed.{Text, Small, Passes, reads-keyed, reads-tested}
-use Rattle.format_survey.specs.Laws.WellFormed.{one-spares, two-spare}
-use Rattle.format_plan_lines.specs.Items.{none}
-use Rattle.format_plan_lines.specs.Lines.{valueLine, keptTest, keepLine, keepReader, separator, memberAt, memberReader, membersAt, Moat, moatTest, moatHead, moatOf, moatLine, moatReader}
-use Rattle.format_plan_lines.specs.Laws.Lines.{items-stop}
-use Rattle.format_plan.specs.Laws.Fuel.{checked-next}
-use Rattle.format_plan.specs.Laws.Back.{SmallMoat, moatText, moat-some, line-some, colon-ends, memberText, later-text, listed-text}
-use Rattle.format_plan.specs.Laws.Listing.{Broken, Lists, textFrom, text-stands, as-long, standing-words, standing-long, items-standing, items-broken, item-goes, broken-place, broken-extends, items-again, items-broken-again}
+use Rattle.format_grammar.specs.Laws.Step.{then-found, then-refused, then-value, Stops, early, late, then-stops, checked-fine, checked-value, checked-next}
+use Rattle.format_grammar.specs.Stands.{Stands}
+use Rattle.format_grammar.specs.Laws.Stands.{stands-append, stands-byte, stands-same, take-less, as-long}
+use Rattle.format_grammar.specs.Language.{Reads, Word, Extends, Fixed, Text, none}
+use Rattle.format_grammar.specs.Laws.Language.{bound, read-again, text-stands}
+use Rattle.format_number.specs.Laws.Words.{NumberOrNone, absent, present, number-or-none, number-is, no-digit-number, numeral-same}
+use Rattle.format_number.specs.Laws.Keyed.{Passes, reads-keyed, reads-tested}
+use Rattle.format_survey.specs.Laws.WellFormed.{one-not-malformed, two-not-malformed}
+use Rattle.format_grammar.specs.Items.{Broken, Lists, textFrom}
+use Rattle.format_plan_lines.specs.Lines.{keptTest, keepLine, keepReader, separator, memberAt, memberReader, membersAt, PrintedDual, dualTest, dualHead, listedDual, dualLineAt, dualReader}
+use Rattle.format_grammar.specs.Laws.Items.{items-stop}
+use Rattle.format_plan.specs.WellFormed.{DualDigits, dualText}
+use Rattle.format_plan.specs.Laws.RoundTrip.{dual-some, line-some, colon-ends, memberText, later-text, listed-text}
+use Rattle.format_grammar.specs.Laws.Listing.{standing-words, standing-long, items-standing, items-broken, item-goes, broken-place, broken-extends, items-again, items-broken-again}
 
 -- ---- bytes and ends that texts have in common
 
@@ -69,17 +71,17 @@ end-alike t u at q h k = by-test (leb (length t) at) (leb (length u) at) refl re
 -- ---- keep lines
 
 -- A kept track's test never gives 16.
-pub kept-spares : (m low i e n p : ℕ) → keptTest m low i e ≡ Refused n p → n ≡ 16 → ⊥
+pub kept-not-malformed : (m low i e n p : ℕ) → keptTest m low i e ≡ Refused n p → n ≡ 16 → ⊥
 unfolding keptTest
-kept-spares m low i e n p = one-spares (ltb e low || leb m e) 26 i n p (λ z. omega arith)
+kept-not-malformed m low i e n p = one-not-malformed (ltb e low || leb m e) 26 i n p (λ z. omega arith)
 
 -- A keep line is read where its text stands, unless its test fails.
-reads-keep : (m low i : ℕ) → Reads (λ t at. keepLine t m low i at) (Text (Passes (keptTest m low i)) (lineOf keptKey)) (Text Small (lineOf keptKey))
-unfolding keepLine valueLine numberLine
-reads-keep m low i = reads-tested keptKey (keptTest m low i) (kept-spares m low i)
+reads-keep : (m low i : ℕ) → Reads (λ t at. keepLine t m low i at) (Text (Passes keptDigits (keptTest m low i)) (lineOf keptKey)) (Text (OfDigits keptDigits) (lineOf keptKey))
+unfolding keepLine
+reads-keep m low i = reads-tested keptKey keptDigits (omega arith) (keptTest m low i) (kept-not-malformed m low i)
 
 -- Keep lines are the texts of their tracks.
-pub lists-kept : (m : ℕ) → Lists (λ t. keepReader t m) Small (λ i. lineOf keptKey)
+pub lists-kept : (m : ℕ) → Lists (λ t. keepReader t m) (OfDigits keptDigits) (λ i. lineOf keptKey)
 unfolding keepReader
 lists-kept m =
     record {
@@ -98,44 +100,44 @@ lists-kept m =
 -- ---- members
 
 -- A number without the byte that ends it.
-number-sound : (t : List ℕ) (at v p : ℕ) → numberAt maxDigits t at ≡ found v p → Word (Text Small decimal) t at v p
-number-sound t at v p e = by-case (numbered t maxDigits at (omega arith))
+number-sound : (limit : ℕ) → 1 ≤ limit → (t : List ℕ) (at v p : ℕ) → numberAt limit t at ≡ found v p → Word (Text (OfDigits limit) decimal) t at v p
+number-sound limit positive t at v p e = by-case (number-or-none t limit at positive)
   where
-    by-case : Numbered t maxDigits at → Word (Text Small decimal) t at v p
-    by-case (absent x) = let z : _≡_ {A = ℕ} 0 1 = cc (no-digit-number t maxDigits at x) in absurd (omega arith)
+    by-case : NumberOrNone t limit at → Word (Text (OfDigits limit) decimal) t at v p
+    by-case (absent x) = let z : _≡_ {A = ℕ} 0 1 = cc (no-digit-number t limit at x) in absurd (omega arith)
     by-case (present y k s x) =
-        let f = number-is t maxDigits at y x s in
+        let f = number-is t limit at y x s in
         let same : y ≡ v = cc in
         let end : p ≡ at + length (decimal y) = cc in
-        record { word = decimal y; member = record { holds = subst Small same k; word = ap decimal same }; ends = end; stands = s }
+        record { word = decimal y; member = record { holds = subst (OfDigits limit) same k; word = ap decimal same }; ends = end; stands = s }
 
 -- A number is refused where no digit stands, and there.
-number-refused : (t : List ℕ) (at n p : ℕ) → numberAt maxDigits t at ≡ refused n p → (isDigit (classOf (getD t at 0)) ≡ false) × (p ≡ at)
-number-refused t at n p e = by-case (numbered t maxDigits at (omega arith))
+number-refused : (limit : ℕ) → 1 ≤ limit → (t : List ℕ) (at n p : ℕ) → numberAt limit t at ≡ refused n p → (isDigit (classOf (getD t at 0)) ≡ false) × (p ≡ at)
+number-refused limit positive t at n p e = by-case (number-or-none t limit at positive)
   where
-    by-case : Numbered t maxDigits at → (isDigit (classOf (getD t at 0)) ≡ false) × (p ≡ at)
-    by-case (absent x) = (x, cc (no-digit-number t maxDigits at x))
-    by-case (present y k s x) = let z : _≡_ {A = ℕ} 0 1 = cc (number-is t maxDigits at y x s) in absurd (omega arith)
+    by-case : NumberOrNone t limit at → (isDigit (classOf (getD t at 0)) ≡ false) × (p ≡ at)
+    by-case (absent x) = (x, cc (no-digit-number t limit at x))
+    by-case (present y k s x) = let z : _≡_ {A = ℕ} 0 1 = cc (number-is t limit at y x s) in absurd (omega arith)
 
 -- A number is read again from a text with the same bytes up to the one behind it.
-number-again : (t u : List ℕ) (at v p q : ℕ) → p ≤ q → take (q + 1) t ≡ take (q + 1) u → numberAt maxDigits t at ≡ found v p → numberAt maxDigits u at ≡ found v p
-number-again t u at v p q h k e = by-case (numbered t maxDigits at (omega arith))
+number-again : (limit : ℕ) → 1 ≤ limit → (t u : List ℕ) (at v p q : ℕ) → p ≤ q → take (q + 1) t ≡ take (q + 1) u → numberAt limit t at ≡ found v p → numberAt limit u at ≡ found v p
+number-again limit positive t u at v p q h k e = by-case (number-or-none t limit at positive)
   where
-    by-case : Numbered t maxDigits at → numberAt maxDigits u at ≡ found v p
-    by-case (absent x) = let z : _≡_ {A = ℕ} 0 1 = cc (no-digit-number t maxDigits at x) in absurd (omega arith)
+    by-case : NumberOrNone t limit at → numberAt limit u at ≡ found v p
+    by-case (absent x) = let z : _≡_ {A = ℕ} 0 1 = cc (no-digit-number t limit at x) in absurd (omega arith)
     by-case (present y l s x) =
-        let f = number-is t maxDigits at y x s in
+        let f = number-is t limit at y x s in
         let end : p ≡ at + length (decimal y) = cc in
         let s′ : Stands u at (decimal y) = stands-same (q + 1) k (omega arith) s in
-        number-is u maxDigits at y (numeral-same t u maxDigits at (q + 1) k (omega arith) (omega arith) ∙ x) s′ ∙ sym f ∙ e
+        number-is u limit at y (numeral-same t u limit at (q + 1) k (omega arith) (omega arith) ∙ x) s′ ∙ sym f ∙ e
 
 -- A number is refused again.
-number-same : (t u : List ℕ) (at p : ℕ) → numberAt maxDigits t at ≡ refused 16 p → take (p + 1) t ≡ take (p + 1) u → numberAt maxDigits u at ≡ refused 16 p
-number-same t u at p e k =
-    let r = number-refused t at 16 p e in
+number-same : (limit : ℕ) → 1 ≤ limit → (t u : List ℕ) (at p : ℕ) → numberAt limit t at ≡ refused 16 p → take (p + 1) t ≡ take (p + 1) u → numberAt limit u at ≡ refused 16 p
+number-same limit positive t u at p e k =
+    let r = number-refused limit positive t at 16 p e in
     let q : p ≡ at = r .1 in
     let s : getD t at 0 ≡ getD u at 0 = read-same t u (p + 1) at k (omega arith) in
-    no-digit-number u maxDigits at (ap (λ (b : ℕ). isDigit (classOf b)) (sym s) ∙ r .0) ∙ ap (λ (n : ℕ). refused 16 n) (sym q)
+    no-digit-number u limit at (ap (λ (b : ℕ). isDigit (classOf b)) (sym s) ∙ r .0) ∙ ap (λ (n : ℕ). refused 16 n) (sym q)
 
 -- Member i of its moat, as it is printed.
 unfoldable pub memberPart : (i v : ℕ) → List ℕ
@@ -155,12 +157,12 @@ module _ (t : List ℕ) (low i at : ℕ) (h : at ≤ length t) where
   after-separator {z} {p} e = reads-fixed (separator i) .sound t at z p h e
 
   -- A member that is read stands there.
-  member-sound : (v p : ℕ) → memberAt t low i at ≡ found v p → Word (Text Small (memberPart i)) t at v p
+  member-sound : (v p : ℕ) → memberAt t low i at ≡ found v p → Word (Text (OfDigits memberDigits) (memberPart i)) t at v p
   unfolding memberAt memberPart
   member-sound v p e =
       let s = then-value (fixedAt (separator i) t at) _ e in
       let x = after-separator (s .2) in
-      let y = number-sound t (s .1) v p (s .3) in
+      let y = number-sound memberDigits (omega arith) t (s .1) v p (s .3) in
       let xe = x .ends in
       let ye = y .ends in
       let n = length-append (x .word) (y .word) in
@@ -176,21 +178,21 @@ module _ (t : List ℕ) (low i at : ℕ) (h : at ≤ length t) where
   unfolding memberAt
   member-place p e = by-place (then-stops (fixedAt (separator i) t at) _ e)
     where
-      by-place : Stops (fixedAt (separator i) t at) (λ z q. numberAt maxDigits t q) 16 p → (at ≤ p) × (p ≤ length t)
+      by-place : Stops (fixedAt (separator i) t at) (λ z q. numberAt memberDigits t q) 16 p → (at ≤ p) × (p ≤ length t)
       by-place (early q) = reads-fixed (separator i) .place t at p h q
       by-place (late z q x y) =
           let b = bound (after-separator x) in
           let a = b .0 in
           let c = b .1 in
-          let s : p ≡ q = number-refused t q 16 p y .1 in
+          let s : p ≡ q = number-refused memberDigits (omega arith) t q 16 p y .1 in
           (omega arith, omega arith)
 
   -- The bytes before the refusal of a member go on to a member.
-  member-extends : (p : ℕ) → memberAt t low i at ≡ refused 16 p → Extends (Text Small (memberPart i)) t at p
+  member-extends : (p : ℕ) → memberAt t low i at ≡ refused 16 p → Extends (Text (OfDigits memberDigits) (memberPart i)) t at p
   unfolding memberAt memberPart
   member-extends p e = by-place (then-stops (fixedAt (separator i) t at) _ e)
     where
-      by-place : Stops (fixedAt (separator i) t at) (λ z q. numberAt maxDigits t q) 16 p → Extends (Text Small (memberPart i)) t at p
+      by-place : Stops (fixedAt (separator i) t at) (λ z q. numberAt memberDigits t q) 16 p → Extends (Text (OfDigits memberDigits) (memberPart i)) t at p
       by-place (early q) =
           let x = reads-fixed (separator i) .extends t at p h q in
           record {
@@ -202,7 +204,7 @@ module _ (t : List ℕ) (low i at : ℕ) (h : at ≤ length t) where
           }
       by-place (late z q x y) =
           let w = after-separator x in
-          let s : p ≡ at + length (w .word) = number-refused t q 16 p y .1 ∙ w .ends in
+          let s : p ≡ at + length (w .word) = number-refused memberDigits (omega arith) t q 16 p y .1 ∙ w .ends in
           record {
             value = 0;
             word = w .word ++ decimal 0;
@@ -216,22 +218,22 @@ module _ (t : List ℕ) (low i at : ℕ) (h : at ≤ length t) where
   unfolding memberAt
   member-again u v p q l k e =
       let s = then-value (fixedAt (separator i) t at) _ e in
-      let b = bound (number-sound t (s .1) v p (s .3)) .0 in
-      then-found _ (read-again (reads-fixed (separator i)) t u at (s .0) (s .1) (q + 1) h (omega arith) k (s .2)) ∙ number-again t u (s .1) v p q l k (s .3)
+      let b = bound (number-sound memberDigits (omega arith) t (s .1) v p (s .3)) .0 in
+      then-found _ (read-again (reads-fixed (separator i)) t u at (s .0) (s .1) (q + 1) h (omega arith) k (s .2)) ∙ number-again memberDigits (omega arith) t u (s .1) v p q l k (s .3)
 
   -- A member is refused again.
   member-same : (u : List ℕ) (p : ℕ) → memberAt t low i at ≡ refused 16 p → take (p + 1) t ≡ take (p + 1) u → memberAt u low i at ≡ refused 16 p
   unfolding memberAt
   member-same u p e k = by-place (then-stops (fixedAt (separator i) t at) _ e)
     where
-      by-place : Stops (fixedAt (separator i) t at) (λ z q. numberAt maxDigits t q) 16 p → (fixedAt (separator i) u at then λ z q. numberAt maxDigits u q) ≡ refused 16 p
+      by-place : Stops (fixedAt (separator i) t at) (λ z q. numberAt memberDigits t q) 16 p → (fixedAt (separator i) u at then λ z q. numberAt memberDigits u q) ≡ refused 16 p
       by-place (early q) = then-refused _ (reads-fixed (separator i) .same t u at p h q k)
       by-place (late z q x y) =
-          let s : p ≡ q = number-refused t q 16 p y .1 in
-          then-found _ (read-again (reads-fixed (separator i)) t u at z q (p + 1) h (omega arith) k x) ∙ number-same t u q p y k
+          let s : p ≡ q = number-refused memberDigits (omega arith) t q 16 p y .1 in
+          then-found _ (read-again (reads-fixed (separator i)) t u at z q (p + 1) h (omega arith) k x) ∙ number-same memberDigits (omega arith) t u q p y k
 
 -- Members are their separators and numbers.
-pub lists-members : Lists memberReader Small memberPart
+pub lists-members : Lists memberReader (OfDigits memberDigits) memberPart
 unfolding memberReader
 lists-members =
     record {
@@ -262,9 +264,9 @@ unfoldable pub headText : (amount : ℕ) → List ℕ
 headText x = dualKey ++ decimal x ++ (colon ∷ [])
 
 -- The amount is read exactly where it stands.
-reads-head : Reads moatHead (Text Small headText) (Text Small headText)
-unfolding moatHead numberTo headText
-reads-head = reads-keyed dualKey maxDigits colon (omega arith) colon-ends
+reads-head : Reads dualHead (Text (OfDigits valueDigits) headText) (Text (OfDigits valueDigits) headText)
+unfolding dualHead numberTo headText
+reads-head = reads-keyed dualKey valueDigits colon (omega arith) colon-ends
 
 -- What stands before the members has a byte.
 head-some : (x : ℕ) → 0 < length (headText x)
@@ -272,9 +274,9 @@ unfolding headText
 head-some x = let n = length-append (dualKey ++ decimal x) (colon ∷ []) in omega arith
 
 -- A moat line is its amount, its members and its end.
-moat-parts : (d : Moat) → headText (d .value) ++ textFrom memberPart 0 (d .members) ++ (newline ∷ []) ≡ moatText d
-unfolding headText moatText
-moat-parts d = ap (λ (w : List ℕ). headText (d .value) ++ w ++ (newline ∷ [])) (sym (listed-from (d .members)))
+dual-text-parts : (d : PrintedDual) → headText (d .value) ++ textFrom memberPart 0 (d .members) ++ (newline ∷ []) ≡ dualText d
+unfolding headText dualText
+dual-text-parts d = ap (λ (w : List ℕ). headText (d .value) ++ w ++ (newline ∷ [])) (sym (listed-from (d .members)))
 
 -- A refusal after a test is the refusal of the test.
 checked-stops : {A : Type 0} {n q : ℕ} (w : Verdict) (a : A) (p : ℕ) → checked w a p ≡ refused n q → w ≡ Refused n q
@@ -283,58 +285,58 @@ checked-stops Fine a p e = let z : _≡_ {A = ℕ} 0 1 = cc in absurd (omega ari
 checked-stops {n = n} {q = q} (Refused i j) a p e = let x : i ≡ n = cc in let y : j ≡ q = cc in cc
 
 -- A moat line that is read.
-pub record MoatRead (t : List ℕ) (i at : ℕ) (d : Moat) (p : ℕ) : Type 0 where
+pub record DualParts (t : List ℕ) (i at : ℕ) (d : PrintedDual) (p : ℕ) : Type 0 where
   pub amount : ℕ
   pub from : ℕ
   pub last : ℕ
   pub end : ℕ
-  pub head : moatHead t at ≡ found amount from
+  pub head : dualHead t at ≡ found amount from
   pub list : membersAt t from .end ≡ found last end
-  pub fine : moatTest i last ≡ Fine
-  pub moat : moatOf t amount from ≡ d
+  pub fine : dualTest i last ≡ Fine
+  pub dual : listedDual t amount from ≡ d
   pub next : end + 1 ≡ p
 
 -- A moat line is read only by reading its amount and its members.
-pub moat-read : (t : List ℕ) (i at : ℕ) (d : Moat) (p : ℕ) → moatLine t i at ≡ found d p → MoatRead t i at d p
-unfolding moatLine
-moat-read t i at d p e =
-    let x = then-value (moatHead t at) _ e in
+pub dual-parts-read : (t : List ℕ) (i at : ℕ) (d : PrintedDual) (p : ℕ) → dualLineAt t i at ≡ found d p → DualParts t i at d p
+unfolding dualLineAt
+dual-parts-read t i at d p e =
+    let x = then-value (dualHead t at) _ e in
     let y = then-value (membersAt t (x .1) .end) _ (x .3) in
-    let w = moatTest i (y .0) in
-    let m = moatOf t (x .0) (x .1) in
+    let w = dualTest i (y .0) in
+    let m = listedDual t (x .0) (x .1) in
     let n = y .1 + 1 in
-    record { amount = x .0; from = x .1; last = y .0; end = y .1; head = x .2; list = y .2; fine = checked-fine w m n (y .3); moat = checked-value w m n (y .3); next = checked-next w m n (y .3) }
+    record { amount = x .0; from = x .1; last = y .0; end = y .1; head = x .2; list = y .2; fine = checked-fine w m n (y .3); dual = checked-value w m n (y .3); next = checked-next w m n (y .3) }
 
 -- A moat line that is refused with 16: before its members, or among them.
-data MoatStops (t : List ℕ) (at p : ℕ) : Type 0 where
-  before : moatHead t at ≡ refused 16 p → MoatStops t at p
-  among : (amount from : ℕ) → moatHead t at ≡ found amount from → membersAt t from .end ≡ refused 16 p → MoatStops t at p
+data DualStops (t : List ℕ) (at p : ℕ) : Type 0 where
+  before : dualHead t at ≡ refused 16 p → DualStops t at p
+  among : (amount from : ℕ) → dualHead t at ≡ found amount from → membersAt t from .end ≡ refused 16 p → DualStops t at p
 
 -- A moat's test never gives 16.
-pub moat-spares : (i low n p : ℕ) → moatTest i low ≡ Refused n p → n ≡ 16 → ⊥
-unfolding moatTest
-moat-spares i low n p = two-spare _ _ 27 28 i i n p (λ z. omega arith) (λ z. omega arith)
+pub dual-not-malformed : (i low n p : ℕ) → dualTest i low ≡ Refused n p → n ≡ 16 → ⊥
+unfolding dualTest
+dual-not-malformed i low n p = two-not-malformed _ _ 27 28 i i n p (λ z. omega arith) (λ z. omega arith)
 
 -- Nothing else refuses a moat line with 16.
-moat-stops : (t : List ℕ) (i at p : ℕ) → moatLine t i at ≡ refused 16 p → MoatStops t at p
-unfolding moatLine
-moat-stops t i at p e = by-head (then-stops (moatHead t at) _ e)
+dual-stops : (t : List ℕ) (i at p : ℕ) → dualLineAt t i at ≡ refused 16 p → DualStops t at p
+unfolding dualLineAt
+dual-stops t i at p e = by-head (then-stops (dualHead t at) _ e)
   where
-    ends : ℕ → ℕ → ℕ → ℕ → Step Moat
-    ends amount c low d = checked (moatTest i low) (moatOf t amount c) (d + 1)
+    ends : ℕ → ℕ → ℕ → ℕ → Step PrintedDual
+    ends amount c low d = checked (dualTest i low) (listedDual t amount c) (d + 1)
 
-    by-list : (amount c : ℕ) → moatHead t at ≡ found amount c → Stops (membersAt t c .end) (ends amount c) 16 p → MoatStops t at p
+    by-list : (amount c : ℕ) → dualHead t at ≡ found amount c → Stops (membersAt t c .end) (ends amount c) 16 p → DualStops t at p
     by-list amount c h (early q) = among amount c h q
     by-list amount c h (late low d x y) =
-        absurd (moat-spares i low 16 p (checked-stops (moatTest i low) (moatOf t amount c) (d + 1) y) refl)
+        absurd (dual-not-malformed i low 16 p (checked-stops (dualTest i low) (listedDual t amount c) (d + 1) y) refl)
 
-    by-head : Stops (moatHead t at) (λ amount c. membersAt t c .end then ends amount c) 16 p → MoatStops t at p
+    by-head : Stops (dualHead t at) (λ amount c. membersAt t c .end then ends amount c) 16 p → DualStops t at p
     by-head (early q) = before q
     by-head (late amount c x y) = by-list amount c x (then-stops (membersAt t c .end) _ y)
 
 module _ (t : List ℕ) (at : ℕ) (h : at ≤ length t) where
   -- Where the members begin.
-  after-head : {x c : ℕ} → moatHead t at ≡ found x c → (at < c) × (c ≤ length t)
+  after-head : {x c : ℕ} → dualHead t at ≡ found x c → (at < c) × (c ≤ length t)
   after-head {x} {c} e =
       let w = reads-head .sound t at x c h e in
       let s = text-stands w .1 in
@@ -342,7 +344,7 @@ module _ (t : List ℕ) (at : ℕ) (h : at ≤ length t) where
       (omega arith, bound w .1)
 
   -- The members that are refused.
-  among-broken : {x c p : ℕ} → moatHead t at ≡ found x c → membersAt t c .end ≡ refused 16 p → Broken (memberReader t) 16 p 0 0 c (membersAt t c .values)
+  among-broken : {x c p : ℕ} → dualHead t at ≡ found x c → membersAt t c .end ≡ refused 16 p → Broken (memberReader t) 16 p 0 0 c (membersAt t c .values)
   unfolding membersAt
   among-broken {x} {c} e f =
       let b = after-head e in
@@ -351,10 +353,10 @@ module _ (t : List ℕ) (at : ℕ) (h : at ≤ length t) where
       items-broken (memberReader t) t (item-goes lists-members t) (length t) 0 0 c d (omega arith) f
 
   -- A moat line that is read stands there.
-  moat-sound : (i : ℕ) (d : Moat) (p : ℕ) → moatLine t i at ≡ found d p → Word (Text SmallMoat moatText) t at d p
+  dual-sound : (i : ℕ) (d : PrintedDual) (p : ℕ) → dualLineAt t i at ≡ found d p → Word (Text DualDigits dualText) t at d p
   unfolding membersAt memberReader
-  moat-sound i d p e =
-      let r = moat-read t i at d p e in
+  dual-sound i d p e =
+      let r = dual-parts-read t i at d p e in
       let H = headText (r .amount) in
       let x = reads-head .sound t at (r .amount) (r .from) h (r .head) in
       let s = items-standing (memberReader t) (length t) 0 0 (r .from) (r .list) in
@@ -371,19 +373,19 @@ module _ (t : List ℕ) (at : ℕ) (h : at ≤ length t) where
       let m = length-append (H ++ M) (newline ∷ []) in
       let end : r .end ≡ at + length (H ++ M) = omega arith in
       let whole : Stands t at (H ++ M ++ (newline ∷ [])) = stands-append (H ++ M) (newline ∷ []) c (subst (λ (k : ℕ). Stands t k (newline ∷ [])) end (stands-byte t (r .end) newline (z .0) (z .1))) in
-      subst (λ (f : Moat). Word (Text SmallMoat moatText) t at f p) (r .moat)
+      subst (λ (f : PrintedDual). Word (Text DualDigits dualText) t at f p) (r .dual)
       record {
         word = H ++ M ++ (newline ∷ []);
-        member = record { holds = record { value = x .member .holds; members = y .member .holds }; word = moat-parts (moatOf t (r .amount) (r .from)) };
+        member = record { holds = record { value = x .member .holds; members = y .member .holds }; word = dual-text-parts (listedDual t (r .amount) (r .from)) };
         ends = omega arith;
         stands = whole;
       }
 
   -- A moat line is refused from its place on, inside the text.
-  moat-place : (i p : ℕ) → moatLine t i at ≡ refused 16 p → (at ≤ p) × (p ≤ length t)
-  moat-place i p e = by-place (moat-stops t i at p e)
+  dual-place : (i p : ℕ) → dualLineAt t i at ≡ refused 16 p → (at ≤ p) × (p ≤ length t)
+  dual-place i p e = by-place (dual-stops t i at p e)
     where
-      by-place : MoatStops t at p → (at ≤ p) × (p ≤ length t)
+      by-place : DualStops t at p → (at ≤ p) × (p ≤ length t)
       by-place (before q) = reads-head .place t at p h q
       by-place (among x c q r) =
           let a = after-head q in
@@ -393,18 +395,18 @@ module _ (t : List ℕ) (at : ℕ) (h : at ≤ length t) where
           (omega arith, b .1)
 
   -- The bytes before the refusal of a moat line go on to a moat line.
-  moat-extends : (i p : ℕ) → moatLine t i at ≡ refused 16 p → Extends (Text SmallMoat moatText) t at p
+  dual-extends : (i p : ℕ) → dualLineAt t i at ≡ refused 16 p → Extends (Text DualDigits dualText) t at p
   unfolding textFrom
-  moat-extends i p e = by-place (moat-stops t i at p e)
+  dual-extends i p e = by-place (dual-stops t i at p e)
     where
-      by-place : MoatStops t at p → Extends (Text SmallMoat moatText) t at p
+      by-place : DualStops t at p → Extends (Text DualDigits dualText) t at p
       by-place (before q) =
           let x = reads-head .extends t at p h q in
-          let d : Moat = record { value = x .value; members = [] } in
+          let d : PrintedDual = record { value = x .value; members = [] } in
           record {
             value = d;
             word = x .word ++ [] ++ (newline ∷ []);
-            member = record { holds = record { value = x .member .holds; members = none }; word = ap (λ (y : List ℕ). y ++ [] ++ (newline ∷ [])) (x .member .word) ∙ moat-parts d };
+            member = record { holds = record { value = x .member .holds; members = none }; word = ap (λ (y : List ℕ). y ++ [] ++ (newline ∷ [])) (x .member .word) ∙ dual-text-parts d };
             rest = x .rest ++ (newline ∷ []);
             whole =
                 sym (append-assoc (take p t) (x .rest) (newline ∷ []))
@@ -415,13 +417,13 @@ module _ (t : List ℕ) (at : ℕ) (h : at ≤ length t) where
       by-place (among x c q r) =
           let w = reads-head .sound t at x c h q in
           let z = broken-extends lists-members t (after-head q .1) (among-broken q r) in
-          let d : Moat = record { value = x; members = z .value } in
+          let d : PrintedDual = record { value = x; members = z .value } in
           record {
             value = d;
             word = w .word ++ z .word ++ (newline ∷ []);
             member = record {
               holds = record { value = w .member .holds; members = z .member .holds };
-              word = ap (λ (y : List ℕ). y ++ z .word ++ (newline ∷ [])) (w .member .word) ∙ ap (λ (y : List ℕ). headText x ++ y ++ (newline ∷ [])) (z .member .word) ∙ moat-parts d;
+              word = ap (λ (y : List ℕ). y ++ z .word ++ (newline ∷ [])) (w .member .word) ∙ ap (λ (y : List ℕ). headText x ++ y ++ (newline ∷ [])) (z .member .word) ∙ dual-text-parts d;
             };
             rest = z .rest ++ (newline ∷ []);
             whole =
@@ -431,48 +433,48 @@ module _ (t : List ℕ) (at : ℕ) (h : at ≤ length t) where
           }
 
   -- A moat line is read again from a text with the same bytes up to the one behind it.
-  moat-again : (u : List ℕ) (i : ℕ) (d : Moat) (p q : ℕ) → p ≤ q → take (q + 1) t ≡ take (q + 1) u → moatLine t i at ≡ found d p → moatLine u i at ≡ found d p
-  unfolding moatLine membersAt _then_ checked
-  moat-again u i d p q l k e =
-      let r = moat-read t i at d p e in
+  dual-again : (u : List ℕ) (i : ℕ) (d : PrintedDual) (p q : ℕ) → p ≤ q → take (q + 1) t ≡ take (q + 1) u → dualLineAt t i at ≡ found d p → dualLineAt u i at ≡ found d p
+  unfolding dualLineAt membersAt _then_ checked
+  dual-again u i d p q l k e =
+      let r = dual-parts-read t i at d p e in
       let a = after-head (r .head) in
       let a0 = a .0 in
       let s = items-standing (memberReader t) (length t) 0 0 (r .from) (r .list) in
       let b = standing-long lists-members t (a .1) s .0 in
       let n = r .next in
       then-found _ (read-again reads-head t u at (r .amount) (r .from) (q + 1) h (omega arith) k (r .head))
-      ∙ ap (λ (L : Lines ℕ). L .end then λ low y. checked (moatTest i low) (record { value = r .amount; members = L .values }) (y + 1)) (items-again lists-members t u 0 0 (r .from) q (omega arith) (a .1) (omega arith) k (r .list))
-      ∙ ap (λ (v : Verdict). checked v (moatOf t (r .amount) (r .from)) (r .end + 1)) (r .fine)
-      ∙ ap (λ (y : Moat). found y (r .end + 1)) (r .moat)
+      ∙ ap (λ (L : Lines ℕ ℕ). L .end then λ low y. checked (dualTest i low) (record { value = r .amount; members = L .values }) (y + 1)) (items-again lists-members t u 0 0 (r .from) q (omega arith) (a .1) (omega arith) k (r .list))
+      ∙ ap (λ (v : Verdict). checked v (listedDual t (r .amount) (r .from)) (r .end + 1)) (r .fine)
+      ∙ ap (λ (y : PrintedDual). found y (r .end + 1)) (r .dual)
       ∙ ap (λ (y : ℕ). found d y) n
 
   -- A moat line is refused again.
-  moat-same : (u : List ℕ) (i p : ℕ) → moatLine t i at ≡ refused 16 p → take (p + 1) t ≡ take (p + 1) u → moatLine u i at ≡ refused 16 p
-  unfolding moatLine membersAt _then_
-  moat-same u i p e k = by-place (moat-stops t i at p e)
+  dual-same : (u : List ℕ) (i p : ℕ) → dualLineAt t i at ≡ refused 16 p → take (p + 1) t ≡ take (p + 1) u → dualLineAt u i at ≡ refused 16 p
+  unfolding dualLineAt membersAt _then_
+  dual-same u i p e k = by-place (dual-stops t i at p e)
     where
-      by-place : MoatStops t at p → moatLine u i at ≡ refused 16 p
+      by-place : DualStops t at p → dualLineAt u i at ≡ refused 16 p
       by-place (before q) = then-refused _ (reads-head .same t u at p h q k)
       by-place (among x c q r) =
           let a = after-head q in
           let a0 = a .0 in
           let b = broken-place lists-members t (a .1) (among-broken q r) .0 in
           then-found _ (read-again reads-head t u at x c (p + 1) h (omega arith) k q)
-          ∙ ap (λ (L : Lines ℕ). L .end then λ low y. checked (moatTest i low) (record { value = x; members = L .values }) (y + 1)) (items-broken-again lists-members t u 0 0 c p (omega arith) (a .1) k r)
+          ∙ ap (λ (L : Lines ℕ ℕ). L .end then λ low y. checked (dualTest i low) (record { value = x; members = L .values }) (y + 1)) (items-broken-again lists-members t u 0 0 c p (omega arith) (a .1) k r)
 
 -- Moat lines are the texts of their moats.
-pub lists-moats : Lists moatReader SmallMoat (λ i. moatText)
-unfolding moatReader
-lists-moats =
+pub lists-duals : Lists dualReader DualDigits (λ i. dualText)
+unfolding dualReader
+lists-duals =
     record {
-      some = λ i. moat-some;
-      sound = λ t low i at d p h. moat-sound t at h i d p;
-      place = λ t low i at p h. moat-place t at h i p;
-      extends = λ t low i at p h. moat-extends t at h i p;
+      some = λ i. dual-some;
+      sound = λ t low i at d p h. dual-sound t at h i d p;
+      place = λ t low i at p h. dual-place t at h i p;
+      extends = λ t low i at p h. dual-extends t at h i p;
       stops = λ t u at q h k. end-alike t u at q h k;
-      reads = λ t u low i at d p q h l k. moat-again t at h u i d p q l k;
+      reads = λ t u low i at d p q h l k. dual-again t at h u i d p q l k;
       after = λ t u low d. refl;
-      same = λ t u low i at p h. moat-same t at h u i p;
+      same = λ t u low i at p h. dual-same t at h u i p;
     }
 
 -- Lines that do not depend on their number, one after another.

@@ -8,50 +8,48 @@ use mathlib.Core.List.{List, [], _∷_, _++_, append-assoc, append-nil}
 use lib.ListN.{length, take, length-append}
 use lib.Seq.{take-at, length-take-le}
 use borrow.Author.Tests.{le-leb, lt-leb}
+use Rattle.base_limits.specs.Limits.{keptDigits}
+use Rattle.format_number.specs.Number.{OfDigits}
 use Rattle.base_limits.specs.Verdict.{refusal}
 use Rattle.base_limits.specs.declared.Verdict.{Verdict}
 use Rattle.base_limits.specs.declared.Verdict.the-variants.{Fine, Refused}
-use Rattle.format_write.specs.Key.{keptKey}
+use Rattle.format_key.specs.Key.{keptKey}
 use Rattle.format_write.specs.Text.{lineOf}
-use Rattle.format_number.specs.Step.{Step, found, refused, _then_, checked}
-use Rattle.format_survey_lines.specs.Lines.{Lines, linesAfter}
-use Rattle.format_number.specs.Number.{byteIs}
-use Rattle.format_survey_lines.specs.Render.{textOf}
-use Rattle.format_number.specs.Laws.Step.{then-found, then-refused}
-use Rattle.format_number.specs.Laws.Stands.{Stands, stands-first, stands-second, stands-end}
-use Rattle.format_number.specs.Laws.Spells.{Lively, read, otherwise, bound, read-again}
-use Rattle.format_number.specs.Laws.Keyed.{Small}
-use Rattle.format_plan_lines.specs.Items.{Reader, Each, none, more}
-use Rattle.format_plan_lines.specs.Lines.{keptTest, keepReader, keptAt, Moat, moatTest, moatReader, moatsAt}
+use Rattle.format_grammar.specs.Step.{Step, found, refused, _then_, checked}
+use Rattle.format_grammar.specs.Lines.{Lines, linesAfter, textOf}
+use Rattle.format_grammar.specs.Bytes.{byteIs}
+use Rattle.format_grammar.specs.Laws.Step.{then-found, then-refused}
+use Rattle.format_grammar.specs.Stands.{Stands}
+use Rattle.format_grammar.specs.Laws.Stands.{stands-first, stands-second, stands-end}
+use Rattle.format_grammar.specs.Language.{NotMalformed, read, otherwise, Each, none, more}
+use Rattle.format_grammar.specs.Laws.Language.{bound, read-again, text-stands}
+use Rattle.format_grammar.specs.Items.{ItemReader, Standing, stop, item, Broken, here, later}
+use Rattle.format_plan_lines.specs.Lines.{keptTest, keepReader, keptAt, PrintedDual, dualTest, dualReader, dualsAt}
 use Rattle.format_plan.specs.Plan.{Claims, claimsAt, Plan, bodyAt, planAt, withRoom, planReading}
 use Rattle.format_plan.specs.Laws.Room.{room-refusal}
-use Rattle.format_plan.specs.Laws.Back.{Standing, stop, item, items-back, keep-line-back, SmallMoat, moat-line-back, moatText, Few, claimsText, claims-back, claims-some, planWords, lines-long, line-some, moat-some, no-keep}
-use Rattle.format_plan.specs.Laws.Listing.{Broken, here, later, items-standing, items-broken, broken-items, item-goes, standing-long, broken-place, broken-extends, items-again, items-broken-again, text-stands}
-use Rattle.format_plan.specs.Laws.Listed.{kept-spares, moat-spares, lists-kept, lists-moats, text-from}
+use Rattle.format_grammar.specs.Laws.Items.{items-reads-back}
+use Rattle.format_plan.specs.Laws.RoundTrip.{keep-line-reads-back, dual-line-reads-back, claims-reads-back, claims-some, lines-long, line-some, dual-some, no-keep}
+use Rattle.format_grammar.specs.Laws.Listing.{items-standing, items-broken, broken-items, item-goes, standing-long, broken-place, broken-extends, items-again, items-broken-again}
+use Rattle.format_plan.specs.Laws.Listed.{kept-not-malformed, dual-not-malformed, lists-kept, lists-duals, text-from}
 use Rattle.format_plan.specs.Laws.Accepted.{reads-claims, lines-words, plan-missing}
-
--- A well-formed plan: any counts, tracks, amounts and members of at most so many digits, whether or not they rise or pass their limits.
-pub record WellFormedPlan (p : Plan) : Type 0 where
-  pub few : Few (p .claims)
-  pub kept : Each Small (p .kept)
-  pub moats : Each SmallMoat (p .moats)
+use Rattle.format_plan.specs.WellFormed.{DualDigits, dualText, claimsText, planWords, WellFormedPlan, PlanBegins}
 
 -- ---- a well-formed plan is not refused with 16
 
 -- Items that are all read, or of which one is refused for another reason than its form.
-data Met {A : Type 0} (r : Reader A) (low i at : ℕ) (l : List A) (end : ℕ) : Type 0 where
+data Met {A : Type 0} (r : ItemReader ℕ A) (low i at : ℕ) (l : List A) (end : ℕ) : Type 0 where
   all-read : (last : ℕ) → Standing r low i at l last end → Met r low i at l end
   one-refused : {n q : ℕ} {k : List A} → Broken r n q low i at k → length k ≤ length l → (n ≡ 16 → ⊥) → Met r low i at l end
 
 -- A line where it stands: only a test of its value is left.
-record Tested {A : Type 0} (r : Reader A) (low i at : ℕ) (a : A) (next : ℕ) : Type 0 where
+record Tested {A : Type 0} (r : ItemReader ℕ A) (low i at : ℕ) (a : A) (next : ℕ) : Type 0 where
   test : Verdict
-  spares : (n p : ℕ) → test ≡ Refused n p → n ≡ 16 → ⊥
+  notMalformed : (n p : ℕ) → test ≡ Refused n p → n ≡ 16 → ⊥
   begins : r .stop at ≡ false
   line : r .item low i at ≡ checked test a next
 
 -- Lines of which only tests are left are all read, or one fails its test.
-met-lines : {A : Type 0} (r : Reader A) (t : List ℕ) (P : A → Type 0) (f : A → List ℕ) → ((low i at : ℕ) (a : A) → P a → Stands t at (f a) → Tested r low i at a (at + length (f a)))
+met-lines : {A : Type 0} (r : ItemReader ℕ A) (t : List ℕ) (P : A → Type 0) (f : A → List ℕ) → ((low i at : ℕ) (a : A) → P a → Stands t at (f a) → Tested r low i at a (at + length (f a)))
     → {l : List A} → Each P l → (low i at end : ℕ) → Stands t at (textOf f l) → end ≡ at + length (textOf f l) → r .stop end ≡ true → Met r low i at l end
 unfolding textOf checked
 met-lines r t P f tested none low i at end s q e =
@@ -61,7 +59,7 @@ met-lines {A} r t P f tested (more {a = a} {l = l} p ps) low i at end s q e =
     let n = length-append (f a) (textOf f l) in
     let next = at + length (f a) in
     let x = tested low i at a p (stands-first (f a) (textOf f l) s) in
-    by-test (x .test) (x .spares) (x .begins) (x .line) (met-lines r t P f tested ps (r .after low a) (i + 1) next end (stands-second (f a) (textOf f l) s) (omega arith) e)
+    by-test (x .test) (x .notMalformed) (x .begins) (x .line) (met-lines r t P f tested ps (r .after low a) (i + 1) next end (stands-second (f a) (textOf f l) s) (omega arith) e)
   where
     by-test : {next : ℕ} (v : Verdict) → ((n p : ℕ) → v ≡ Refused n p → n ≡ 16 → ⊥) → r .stop at ≡ false → r .item low i at ≡ checked v a next → Met r (r .after low a) (i + 1) next l end → Met r low i at (a ∷ l) end
     by-test Fine h b c (all-read last s) = all-read last (item b c s)
@@ -69,63 +67,63 @@ met-lines {A} r t P f tested (more {a = a} {l = l} p ps) low i at end s q e =
     by-test (Refused n p) h b c y = one-refused (here b c) (omega arith) (h n p refl)
 
 -- Keep lines that stand before a byte that begins none.
-met-kept : (t : List ℕ) (m : ℕ) {ks : List ℕ} → Each Small ks → (at end : ℕ) → Stands t at (textOf (lineOf keptKey) ks) → end ≡ at + length (textOf (lineOf keptKey) ks) → byteIs t end (code "k") ≡ false
+met-kept : (t : List ℕ) (m : ℕ) {ks : List ℕ} → Each (OfDigits keptDigits) ks → (at end : ℕ) → Stands t at (textOf (lineOf keptKey) ks) → end ≡ at + length (textOf (lineOf keptKey) ks) → byteIs t end (code "k") ≡ false
     → Met (keepReader t m) 0 0 at ks end
 unfolding keepReader
-met-kept t m w at end s q e = met-lines (keepReader t m) t Small (lineOf keptKey) tested w 0 0 at end s q (ap not e)
+met-kept t m w at end s q e = met-lines (keepReader t m) t (OfDigits keptDigits) (lineOf keptKey) tested w 0 0 at end s q (ap not e)
   where
-    tested : (low i at e : ℕ) → Small e → Stands t at (lineOf keptKey e) → Tested (keepReader t m) low i at e (at + length (lineOf keptKey e))
-    tested low i at e h s = let b = keep-line-back t m low i at e h s in record { test = keptTest m low i e; spares = kept-spares m low i e; begins = b .0; line = b .1 }
+    tested : (low i at e : ℕ) → OfDigits keptDigits e → Stands t at (lineOf keptKey e) → Tested (keepReader t m) low i at e (at + length (lineOf keptKey e))
+    tested low i at e h s = let b = keep-line-reads-back t m low i at e h s in record { test = keptTest m low i e; notMalformed = kept-not-malformed m low i e; begins = b .0; line = b .1 }
 
 -- Moat lines that stand to the end of the text.
-met-moats : (t : List ℕ) {ds : List Moat} → Each SmallMoat ds → (at : ℕ) → Stands t at (textOf moatText ds) → at + length (textOf moatText ds) ≡ length t → Met (moatReader t) 0 0 at ds (length t)
-unfolding moatReader
-met-moats t w at s q = met-lines (moatReader t) t SmallMoat moatText tested w 0 0 at (length t) s (sym q) (le-leb (length t) (length t) (omega arith))
+met-duals : (t : List ℕ) {ds : List PrintedDual} → Each DualDigits ds → (at : ℕ) → Stands t at (textOf dualText ds) → at + length (textOf dualText ds) ≡ length t → Met (dualReader t) 0 0 at ds (length t)
+unfolding dualReader
+met-duals t w at s q = met-lines (dualReader t) t DualDigits dualText tested w 0 0 at (length t) s (sym q) (le-leb (length t) (length t) (omega arith))
   where
-    tested : (low i at : ℕ) (d : Moat) → SmallMoat d → Stands t at (moatText d) → Tested (moatReader t) low i at d (at + length (moatText d))
+    tested : (low i at : ℕ) (d : PrintedDual) → DualDigits d → Stands t at (dualText d) → Tested (dualReader t) low i at d (at + length (dualText d))
     tested low i at d h s =
-        let b = moat-line-back t i at d h s in
-        let n = moat-some d in
+        let b = dual-line-reads-back t i at d h s in
+        let n = dual-some d in
         let f = s .fits in
-        record { test = moatTest i (b .last); spares = moat-spares i (b .last); begins = lt-leb (length t) at (omega arith); line = b .line }
+        record { test = dualTest i (b .last); notMalformed = dual-not-malformed i (b .last); begins = lt-leb (length t) at (omega arith); line = b .line }
 
 -- A well-formed plan that stands to the end of a text is read, or refused for another reason than its form.
-pub plan-lively : (t : List ℕ) (m at : ℕ) (p : Plan) → WellFormedPlan p → Stands t at (planWords p) → at + length (planWords p) ≡ length t → Lively (planAt t m at) p (length t)
-unfolding planAt bodyAt planWords keptAt moatsAt _then_ linesAfter
+pub plan-lively : (t : List ℕ) (m at : ℕ) (p : Plan) → WellFormedPlan p → Stands t at (planWords p) → at + length (planWords p) ≡ length t → NotMalformed (planAt t m at) p (length t)
+unfolding planAt bodyAt planWords keptAt dualsAt _then_ linesAfter
 plan-lively t m at p w s q =
     let C = claimsText (p .claims) in
     let K = textOf (lineOf keptKey) (p .kept) in
-    let D = textOf moatText (p .moats) in
+    let D = textOf dualText (p .duals) in
     let a = stands-first (C ++ K) D s in
     let l₁ = length-append C K in
     let l₂ = length-append (C ++ K) D in
     let y = at + length (C ++ K) in
     let d = stands-second (C ++ K) D s in
-    by-kept (claims-back t at (p .claims) (w .few) (stands-first C K a))
-    (met-kept t m (w .kept) (at + length C) y (stands-second C K a) (omega arith) (no-keep t (p .moats) y d (omega arith)))
-    (met-moats t (w .moats) y d (omega arith))
+    by-kept (claims-reads-back t at (p .claims) (w .few) (stands-first C K a))
+    (met-kept t m (w .kept) (at + length C) y (stands-second C K a) (omega arith) (no-keep t (p .duals) y d (omega arith)))
+    (met-duals t (w .duals) y d (omega arith))
   where
-    many : length (p .kept) + length (p .moats) < length t
+    many : length (p .kept) + length (p .duals) < length t
     many =
         let n₁ = lines-long (lineOf keptKey) (line-some keptKey) (p .kept) in
-        let n₂ = lines-long moatText moat-some (p .moats) in
+        let n₂ = lines-long dualText dual-some (p .duals) in
         let n₃ = claims-some (p .claims) in
         let l₁ = length-append (claimsText (p .claims)) (textOf (lineOf keptKey) (p .kept)) in
-        let l₂ = length-append (claimsText (p .claims) ++ textOf (lineOf keptKey) (p .kept)) (textOf moatText (p .moats)) in
+        let l₂ = length-append (claimsText (p .claims) ++ textOf (lineOf keptKey) (p .kept)) (textOf dualText (p .duals)) in
         omega arith
 
-    rest : Lines ℕ → Step Plan
-    rest k = let l = linesAfter (k .end) (moatsAt t) in l .end then λ count z. found (record { claims = p .claims; kept = k .values; moats = l .values }) z
+    rest : Lines ℕ ℕ → Step Plan
+    rest k = let l = linesAfter (k .end) (dualsAt t) in l .end then λ count z. found (record { claims = p .claims; kept = k .values; duals = l .values }) z
 
-    last : List ℕ → Lines Moat → Step Plan
-    last ks l = l .end then λ count z. found (record { claims = p .claims; kept = ks; moats = l .values }) z
+    last : List ℕ → Lines ℕ PrintedDual → Step Plan
+    last ks l = l .end then λ count z. found (record { claims = p .claims; kept = ks; duals = l .values }) z
 
-    by-moats : {y : ℕ} → planAt t m at ≡ last (p .kept) (moatsAt t y) → Met (moatReader t) 0 0 y (p .moats) (length t) → Lively (planAt t m at) p (length t)
-    by-moats e (all-read n s) = let z = many in read (e ∙ ap (last (p .kept)) (items-back (moatReader t) (length t) (omega arith) s))
-    by-moats e (one-refused b k n) = let z = many in otherwise (e ∙ ap (last (p .kept)) (broken-items (moatReader t) (length t) (omega arith) b)) n
+    by-duals : {y : ℕ} → planAt t m at ≡ last (p .kept) (dualsAt t y) → Met (dualReader t) 0 0 y (p .duals) (length t) → NotMalformed (planAt t m at) p (length t)
+    by-duals e (all-read n s) = let z = many in read (e ∙ ap (last (p .kept)) (items-reads-back (dualReader t) (length t) (omega arith) s))
+    by-duals e (one-refused b k n) = let z = many in otherwise (e ∙ ap (last (p .kept)) (broken-items (dualReader t) (length t) (omega arith) b)) n
 
-    by-kept : {x y : ℕ} → claimsAt t at ≡ found (p .claims) x → Met (keepReader t m) 0 0 x (p .kept) y → Met (moatReader t) 0 0 y (p .moats) (length t) → Lively (planAt t m at) p (length t)
-    by-kept c (all-read n s) d = let z = many in by-moats (then-found _ c ∙ ap rest (items-back (keepReader t m) (length t) (omega arith) s)) d
+    by-kept : {x y : ℕ} → claimsAt t at ≡ found (p .claims) x → Met (keepReader t m) 0 0 x (p .kept) y → Met (dualReader t) 0 0 y (p .duals) (length t) → NotMalformed (planAt t m at) p (length t)
+    by-kept c (all-read n s) d = let z = many in by-duals (then-found _ c ∙ ap rest (items-reads-back (keepReader t m) (length t) (omega arith) s)) d
     by-kept c (one-refused b k n) d = let z = many in otherwise (then-found _ c ∙ ap rest (broken-items (keepReader t m) (length t) (omega arith) b)) n
 
 -- ---- where 16 comes from
@@ -133,7 +131,7 @@ plan-lively t m at p w s q =
 data PlanStops (t : List ℕ) (m at q : ℕ) : Type 0 where
   in-claims : claimsAt t at ≡ refused 16 q → PlanStops t m at q
   in-kept : (c : Claims) (from : ℕ) → claimsAt t at ≡ found c from → keptAt t m from .end ≡ refused 16 q → PlanStops t m at q
-  in-moats : (c : Claims) (from last middle : ℕ) → claimsAt t at ≡ found c from → keptAt t m from .end ≡ found last middle → moatsAt t middle .end ≡ refused 16 q → PlanStops t m at q
+  in-duals : (c : Claims) (from last middle : ℕ) → claimsAt t at ≡ found c from → keptAt t m from .end ≡ found last middle → dualsAt t middle .end ≡ refused 16 q → PlanStops t m at q
 
 -- 16 comes from the counts, the keep lines or the moats.
 plan-stops : (t : List ℕ) (m at q : ℕ) → planAt t m at ≡ refused 16 q → PlanStops t m at q
@@ -143,20 +141,20 @@ plan-stops t m at q e = by-claims (claimsAt t at) refl e
     again : {A : Type 0} {n r : ℕ} → _≡_ {A = Step Plan} (refused n r) (refused 16 q) → _≡_ {A = Step A} (refused n r) (refused 16 q)
     again {A} {n} {r} e = let a : n ≡ 16 = cc in let b : r ≡ q = cc in cc
 
-    ends : Claims → List ℕ → List Moat → Step ℕ → Step Plan
-    ends c ks ds s = s then λ count y. found (record { claims = c; kept = ks; moats = ds }) y
+    ends : Claims → List ℕ → List PrintedDual → Step ℕ → Step Plan
+    ends c ks ds s = s then λ count y. found (record { claims = c; kept = ks; duals = ds }) y
 
-    by-moats : (c : Claims) (from last middle : ℕ) (s : Step ℕ) → claimsAt t at ≡ found c from → keptAt t m from .end ≡ found last middle → moatsAt t middle .end ≡ s
-        → ends c (keptAt t m from .values) (moatsAt t middle .values) s ≡ refused 16 q → PlanStops t m at q
-    by-moats c from last middle (found count y) h k d e = let z : _≡_ {A = ℕ} 0 1 = cc in absurd (omega arith)
-    by-moats c from last middle (refused n y) h k d e = in-moats c from last middle h k (d ∙ again e)
+    by-duals : (c : Claims) (from last middle : ℕ) (s : Step ℕ) → claimsAt t at ≡ found c from → keptAt t m from .end ≡ found last middle → dualsAt t middle .end ≡ s
+        → ends c (keptAt t m from .values) (dualsAt t middle .values) s ≡ refused 16 q → PlanStops t m at q
+    by-duals c from last middle (found count y) h k d e = let z : _≡_ {A = ℕ} 0 1 = cc in absurd (omega arith)
+    by-duals c from last middle (refused n y) h k d e = in-duals c from last middle h k (d ∙ again e)
 
     by-kept : (c : Claims) (from : ℕ) (s : Step ℕ) → claimsAt t at ≡ found c from → keptAt t m from .end ≡ s
-        → ends c (keptAt t m from .values) (linesAfter s (moatsAt t) .values) (linesAfter s (moatsAt t) .end) ≡ refused 16 q → PlanStops t m at q
-    by-kept c from (found last middle) h k e = by-moats c from last middle (moatsAt t middle .end) h k refl e
+        → ends c (keptAt t m from .values) (linesAfter s (dualsAt t) .values) (linesAfter s (dualsAt t) .end) ≡ refused 16 q → PlanStops t m at q
+    by-kept c from (found last middle) h k e = by-duals c from last middle (dualsAt t middle .end) h k refl e
     by-kept c from (refused n y) h k e = in-kept c from h (k ∙ again e)
 
-    by-claims : (s : Step Claims) → claimsAt t at ≡ s → (s then λ c from. ends c (bodyAt t m from .kept) (bodyAt t m from .moats) (bodyAt t m from .end)) ≡ refused 16 q → PlanStops t m at q
+    by-claims : (s : Step Claims) → claimsAt t at ≡ s → (s then λ c from. ends c (bodyAt t m from .kept) (bodyAt t m from .duals) (bodyAt t m from .end)) ≡ refused 16 q → PlanStops t m at q
     by-claims (found c from) h e = by-kept c from (keptAt t m from .end) h refl e
     by-claims (refused n y) h e = in-claims (h ∙ again e)
 
@@ -181,9 +179,9 @@ module _ (t : List ℕ) (m at : ℕ) (h : at ≤ length t) where
   unfolding keptAt
   kept-broken {from} pos i e = items-broken (keepReader t m) t (item-goes (lists-kept m) t) (length t) 0 0 from i (omega arith) e
 
-  moats-broken : {middle q : ℕ} → 0 < middle → middle ≤ length t → moatsAt t middle .end ≡ refused 16 q → Broken (moatReader t) 16 q 0 0 middle (moatsAt t middle .values)
-  unfolding moatsAt
-  moats-broken {middle} pos i e = items-broken (moatReader t) t (item-goes lists-moats t) (length t) 0 0 middle i (omega arith) e
+  duals-broken : {middle q : ℕ} → 0 < middle → middle ≤ length t → dualsAt t middle .end ≡ refused 16 q → Broken (dualReader t) 16 q 0 0 middle (dualsAt t middle .values)
+  unfolding dualsAt
+  duals-broken {middle} pos i e = items-broken (dualReader t) t (item-goes lists-duals t) (length t) 0 0 middle i (omega arith) e
 
   -- 16 stands from the plan on, inside the text.
   pub plan-place : (q : ℕ) → planAt t m at ≡ refused 16 q → (at ≤ q) × (q ≤ length t)
@@ -197,22 +195,22 @@ module _ (t : List ℕ) (m at : ℕ) (h : at ≤ length t) where
           let b = broken-place (lists-kept m) t (a .1) (kept-broken (omega arith) (a .1) k) in
           let b0 = b .0 in
           (omega arith, b .1)
-      by-place (in-moats c from last middle f k d) =
+      by-place (in-duals c from last middle f k d) =
           let a = after-claims f in
           let a0 = a .0 in
           let b = after-kept (a .1) k in
           let b0 = b .0 in
-          let x = broken-place lists-moats t (b .1) (moats-broken (omega arith) (b .1) d) in
+          let x = broken-place lists-duals t (b .1) (duals-broken (omega arith) (b .1) d) in
           let x0 = x .0 in
           (omega arith, x .1)
 
   -- Where 16 stands depends on nothing behind that place.
   pub plan-same : (u : List ℕ) (q : ℕ) → planAt t m at ≡ refused 16 q → take (q + 1) t ≡ take (q + 1) u → planAt u m at ≡ refused 16 q
-  unfolding planAt bodyAt keptAt moatsAt linesAfter _then_
+  unfolding planAt bodyAt keptAt dualsAt linesAfter _then_
   plan-same u q e k = by-place (plan-stops t m at q e)
     where
-      rest : Claims → Lines ℕ → Step Plan
-      rest c ks = let l = linesAfter (ks .end) (moatsAt u) in l .end then λ count z. found (record { claims = c; kept = ks .values; moats = l .values }) z
+      rest : Claims → Lines ℕ ℕ → Step Plan
+      rest c ks = let l = linesAfter (ks .end) (dualsAt u) in l .end then λ count z. found (record { claims = c; kept = ks .values; duals = l .values }) z
 
       by-place : PlanStops t m at q → planAt u m at ≡ refused 16 q
       by-place (in-claims f) = then-refused _ (reads-claims .same t u at q h f k)
@@ -222,26 +220,17 @@ module _ (t : List ℕ) (m at : ℕ) (h : at ≤ length t) where
           let b = broken-place (lists-kept m) t (a .1) (kept-broken (omega arith) (a .1) x) .0 in
           then-found _ (read-again reads-claims t u at c from (q + 1) h (omega arith) k f)
           ∙ ap (rest c) (items-broken-again (lists-kept m) t u 0 0 from q (omega arith) (a .1) k x)
-      by-place (in-moats c from last middle f x d) =
+      by-place (in-duals c from last middle f x d) =
           let a = after-claims f in
           let a0 = a .0 in
           let b = after-kept (a .1) x in
           let b0 = b .0 in
-          let y = broken-place lists-moats t (b .1) (moats-broken (omega arith) (b .1) d) .0 in
+          let y = broken-place lists-duals t (b .1) (duals-broken (omega arith) (b .1) d) .0 in
           then-found _ (read-again reads-claims t u at c from (q + 1) h (omega arith) k f)
           ∙ ap (rest c) (items-again (lists-kept m) t u 0 0 from q (omega arith) (a .1) (omega arith) k x)
-          ∙ ap (λ (l : Lines Moat). l .end then λ count z. found (record { claims = c; kept = keptAt t m from .values; moats = l .values }) z) (items-broken-again lists-moats t u 0 0 middle q (omega arith) (b .1) k d)
+          ∙ ap (λ (l : Lines ℕ PrintedDual). l .end then λ count z. found (record { claims = c; kept = keptAt t m from .values; duals = l .values }) z) (items-broken-again lists-duals t u 0 0 middle q (omega arith) (b .1) k d)
 
 -- ---- the place of 16
-
--- The bytes before an offset go on to a text that ends with a well-formed plan.
-pub record PlanBegins (t : List ℕ) (at q : ℕ) : Type 0 where
-  pub after : at ≤ q
-  pub inside : q ≤ length t
-  pub rest : List ℕ
-  pub plan : Plan
-  pub well : WellFormedPlan plan
-  pub whole : take q t ++ rest ≡ take at t ++ planWords plan
 
 -- What goes on from behind a word goes on from before it.
 before-word : {t : List ℕ} {at from : ℕ} {l : List ℕ} (w x : List ℕ) → Stands t at w → from ≡ at + length w → l ≡ take from t ++ x → l ≡ take at t ++ (w ++ x)
@@ -263,8 +252,8 @@ plan-malformed-begins t m at h {q} e = by-place (plan-stops t m at q e)
           after = place .0;
           inside = place .1;
           rest = x .rest;
-          plan = record { claims = x .value; kept = []; moats = [] };
-          well = record { few = x .member .holds; kept = none; moats = none };
+          plan = record { claims = x .value; kept = []; duals = [] };
+          well = record { few = x .member .holds; kept = none; duals = none };
           whole = x .whole ∙ ap (λ (w : List ℕ). take at t ++ w) (x .member .word ∙ sym (append-nil (C ++ []) ∙ append-nil C));
         }
     by-place (in-kept c from f k) =
@@ -279,33 +268,33 @@ plan-malformed-begins t m at h {q} e = by-place (plan-stops t m at q e)
           after = place .0;
           inside = place .1;
           rest = x .rest;
-          plan = record { claims = c; kept = x .value; moats = [] };
-          well = record { few = w .member .holds; kept = x .member .holds; moats = none };
+          plan = record { claims = c; kept = x .value; duals = [] };
+          well = record { few = w .member .holds; kept = x .member .holds; duals = none };
           whole =
               before-word C K (s .0) (s .1) (x .whole ∙ ap (λ (y : List ℕ). take from t ++ y) (x .member .word ∙ text-from (lineOf keptKey) 0 (x .value)))
               ∙ ap (λ (y : List ℕ). take at t ++ y) (sym (append-nil (C ++ K)));
         }
-    by-place (in-moats c from last middle f k d) =
+    by-place (in-duals c from last middle f k d) =
         let w = reads-claims .sound t at c from h f in
         let a = after-claims t m at h f in
         let a0 = a .0 in
         let v = lines-words (lists-kept m) t (a .1) (items-standing (keepReader t m) (length t) 0 0 from k) in
         let b = after-kept t m at h (a .1) k in
         let b0 = b .0 in
-        let x = broken-extends lists-moats t (b .1) (moats-broken t m at h (omega arith) (b .1) d) in
+        let x = broken-extends lists-duals t (b .1) (duals-broken t m at h (omega arith) (b .1) d) in
         let s = text-stands w in
         let r = text-stands v in
         let C = claimsText c in
         let K = textOf (lineOf keptKey) (keptAt t m from .values) in
-        let D = textOf moatText (x .value) in
+        let D = textOf dualText (x .value) in
         record {
           after = place .0;
           inside = place .1;
           rest = x .rest;
-          plan = record { claims = c; kept = keptAt t m from .values; moats = x .value };
-          well = record { few = w .member .holds; kept = v .member .holds; moats = x .member .holds };
+          plan = record { claims = c; kept = keptAt t m from .values; duals = x .value };
+          well = record { few = w .member .holds; kept = v .member .holds; duals = x .member .holds };
           whole =
-              before-word C (K ++ D) (s .0) (s .1) (before-word K D (r .0) (r .1) (x .whole ∙ ap (λ (y : List ℕ). take middle t ++ y) (x .member .word ∙ text-from moatText 0 (x .value))))
+              before-word C (K ++ D) (s .0) (s .1) (before-word K D (r .0) (r .1) (x .whole ∙ ap (λ (y : List ℕ). take middle t ++ y) (x .member .word ∙ text-from dualText 0 (x .value))))
               ∙ ap (λ (y : List ℕ). take at t ++ y) (sym (append-assoc C K D));
         }
 
@@ -323,7 +312,7 @@ plan-malformed-stops t m at h {q} e l rest p w whole =
     let s′ : Stands u at W = subst (λ (x : List ℕ). Stands x at W) (sym whole) (subst (λ (x : ℕ). Stands (take at t ++ W) x W) k s) in
     by-lively u (plan-same t m at h u q e same) (plan-lively u m at p w s′ (omega arith))
   where
-    by-lively : (u : List ℕ) → planAt u m at ≡ refused 16 q → Lively (planAt u m at) p (length u) → ⊥
+    by-lively : (u : List ℕ) → planAt u m at ≡ refused 16 q → NotMalformed (planAt u m at) p (length u) → ⊥
     by-lively u f (read x) = let z : _≡_ {A = ℕ} 0 1 = cc in omega arith
     by-lively u f (otherwise {n = i} x y) = let z : 16 ≡ i = cc in y (sym z)
 

@@ -1,5 +1,5 @@
 -- Printing a plan and reading it back gives the same counts, kept tracks and moats (document 01, 'Survey text and printed plan').
-use Prim.Native.Nat.{ℕ, zero, suc, _/_, _^_, _≤_, _<_}
+use Prim.Native.Nat.{ℕ, zero, suc, _/_, _≤_, _<_}
 use native.Mathlib.Omega.{arith}
 use mathlib.Core.Path.{_≡_, refl, ap, sym, _∙_, subst}
 use mathlib.Core.Bool.{Bool, true, false, cond}
@@ -8,31 +8,19 @@ use lib.ListN.{length, getD, length-append}
 use lib.Dec.{eqb}
 use Rattle.base_finite.specs.Below.{thoseBelow, tabulate}
 use Rattle.base_finite.specs.Laws.Below.{length-tabulate}
-use Rattle.base_limits.specs.Limits.{maxDigits, recordBytes, maxEdges, maxDuals}
-use Rattle.format_record.specs.Record.{valueIn, memberIn, recordAt}
-use Rattle.format_write.specs.Key.{keptKey}
+use Rattle.base_limits.specs.Limits.{recordBytes}
+use Rattle.format_record.specs.Record.{memberIn, recordAt}
+use Rattle.format_key.specs.Key.{keptKey}
 use Rattle.format_write.specs.Text.{lineOf, membersOf, dualLine, textBelow, keptLine, keptLines, dualLines, countLines, planText}
-use Rattle.format_number.specs.Step.{found}
-use Rattle.format_survey_lines.specs.Render.{textOf}
-use Rattle.format_number.specs.Laws.Stands.{Stands, stands-end}
-use Rattle.format_plan_lines.specs.Items.{Each, none, more}
-use Rattle.format_plan_lines.specs.Lines.{memberNumbers, Moat}
-use Rattle.format_plan.specs.Plan.{Claims, Plan, planAt}
-use Rattle.format_plan.specs.Laws.Back.{Rising, ended, rising, Printed, Few, Printable, moatText, claimsText, planWords, plan-back}
-
--- The tracks that marks keep, rising.
-unfoldable pub keptIn : List ℕ → List ℕ
-keptIn marks = thoseBelow (length marks) (λ e. eqb (getD marks e 0) 2)
-
--- A record's moat, and those of all whole records.
-unfoldable pub moatIn : List ℕ → Moat
-moatIn r = record { value = valueIn r; members = membersOf r }
-
-unfoldable pub moatsIn : List ℕ → List Moat
-moatsIn records = tabulate (length records / recordBytes) (λ i. moatIn (recordAt records i))
-
-unfoldable pub planIn : Claims → (marks records : List ℕ) → Plan
-planIn claims marks records = record { claims = claims; kept = keptIn marks; moats = moatsIn records }
+use Rattle.format_grammar.specs.Step.{found}
+use Rattle.format_grammar.specs.Lines.{textOf}
+use Rattle.format_grammar.specs.Stands.{Stands}
+use Rattle.format_grammar.specs.Laws.Stands.{stands-end}
+use Rattle.format_grammar.specs.Language.{Each, none, more}
+use Rattle.format_plan_lines.specs.Lines.{memberNumbers, PrintedDual}
+use Rattle.format_plan.specs.Plan.{Claims, planAt}
+use Rattle.format_plan.specs.Laws.RoundTrip.{plan-reads-back}
+use Rattle.format_plan.specs.WellFormed.{Rising, ended, rising, Printed, Printable, dualText, claimsText, planWords, keptIn, printedDual, printedDuals, planIn, PlanFits}
 
 text-append : {A : Type 0} (f : A → List ℕ) (a b : List A) → textOf f (a ++ b) ≡ textOf f a ++ textOf f b
 unfolding textOf
@@ -61,10 +49,10 @@ each-text (suc n) h f =
 
 -- The printed plan is the text of the counts, tracks and moats.
 pub plan-words : (k c b r : ℕ) (marks records : List ℕ) → planText k c b r marks records ≡ planWords (planIn (record { terminals = k; cost = c; bound = b; rounds = r }) marks records)
-unfolding planText keptLines keptLine dualLines dualLine planWords claimsText planIn keptIn moatsIn moatIn moatText
+unfolding planText keptLines keptLine dualLines dualLine planWords claimsText planIn keptIn printedDuals printedDual dualText
 plan-words k c b r marks records =
     ap (λ (w : List ℕ). countLines k c b r ++ w ++ dualLines records) (those-text (length marks) (λ e. eqb (getD marks e 0) 2) (lineOf keptKey))
-    ∙ ap (λ (w : List ℕ). countLines k c b r ++ textOf (lineOf keptKey) (keptIn marks) ++ w) (each-text (length records / recordBytes) (λ i. moatIn (recordAt records i)) moatText)
+    ∙ ap (λ (w : List ℕ). countLines k c b r ++ textOf (lineOf keptKey) (keptIn marks) ++ w) (each-text (length records / recordBytes) (λ i. printedDual (recordAt records i)) dualText)
 
 widen : {m n low : ℕ} {l : List ℕ} → n ≤ m → Rising n low l → Rising m low l
 widen h ended = ended
@@ -88,33 +76,26 @@ each-snoc : {A : Type 0} {P : A → Type 0} {a : A} {l : List A} → Each P l �
 each-snoc none p = more p none
 each-snoc (more q r) p = more q (each-snoc r p)
 
-each-printed : (n : ℕ) (h : ℕ → Moat) → ((i : ℕ) → i < n → Printed (h i)) → Each Printed (tabulate n h)
+each-printed : (n : ℕ) (h : ℕ → PrintedDual) → ((i : ℕ) → i < n → Printed (h i)) → Each Printed (tabulate n h)
 unfolding tabulate
 each-printed zero h p = none
 each-printed (suc n) h p = each-snoc (each-printed n h (λ i k. p i (omega arith))) (p n (omega arith))
 
--- What a printed plan is asked: counts of at most ten digits, tracks and moats within the limits, amounts of at most seven digits.
-pub record Fits (claims : Claims) (marks records : List ℕ) : Type 0 where
-  pub few : Few claims
-  pub tracks : length marks ≤ maxEdges
-  pub moats : length records / recordBytes ≤ maxDuals
-  pub values : (i : ℕ) → i < length records / recordBytes → valueIn (recordAt records i) < 10 ^ maxDigits
-
-printable : (claims : Claims) (marks records : List ℕ) → Fits claims marks records → Printable (length marks) (planIn claims marks records)
-unfolding planIn keptIn moatsIn moatIn membersOf
+printable : (claims : Claims) (marks records : List ℕ) → PlanFits claims marks records → Printable (length marks) (planIn claims marks records)
+unfolding planIn keptIn printedDuals printedDual membersOf
 printable claims marks records f =
     let n = length records / recordBytes in
-    let l = length-tabulate n (λ i. moatIn (recordAt records i)) in
-    let few = f .moats in
+    let l = length-tabulate n (λ i. printedDual (recordAt records i)) in
+    let few = f .duals in
     record {
       few = f .few;
       kept = those-rise (length marks) (λ e. eqb (getD marks e 0) 2);
-      moats = each-printed n (λ i. moatIn (recordAt records i)) (λ i h. record { small = f .values i h; rises = those-rise memberNumbers (memberIn (recordAt records i)) });
+      duals = each-printed n (λ i. printedDual (recordAt records i)) (λ i h. record { small = f .values i h; rises = those-rise memberNumbers (memberIn (recordAt records i)) });
       count = omega arith;
     }
 
 -- Printing a plan behind any text and reading it back.
-pub read-back : (u : List ℕ) (k c b r : ℕ) (marks records : List ℕ) → Fits (record { terminals = k; cost = c; bound = b; rounds = r }) marks records
+pub read-back : (u : List ℕ) (k c b r : ℕ) (marks records : List ℕ) → PlanFits (record { terminals = k; cost = c; bound = b; rounds = r }) marks records
     → planAt (u ++ planText k c b r marks records) (length marks) (length u)
     ≡ found (planIn (record { terminals = k; cost = c; bound = b; rounds = r }) marks records) (length (u ++ planText k c b r marks records))
 read-back u k c b r marks records f =
@@ -125,4 +106,4 @@ read-back u k c b r marks records f =
     let l = length-append u W in
     let n : length W ≡ length (planWords p) = ap length e in
     let few = f .tracks in
-    plan-back (u ++ W) (length marks) (length u) p (omega arith) (printable _ marks records f) (subst (Stands (u ++ W) (length u)) e s) (omega arith)
+    plan-reads-back (u ++ W) (length marks) (length u) p (omega arith) (printable _ marks records f) (subst (Stands (u ++ W) (length u)) e s) (omega arith)

@@ -2,8 +2,8 @@
 use borrow.Author.Needs.{needs}
 use mathlib.Core.Path.{sym}
 use borrow.Author.Tests.{lt-ltb}
-use Rattle.format_number.specs.Number.{byteIs}
-use Rattle.format_number.specs.Laws.Byte.{byte-short}
+use Rattle.format_grammar.specs.Bytes.{byteIs}
+use Rattle.format_grammar.specs.Laws.Bytes.{byte-short}
 use Rattle.format_plan_lines.proofs.byte_is.Statement.{statement}
 use Rattle.format_plan_lines.proofs.byte_is.Tie as tie
 

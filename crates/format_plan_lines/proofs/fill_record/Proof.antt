@@ -2,9 +2,9 @@
 use borrow.Author.Needs.{needs}
 use mathlib.Core.Path.{ap, sym, _∙_}
 use lib.ListN.{length}
-use Rattle.format_plan_lines.specs.Items.{puts}
+use Rattle.format_grammar.specs.Items.{puts}
 use Rattle.format_plan_lines.specs.Lines.{putMember, membersAt}
-use Rattle.format_plan_lines.specs.Laws.Lines.{record-filled, length-moat}
+use Rattle.format_plan_lines.specs.Laws.Lines.{record-filled, length-dual-record}
 use Rattle.format_plan_lines.proofs.fill_record.Statement.{statement}
 use Rattle.format_plan_lines.proofs.fill_record.Tie as tie
 
@@ -18,7 +18,7 @@ same-length : tie.Need-same-length
 same-length c =
     let a = c .before .before .before .before .before .before .before .before .before .before .args in
     let vs = membersAt (a .text .now) (a .list .at) .values in
-    ap length (c .before .before .members .ensures .stored ∙ ap (λ l. puts putMember l 0 vs) (c .before .before .before .before .before .before .start-record .ensures) ∙ record-filled (a .part .now) (a .amount) vs (c .before .before .before .before .before .before .before .before .before .before .pre .0) (c .before .before .before .before .before .before .before .before .before .before .pre .1)) ∙ length-moat _ ∙ sym (c .before .before .before .before .before .before .before .before .before .before .pre .0)
+    ap length (c .before .before .members .ensures .stored ∙ ap (λ l. puts putMember l 0 vs) (c .before .before .before .before .before .before .start-record .ensures) ∙ record-filled (a .part .now) (a .amount) vs (c .before .before .before .before .before .before .before .before .before .before .pre .0) (c .before .before .before .before .before .before .before .before .before .before .pre .1)) ∙ length-dual-record _ ∙ sym (c .before .before .before .before .before .before .before .before .before .before .pre .0)
 
 returns : tie.Need-returns
 returns c =

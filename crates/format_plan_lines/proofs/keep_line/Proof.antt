@@ -1,6 +1,6 @@
 -- `format_plan_lines::keep_line` meets its contract: the tests decide the case of the definition.
 use borrow.Author.Needs.{needs}
-use Rattle.format_write.specs.Key.{keptKey}
+use Rattle.format_key.specs.Key.{keptKey}
 use Rattle.format_number.specs.Answer.{numberStep}
 use Rattle.format_number.specs.Laws.Step.{refusal-stays, check-refused, check-fine}
 use Rattle.format_plan_lines.specs.Lines.{keepLine, keptTest}
@@ -8,11 +8,11 @@ use Rattle.format_plan_lines.specs.Laws.Tests.{kept-low, kept-high, kept
 use Rattle.format_plan_lines.proofs.keep_line.Statement.{statement}
 use Rattle.format_plan_lines.proofs.keep_line.Tie as tie
 
-slice-aggregate-value-line : tie.Need-slice-aggregate-value-line
-slice-aggregate-value-line c = search needs
+slice-aggregate-number-line : tie.Need-slice-aggregate-number-line
+slice-aggregate-number-line c = search needs
 
-value-line-requires : tie.Need-value-line-requires
-value-line-requires c κs = search needs
+number-line-requires : tie.Need-number-line-requires
+number-line-requires c κs = search needs
 
 enum-known-step : tie.Need-enum-known-step
 enum-known-step c = search needs
@@ -22,35 +22,35 @@ enum-told c = search needs
 
 returns : tie.Need-returns
 unfolding keepLine keptKey
-returns c = refusal-stays _ (c .before .before .value-line .ensures) (c .enum-told .given .1)
+returns c = refusal-stays _ (c .before .before .number-line .ensures) (c .enum-told .given .1)
 
 returns-2 : tie.Need-returns-2
 unfolding keepLine keptKey numberStep
 returns-2 c =
     let a = c .before .before .before .before .before .before .before .args in
-    check-refused (keptTest (a .edges) (a .low) (a .i)) (c .before .before .before .before .value-line .ensures) (c .before .before .step .given .1)
+    check-refused (keptTest (a .edges) (a .low) (a .i)) (c .before .before .before .before .number-line .ensures) (c .before .before .step .given .1)
     (kept-low (a .edges) (a .low) (a .i) (c .before .before .step .given .0 .0) (c .if1 .taken))
 
 returns-3 : tie.Need-returns-3
 unfolding keepLine keptKey numberStep
 returns-3 c =
     let a = c .before .before .before .before .before .before .before .before .args in
-    check-refused (keptTest (a .edges) (a .low) (a .i)) (c .before .before .before .before .before .value-line .ensures) (c .before .before .before .step .given .1)
+    check-refused (keptTest (a .edges) (a .low) (a .i)) (c .before .before .before .before .before .number-line .ensures) (c .before .before .before .step .given .1)
     (kept-high (a .edges) (a .low) (a .i) (c .before .before .before .step .given .0 .0) (c .before .if1 .left) (c .if2 .taken))
 
 returns-4 : tie.Need-returns-4
 unfolding keepLine keptKey numberStep
 returns-4 c =
     let a = c .before .before .before .before .before .before .before .before .args in
-    check-fine (keptTest (a .edges) (a .low) (a .i)) (c .before .before .before .before .before .value-line .ensures) (c .before .before .before .step .given .1)
+    check-fine (keptTest (a .edges) (a .low) (a .i)) (c .before .before .before .before .before .number-line .ensures) (c .before .before .before .step .given .1)
     (kept-fine (a .edges) (a .low) (a .i) (c .before .before .before .step .given .0 .0) (c .before .if1 .left) (c .if2 .left))
 
 pub keep-line-spec : {M : Type 1} → statement M
 keep-line-spec =
     tie.close
     (tie.spec
-    slice-aggregate-value-line
-    value-line-requires
+    slice-aggregate-number-line
+    number-line-requires
     enum-known-step
     enum-told
     returns

@@ -7,14 +7,14 @@ use mathlib.Core.Bool.{not}
 use lib.ListN.{length}
 use Rattle.format_number.specs.Answer.{numberStep}
 use Rattle.format_plan_lines.specs.Lines.{keepReader, keptAt, putMark}
-use Rattle.format_plan_lines.specs.Laws.Items.{Left, left-start, left-more, left-stop, left-refused, left-out}
-use Rattle.format_plan_lines.specs.Laws.Puts.{left-length, mark-length}
+use Rattle.format_grammar.specs.Laws.Items.{ItemsLeft, left-start, left-more, left-stop, left-refused, left-out, left-length}
+use Rattle.format_plan_lines.specs.Laws.Puts.{mark-length}
 use Rattle.format_plan_lines.specs.Laws.Lines.{keep-passed}
 use Rattle.format_plan_lines.proofs.keep_lines.Statement.{statement}
 use Rattle.format_plan_lines.proofs.keep_lines.Tie as tie
 
 abbrev Inv-loop : tie.InvT-loop
-Inv-loop text edges marks₀ next₀ low₀ i₀ marks next low i = Left (keepReader text edges) putMark (keptAt text edges (next₀ .at)) marks₀ (length text) low i (next .at) marks
+Inv-loop text edges marks₀ next₀ low₀ i₀ marks next low i = ItemsLeft (keepReader text edges) putMark (keptAt text edges (next₀ .at)) marks₀ (length text) low i (next .at) marks
 
 abbrev μ-loop : tie.MeasureT-loop
 μ-loop text edges marks₀ next₀ low₀ i₀ marks next low i = length text - i

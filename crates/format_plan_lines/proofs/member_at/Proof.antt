@@ -1,8 +1,8 @@
 -- `format_plan_lines::member_at` meets its contract: the first member follows at once, a later one behind a comma.
 use borrow.Author.Needs.{needs}
 use mathlib.Core.Path.{sym, _∙_}
-use Rattle.format_number.specs.Step.{_then_}
-use Rattle.format_number.specs.Number.{fixedAt}
+use Rattle.format_grammar.specs.Step.{_then_}
+use Rattle.format_grammar.specs.Bytes.{fixedAt}
 use Rattle.format_number.specs.Laws.Step.{refusal-stays, value-goes}
 use Rattle.format_plan_lines.specs.Lines.{memberAt}
 use Rattle.format_plan_lines.specs.Laws.Tests.{separator-first, separator-later}

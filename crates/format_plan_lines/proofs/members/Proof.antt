@@ -5,13 +5,13 @@ use mathlib.Core.Path.{ap, sym, _∙_}
 use lib.ListN.{length}
 use Rattle.format_number.specs.Answer.{numberStep}
 use Rattle.format_plan_lines.specs.Lines.{memberReader, membersAt, putMember}
-use Rattle.format_plan_lines.specs.Laws.Items.{Left, left-start, left-more, left-stop, left-refused, left-out}
-use Rattle.format_plan_lines.specs.Laws.Puts.{left-length, member-length}
+use Rattle.format_grammar.specs.Laws.Items.{ItemsLeft, left-start, left-more, left-stop, left-refused, left-out, left-length}
+use Rattle.format_plan_lines.specs.Laws.Puts.{member-length}
 use Rattle.format_plan_lines.proofs.members.Statement.{statement}
 use Rattle.format_plan_lines.proofs.members.Tie as tie
 
 abbrev Inv-loop : tie.InvT-loop
-Inv-loop text part₀ next₀ low₀ i₀ part next low i = Left (memberReader text) putMember (membersAt text (next₀ .at)) part₀ (length text) low i (next .at) part
+Inv-loop text part₀ next₀ low₀ i₀ part next low i = ItemsLeft (memberReader text) putMember (membersAt text (next₀ .at)) part₀ (length text) low i (next .at) part
 
 abbrev μ-loop : tie.MeasureT-loop
 μ-loop text part₀ next₀ low₀ i₀ part next low i = length text - i

@@ -15,17 +15,18 @@ use Rattle.format_record.specs.Bits.{lowBytes}
 use Rattle.format_record.specs.Laws.Bits.{bytes-cong}
 use Rattle.format_record.specs.Record.{recordOf, startedAs}
 use Rattle.format_record.specs.Laws.Record.{started-whole, member-added-record, length-record}
-use Rattle.format_number.specs.Step.{Step, found, refused, checked, _then_}
-use Rattle.format_survey_lines.specs.Lines.{Lines}
-use Rattle.format_write.specs.Key.{newline}
-use Rattle.format_number.specs.Laws.Byte.{byte-inside}
-use Rattle.format_number.specs.Laws.Step.{then-value, checked-fine, checked-value}
-use Rattle.format_plan_lines.specs.Items.{Reader, following, itemsFrom, puts, none, more}
-use Rattle.format_plan_lines.specs.Lines.{keptTest, keepLine, risen, memberReader, membersAt, moatTest, moatLine, moatHead, moatOf, Moat, moatRecord, moatReader, putMember, putMoat, isIn}
-use Rattle.format_plan_lines.specs.Answer.{Members, forgotten, moatStored, MoatRead}
+use Rattle.format_key.specs.Key.{newline}
+use Rattle.format_plan_lines.specs.Lines.{keptTest, keepLine, risen, memberReader, membersAt, dualTest, dualLineAt, dualHead, listedDual, PrintedDual, dualRecord, dualReader, putMember, putDual, isIn, memberNumbers}
+use Rattle.format_plan_lines.specs.Answer.{Members, forgotten, dualStored, DualRead}
 use Rattle.format_plan_lines.specs.Laws.Tests.{kept-low, kept-high, risen-low, risen-high}
-use Rattle.format_plan_lines.specs.Laws.Puts.{puts-length, left-length, moat-length}
-use Rattle.format_plan_lines.specs.Laws.Items.{Left, Ends, left-more, left-refused}
+use Rattle.format_plan_lines.specs.Laws.Puts.{dual-length}
+use Rattle.format_grammar.specs.Items.{itemsFrom, puts, Ends}
+use Rattle.format_grammar.specs.Language.{none, more}
+use Rattle.format_grammar.specs.Lines.{following, Lines}
+use Rattle.format_grammar.specs.Laws.Bytes.{byte-inside}
+use Rattle.format_grammar.specs.Laws.Items.{left-length, ItemsLeft, left-more, left-refused, items-stop}
+use Rattle.format_grammar.specs.Laws.Step.{then-value, checked-fine, checked-value}
+use Rattle.format_grammar.specs.Step.{Step, found, refused, checked, _then_}
 
 no-refusal : {n p : ℕ} {w : Verdict} → w ≡ Refused n p → w ≡ Fine → ⊥
 no-refusal e f = let z : _≡_ {A = ℕ} 0 1 = cc in omega arith
@@ -49,32 +50,20 @@ keep-passed t m low i at {e} {next} q =
     let f = then-value _ (λ x p. checked (keptTest m low i x) x p) q in
     subst (λ x. Kept m low x) (checked-value _ _ _ (f .3)) (kept-passed m low i (f .0) (checked-fine _ _ _ (f .3)))
 
--- Items end where they stop.
-pub items-stop : {A : Type 0} (r : Reader A) (fuel low i at : ℕ) {n p : ℕ} → itemsFrom r fuel low i at .end ≡ found n p → r .stop p ≡ true
-unfolding itemsFrom following
-items-stop r zero low i at e = let z : _≡_ {A = ℕ} 0 1 = cc in absurd (omega arith)
-items-stop {A} r (suc fuel) low i at {n} {p} e = by-stop (r .stop at) (r .item low i at) refl (λ l k q. items-stop r fuel l (i + 1) k) e
-  where
-    by-stop : (b : Bool) (s : Step A) → r .stop at ≡ b → ((l k : ℕ) → A → itemsFrom r fuel l (i + 1) k .end ≡ found n p → r .stop p ≡ true)
-        → cond b (record { values = []; end = found low at }) (following s (λ a next. itemsFrom r fuel (r .after low a) (i + 1) next)) .end ≡ found n p → r .stop p ≡ true
-    by-stop true s h ih e = let same : at ≡ p = cc in subst (λ x. r .stop x ≡ true) same h
-    by-stop false (found a next) h ih e = ih (r .after low a) next a e
-    by-stop false (refused x y) h ih e = let z : _≡_ {A = ℕ} 0 1 = cc in absurd (omega arith)
-
 -- Members that rise to their end are all members.
 record Risen (low : ℕ) (vs : List ℕ) : Type 0 where
-  start : low ≤ 256
+  start : low ≤ memberNumbers
   all : Members vs
 
-pub risen-back : (low v : ℕ) → risen low v ≤ 256 → (low ≤ v) × (v < 256)
-risen-back low v h = by-tests (ltb v low) (leb 256 v) refl refl
+pub risen-rises : (low v : ℕ) → risen low v ≤ memberNumbers → (low ≤ v) × (v < memberNumbers)
+risen-rises low v h = by-tests (ltb v low) (leb memberNumbers v) refl refl
   where
-    by-tests : (a b : Bool) → ltb v low ≡ a → leb 256 v ≡ b → (low ≤ v) × (v < 256)
+    by-tests : (a b : Bool) → ltb v low ≡ a → leb memberNumbers v ≡ b → (low ≤ v) × (v < memberNumbers)
     by-tests true b p q = let z = risen-low low v (ltb-true v low p) in absurd (omega arith)
-    by-tests false true p q = let z = risen-high low v (ltb-false v low p) (leb-true 256 v q) in absurd (omega arith)
-    by-tests false false p q = (ltb-false v low p, leb-false 256 v q)
+    by-tests false true p q = let z = risen-high low v (ltb-false v low p) (leb-true memberNumbers v q) in absurd (omega arith)
+    by-tests false false p q = (ltb-false v low p, leb-false memberNumbers v q)
 
-items-risen : (t : List ℕ) (fuel low i at : ℕ) {n p : ℕ} → itemsFrom (memberReader t) fuel low i at .end ≡ found n p → n ≤ 256 → Risen low (itemsFrom (memberReader t) fuel low i at .values)
+items-risen : (t : List ℕ) (fuel low i at : ℕ) {n p : ℕ} → itemsFrom (memberReader t) fuel low i at .end ≡ found n p → n ≤ memberNumbers → Risen low (itemsFrom (memberReader t) fuel low i at .values)
 unfolding itemsFrom following memberReader
 items-risen t zero low i at e h = let z : _≡_ {A = ℕ} 0 1 = cc in absurd (omega arith)
 items-risen t (suc fuel) low i at {n} {p} e h = by-stop (memberReader t .stop at) (memberReader t .item low i at) (λ l k e. items-risen t fuel l (i + 1) k e h) e
@@ -85,13 +74,13 @@ items-risen t (suc fuel) low i at {n} {p} e h = by-stop (memberReader t .stop at
     by-stop true s ih e = let same : low ≡ n = cc in record { start = omega arith; all = none }
     by-stop false (found a next) ih e =
         let r = ih (risen low a) next e in
-        let k = risen-back low a (r .start) in
+        let k = risen-rises low a (r .start) in
         let k0 = k .0 in
         let k1 = k .1 in
         record { start = omega arith; all = more k1 (r .all) }
     by-stop false (refused x y) ih e = let z : _≡_ {A = ℕ} 0 1 = cc in absurd (omega arith)
 
-pub members-below : (t : List ℕ) (at : ℕ) {low p : ℕ} → membersAt t at .end ≡ found low p → low ≤ 256 → Members (membersAt t at .values)
+pub members-below : (t : List ℕ) (at : ℕ) {low p : ℕ} → membersAt t at .end ≡ found low p → low ≤ memberNumbers → Members (membersAt t at .values)
 unfolding membersAt
 members-below t at e h = items-risen t (length t) 0 0 at e h .all
 
@@ -118,93 +107,81 @@ members-added a S i (v ∷ vs) (more h hs) =
     ∙ record-cong a _ _ (λ w. or-assoc (S w) (eqb w v) (isIn vs w))
 
 -- A record that is started, and to which members are added, is that of the moat.
-pub record-filled : (part : List ℕ) (a : ℕ) (vs : List ℕ) → length part ≡ recordBytes → Members vs → puts putMember (startedAs part a) 0 vs ≡ moatRecord (record { value = a; members = vs })
-unfolding moatRecord
+pub record-filled : (part : List ℕ) (a : ℕ) (vs : List ℕ) → length part ≡ recordBytes → Members vs → puts putMember (startedAs part a) 0 vs ≡ dualRecord (record { value = a; members = vs })
+unfolding dualRecord
 record-filled part a vs h each =
     ap (λ l. puts putMember l 0 vs) (started-whole part a h)
     ∙ members-added a (λ v. false) 0 vs each
 
-pub length-moat : (d : Moat) → length (moatRecord d) ≡ recordBytes
-unfolding moatRecord
-length-moat d = length-record (d .value) (isIn (d .members))
+pub length-dual-record : (d : PrintedDual) → length (dualRecord d) ≡ recordBytes
+unfolding dualRecord
+length-dual-record d = length-record (d .value) (isIn (d .members))
 
-pub moat-put : (records : List ℕ) (i : ℕ) (d : Moat) → i < length records / recordBytes → putMoat records i d ≡ take (recordBytes * i) records ++ (moatRecord d ++ drop (recordBytes * i + recordBytes) records)
-unfolding putMoat
-moat-put records i d h =
-    let n = length-moat d in
-    let at : sets records (recordBytes * i) (moatRecord d) ≡ take (recordBytes * i) records ++ (moatRecord d ++ drop (recordBytes * i + length (moatRecord d)) records) = sets-eq (moatRecord d) records (recordBytes * i) (omega arith) ∙ append-assoc (take (recordBytes * i) records) (moatRecord d) _ in
-    let all : take (recordBytes * i) records ++ (moatRecord d ++ drop (recordBytes * i + length (moatRecord d)) records) ≡ take (recordBytes * i) records ++ (moatRecord d ++ drop (recordBytes * i + recordBytes) records) = ap (λ (k : ℕ). take (recordBytes * i) records ++ (moatRecord d ++ drop (recordBytes * i + k) records)) n in
+pub dual-put : (records : List ℕ) (i : ℕ) (d : PrintedDual) → i < length records / recordBytes → putDual records i d ≡ take (recordBytes * i) records ++ (dualRecord d ++ drop (recordBytes * i + recordBytes) records)
+unfolding putDual
+dual-put records i d h =
+    let n = length-dual-record d in
+    let at : sets records (recordBytes * i) (dualRecord d) ≡ take (recordBytes * i) records ++ (dualRecord d ++ drop (recordBytes * i + length (dualRecord d)) records) = sets-eq (dualRecord d) records (recordBytes * i) (omega arith) ∙ append-assoc (take (recordBytes * i) records) (dualRecord d) _ in
+    let all : take (recordBytes * i) records ++ (dualRecord d ++ drop (recordBytes * i + length (dualRecord d)) records) ≡ take (recordBytes * i) records ++ (dualRecord d ++ drop (recordBytes * i + recordBytes) records) = ap (λ (k : ℕ). take (recordBytes * i) records ++ (dualRecord d ++ drop (recordBytes * i + k) records)) n in
     rw (lt-ltb i (length records / recordBytes) h) (at ∙ all)
 
-pub moat-left : (records : List ℕ) (i : ℕ) (d : Moat) → length records / recordBytes ≤ i → putMoat records i d ≡ records
-unfolding putMoat
-moat-left records i d h = rw (le-ltb i (length records / recordBytes) h)
+pub dual-left : (records : List ℕ) (i : ℕ) (d : PrintedDual) → length records / recordBytes ≤ i → putDual records i d ≡ records
+unfolding putDual
+dual-left records i d h = rw (le-ltb i (length records / recordBytes) h)
 
 -- ---- moat lines
 
--- A buffer of no length stays one.
-pub none-stays : {A : Type 0} (put : List ℕ → ℕ → A → List ℕ) → ((l : List ℕ) (i : ℕ) (a : A) → length (put l i a) ≡ length l) → (new : List ℕ) (vs : List A) → new ≡ puts put [] 0 vs → new ≡ []
-none-stays put same new vs e = by-length new (ap length e ∙ puts-length put same [] 0 vs)
-  where
-    by-length : (l : List ℕ) → length l ≡ 0 → l ≡ []
-    by-length [] h = refl
-    by-length (x ∷ l) h = absurd (omega arith)
-
 module _ (t : List ℕ) (i at : ℕ) {records records′ : List ℕ} where
-  pub moat-stops : {n p : ℕ} → moatHead t at ≡ refused n p → records′ ≡ records → MoatRead (moatLine t i at) (refused n p) i records records′
-  unfolding moatLine _then_ forgotten moatStored
-  moat-stops e r = rw e record { end = refl; stored = r }
+  pub dual-stops : {n p : ℕ} → dualHead t at ≡ refused n p → records′ ≡ records → DualRead (dualLineAt t i at) (refused n p) i records records′
+  unfolding dualLineAt _then_ forgotten dualStored
+  dual-stops e r = rw e record { end = refl; stored = r }
 
-  module _ {amount c : ℕ} (head : moatHead t at ≡ found amount c) where
-    pub moat-unlisted : {n p : ℕ} → membersAt t c .end ≡ refused n p → records′ ≡ records → MoatRead (moatLine t i at) (refused n p) i records records′
-    unfolding moatLine _then_ forgotten moatStored
-    moat-unlisted e r = rw (head, e) record { end = refl; stored = r }
+  module _ {amount c : ℕ} (head : dualHead t at ≡ found amount c) where
+    pub dual-unlisted : {n p : ℕ} → membersAt t c .end ≡ refused n p → records′ ≡ records → DualRead (dualLineAt t i at) (refused n p) i records records′
+    unfolding dualLineAt _then_ forgotten dualStored
+    dual-unlisted e r = rw (head, e) record { end = refl; stored = r }
 
-    pub moat-refused : {low d n p : ℕ} → membersAt t c .end ≡ found low d → moatTest i low ≡ Refused n p → records′ ≡ records → MoatRead (moatLine t i at) (refused n p) i records records′
-    unfolding moatLine _then_ checked forgotten moatStored
-    moat-refused e f r = rw (head, e, f) record { end = refl; stored = r }
+    pub dual-refused : {low d n p : ℕ} → membersAt t c .end ≡ found low d → dualTest i low ≡ Refused n p → records′ ≡ records → DualRead (dualLineAt t i at) (refused n p) i records records′
+    unfolding dualLineAt _then_ checked forgotten dualStored
+    dual-refused e f r = rw (head, e, f) record { end = refl; stored = r }
 
-    pub moat-read : {low d : ℕ} → membersAt t c .end ≡ found low d → moatTest i low ≡ Fine → records′ ≡ putMoat records i (moatOf t amount c) → MoatRead (moatLine t i at) (found 0 (d + 1)) i records records′
-    unfolding moatLine _then_ checked forgotten moatStored
-    moat-read e f r = rw (head, e, f) record { end = refl; stored = r }
+    pub dual-read : {low d : ℕ} → membersAt t c .end ≡ found low d → dualTest i low ≡ Fine → records′ ≡ putDual records i (listedDual t amount c) → DualRead (dualLineAt t i at) (found 0 (d + 1)) i records records′
+    unfolding dualLineAt _then_ checked forgotten dualStored
+    dual-read e f r = rw (head, e, f) record { end = refl; stored = r }
 
 -- One turn of the loop over the moat lines.
-module _ (t : List ℕ) (whole : Lines Moat) (old : List ℕ) (i at : ℕ) (buffer buffer′ : List ℕ) where
-  pub moats-more : {z next : ℕ} → i < length t → at < length t → found z next ≡ forgotten (moatLine t i at) → buffer′ ≡ moatStored (moatLine t i at) buffer i
-      → Left (moatReader t) putMoat whole old (length t) i i at buffer → Left (moatReader t) putMoat whole old (length t) (i + 1) (i + 1) next buffer′
-  unfolding forgotten moatStored moatReader
-  moats-more {z} {next} h k e s l = by-line (moatLine t i at) refl e s
+module _ (t : List ℕ) (whole : Lines ℕ PrintedDual) (old : List ℕ) (i at : ℕ) (buffer buffer′ : List ℕ) where
+  pub duals-more : {z next : ℕ} → i < length t → at < length t → found z next ≡ forgotten (dualLineAt t i at) → buffer′ ≡ dualStored (dualLineAt t i at) buffer i
+      → ItemsLeft (dualReader t) putDual whole old (length t) i i at buffer → ItemsLeft (dualReader t) putDual whole old (length t) (i + 1) (i + 1) next buffer′
+  unfolding forgotten dualStored dualReader
+  duals-more {z} {next} h k e s l = by-line (dualLineAt t i at) refl e s
     where
-      by-line : (x : Step Moat) → moatLine t i at ≡ x → found z next ≡ forgotten x → buffer′ ≡ moatStored x buffer i → Left (moatReader t) putMoat whole old (length t) (i + 1) (i + 1) next buffer′
+      by-line : (x : Step PrintedDual) → dualLineAt t i at ≡ x → found z next ≡ forgotten x → buffer′ ≡ dualStored x buffer i → ItemsLeft (dualReader t) putDual whole old (length t) (i + 1) (i + 1) next buffer′
       by-line (found d p) q e s =
           let same : p ≡ next = cc in
-          rw s (subst (λ (x : ℕ). Left (moatReader t) putMoat whole old (length t) (i + 1) (i + 1) x (putMoat buffer i d)) same (left-more (moatReader t) putMoat whole old (length t) i i at buffer h (lt-leb (length t) at k) q l))
+          rw s (subst (λ (x : ℕ). ItemsLeft (dualReader t) putDual whole old (length t) (i + 1) (i + 1) x (putDual buffer i d)) same (left-more (dualReader t) putDual whole old (length t) i i at buffer h (lt-leb (length t) at k) q l))
       by-line (refused n p) q e s = let w : _≡_ {A = ℕ} 0 1 = cc in absurd (omega arith)
 
-  pub moats-refused : {n p : ℕ} → i < length t → at < length t → refused n p ≡ forgotten (moatLine t i at) → buffer′ ≡ moatStored (moatLine t i at) buffer i
-      → Left (moatReader t) putMoat whole old (length t) i i at buffer → Ends putMoat whole old (refused n p) buffer′ × (length buffer′ ≡ length old)
-  unfolding forgotten moatStored moatReader
-  moats-refused {n} {p} h k e s l = by-line (moatLine t i at) refl e s
+  pub duals-refused : {n p : ℕ} → i < length t → at < length t → refused n p ≡ forgotten (dualLineAt t i at) → buffer′ ≡ dualStored (dualLineAt t i at) buffer i
+      → ItemsLeft (dualReader t) putDual whole old (length t) i i at buffer → Ends putDual whole old (refused n p) buffer′ × (length buffer′ ≡ length old)
+  unfolding forgotten dualStored dualReader
+  duals-refused {n} {p} h k e s l = by-line (dualLineAt t i at) refl e s
     where
-      by-line : (x : Step Moat) → moatLine t i at ≡ x → refused n p ≡ forgotten x → buffer′ ≡ moatStored x buffer i → Ends putMoat whole old (refused n p) buffer′ × (length buffer′ ≡ length old)
+      by-line : (x : Step PrintedDual) → dualLineAt t i at ≡ x → refused n p ≡ forgotten x → buffer′ ≡ dualStored x buffer i → Ends putDual whole old (refused n p) buffer′ × (length buffer′ ≡ length old)
       by-line (found d y) q e s = let w : _≡_ {A = ℕ} 0 1 = cc in absurd (omega arith)
       by-line (refused x y) q e s =
-          let r : moatLine t i at ≡ refused n p = cc in
-          rw s (left-refused (moatReader t) putMoat whole old (length t) i i at buffer h (lt-leb (length t) at k) r l, left-length putMoat moat-length l)
-
--- A pass over a part of no length leaves the buffer as it was.
-pub empty-pass : {A : Type 0} (put : List ℕ → ℕ → A → List ℕ) → ((l : List ℕ) (i : ℕ) (a : A) → length (put l i a) ≡ length l) → (old : List ℕ) {new : List ℕ} (vs : List A) → new ≡ puts put [] 0 vs → new ++ old ≡ old
-empty-pass put same old {new} vs e = ap (λ (l : List ℕ). l ++ old) (none-stays put same new vs e)
+          let r : dualLineAt t i at ≡ refused n p = cc in
+          rw s (left-refused (dualReader t) putDual whole old (length t) i i at buffer h (lt-leb (length t) at k) r l, left-length putDual dual-length l)
 
 pub members-end : (t : List ℕ) (at : ℕ) {low p : ℕ} → membersAt t at .end ≡ found low p → p < length t
 unfolding membersAt memberReader
 members-end t at {low} {p} e = byte-inside t p newline (items-stop (memberReader t) (length t) 0 0 at e) .0
 
 -- The record in the part of the buffer that is lent for it.
-pub moat-put-part : (records : List ℕ) (i : ℕ) (d : Moat) → i < length records / recordBytes
-    → take (recordBytes * i) records ++ (moatRecord d ++ drop (recordBytes * i + recordBytes - recordBytes * i) (drop (recordBytes * i) records)) ≡ putMoat records i d
-moat-put-part records i d h =
+pub dual-put-part : (records : List ℕ) (i : ℕ) (d : PrintedDual) → i < length records / recordBytes
+    → take (recordBytes * i) records ++ (dualRecord d ++ drop (recordBytes * i + recordBytes - recordBytes * i) (drop (recordBytes * i) records)) ≡ putDual records i d
+dual-put-part records i d h =
     let n : recordBytes * i + recordBytes - recordBytes * i ≡ recordBytes = omega arith in
-    ap (λ (k : ℕ). take (recordBytes * i) records ++ (moatRecord d ++ drop k (drop (recordBytes * i) records))) n
-    ∙ ap (λ (l : List ℕ). take (recordBytes * i) records ++ (moatRecord d ++ l)) (drop-drop recordBytes (recordBytes * i) records)
-    ∙ sym (moat-put records i d h)
+    ap (λ (k : ℕ). take (recordBytes * i) records ++ (dualRecord d ++ drop k (drop (recordBytes * i) records))) n
+    ∙ ap (λ (l : List ℕ). take (recordBytes * i) records ++ (dualRecord d ++ l)) (drop-drop recordBytes (recordBytes * i) records)
+    ∙ sym (dual-put records i d h)

@@ -2,27 +2,15 @@
 use Prim.Native.Nat.{ℕ, _+_, _*_, _/_}
 use mathlib.Core.Path.{_≡_, refl, ap, sym, _∙_}
 use mathlib.Core.Bool.{Bool, true, false, cond}
-use mathlib.Core.List.{List, [], _∷_}
+use mathlib.Core.List.{List}
 use lib.ListN.{length, take, drop, length-set, length-append, take-append-drop}
 use lib.Seq.{length-sets, sets}
 use lib.Dec.{ltb}
-use Rattle.base_limits.specs.Limits.{valueBytes}
+use Rattle.base_limits.specs.Limits.{valueBytes, recordBytes}
 use Rattle.format_record.specs.Bits.{withMember}
 use Rattle.format_record.specs.Record.{withMemberIn}
 use Rattle.format_record.specs.Laws.Bits.{length-with-member}
-use Rattle.format_survey_lines.specs.Lines.{Lines}
-use Rattle.format_plan_lines.specs.Items.{Reader, puts}
-use Rattle.format_plan_lines.specs.Lines.{Moat, putMark, putMember, putMoat, moatRecord}
-use Rattle.format_plan_lines.specs.Laws.Items.{Left}
-
-module _ {A : Type 0} (put : List ℕ → ℕ → A → List ℕ) (same : (l : List ℕ) (i : ℕ) (a : A) → length (put l i a) ≡ length l) where
-  pub puts-length : (buffer : List ℕ) (i : ℕ) (l : List A) → length (puts put buffer i l) ≡ length buffer
-  unfolding puts
-  puts-length buffer i [] = refl
-  puts-length buffer i (a ∷ l) = puts-length (put buffer i a) (i + 1) l ∙ same buffer i a
-
-  pub left-length : {r : Reader A} {whole : Lines A} {old : List ℕ} {fuel low i at : ℕ} {buffer : List ℕ} → Left r put whole old fuel low i at buffer → length buffer ≡ length old
-  left-length {whole = whole} {old = old} {i = i} {buffer = buffer} h = sym (puts-length buffer i _) ∙ ap length (h .stored) ∙ puts-length old 0 (whole .values)
+use Rattle.format_plan_lines.specs.Lines.{PrintedDual, putMark, putMember, putDual, dualRecord}
 
 pub mark-length : (l : List ℕ) (i e : ℕ) → length (putMark l i e) ≡ length l
 mark-length l i e = length-set l e 2
@@ -35,10 +23,10 @@ member-length l i v =
     ∙ sym (length-append (take valueBytes l) (drop valueBytes l))
     ∙ ap length (take-append-drop valueBytes l)
 
-pub moat-length : (l : List ℕ) (i : ℕ) (d : Moat) → length (putMoat l i d) ≡ length l
-unfolding putMoat
-moat-length l i d = by-room (ltb i (length l / 40))
+pub dual-length : (l : List ℕ) (i : ℕ) (d : PrintedDual) → length (putDual l i d) ≡ length l
+unfolding putDual
+dual-length l i d = by-room (ltb i (length l / recordBytes))
   where
-    by-room : (b : Bool) → length (cond b (sets l (40 * i) (moatRecord d)) l) ≡ length l
-    by-room true = length-sets l (40 * i) (moatRecord d)
+    by-room : (b : Bool) → length (cond b (sets l (recordBytes * i) (dualRecord d)) l) ≡ length l
+    by-room true = length-sets l (recordBytes * i) (dualRecord d)
     by-room false = refl

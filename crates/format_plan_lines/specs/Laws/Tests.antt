@@ -3,10 +3,11 @@ use Prim.Native.Nat.{ℕ, zero, suc, _+_, _≤_, _<_}
 use mathlib.Core.Path.{_≡_, refl, ap}
 use mathlib.Core.List.{[], _∷_}
 use borrow.Author.Tests.{lt-ltb, le-ltb, le-leb, lt-leb}
+use Rattle.base_limits.specs.Limits.{maxDuals}
 use Rattle.base_limits.specs.Verdict.{refuseIf, _before_}
 use Rattle.base_limits.specs.declared.Verdict.the-variants.{Fine, Refused}
-use Rattle.format_write.specs.Key.{comma}
-use Rattle.format_plan_lines.specs.Lines.{keptTest, risen, moatTest, separator}
+use Rattle.format_key.specs.Key.{comma}
+use Rattle.format_plan_lines.specs.Lines.{keptTest, risen, dualTest, separator, memberNumbers}
 
 module _ (m low i e : ℕ) where
   pub kept-low : e < low → keptTest m low i e ≡ Refused 26 i
@@ -22,17 +23,17 @@ module _ (m low i e : ℕ) where
   kept-fine h k = rw (le-ltb e low h, lt-leb m e k)
 
 module _ (low v : ℕ) where
-  pub risen-low : v < low → risen low v ≡ 257
+  pub risen-low : v < low → risen low v ≡ memberNumbers + 1
   unfolding risen
   risen-low h = rw (lt-leb low v h)
 
-  pub risen-high : low ≤ v → 256 ≤ v → risen low v ≡ 257
+  pub risen-high : low ≤ v → memberNumbers ≤ v → risen low v ≡ memberNumbers + 1
   unfolding risen
-  risen-high h k = rw (le-leb low v h, le-ltb v 256 k)
+  risen-high h k = rw (le-leb low v h, le-ltb v memberNumbers k)
 
-  pub risen-next : low ≤ v → v < 256 → risen low v ≡ v + 1
+  pub risen-next : low ≤ v → v < memberNumbers → risen low v ≡ v + 1
   unfolding risen
-  risen-next h k = rw (le-leb low v h, lt-ltb v 256 k)
+  risen-next h k = rw (le-leb low v h, lt-ltb v memberNumbers k)
 
 pub separator-first : {i : ℕ} → i ≡ 0 → separator i ≡ []
 unfolding separator
@@ -44,14 +45,14 @@ separator-later zero n = absurd (n refl)
 separator-later (suc i) n = refl
 
 module _ (i low : ℕ) where
-  pub moat-falls : 256 < low → moatTest i low ≡ Refused 27 i
-  unfolding moatTest refuseIf _before_
-  moat-falls h = rw (lt-ltb 256 low h)
+  pub dual-falls : memberNumbers < low → dualTest i low ≡ Refused 27 i
+  unfolding dualTest refuseIf _before_
+  dual-falls h = rw (lt-ltb memberNumbers low h)
 
-  pub moat-many : low ≤ 256 → 511 ≤ i → moatTest i low ≡ Refused 28 i
-  unfolding moatTest refuseIf _before_
-  moat-many h k = rw (le-ltb 256 low h, le-leb 511 i k)
+  pub dual-many : low ≤ memberNumbers → maxDuals ≤ i → dualTest i low ≡ Refused 28 i
+  unfolding dualTest refuseIf _before_
+  dual-many h k = rw (le-ltb memberNumbers low h, le-leb maxDuals i k)
 
-  pub moat-fine : low ≤ 256 → i < 511 → moatTest i low ≡ Fine
-  unfolding moatTest refuseIf _before_
-  moat-fine h k = rw (le-ltb 256 low h, lt-leb 511 i k)
+  pub dual-fine : low ≤ memberNumbers → i < maxDuals → dualTest i low ≡ Fine
+  unfolding dualTest refuseIf _before_
+  dual-fine h k = rw (le-ltb memberNumbers low h, lt-leb maxDuals i k)

@@ -4,7 +4,7 @@ use lib.ListN.{length}
 use Rattle.format_write.specs.Wrote.{farthest}
 use Rattle.format_write.specs.Laws.Wrote.{wrote-then}
 use Prim.Native.Nat.{_≤_}
-use Rattle.format_write.specs.Key.{terminalsKey, costKey, boundKey, roundsKey}
+use Rattle.format_key.specs.Key.{terminalsKey, costKey, boundKey, roundsKey}
 use Rattle.format_write.specs.Text.{countLines}
 use borrow.Author.Needs.{needs}
 use Rattle.format_print.proofs.put_counts.Statement.{statement}

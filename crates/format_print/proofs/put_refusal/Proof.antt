@@ -5,7 +5,7 @@ use mathlib.Core.Path.{ap}
 use lib.ListN.{length}
 use Rattle.format_write.specs.Wrote.{farthest}
 use Rattle.format_write.specs.Laws.Wrote.{wrote-then, wrote-as}
-use Rattle.format_write.specs.Key.{refusedKey, placeKey}
+use Rattle.format_key.specs.Key.{refusedKey, placeKey}
 use Rattle.format_write.specs.Text.{lineOf, refusalText}
 use borrow.Author.Needs.{needs}
 use Rattle.format_print.proofs.put_refusal.Statement.{statement}

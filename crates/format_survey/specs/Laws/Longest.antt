@@ -1,50 +1,42 @@
 -- How long a well-formed text whose counts escape 1 and 3 can be (document 01, 'Survey text and printed plan': 62,741 bytes).
-use Prim.Native.Nat.{ℕ, suc, _+_, _*_, _^_, _≤_, _<_}
+use Prim.Native.Nat.{ℕ, _+_, _*_, _≤_, _<_}
 use native.Mathlib.Omega.{arith}
 use mathlib.Core.Path.{_≡_, refl, ap, sym, subst}
 use mathlib.Core.List.{List, [], _∷_, _++_}
 use lib.ListN.{length, length-append}
-use Rattle.base_limits.specs.Limits.{maxVertices, maxEdges, maxDigits}
+use Rattle.format_number.specs.Laws.Words.{digits-most}
+use Rattle.base_limits.specs.Limits.{maxVertices, maxEdges, groupDigits, endpointDigits, weightDigits}
 use Rattle.base_limits.specs.Verdict.{answer}
-use Rattle.format_write.specs.Key.{comma, newline}
+use Rattle.format_key.specs.Key.{nodesKey, linksKey, nodeKey, linkKey, comma, newline}
 use Rattle.format_write.specs.Decimal.{decimal}
 use Rattle.format_write.specs.Text.{lineOf}
-use Rattle.format_write.specs.Laws.Decimal.{length-decimal}
-use Rattle.format_survey_lines.specs.Line.{nodesKey, linksKey, nodeKey, linkKey, Edge}
-use Rattle.format_survey.specs.Reading.{Survey, reading}
-use Rattle.format_number.specs.Number.{numberText}
-use Rattle.format_survey_lines.specs.Render.{edgeText, textOf}
-use Rattle.format_survey.specs.Render.{render}
-use Rattle.format_survey_lines.specs.Laws.Content.{SmallEdge, Each, none, next}
-use Rattle.format_survey.specs.Laws.WellFormed.{WellFormed, Within, each-map, accepted-render}
+use Rattle.format_survey_lines.specs.Line.{Edge, EdgeDigits}
+use Rattle.format_survey.specs.Reading.{SurveyText, reading}
+use Rattle.format_number.specs.Number.{numberText, OfDigits, lineBytes}
+use Rattle.format_survey_lines.specs.Render.{edgeText}
+use Rattle.format_grammar.specs.Lines.{textOf}
+use Rattle.format_survey.specs.Render.{render, edgeBytes, longestText}
+use Rattle.format_grammar.specs.Language.{EachFrom, noneFrom, moreFrom}
+use Rattle.format_survey.specs.WellFormed.{WellFormed, WithinCounts}
+use Rattle.format_survey.specs.Laws.WellFormed.{accepted-render}
+use Rattle.format_grammar.specs.Laws.Lines.{each-map}
 
--- The longest lines: a key and a number of so many digits; an edge's.
-abbrev lineMost : List ℕ → ℕ → ℕ
-lineMost key digits = length key + digits + 1
-
-abbrev edgeMost : ℕ
-edgeMost = length linkKey + 3 * (maxDigits + 1)
-
--- The longest text: the two count lines, whose counts have three and four digits, the group lines and the edge lines.
-abbrev pub longestText : ℕ
-longestText = lineMost nodesKey 3 + lineMost linksKey 4 + maxVertices * lineMost nodeKey maxDigits + maxEdges * edgeMost
-
-line-most : (key : List ℕ) (k x : ℕ) → x < 10 ^ suc k → length (lineOf key x) ≤ length key + suc k + 1
+line-most : (key : List ℕ) (limit x : ℕ) → 1 ≤ limit → OfDigits limit x → length (lineOf key x) ≤ lineBytes key limit
 unfolding lineOf
-line-most key k x h =
+line-most key limit x positive h =
     let a = length-append (key ++ decimal x) (newline ∷ []) in
     let b = length-append key (decimal x) in
-    let d = length-decimal k x h in
+    let d = digits-most limit x positive h in
     omega arith
 
-number-most : (stop k x : ℕ) → x < 10 ^ suc k → length (numberText stop x) ≤ suc k + 1
+number-most : (stop limit x : ℕ) → 1 ≤ limit → OfDigits limit x → length (numberText stop x) ≤ limit + 1
 unfolding numberText
-number-most stop k x h =
+number-most stop limit x positive h =
     let a = length-append (decimal x) (stop ∷ []) in
-    let d = length-decimal k x h in
+    let d = digits-most limit x positive h in
     omega arith
 
-edge-most : (x : Edge) → SmallEdge x → length (edgeText x) ≤ edgeMost
+edge-most : (x : Edge) → EdgeDigits x → length (edgeText x) ≤ edgeBytes
 unfolding edgeText
 edge-most x s =
     let u = numberText comma (x .first) in
@@ -53,15 +45,15 @@ edge-most x s =
     let a = length-append (linkKey ++ u ++ v) w in
     let b = length-append (linkKey ++ u) v in
     let c = length-append linkKey u in
-    let d = number-most comma 6 (x .first) (s .first) in
-    let e = number-most comma 6 (x .second) (s .second) in
-    let f = number-most newline 6 (x .weight) (s .weight) in
+    let d = number-most comma endpointDigits (x .first) (omega arith) (s .first) in
+    let e = number-most comma endpointDigits (x .second) (omega arith) (s .second) in
+    let f = number-most newline weightDigits (x .weight) (omega arith) (s .weight) in
     omega arith
 
-texts-most : {A : Type 0} {P : ℕ → A → Type 0} {i : ℕ} {l : List A} (text : A → List ℕ) (most : ℕ) → ((i : ℕ) (a : A) → P i a → length (text a) ≤ most) → Each P i l → length (textOf text l) ≤ length l * most
+texts-most : {A : Type 0} {P : ℕ → A → Type 0} {i : ℕ} {l : List A} (text : A → List ℕ) (most : ℕ) → ((i : ℕ) (a : A) → P i a → length (text a) ≤ most) → EachFrom P i l → length (textOf text l) ≤ length l * most
 unfolding textOf
-texts-most text most h none = omega arith
-texts-most text most h (next {i = i} {a = a} {l = l} p r) =
+texts-most text most h noneFrom = omega arith
+texts-most text most h (moreFrom {i = i} {a = a} {l = l} p r) =
     let ih = texts-most text most h r in
     let x = h i a p in
     let y = length-append (text a) (textOf text l) in
@@ -80,14 +72,14 @@ longest-text {t} w h k =
     let a = length-append (n ++ m ++ g) e in
     let b = length-append (n ++ m) g in
     let c = length-append n m in
-    let p : length n ≤ lineMost nodesKey 3 = line-most nodesKey 2 (length gs) (omega arith) in
-    let q : length m ≤ lineMost linksKey 4 = line-most linksKey 3 (length es) (omega arith) in
-    let r : length g ≤ length gs * lineMost nodeKey maxDigits = texts-most (lineOf nodeKey) (lineMost nodeKey maxDigits) (λ i x s. line-most nodeKey 6 x s) (w .eachGroup) in
-    let s : length e ≤ length es * edgeMost = texts-most edgeText edgeMost (λ i x s. edge-most x s) (w .eachEdge) in
+    let p : length n ≤ lineBytes nodesKey 3 = line-most nodesKey 3 (length gs) (omega arith) (omega arith) in
+    let q : length m ≤ lineBytes linksKey 4 = line-most linksKey 4 (length es) (omega arith) (omega arith) in
+    let r : length g ≤ length gs * lineBytes nodeKey groupDigits = texts-most (lineOf nodeKey) (lineBytes nodeKey groupDigits) (λ i x s. line-most nodeKey groupDigits x (omega arith) s) (w .eachGroup) in
+    let s : length e ≤ length es * edgeBytes = texts-most edgeText edgeBytes (λ i x s. edge-most x s) (w .eachEdge) in
     omega arith
 
 -- The text of a survey within the counts is no longer.
-pub longest-within : {groups : List ℕ} {edges : List Edge} → Within groups edges → length (render groups edges) ≤ longestText
+pub longest-within : {groups : List ℕ} {edges : List Edge} → WithinCounts groups edges → length (render groups edges) ≤ longestText
 longest-within {groups} {edges} w =
     let few = w .fewGroups in
     let some = w .fewEdges in
@@ -104,7 +96,7 @@ longest-within {groups} {edges} w =
     few some
 
 -- A text that is read is no longer.
-pub longest-read : (t gb fb sb wb : List ℕ) (s : Survey) → reading t gb fb sb wb ≡ answer s → length t ≤ longestText
+pub longest-read : (t gb fb sb wb : List ℕ) (s : SurveyText) → reading t gb fb sb wb ≡ answer s → length t ≤ longestText
 longest-read t gb fb sb wb s e =
     let a = accepted-render gb fb sb wb t s e in
     subst (λ (x : List ℕ). length x ≤ longestText) (sym (a .word)) (longest-within (a .within))

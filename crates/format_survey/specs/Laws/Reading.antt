@@ -6,11 +6,11 @@ use mathlib.Core.Path.{_≡_, refl, ap, sym, _∙_}
 use mathlib.Core.List.{List, _++_}
 use lib.ListN.{length, drop, length-map}
 use lib.Seq.{sets, sets-eq}
+use Rattle.format_survey_lines.specs.Laws.Body.{lines-sizes}
 use Rattle.base_limits.specs.Verdict.{Outcome, refusal, answer}
 use Rattle.base_limits.specs.declared.Verdict.{Verdict}
-use Rattle.format_number.specs.Step.{Step, found, refused, _then_}
-use Rattle.format_survey_lines.specs.Lines.{linesAfter}
-use Rattle.format_survey_lines.specs.Line.{groupTest, Tests, testsFor, countsAt, groupLines, edgeLines, Counts, firstsOf, secondsOf, weightsOf}
+use Rattle.format_grammar.specs.Step.{Step, found, refused, _then_, storedIf}
+use Rattle.format_survey_lines.specs.Line.{Tests, testsFor, countsAt, Counts, firstsOf, secondsOf, weightsOf, linesAt}
 use Rattle.format_number.specs.Answer.{numberStep}
 use Rattle.format_number.specs.declared.Cursor.{Cursor}
 use Rattle.format_number.specs.declared.Number.{Number}
@@ -18,47 +18,37 @@ use Rattle.format_number.specs.declared.Number.the-variants.{Value, Refused}
 use Rattle.format_survey_lines.specs.Answer.{countsStep}
 use Rattle.format_survey_lines.specs.declared.Head.{Head}
 use Rattle.format_survey_lines.specs.declared.Head.the-variants.{Counts as CountsRead, Refused as HeadRefused}
-use Rattle.format_survey.specs.Reading.{bodyAt, bodyOf, Body, Survey, surveyOf, surveyAt, outcomeOf, reading, filled, endAt}
-use Rattle.format_survey.specs.Answer.{Reads, Fills, storedIf, countsOf}
-use Rattle.format_number.specs.Laws.Step.{then-value}
-use Rattle.format_survey_lines.specs.Laws.Lines.{lines-length}
+use Rattle.format_survey.specs.Reading.{bodyAt, bodyOf, SurveyText, surveyOf, surveyAt, outcomeOf, reading, filled}
+use Rattle.format_grammar.specs.Bytes.{endAt}
+use Rattle.format_survey.specs.Answer.{countsOf, LinesFilled}
+use Rattle.format_grammar.specs.Laws.Step.{then-value, stored-found, stored-refused}
 use Rattle.format_survey_lines.specs.Laws.Tests.{counts-fit}
-
-pub record Sizes (counts : Counts) (b : Body) : Type 0 where
-  pub groups : length (b .groups) ≡ counts .vertices
-  pub edges : length (b .edges) ≡ counts .edges
-
-pub body-sizes : (test : ℕ → ℕ → Verdict) (t : List ℕ) (counts : Counts) (at : ℕ) {z p : ℕ} → bodyAt test t counts at .end ≡ found z p → Sizes counts (bodyAt test t counts at)
-unfolding bodyAt groupLines edgeLines linesAfter _then_
-body-sizes test t counts at {z} {p} e = by-groups (groupLines test t (counts .vertices) at .end) refl e
-  where
-    by-groups : (s : Step ℕ) → groupLines test t (counts .vertices) at .end ≡ s → (linesAfter s (edgeLines t (counts .edges)) .end then λ x q. endAt t q) ≡ found z p
-        → Sizes counts (record { groups = groupLines test t (counts .vertices) at .values; edges = linesAfter s (edgeLines t (counts .edges)) .values; end = linesAfter s (edgeLines t (counts .edges)) .end then λ x q. endAt t q })
-    by-groups (found y q) g e =
-        let f = then-value (edgeLines t (counts .edges) q .end) (λ x q. endAt t q) e in
-        record { groups = lines-length _ (counts .vertices) 0 at g; edges = lines-length _ (counts .edges) 0 q (f .2) }
-    by-groups (refused n q) g e =
-        let f : _≡_ {A = Step ℕ} (refused n q) (found z p) = e in
-        let w : _≡_ {A = ℕ} 0 1 = cc in absurd (omega arith)
 
 pub sets-filled : (values old : List ℕ) → length values ≤ length old → sets old 0 values ≡ values ++ drop (length values) old
 sets-filled values old h =
     let e : 0 + length values ≡ length values = zero-add (length values) in
     sets-eq values old 0 (omega arith) ∙ ap (λ (k : ℕ). values ++ drop k old) e
 
+-- What reading answers, and what each lent buffer then holds: the clauses of its contract.
+abbrev pub SurveyRead : (t : List ℕ) (counts : Outcome Counts) (groups groups′ firsts firsts′ seconds seconds′ weights weights′ : List ℕ) → Type 0
+SurveyRead t counts groups groups′ firsts firsts′ seconds seconds′ weights weights′ =
+    let read = reading t groups firsts seconds weights in
+    (counts ≡ countsOf read)
+    × ((groups′ ≡ filled read (λ s. s .groups) groups)
+    × ((firsts′ ≡ filled read (λ s. s .firsts) firsts) × ((seconds′ ≡ filled read (λ s. s .seconds) seconds) × (weights′ ≡ filled read (λ s. s .weights) weights))))
+
 -- A buffer at the end, by the outcome.
-module _ {o : Outcome Survey} (values : Survey → List ℕ) where
+module _ {o : Outcome SurveyText} (values : SurveyText → List ℕ) where
   pub buffer-kept : {n p : ℕ} (old : List ℕ) → o ≡ refusal n p → old ≡ filled o values old
   unfolding filled
   buffer-kept old r = sym (ap (λ x. filled x values old) r)
 
-  pub buffer-refused : {end : Step ℕ} {n p i q : ℕ} (vs old : List ℕ) → o ≡ refusal n p → end ≡ refused i q → storedIf end vs old ≡ filled o values old
-  unfolding storedIf
-  buffer-refused vs old r e = ap (λ x. storedIf x vs old) e ∙ buffer-kept old r
+  pub buffer-refused : {end : Step ℕ} {n p i q : ℕ} (new old : List ℕ) → o ≡ refusal n p → end ≡ refused i q → storedIf end new old ≡ filled o values old
+  buffer-refused new old r e = stored-refused new old e ∙ buffer-kept old r
 
-  pub buffer-found : {end : Step ℕ} {z p : ℕ} (s : Survey) (old : List ℕ) → o ≡ answer s → end ≡ found z p → length (values s) ≤ length old → storedIf end (values s) old ≡ filled o values old
-  unfolding storedIf filled
-  buffer-found s old r e h = ap (λ x. storedIf x (values s) old) e ∙ sets-filled (values s) old h ∙ sym (ap (λ x. filled x values old) r)
+  pub buffer-found : {end : Step ℕ} {z p : ℕ} (s : SurveyText) (old : List ℕ) → o ≡ answer s → end ≡ found z p → length (values s) ≤ length old → storedIf end (sets old 0 (values s)) old ≡ filled o values old
+  unfolding filled
+  buffer-found s old r e h = stored-found (sets old 0 (values s)) old e ∙ sets-filled (values s) old h ∙ sym (ap (λ x. filled x values old) r)
 
 -- The outcome, by that of the counts and that of the lines after them.
 module _ (t groups firsts seconds weights : List ℕ) where
@@ -79,49 +69,65 @@ module _ (t groups firsts seconds weights : List ℕ) where
 
   -- What the code has then read, by its answers.
   module _ {head : Head} (counted : countsStep head ≡ countsAt tests t) where
-    pub reads-refused : {n p : ℕ} → head ≡ HeadRefused n p → Reads t (refusal n p) groups groups firsts firsts seconds seconds weights weights
+    pub reads-refused : {n p : ℕ} → head ≡ HeadRefused n p → SurveyRead t (refusal n p) groups groups firsts firsts seconds seconds weights weights
     unfolding countsOf countsStep
     reads-refused told =
-        let r = reading-refused (sym counted ∙ ap countsStep told) in
-        record {
-          answered = sym (ap countsOf r);
-          intoGroups = buffer-kept (λ s. s .groups) groups r;
-          intoFirsts = buffer-kept (λ s. s .firsts) firsts r;
-          intoSeconds = buffer-kept (λ s. s .seconds) seconds r;
-          intoWeights = buffer-kept (λ s. s .weights) weights r;
-        }
+        let r = reading-refused (sym counted ∙ ap countsStep told) in (
+          sym (ap countsOf r),
+          (
+            buffer-kept (λ s. s .groups) groups r,
+            (
+              buffer-kept (λ s. s .firsts) firsts r,
+              (
+                buffer-kept (λ s. s .seconds) seconds r,
+                buffer-kept (λ s. s .weights) weights r,
+              ),
+            ),
+          ),
+        )
 
-    module _ {n m : ℕ} {c : Cursor} {last : Number} {groups′ firsts′ seconds′ weights′ : List ℕ} (told : head ≡ CountsRead n m c) (f : Fills (bodyOf t n m (c .at)) (numberStep last) groups groups′ firsts firsts′ seconds seconds′ weights weights′) where
-      pub reads-stopped : {number place : ℕ} → last ≡ Refused number place → Reads t (refusal number place) groups groups′ firsts firsts′ seconds seconds′ weights weights′
+    module _ {n m : ℕ} {c : Cursor} {last : Number} {groups′ firsts′ seconds′ weights′ : List ℕ} (told : head ≡ CountsRead n m c) (f : LinesFilled (bodyOf t n m (c .at)) (numberStep last) groups groups′ firsts firsts′ seconds seconds′ weights weights′) where
+      pub reads-stopped : {number place : ℕ} → last ≡ Refused number place → SurveyRead t (refusal number place) groups groups′ firsts firsts′ seconds seconds′ weights weights′
       unfolding countsOf countsStep numberStep
       reads-stopped {number} {place} h =
           let b : bodyOf t n m (c .at) .end ≡ refused number place = sym (f .end) ∙ ap numberStep h in
-          let r = reading-stopped (sym counted ∙ ap countsStep told) b in
-          record {
-            answered = sym (ap countsOf r);
-            intoGroups = f .intoGroups ∙ buffer-refused (λ s. s .groups) _ groups r b;
-            intoFirsts = f .intoFirsts ∙ buffer-refused (λ s. s .firsts) _ firsts r b;
-            intoSeconds = f .intoSeconds ∙ buffer-refused (λ s. s .seconds) _ seconds r b;
-            intoWeights = f .intoWeights ∙ buffer-refused (λ s. s .weights) _ weights r b;
-          }
+          let r = reading-stopped (sym counted ∙ ap countsStep told) b in (
+            sym (ap countsOf r),
+            (
+              f .intoGroups ∙ buffer-refused (λ s. s .groups) _ groups r b,
+              (
+                f .intoFirsts ∙ buffer-refused (λ s. s .firsts) _ firsts r b,
+                (
+                  f .intoSeconds ∙ buffer-refused (λ s. s .seconds) _ seconds r b,
+                  f .intoWeights ∙ buffer-refused (λ s. s .weights) _ weights r b,
+                ),
+              ),
+            ),
+          )
 
-      pub reads-found : {z : ℕ} {d : Cursor} → last ≡ Value z d → Reads t (answer (record { vertices = n; edges = m })) groups groups′ firsts firsts′ seconds seconds′ weights weights′
-      unfolding countsOf countsStep numberStep surveyOf firstsOf secondsOf weightsOf bodyOf
+      pub reads-found : {z : ℕ} {d : Cursor} → last ≡ Value z d → SurveyRead t (answer (record { vertices = n; edges = m })) groups groups′ firsts firsts′ seconds seconds′ weights weights′
+      unfolding countsOf countsStep numberStep surveyOf firstsOf secondsOf weightsOf bodyOf bodyAt linesAt
       reads-found {z} {d} h =
           let e : countsAt tests t ≡ found (record { vertices = n; edges = m }) (c .at) = sym counted ∙ ap countsStep told in
           let b : bodyOf t n m (c .at) .end ≡ found z (d .at) = sym (f .end) ∙ ap numberStep h in
           let r = reading-found e b in
           let s = surveyOf (record { vertices = n; edges = m }) (bodyOf t n m (c .at) .groups) (bodyOf t n m (c .at) .edges) in
           let fit = counts-fit (length groups) (length firsts) (length seconds) (length weights) t e in
-          let size = body-sizes groupTest t (record { vertices = n; edges = m }) (c .at) b in
-          let es = bodyOf t n m (c .at) .edges in
-          record {
-            answered = sym (ap countsOf r);
-            intoGroups = f .intoGroups ∙ buffer-found (λ s. s .groups) s groups r b (at-most (size .groups) (fit .vertices .room));
-            intoFirsts = f .intoFirsts ∙ buffer-found (λ s. s .firsts) s firsts r b (at-most (length-map es (λ x. x .first) ∙ size .edges) (fit .edges .first));
-            intoSeconds = f .intoSeconds ∙ buffer-found (λ s. s .seconds) s seconds r b (at-most (length-map es (λ x. x .second) ∙ size .edges) (fit .edges .second));
-            intoWeights = f .intoWeights ∙ buffer-found (λ s. s .weights) s weights r b (at-most (length-map es (λ x. x .weight) ∙ size .edges) (fit .edges .weight));
-          }
+          let lines = then-value (linesAt t n m (c .at) .end) (λ x q. endAt t q) b in
+          let size = lines-sizes t n m (c .at) (lines .2) in
+          let es = bodyOf t n m (c .at) .edges in (
+            sym (ap countsOf r),
+            (
+              f .intoGroups ∙ buffer-found (λ s. s .groups) s groups r b (at-most (size .groups) (fit .vertices .room)),
+              (
+                f .intoFirsts ∙ buffer-found (λ s. s .firsts) s firsts r b (at-most (length-map es (λ x. x .first) ∙ size .edges) (fit .edges .first)),
+                (
+                  f .intoSeconds ∙ buffer-found (λ s. s .seconds) s seconds r b (at-most (length-map es (λ x. x .second) ∙ size .edges) (fit .edges .second)),
+                  f .intoWeights ∙ buffer-found (λ s. s .weights) s weights r b (at-most (length-map es (λ x. x .weight) ∙ size .edges) (fit .edges .weight)),
+                ),
+              ),
+            ),
+          )
         where
           at-most : {x y z : ℕ} → x ≡ y → y ≤ z → x ≤ z
           at-most e h = omega arith

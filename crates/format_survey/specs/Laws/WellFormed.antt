@@ -9,66 +9,41 @@ use lib.ListN.{length, take, length-append}
 use lib.Seq.{take-at, take-all, length-take-le}
 use lib.Dec.{leb}
 use borrow.Author.Tests.{leb-true, leb-false}
-use Rattle.base_limits.specs.Limits.{maxVertices, maxEdges, groupNumbers}
 use Rattle.base_limits.specs.Verdict.{refusal, answer, refuseIf, _before_}
 use Rattle.base_limits.specs.declared.Verdict.the-variants.{Refused}
-use Rattle.format_number.specs.Step.{Step, found, refused, _then_}
 use Rattle.format_survey_lines.specs.Line.{Tests, testsFor, verticesTest, edgesTest, groupTest, Edge}
-use Rattle.format_survey.specs.Reading.{endAt, Survey, surveyOf, surveyAt, outcomeOf, reading}
+use Rattle.format_survey.specs.Reading.{SurveyText, surveyOf, surveyAt, outcomeOf, reading}
 use Rattle.format_survey.specs.Render.{render}
-use Rattle.format_number.specs.Laws.Step.{then-found, then-value}
 use Rattle.format_survey_lines.specs.Laws.Tests.{vertices-fine, edges-fine, group-fine, vertices-passed, edges-passed, group-passed}
-use Rattle.format_survey.specs.Laws.Body.{end-here, end-later}
-use Rattle.format_number.specs.Laws.Stands.{stands-whole}
-use Rattle.format_number.specs.Laws.Spells.{Reads, Lively, read, otherwise, read-again}
-use Rattle.format_number.specs.Laws.Keyed.{Small}
-use Rattle.format_survey_lines.specs.Laws.Content.{SmallEdge, Each, none, next}
-use Rattle.format_survey.specs.Laws.Said.{Said, saidAt, Sparing, Accepted, Formed, reads-said, said-survey}
-
--- A well-formed text: any counts, groups, ends and prices of at most so many digits.
-pub record WellFormed (t : List ℕ) : Type 0 where
-  pub groups : List ℕ
-  pub edges : List Edge
-  pub fewGroups : Small (length groups)
-  pub fewEdges : Small (length edges)
-  pub eachGroup : Each (λ v. Small) 0 groups
-  pub eachEdge : Each (λ e. SmallEdge) 0 edges
-  pub word : t ≡ render groups edges
-
--- A survey within the counts, with groups up to 255.
-pub record Within (groups : List ℕ) (edges : List Edge) : Type 0 where
-  pub some : 0 < length groups
-  pub fewGroups : length groups ≤ maxVertices
-  pub fewEdges : length edges ≤ maxEdges
-  pub eachGroup : Each (λ v g. g < groupNumbers) 0 groups
-  pub eachEdge : Each (λ e. SmallEdge) 0 edges
-
--- What the text of these groups and edges says.
-unfoldable pub surveyFrom : List ℕ → List Edge → Survey
-surveyFrom groups edges = surveyOf (record { vertices = length groups; edges = length edges }) groups edges
-
-pub each-map : {A : Type 0} {P Q : ℕ → A → Type 0} {i : ℕ} {l : List A} → ((i : ℕ) (a : A) → P i a → Q i a) → Each P i l → Each Q i l
-each-map h none = none
-each-map h (next p r) = next (h _ _ p) (each-map h r)
+use Rattle.format_survey.specs.Laws.Content.{SurveyContent, contentAt, NeverMalformed, Accepted, Formed, reads-content, content-survey}
+use Rattle.format_grammar.specs.Bytes.{endAt}
+use Rattle.format_grammar.specs.Language.{Reads, NotMalformed, read, otherwise}
+use Rattle.format_grammar.specs.Laws.Bytes.{end-here, end-later}
+use Rattle.format_grammar.specs.Laws.Language.{read-again}
+use Rattle.format_grammar.specs.Laws.Lines.{each-map}
+use Rattle.format_grammar.specs.Laws.Stands.{stands-whole}
+use Rattle.format_grammar.specs.Laws.Step.{then-found, then-value}
+use Rattle.format_grammar.specs.Step.{Step, found, refused, _then_}
+use Rattle.format_survey.specs.WellFormed.{WellFormed, WithinCounts, surveyOfText, SurveyRoom, Accepting, Begins}
 
 -- No test gives 16.
-pub one-spares : (x : Bool) (i u n p : ℕ) → (i ≡ 16 → ⊥) → refuseIf x i u ≡ Refused n p → n ≡ 16 → ⊥
+pub one-not-malformed : (x : Bool) (i u n p : ℕ) → (i ≡ 16 → ⊥) → refuseIf x i u ≡ Refused n p → n ≡ 16 → ⊥
 unfolding refuseIf
-one-spares true i u n p h e z = let s : i ≡ n = cc in h (s ∙ z)
-one-spares false i u n p h e z = let s : _≡_ {A = ℕ} 0 1 = cc in omega arith
+one-not-malformed true i u n p h e z = let s : i ≡ n = cc in h (s ∙ z)
+one-not-malformed false i u n p h e z = let s : _≡_ {A = ℕ} 0 1 = cc in omega arith
 
-pub two-spare : (x y : Bool) (i j u v n p : ℕ) → (i ≡ 16 → ⊥) → (j ≡ 16 → ⊥) → (refuseIf x i u before refuseIf y j v) ≡ Refused n p → n ≡ 16 → ⊥
+pub two-not-malformed : (x y : Bool) (i j u v n p : ℕ) → (i ≡ 16 → ⊥) → (j ≡ 16 → ⊥) → (refuseIf x i u before refuseIf y j v) ≡ Refused n p → n ≡ 16 → ⊥
 unfolding refuseIf _before_
-two-spare true y i j u v n p h k e z = one-spares true i u n p h e z
-two-spare false y i j u v n p h k e z = one-spares y j v n p k e z
+two-not-malformed true y i j u v n p h k e z = one-not-malformed true i u n p h e z
+two-not-malformed false y i j u v n p h k e z = one-not-malformed y j v n p k e z
 
-pub sparing : (a b c d : ℕ) → Sparing (testsFor a b c d)
+pub never-malformed : (a b c d : ℕ) → NeverMalformed (testsFor a b c d)
 unfolding testsFor verticesTest edgesTest groupTest
-sparing a b c d =
+never-malformed a b c d =
     record {
-      vertices = λ x n p. two-spare _ _ 1 7 0 0 n p (λ z. omega arith) (λ z. omega arith);
-      edges = λ x n p. two-spare _ _ 3 7 0 0 n p (λ z. omega arith) (λ z. omega arith);
-      group = λ v x n p. one-spares _ 17 v n p (λ z. omega arith);
+      vertices = λ x n p. two-not-malformed _ _ 1 7 0 0 n p (λ z. omega arith) (λ z. omega arith);
+      edges = λ x n p. two-not-malformed _ _ 3 7 0 0 n p (λ z. omega arith) (λ z. omega arith);
+      group = λ v x n p. one-not-malformed _ 17 v n p (λ z. omega arith);
     }
 
 outcome-found : {A : Type 0} (s : Step A) {a : A} → outcomeOf s ≡ answer a → (p : ℕ) × (s ≡ found a p)
@@ -82,12 +57,12 @@ outcome-refused (found b q) e = let z : _≡_ {A = ℕ} 0 1 = cc in absurd (omeg
 outcome-refused (refused i q) {n} {p} e = let a : i ≡ n = cc in let b : q ≡ p = cc in cc
 
 -- What an accepted text says, and that it ends there.
-record Told (tests : Tests) (t : List ℕ) (s : Survey) : Type 0 where
-  said : Said
+record AcceptedText (tests : Tests) (t : List ℕ) (s : SurveyText) : Type 0 where
+  content : SurveyContent
   next : ℕ
-  found-it : saidAt tests t 0 ≡ found said next
+  found-it : contentAt tests t 0 ≡ found content next
   last : length t ≤ next
-  says : s ≡ surveyOf (said .counts) (said .groups) (said .edges)
+  says : s ≡ surveyOf (content .counts) (content .groups) (content .edges)
 
 ends-at : (t : List ℕ) (p : ℕ) {z q : ℕ} → endAt t p ≡ found z q → length t ≤ p
 ends-at t p e = by-test (leb (length t) p) refl
@@ -96,19 +71,19 @@ ends-at t p e = by-test (leb (length t) p) refl
     by-test true h = leb-true (length t) p h
     by-test false h = let z : _≡_ {A = ℕ} 0 1 = cc (end-later t p (leb-false (length t) p h)) in absurd (omega arith)
 
-survey-said : (tests : Tests) (t : List ℕ) (s : Survey) (p : ℕ) → surveyAt tests t ≡ found s p → Told tests t s
-survey-said tests t s p e =
-    let g = then-value (saidAt tests t 0) (λ x p. endAt t p then λ z q. found (surveyOf (x .counts) (x .groups) (x .edges)) q) (sym (said-survey tests t) ∙ e) in
+survey-content : (tests : Tests) (t : List ℕ) (s : SurveyText) (p : ℕ) → surveyAt tests t ≡ found s p → AcceptedText tests t s
+survey-content tests t s p e =
+    let g = then-value (contentAt tests t 0) (λ x p. endAt t p then λ z q. found (surveyOf (x .counts) (x .groups) (x .edges)) q) (sym (content-survey tests t) ∙ e) in
     let h = then-value (endAt t (g .1)) (λ z q. found (surveyOf (g .0 .counts) (g .0 .groups) (g .0 .edges)) q) (g .3) in
-    record { said = g .0; next = g .1; found-it = g .2; last = ends-at t (g .1) (h .2); says = cc (h .3) }
+    record { content = g .0; next = g .1; found-it = g .2; last = ends-at t (g .1) (h .2); says = cc (h .3) }
 
 -- The same as what its lines say.
-abbrev pub saidFrom : List ℕ → List Edge → Said
-saidFrom groups edges = record { counts = record { vertices = length groups; edges = length edges }; groups = groups; edges = edges }
+abbrev pub contentFrom : List ℕ → List Edge → SurveyContent
+contentFrom groups edges = record { counts = record { vertices = length groups; edges = length edges }; groups = groups; edges = edges }
 
 -- Tests with room for these groups and edges accept their text.
-pub within-accepted : (a b c d : ℕ) (groups : List ℕ) (edges : List Edge) → Within groups edges → length groups ≤ a → length edges ≤ b → length edges ≤ c → length edges ≤ d
-    → Accepted (testsFor a b c d) (saidFrom groups edges) (render groups edges)
+pub within-accepted : (a b c d : ℕ) (groups : List ℕ) (edges : List Edge) → WithinCounts groups edges → length groups ≤ a → length edges ≤ b → length edges ≤ c → length edges ≤ d
+    → Accepted (testsFor a b c d) (contentFrom groups edges) (render groups edges)
 unfolding testsFor
 within-accepted a b c d groups edges w hg hf hs hw =
     let x = w .some in
@@ -125,7 +100,7 @@ within-accepted a b c d groups edges w hg hf hs hw =
     }
 
 -- What these tests accept is within the counts.
-pub accepted-within : (a b c d : ℕ) {x : Said} {w : List ℕ} → Accepted (testsFor a b c d) x w → Within (x .groups) (x .edges)
+pub accepted-within : (a b c d : ℕ) {x : SurveyContent} {w : List ℕ} → Accepted (testsFor a b c d) x w → WithinCounts (x .groups) (x .edges)
 unfolding testsFor
 accepted-within a b c d {x} m =
     let v = vertices-passed a (length (x .groups)) (m .someVertices .passes) in
@@ -136,60 +111,44 @@ module _ (gb fb sb wb : List ℕ) where
   abbrev tests : Tests
   tests = testsFor (length gb) (length fb) (length sb) (length wb)
 
-  -- The lent buffers are long enough.
-  pub record Room (groups : List ℕ) (edges : List Edge) : Type 0 where
-    pub forGroups : length groups ≤ length gb
-    pub forFirsts : length edges ≤ length fb
-    pub forSeconds : length edges ≤ length sb
-    pub forWeights : length edges ≤ length wb
-
   -- A rendering is read back.
-  pub read-render : (groups : List ℕ) (edges : List Edge) → Within groups edges → Room groups edges → reading (render groups edges) gb fb sb wb ≡ answer (surveyFrom groups edges)
-  unfolding reading surveyFrom outcomeOf
+  pub read-render : (groups : List ℕ) (edges : List Edge) → WithinCounts groups edges → SurveyRoom gb fb sb wb groups edges → reading (render groups edges) gb fb sb wb ≡ answer (surveyOfText groups edges)
+  unfolding reading surveyOfText outcomeOf
   read-render groups edges w r =
       let t = render groups edges in
-      let x = saidFrom groups edges in
+      let x = contentFrom groups edges in
       let a = within-accepted (length gb) (length fb) (length sb) (length wb) groups edges w (r .forGroups) (r .forFirsts) (r .forSeconds) (r .forWeights) in
-      let c : saidAt tests t 0 ≡ found x (0 + length t) = reads-said tests (sparing _ _ _ _) .complete t 0 x t a (stands-whole t) in
-      ap outcomeOf (said-survey tests t ∙ then-found _ c ∙ then-found _ (end-here t (0 + length t) (omega arith)))
+      let c : contentAt tests t 0 ≡ found x (0 + length t) = reads-content tests (never-malformed _ _ _ _) .complete t 0 x t a (stands-whole t) in
+      ap outcomeOf (content-survey tests t ∙ then-found _ c ∙ then-found _ (end-here t (0 + length t) (omega arith)))
 
-  -- An accepted text is a rendering, and what is read is what was rendered.
-  pub record Accepting (t : List ℕ) (s : Survey) : Type 0 where
-    pub groups : List ℕ
-    pub edges : List Edge
-    pub within : Within groups edges
-    pub room : Room groups edges
-    pub word : t ≡ render groups edges
-    pub says : s ≡ surveyFrom groups edges
-
-  pub accepted-render : (t : List ℕ) (s : Survey) → reading t gb fb sb wb ≡ answer s → Accepting t s
-  unfolding reading surveyFrom testsFor
+  pub accepted-render : (t : List ℕ) (s : SurveyText) → reading t gb fb sb wb ≡ answer s → Accepting gb fb sb wb t s
+  unfolding reading surveyOfText testsFor
   accepted-render t s e =
       let f = outcome-found (surveyAt tests t) e in
-      let g = survey-said tests t s (f .0) (f .1) in
-      let w = reads-said tests (sparing _ _ _ _) .sound t 0 (g .said) (g .next) (omega arith) (g .found-it) in
+      let g = survey-content tests t s (f .0) (f .1) in
+      let w = reads-content tests (never-malformed _ _ _ _) .sound t 0 (g .content) (g .next) (omega arith) (g .found-it) in
       let m = w .member in
       let l = g .last in
-      let v = vertices-passed (length gb) (length (g .said .groups)) (m .someVertices .passes) in
-      let c = edges-passed (length fb) (length sb) (length wb) (length (g .said .edges)) (m .someEdges .passes) in
+      let v = vertices-passed (length gb) (length (g .content .groups)) (m .someVertices .passes) in
+      let c = edges-passed (length fb) (length sb) (length wb) (length (g .content .edges)) (m .someEdges .passes) in
       let x = w .ends in
       record {
-        groups = g .said .groups;
-        edges = g .said .edges;
+        groups = g .content .groups;
+        edges = g .content .edges;
         within = accepted-within (length gb) (length fb) (length sb) (length wb) m;
         room = record { forGroups = v .room; forFirsts = c .first; forSeconds = c .second; forWeights = c .weight };
         word = sym (take-all (0 + length (w .word)) t (omega arith)) ∙ w .stands .is ∙ m .word;
-        says = g .says ∙ (λ i. surveyOf (record { vertices = m .vertices i; edges = m .edges i }) (g .said .groups) (g .said .edges));
+        says = g .says ∙ (λ i. surveyOf (record { vertices = m .vertices i; edges = m .edges i }) (g .content .groups) (g .content .edges));
       }
 
-formed-well : {x : Said} {w : List ℕ} → Formed x w → WellFormed w
+formed-well : {x : SurveyContent} {w : List ℕ} → Formed x w → WellFormed w
 formed-well {x} m = record { groups = x .groups; edges = x .edges; fewGroups = m .someVertices; fewEdges = m .someEdges; eachGroup = m .eachGroup; eachEdge = m .eachEdge; word = m .word }
 
-well-said : {t : List ℕ} → WellFormed t → Said
-well-said w = saidFrom (w .groups) (w .edges)
+well-content : {t : List ℕ} → WellFormed t → SurveyContent
+well-content w = contentFrom (w .groups) (w .edges)
 
-well-formed : {t : List ℕ} (w : WellFormed t) → Formed (well-said w) t
-unfolding well-said
+well-formed : {t : List ℕ} (w : WellFormed t) → Formed (well-content w) t
+unfolding well-content
 well-formed w = record { vertices = refl; edges = refl; someVertices = w .fewGroups; someEdges = w .fewEdges; eachGroup = w .eachGroup; eachEdge = w .eachEdge; word = w .word }
 
 end-refused : (t : List ℕ) (q n p : ℕ) → endAt t q ≡ refused n p → (q < length t) × (p ≡ q)
@@ -201,14 +160,14 @@ end-refused t q n p e = by-test (leb (length t) q) refl
 
 -- Where 16 comes from: a line, or a byte after the last line.
 data Malformed (tests : Tests) (t : List ℕ) (p : ℕ) : Type 0 where
-  in-line : saidAt tests t 0 ≡ refused 16 p → Malformed tests t p
-  after-lines : (x : Said) → saidAt tests t 0 ≡ found x p → p < length t → Malformed tests t p
+  in-line : contentAt tests t 0 ≡ refused 16 p → Malformed tests t p
+  after-lines : (x : SurveyContent) → contentAt tests t 0 ≡ found x p → p < length t → Malformed tests t p
 
 malformed : (tests : Tests) (t : List ℕ) (p : ℕ) → surveyAt tests t ≡ refused 16 p → Malformed tests t p
 unfolding _then_
-malformed tests t p e = by-said (saidAt tests t 0) refl (sym (said-survey tests t) ∙ e)
+malformed tests t p e = by-content (contentAt tests t 0) refl (sym (content-survey tests t) ∙ e)
   where
-    by-end : (x : Said) (q : ℕ) (s : Step ℕ) → saidAt tests t 0 ≡ found x q → endAt t q ≡ s → (s then λ z q. found (surveyOf (x .counts) (x .groups) (x .edges)) q) ≡ refused 16 p → Malformed tests t p
+    by-end : (x : SurveyContent) (q : ℕ) (s : Step ℕ) → contentAt tests t 0 ≡ found x q → endAt t q ≡ s → (s then λ z q. found (surveyOf (x .counts) (x .groups) (x .edges)) q) ≡ refused 16 p → Malformed tests t p
     by-end x q (found z r) h k e = let w : _≡_ {A = ℕ} 0 1 = cc in absurd (omega arith)
     by-end x q (refused n r) h k e =
         let a = end-refused t q n r k in
@@ -216,37 +175,32 @@ malformed tests t p e = by-said (saidAt tests t 0) refl (sym (said-survey tests 
         let c : q ≡ p = sym (a .1) ∙ b in
         after-lines x (h ∙ ap (λ (i : ℕ). found x i) c) (subst (λ (i : ℕ). i < length t) c (a .0))
 
-    by-said : (s : Step Said) → saidAt tests t 0 ≡ s → (s then λ x p. endAt t p then λ z q. found (surveyOf (x .counts) (x .groups) (x .edges)) q) ≡ refused 16 p → Malformed tests t p
-    by-said (found x q) h e = by-end x q (endAt t q) h refl e
-    by-said (refused n r) h e = in-line (h ∙ (λ i. refused (number e i) (place e i)))
+    by-content : (s : Step SurveyContent) → contentAt tests t 0 ≡ s → (s then λ x p. endAt t p then λ z q. found (surveyOf (x .counts) (x .groups) (x .edges)) q) ≡ refused 16 p → Malformed tests t p
+    by-content (found x q) h e = by-end x q (endAt t q) h refl e
+    by-content (refused n r) h e = in-line (h ∙ (λ i. refused (number e i) (place e i)))
       where
-        number : _≡_ {A = Step Survey} (refused n r) (refused 16 p) → n ≡ 16
+        number : _≡_ {A = Step SurveyText} (refused n r) (refused 16 p) → n ≡ 16
         number e = cc
 
-        place : _≡_ {A = Step Survey} (refused n r) (refused 16 p) → r ≡ p
+        place : _≡_ {A = Step SurveyText} (refused n r) (refused 16 p) → r ≡ p
         place e = cc
 
 module _ (gb fb sb wb t : List ℕ) (p : ℕ) (e : reading t gb fb sb wb ≡ refusal 16 p) where
   abbrev tests′ : Tests
   tests′ = testsFor (length gb) (length fb) (length sb) (length wb)
 
-  reads : Reads (saidAt tests′) (Accepted tests′) Formed
-  reads = reads-said tests′ (sparing _ _ _ _)
+  reads : Reads (contentAt tests′) (Accepted tests′) Formed
+  reads = reads-content tests′ (never-malformed _ _ _ _)
 
   why : Malformed tests′ t p
   unfolding reading
   why = malformed tests′ t p (outcome-refused (surveyAt tests′ t) e)
 
   -- The bytes before the place of 16 begin a well-formed text.
-  pub record Begins : Type 0 where
-    pub inside : p ≤ length t
-    pub rest : List ℕ
-    pub well : WellFormed (take p t ++ rest)
-
-  pub malformed-begins : Begins
+  pub malformed-begins : Begins t p
   malformed-begins = by-place why
     where
-      by-place : Malformed tests′ t p → Begins
+      by-place : Malformed tests′ t p → Begins t p
       by-place (in-line h) =
           let x = reads .extends t 0 p (omega arith) h in
           record { inside = reads .place t 0 p (omega arith) h .1; rest = x .rest; well = subst WellFormed (sym (x .whole)) (formed-well (x .member)) }
@@ -257,7 +211,7 @@ module _ (gb fb sb wb t : List ℕ) (p : ℕ) (e : reading t gb fb sb wb ≡ ref
 
   -- With the byte at that place they begin none.
   pub malformed-stops : p < length t → (rest : List ℕ) → WellFormed (take (p + 1) t ++ rest) → ⊥
-  malformed-stops l rest w = by-place why (reads .lively u 0 (well-said w) u (well-formed w) (stands-whole u))
+  malformed-stops l rest w = by-place why (reads .notMalformed u 0 (well-content w) u (well-formed w) (stands-whole u))
     where
       u : List ℕ
       u = take (p + 1) t ++ rest
@@ -271,12 +225,12 @@ module _ (gb fb sb wb t : List ℕ) (p : ℕ) (e : reading t gb fb sb wb ≡ ref
       same : take (p + 1) t ≡ take (p + 1) u
       same = sym (take-at (take (p + 1) t) rest (p + 1) n)
 
-      by-place : Malformed tests′ t p → Lively (saidAt tests′ u 0) (well-said w) (0 + length u) → ⊥
+      by-place : Malformed tests′ t p → NotMalformed (contentAt tests′ u 0) (well-content w) (0 + length u) → ⊥
       by-place (in-line h) (read q) = let z : _≡_ {A = ℕ} 0 1 = cc (reads .same t u 0 p (omega arith) h same) in omega arith
       by-place (in-line h) (otherwise {n = i} {q = j} q k) = let z : 16 ≡ i = cc (reads .same t u 0 p (omega arith) h same) in k (sym z)
       by-place (after-lines x h i) y =
           by-found (read-again reads t u 0 x p (p + 1) (omega arith) (omega arith) same h) y
         where
-          by-found : saidAt tests′ u 0 ≡ found x p → Lively (saidAt tests′ u 0) (well-said w) (0 + length u) → ⊥
+          by-found : contentAt tests′ u 0 ≡ found x p → NotMalformed (contentAt tests′ u 0) (well-content w) (0 + length u) → ⊥
           by-found c (read q) = let z : p ≡ 0 + length u = cc in let b = long in omega arith
           by-found c (otherwise q k) = let z : _≡_ {A = ℕ} 0 1 = cc in omega arith

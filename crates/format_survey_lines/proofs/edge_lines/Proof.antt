@@ -1,18 +1,20 @@
 -- `format_survey_lines::edge_lines` meets its contract: what is left to read and to store is what the whole reads and stores.
+use native.Mathlib.Omega.{arith}
 use borrow.Author.Needs.{needs}
 use Prim.Native.Nat.{ℕ, _-_}
 use mathlib.Core.Path.{_≡_, ap, sym, _∙_}
 use mathlib.Core.List.{List}
+use Rattle.base_limits.specs.Limits.{endpointDigits, weightDigits}
 use Rattle.format_survey_lines.specs.Line.{edgeLine, edgeLines, firstsOf, secondsOf, weightsOf}
 use Rattle.format_number.specs.Answer.{numberStep}
 use Rattle.format_survey_lines.specs.Answer.{edgeStep}
 use Rattle.format_survey_lines.specs.Laws.Tests.{edge-below, below-word}
-use Rattle.format_survey_lines.specs.Laws.Lines.{Left, Stored, stored-length, left-start, stored-start, left-more, left-stop, left-done, stored-more, stored-stop, stored-done}
+use Rattle.format_grammar.specs.Laws.Lines.{LinesLeft, Stored, stored-length, left-start, stored-start, left-more, left-stop, left-done, stored-more, stored-stop, stored-done}
 use Rattle.format_survey_lines.proofs.edge_lines.Statement.{statement}
 use Rattle.format_survey_lines.proofs.edge_lines.Tie as tie
 
 record Inv (text : List ℕ) (count at₀ : ℕ) (firsts₀ seconds₀ weights₀ firsts seconds weights : List ℕ) (at edge : ℕ) : Type 0 where
-  left : Left (edgeLine text) (edgeLines text count at₀) count edge at
+  left : LinesLeft (edgeLine text) (edgeLines text count at₀) count edge at
   one : Stored (edgeLine text) (edgeLines text count at₀) count edge at (λ e. e .first) firsts₀ firsts
   two : Stored (edgeLine text) (edgeLines text count at₀) count edge at (λ e. e .second) seconds₀ seconds
   three : Stored (edgeLine text) (edgeLines text count at₀) count edge at (λ e. e .weight) weights₀ weights
@@ -72,7 +74,7 @@ store32-requires c κs =
     let p = c .before .before in
     let q = p .before .before in
     let l = q .before .before .loop in
-    below-word (edge-below (q .before .before .before .before .before .before .before .args .text .now) (l .edge) (l .next .at) (sym (q .edge-line .ensures) ∙ ap edgeStep (p .first .given .1)) .first)
+    below-word endpointDigits (omega arith) (edge-below (q .before .before .before .before .before .before .before .args .text .now) (l .edge) (l .next .at) (sym (q .edge-line .ensures) ∙ ap edgeStep (p .first .given .1)) .first)
 
 store32-requires-2 : tie.Need-store32-requires-2 Inv-loop μ-loop
 unfolding edgeStep
@@ -80,7 +82,7 @@ store32-requires-2 c κs =
     let p = c .before .before .before .before .before .before in
     let q = p .before .before in
     let l = q .before .before .loop in
-    below-word (edge-below (q .before .before .before .before .before .before .before .args .text .now) (l .edge) (l .next .at) (sym (q .edge-line .ensures) ∙ ap edgeStep (p .first .given .1)) .second)
+    below-word endpointDigits (omega arith) (edge-below (q .before .before .before .before .before .before .before .args .text .now) (l .edge) (l .next .at) (sym (q .edge-line .ensures) ∙ ap edgeStep (p .first .given .1)) .second)
 
 store32-requires-3 : tie.Need-store32-requires-3 Inv-loop μ-loop
 unfolding edgeStep
@@ -88,7 +90,7 @@ store32-requires-3 c κs =
     let p = c .before .before .before .before .before .before .before .before .before .before in
     let q = p .before .before in
     let l = q .before .before .loop in
-    below-word (edge-below (q .before .before .before .before .before .before .before .args .text .now) (l .edge) (l .next .at) (sym (q .edge-line .ensures) ∙ ap edgeStep (p .first .given .1)) .weight)
+    below-word weightDigits (omega arith) (edge-below (q .before .before .before .before .before .before .before .args .text .now) (l .edge) (l .next .at) (sym (q .edge-line .ensures) ∙ ap edgeStep (p .first .given .1)) .weight)
 
 add-edge : tie.Need-add-edge Inv-loop μ-loop
 add-edge c = search needs

@@ -3,17 +3,17 @@ use borrow.Author.Needs.{needs}
 use Prim.Native.Nat.{_-_}
 use mathlib.Core.Path.{_≡_, ap, sym, _∙_}
 use lib.Seq.{sets}
-use Rattle.format_number.specs.Step.{found}
+use Rattle.format_grammar.specs.Step.{found}
 use Rattle.format_survey_lines.specs.Line.{groupLine, groupLines, groupTest}
 use Rattle.format_number.specs.Answer.{numberStep}
 use Rattle.format_survey_lines.specs.Laws.Tests.{group-below}
-use Rattle.format_survey_lines.specs.Laws.Lines.{Left, Stored, stored-length, left-start, stored-start, left-more, left-stop, left-done, stored-more, stored-stop, stored-done, map-same}
+use Rattle.format_grammar.specs.Laws.Lines.{LinesLeft, Stored, stored-length, left-start, stored-start, left-more, left-stop, left-done, stored-more, stored-stop, stored-done, map-same}
 use Rattle.format_survey_lines.proofs.group_lines.Statement.{statement}
 use Rattle.format_survey_lines.proofs.group_lines.Tie as tie
 
 abbrev Inv-loop : tie.InvT-loop
 Inv-loop text count groups₀ next₀ vertex₀ groups next vertex =
-    Left (groupLine groupTest text) (groupLines groupTest text count (next₀ .at)) count vertex (next .at)
+    LinesLeft (groupLine groupTest text) (groupLines groupTest text count (next₀ .at)) count vertex (next .at)
     × Stored (groupLine groupTest text) (groupLines groupTest text count (next₀ .at)) count vertex (next .at) (λ g. g) groups₀ groups
 
 abbrev μ-loop : tie.MeasureT-loop

@@ -43,8 +43,9 @@ use denote.Triple.Table.{entered, cited}
 use denote.Triple.Walked.{says, Stays, stay-none, walkOf, goes-none, Walks, ends-at, walked, walk-meets}
 use denote.Exit.{yes}
 use denote.Triple.Clauses.{ensured, lasts}
-use Rattle.format_number.specs.Step.{Step}
-use Rattle.format_survey_lines.specs.Line.{nodesKey}
+use Rattle.base_limits.specs.Limits.{countDigits}
+use Rattle.format_grammar.specs.Step.{Step}
+use Rattle.format_key.specs.Key.{nodesKey}
 use Rattle.format_number.specs.Number.{numberLine}
 use Rattle.format_number.specs.Answer.{numberStep}
 use Rattle.format_survey_lines.specs.declared.Reader.{Reader}
@@ -83,7 +84,7 @@ module _ {M : Type 1} (𝓤 : URA M) (H : Heap 𝓤) (A : Atoms 𝓤) (W : Given
   v = sliceVal (d .text .ptr) (length (d .text .now))
 
   abbrev found : Step ℕ
-  found = numberLine nodesKey (now (d .text)) (d .at)
+  found = numberLine nodesKey countDigits (now (d .text)) (d .at)
 
   abbrev Post : Val → SProp 𝓤
   Post = walkOf 𝓤 H A next.ended stayed (next.clauses 𝓤 H A mem run) .post (((κ, tt), (q, tt), tt, (d, tt), (mach ∷ [], tt)), tt)

@@ -3,7 +3,8 @@ use borrow.Author.Needs.{needs}
 use mathlib.Core.Path.{sym, ap}
 use Rattle.format_survey_lines.specs.Line.{Edge}
 use Rattle.format_survey_lines.specs.Answer.{edgeStep}
-use Rattle.format_number.specs.Answer.{numberStep, stopped}
+use Rattle.format_number.specs.Answer.{numberStep}
+use Rattle.format_grammar.specs.Step.{stopped}
 use Rattle.format_survey_lines.proofs.stopped_edge.Statement.{statement}
 use Rattle.format_survey_lines.proofs.stopped_edge.Tie as tie
 

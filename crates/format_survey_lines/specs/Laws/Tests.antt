@@ -1,21 +1,23 @@
 -- What each test of a complete line answers, and how large the values of a line are.
 use Prim.Native.Nat.{ℕ, _^_, _≤_, _<_}
 use native.Mathlib.Omega.{arith}
+use native.Mathlib.Nat.{pow-le-pow-right}
 use mathlib.Core.Path.{_≡_, refl, ap, subst}
 use mathlib.Core.List.{List}
 use mathlib.Core.Bool.{Bool, true, false}
 use lib.Dec.{eqb, ltb}
 use borrow.Author.Tests.{ltb-true, ltb-false, eqb-true, eqb-false, eq-eqb, ne-eqb, lt-ltb, le-ltb, le-leb, lt-leb}
-use Rattle.base_limits.specs.Limits.{maxVertices, maxEdges, groupNumbers, maxDigits}
+use Rattle.base_limits.specs.Limits.{maxVertices, maxEdges, groupNumbers, countDigits, groupDigits, endpointDigits, weightDigits}
 use Rattle.base_limits.specs.Verdict.{refuseIf, _before_}
 use Rattle.base_limits.specs.declared.Verdict.{Verdict}
 use Rattle.base_limits.specs.declared.Verdict.the-variants.{Fine, Refused}
-use Rattle.format_write.specs.Key.{comma, newline}
-use Rattle.format_number.specs.Step.{found, checked}
-use Rattle.format_survey_lines.specs.Line.{verticesTest, edgesTest, groupTest, nodeKey, linkKey, groupLine, Edge, edgeLine, nodesKey, linksKey, testsFor, countLine, countsAt, Counts}
-use Rattle.format_number.specs.Number.{numberLine, fixedAt, numberTo}
+use Rattle.format_key.specs.Key.{comma, newline, nodeKey, linkKey, nodesKey, linksKey}
+use Rattle.format_grammar.specs.Step.{found, checked}
+use Rattle.format_survey_lines.specs.Line.{verticesTest, edgesTest, groupTest, groupLine, Edge, edgeLine, testsFor, countLine, countsAt, Counts, EdgeDigits, wordNumbers}
+use Rattle.format_number.specs.Number.{numberLine, numberTo, OfDigits}
+use Rattle.format_grammar.specs.Bytes.{fixedAt}
 use Rattle.format_number.specs.Laws.Digits.{number-to-below}
-use Rattle.format_number.specs.Laws.Step.{then-value, checked-fine, checked-value}
+use Rattle.format_grammar.specs.Laws.Step.{then-value, checked-fine, checked-value}
 
 positive : (n : ℕ) → (n ≡ 0 → ⊥) → 0 < n
 positive n z = omega arith
@@ -112,51 +114,45 @@ group-passed v g e = by-size (ltb g groupNumbers) refl
 pub group-below : (t : List ℕ) (v at : ℕ) {g next : ℕ} → groupLine groupTest t v at ≡ found g next → g < groupNumbers
 unfolding groupLine checked
 group-below t v at {g} {next} e =
-    let f = then-value (numberLine nodeKey t at) (λ x p. checked (groupTest v x) x p) e in
+    let f = then-value (numberLine nodeKey groupDigits t at) (λ x p. checked (groupTest v x) x p) e in
     let w = checked-fine (groupTest v (f .0)) (f .0) (f .1) (f .3) in
     let q : checked (groupTest v (f .0)) (f .0) (f .1) ≡ found (f .0) (f .1) = ap (λ x. checked x (f .0) (f .1)) w in
     let same : f .0 ≡ g = cc (f .3) in
     subst (λ (x : ℕ). x < groupNumbers) same (group-passed v (f .0) w)
 
--- The numbers of an edge are below the power of ten of their digit limit.
-pub record Below (x : Edge) : Type 0 where
-  pub first : x .first < 10 ^ maxDigits
-  pub second : x .second < 10 ^ maxDigits
-  pub weight : x .weight < 10 ^ maxDigits
-
-pub edge-below : (t : List ℕ) (e at : ℕ) {x : Edge} {next : ℕ} → edgeLine t e at ≡ found x next → Below x
+pub edge-below : (t : List ℕ) (e at : ℕ) {x : Edge} {next : ℕ} → edgeLine t e at ≡ found x next → EdgeDigits x
 unfolding edgeLine
 edge-below t e at {x} {next} q =
     let k = then-value (fixedAt linkKey t at) _ q in
-    let u = then-value (numberTo maxDigits comma t (k .1)) _ (k .3) in
-    let v = then-value (numberTo maxDigits comma t (u .1)) _ (u .3) in
-    let w = then-value (numberTo maxDigits newline t (v .1)) _ (v .3) in
+    let u = then-value (numberTo endpointDigits comma t (k .1)) _ (k .3) in
+    let v = then-value (numberTo endpointDigits comma t (u .1)) _ (u .3) in
+    let w = then-value (numberTo weightDigits newline t (v .1)) _ (v .3) in
     let same : _≡_ {A = Edge} (record { first = u .0; second = v .0; weight = w .0 }) x = cc (w .3) in
-    subst Below same
+    subst EdgeDigits same
     record {
-      first = number-to-below t maxDigits comma (k .1) (u .0) (u .1) (omega arith) (u .2);
-      second = number-to-below t maxDigits comma (u .1) (v .0) (v .1) (omega arith) (v .2);
-      weight = number-to-below t maxDigits newline (v .1) (w .0) (w .1) (omega arith) (w .2);
+      first = number-to-below t endpointDigits comma (k .1) (u .0) (u .1) (omega arith) (u .2);
+      second = number-to-below t endpointDigits comma (u .1) (v .0) (v .1) (omega arith) (v .2);
+      weight = number-to-below t weightDigits newline (v .1) (w .0) (w .1) (omega arith) (w .2);
     }
 
--- A number of a line fits 32 bits.
-pub below-word : {x : ℕ} → x < 10 ^ maxDigits → x < 4294967296
-below-word h = omega arith
+-- A number of at most nine digits fits 32 bits.
+pub below-word : (limit : ℕ) {x : ℕ} → limit ≤ 9 → OfDigits limit x → x < wordNumbers
+below-word limit l h = let p : 10 ^ limit ≤ 10 ^ 9 = pow-le-pow-right {n = 10} (omega arith) {i = limit} {j = 9} l in omega arith
 
 -- What the counts that pass their tests are.
-pub record Fits (a b c d : ℕ) (counts : Counts) : Type 0 where
+pub record CountsFit (a b c d : ℕ) (counts : Counts) : Type 0 where
   pub vertices : VerticesPass a (counts .vertices)
   pub edges : EdgesPass b c d (counts .edges)
 
-pub counts-fit : (a b c d : ℕ) (t : List ℕ) {counts : Counts} {q : ℕ} → countsAt (testsFor a b c d) t ≡ found counts q → Fits a b c d counts
+pub counts-fit : (a b c d : ℕ) (t : List ℕ) {counts : Counts} {q : ℕ} → countsAt (testsFor a b c d) t ≡ found counts q → CountsFit a b c d counts
 unfolding countsAt testsFor countLine
 counts-fit a b c d t {counts} {q} e =
     let one = then-value (countLine nodesKey (verticesTest a) t 0) _ e in
-    let n = then-value (numberLine nodesKey t 0) _ (one .2) in
+    let n = then-value (numberLine nodesKey countDigits t 0) _ (one .2) in
     let two = then-value (countLine linksKey (edgesTest b c d) t (one .1)) _ (one .3) in
-    let m = then-value (numberLine linksKey t (one .1)) _ (two .2) in
+    let m = then-value (numberLine linksKey countDigits t (one .1)) _ (two .2) in
     let u = checked-value _ _ _ (n .3) in
     let v = checked-value _ _ _ (m .3) in
     let same : _≡_ {A = Counts} (record { vertices = n .0; edges = m .0 }) counts = cc (u, v, two .3) in
-    subst (Fits a b c d) same
+    subst (CountsFit a b c d) same
     record { vertices = vertices-passed a (n .0) (checked-fine _ _ _ (n .3)); edges = edges-passed b c d (m .0) (checked-fine _ _ _ (m .3)) }

@@ -6,7 +6,7 @@ use lib.ListN.{length}
 use Rattle.format_write.specs.Wrote.{farthest}
 use Rattle.format_write.specs.Laws.Wrote.{wrote-then, wrote-as}
 use mathlib.Core.List.{_++_}
-use Rattle.format_write.specs.Key.{dualKey}
+use Rattle.format_key.specs.Key.{dualKey}
 use Rattle.format_write.specs.Decimal.{decimal}
 use Rattle.format_write.specs.Text.{dualLine}
 use borrow.Author.Needs.{needs}

@@ -6,7 +6,7 @@ use lib.ListN.{length}
 use Rattle.format_write.specs.Wrote.{farthest}
 use Rattle.format_write.specs.Laws.Wrote.{wrote-then, wrote-as}
 use Prim.Native.Nat.{_≤_}
-use Rattle.format_write.specs.Key.{comma}
+use Rattle.format_key.specs.Key.{comma}
 use Rattle.format_write.specs.Decimal.{decimal}
 use Rattle.format_write.specs.Laws.Text.{item-first, item-later}
 use borrow.Author.Needs.{needs}

@@ -2,7 +2,7 @@
 use native.Mathlib.Omega.{arith}
 use mathlib.Core.Path.{ap, _∙_}
 use Rattle.format_write.specs.Laws.Wrote.{wrote-none, wrote-as}
-use Rattle.format_write.specs.Key.{keptKey}
+use Rattle.format_key.specs.Key.{keptKey}
 use Rattle.format_write.specs.Text.{lineOf}
 use Rattle.format_write.specs.Laws.Text.{kept-line, kept-line-none}
 use borrow.Author.Needs.{needs}

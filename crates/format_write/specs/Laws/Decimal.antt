@@ -67,7 +67,7 @@ length-decimal (suc n) x h =
 
 -- ---- reading back
 
-spelled-last : (ds : List ℕ) (x d : ℕ) → spelledAfter x (ds ++ (d ∷ [])) ≡ spelledAfter x ds * 10 + (d - digit 0)
+pub spelled-last : (ds : List ℕ) (x d : ℕ) → spelledAfter x (ds ++ (d ∷ [])) ≡ spelledAfter x ds * 10 + (d - digit 0)
 unfolding spelledAfter
 spelled-last [] x d = refl
 spelled-last (e ∷ ds) x d = spelled-last ds (x * 10 + (e - digit 0)) d

@@ -1,52 +1,35 @@
 -- Every finished plan, printed behind the text of its survey, passes the checking program with the same counts, and both texts fit that program's buffer.
-use Prim.Native.Nat.{ℕ, _*_, _^_, _≤_, _<_}
+use Prim.Native.Nat.{ℕ, _^_, _≤_, _<_}
 use native.Mathlib.Omega.{arith}
 use mathlib.Core.Path.{_≡_, ap, ap₂, sym, _∙_, subst}
 use mathlib.Core.List.{List, _++_}
-use lib.ListN.{length, take}
-use Rattle.base_limits.specs.Limits.{recordBytes}
+use lib.ListN.{length}
+use Rattle.base_limits.specs.Limits.{figureDigits}
 use Rattle.base_limits.specs.Verdict.{answer}
 use Rattle.base_limits.specs.declared.Verdict.the-variants.{Fine}
 use Rattle.format_write.specs.Text.{planText}
-use Rattle.format_survey.specs.Reading.{reading}
-use Rattle.format_survey.specs.Reading.{Survey as SurveyText}
+use Rattle.format_survey.specs.Reading.{reading, SurveyText}
 use Rattle.theory_steiner.specs.Laws.Rounds.{rounds-lt, grown-reached}
-use Rattle.survey_core.specs.Survey.{Survey, vertexCount, edgeCount, problemOf}
+use Rattle.survey_core.specs.Survey.{Survey, vertexCount, problemOf}
 use Rattle.survey_core.specs.Sound.{SurveySound, Numbered}
 use Rattle.survey_core.specs.Laws.Refusal.{survey-sound}
 use Rattle.check_rule.specs.Check.{Checked}
 use Rattle.check_rule.specs.Laws.Accuracy.{answered}
 use Rattle.plan_duals.specs.Drawing.{recordsOf}
 use Rattle.plan_duals.specs.Laws.Drawing.{bytes-records}
-use Rattle.plan_core.specs.Plan.{Plan, planOf, planRefusal, Counts, countsOf, counting, marksAfter, recordsAfter}
+use Rattle.plan_core.specs.Plan.{planOf, planRefusal, Counts, countsOf, counting}
 use Rattle.plan_core.specs.Promise.{Ready}
 use Rattle.plan_core.specs.Laws.Ready.{fine-ready}
 use Rattle.plan_core.specs.Laws.Passes.{finished-passes}
 use Rattle.plan_core.specs.Laws.Promise.{cut-marks, cut-records}
-use Rattle.format_plan_lines.specs.Lines.{countDigits}
 use Rattle.check_text.specs.Verify.{verifying}
-use Rattle.check_text.specs.Laws.Accuracy.{surveyIn}
+use Rattle.check_text.specs.Pair.{surveyIn}
 use Rattle.check_text.specs.Laws.Passes.{read-numbered, printed-passes, printed-length}
 use Rattle.check_text.specs.Laws.Length.{verified-length}
-
--- bytes that the checking program reads, at most
-abbrev pub verifyRoom : ℕ
-verifyRoom = 1048576
-
--- The plan of the survey that a text says, and its text.
-abbrev pub planFor : SurveyText → Plan
-planFor s = planOf (problemOf (surveyIn s))
-
-abbrev pub printedPlan : Plan → List ℕ
-printedPlan p = planText (p .terminals) (p .cost) (p .bound) (p .rounds) (p .marks) (recordsOf (p .duals))
-
--- What the program `plan` prints after its call: the counts, the first m marks and as many records as there are moats.
-abbrev pub printedCall : Survey → (marks records : List ℕ) → Counts → List ℕ
-printedCall s marks records c =
-    planText (c .terminals) (c .cost) (c .bound) (c .rounds) (take (edgeCount s) (marksAfter s marks records)) (take (recordBytes * c .duals) (recordsAfter s marks records))
+use Rattle.theorems.specs.Printed.{verifyRoom, planFor, printedPlan, printedCall}
 
 -- Rounds have few digits.
-rounds-few : (s : Survey) → SurveySound s → planOf (problemOf s) .rounds < 10 ^ countDigits
+rounds-few : (s : Survey) → SurveySound s → planOf (problemOf s) .rounds < 10 ^ figureDigits
 unfolding planOf problemOf vertexCount
 rounds-few s sound =
     let some = sound .some in

@@ -1,0 +1,7 @@
+pub mod Step
+pub mod Bytes
+pub mod Stands
+pub mod Language
+pub mod Lines
+pub mod Items
+pub mod Laws

@@ -1,0 +1,28 @@
+// The keys of the texts, each in this one place: readers compare them and writers write them. specs/Key.antt has the same bytes.
+
+// A survey's text: the two counts, a vertex's group, an edge.
+pub const NODES: [u8; 6] = *b"nodes=";
+
+pub const LINKS: [u8; 6] = *b"links=";
+
+pub const NODE: [u8; 5] = *b"node=";
+
+pub const LINK: [u8; 5] = *b"link=";
+
+// A printed plan: the terminals, the cost, the dual bound, the rounds, a kept edge, a dual.
+pub const TERMINALS: [u8; 6] = *b"sites=";
+
+pub const COST: [u8; 5] = *b"cost=";
+
+pub const BOUND: [u8; 6] = *b"bound=";
+
+pub const ROUNDS: [u8; 7] = *b"rounds=";
+
+pub const KEPT: [u8; 5] = *b"keep=";
+
+pub const DUAL: [u8; 5] = *b"moat=";
+
+// A printed refusal: its number and its place.
+pub const REFUSED: [u8; 8] = *b"refused=";
+
+pub const PLACE: [u8; 6] = *b"place=";

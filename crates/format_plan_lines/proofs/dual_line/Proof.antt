@@ -1,0 +1,131 @@
+-- `format_plan_lines::dual_line` meets its contract: a refusal of the start, of the members or of a test stays; otherwise the record is stored.
+use native.Mathlib.Omega.{arith}
+use borrow.Author.Needs.{needs}
+use mathlib.Core.Path.{refl, ap, sym, _∙_}
+use Rattle.format_number.specs.Answer.{numberStep}
+use Rattle.format_plan_lines.specs.Lines.{putMember, putDual, listedDual}
+use Rattle.format_plan_lines.specs.Laws.Tests.{dual-falls, dual-many, dual-fine}
+use Rattle.format_plan_lines.specs.Laws.Puts.{member-length}
+use Rattle.format_grammar.specs.Laws.Items.{empty-pass}
+use Rattle.format_plan_lines.specs.Laws.Lines.{members-below, members-end, dual-stops, dual-unlisted, dual-refused, dual-read}
+use Rattle.format_plan_lines.proofs.dual_line.Statement.{statement}
+use Rattle.format_plan_lines.proofs.dual_line.Tie as tie
+
+dual-head-requires : tie.Need-dual-head-requires
+dual-head-requires c κs = search needs
+
+enum-known-head : tie.Need-enum-known-head
+enum-known-head c = search needs
+
+enum-told : tie.Need-enum-told
+enum-told c = search needs
+
+returns : tie.Need-returns
+unfolding numberStep
+returns c =
+    let a = c .before .before .before .before .before .args in
+    rw (c .enum-told .given .1) (dual-stops (a .text .now) (a .i) (a .cursor .at) (sym (c .before .before .dual-head .ensures) ∙ ap numberStep (c .enum-told .given .1)) refl)
+
+sub-members : tie.Need-sub-members
+sub-members c = search needs
+
+part-members-start : tie.Need-part-members-start
+part-members-start c = search needs
+
+part-members-end : tie.Need-part-members-end
+part-members-end c = search needs
+
+members-requires : tie.Need-members-requires
+members-requires c κs = search needs
+
+enum-known-step : tie.Need-enum-known-step
+enum-known-step c = search needs
+
+enum-told-2 : tie.Need-enum-told-2
+enum-told-2 c = search needs
+
+same-length : tie.Need-same-length
+same-length c = search needs
+
+returns-2 : tie.Need-returns-2
+unfolding numberStep
+returns-2 c =
+    let a = c .before .before .before .before .before .before .before .before .before .before .before .before .args in
+    rw (c .enum-told2 .given .1)
+    (dual-unlisted (a .text .now) (a .i) (a .cursor .at) (sym (c .before .before .before .before .before .before .before .before .before .dual-head .ensures) ∙ ap numberStep (c .before .before .before .before .before .before .before .head .given .1))
+    (sym (c .before .before .before .before .members .ensures .end) ∙ ap numberStep (c .enum-told2 .given .1))
+    (empty-pass putMember member-length (a .records .now) _ (c .before .before .before .before .members .ensures .stored)))
+
+same-length-2 : tie.Need-same-length-2
+same-length-2 c = search needs
+
+returns-3 : tie.Need-returns-3
+unfolding numberStep
+returns-3 c =
+    let a = c .before .before .before .before .before .before .before .before .before .before .before .before .before .before .args in
+    dual-refused (a .text .now) (a .i) (a .cursor .at) (sym (c .before .before .before .before .before .before .before .before .before .before .before .dual-head .ensures) ∙ ap numberStep (c .before .before .before .before .before .before .before .before .before .head .given .1))
+    (sym (c .before .before .before .before .before .before .members .ensures .end) ∙ ap numberStep (c .before .before .step .given .1))
+    (dual-falls (a .i) _ (c .if1 .taken))
+    (empty-pass putMember member-length (a .records .now) _ (c .before .before .before .before .before .before .members .ensures .stored))
+
+same-length-3 : tie.Need-same-length-3
+same-length-3 c = search needs
+
+returns-4 : tie.Need-returns-4
+unfolding numberStep
+returns-4 c =
+    let a = c .before .before .before .before .before .before .before .before .before .before .before .before .before .before .before .args in
+    dual-refused (a .text .now) (a .i) (a .cursor .at) (sym (c .before .before .before .before .before .before .before .before .before .before .before .before .dual-head .ensures) ∙ ap numberStep (c .before .before .before .before .before .before .before .before .before .before .head .given .1))
+    (sym (c .before .before .before .before .before .before .before .members .ensures .end) ∙ ap numberStep (c .before .before .before .step .given .1))
+    (dual-many (a .i) _ (c .before .if1 .left) (c .if2 .taken))
+    (empty-pass putMember member-length (a .records .now) _ (c .before .before .before .before .before .before .before .members .ensures .stored))
+
+store-dual-requires : tie.Need-store-dual-requires
+unfolding numberStep
+store-dual-requires c κs =
+    let a = c .before .before .before .before .before .before .before .before .before .before .before .before .before .before .before .before .args in
+    members-below (a .text .now) _ (sym (c .before .before .before .before .before .before .before .before .members .ensures .end) ∙ ap numberStep (c .before .before .before .before .step .given .1)) (c .before .before .if1 .left)
+
+add-t13 : tie.Need-add-t13
+unfolding numberStep
+add-t13 c =
+    let a = c .before .before .before .before .before .before .before .before .before .before .before .before .before .before .before .before .before .before .before .args in
+    let k = members-end (a .text .now) _ (sym (c .before .before .before .before .before .before .before .before .before .before .before .members .ensures .end) ∙ ap numberStep (c .before .before .before .before .before .before .before .step .given .1)) in
+    omega (arith, k)
+
+same-length-4 : tie.Need-same-length-4
+same-length-4 c = search needs
+
+returns-5 : tie.Need-returns-5
+unfolding numberStep
+returns-5 c =
+    let a = c .before .before .before .before .before .before .before .before .before .before .before .before .before .before .before .before .before .before .before .args in
+    dual-read (a .text .now) (a .i) (a .cursor .at) (sym (c .before .before .before .before .before .before .before .before .before .before .before .before .before .before .before .before .dual-head .ensures) ∙ ap numberStep (c .before .before .before .before .before .before .before .before .before .before .before .before .before .before .head .given .1))
+    (sym (c .before .before .before .before .before .before .before .before .before .before .before .members .ensures .end) ∙ ap numberStep (c .before .before .before .before .before .before .before .step .given .1))
+    (dual-fine (a .i) _ (c .before .before .before .before .before .if1 .left) (c .before .before .before .before .if2 .left))
+    (c .before .before .store-dual .ensures ∙ ap (λ l. putDual l (a .i) (listedDual (a .text .now) (c .before .before .before .before .before .before .before .before .before .before .before .before .before .before .head .given .0 .0) (c .before .before .before .before .before .before .before .before .before .before .before .before .before .before .head .given .0 .1 .0 .at))) (empty-pass putMember member-length (a .records .now) _ (c .before .before .before .before .before .before .before .before .before .before .before .members .ensures .stored)))
+
+pub dual-line-spec : {M : Type 1} → statement M
+dual-line-spec =
+    tie.close
+    (tie.spec
+    dual-head-requires
+    enum-known-head
+    enum-told
+    returns
+    sub-members
+    part-members-start
+    part-members-end
+    members-requires
+    enum-known-step
+    enum-told-2
+    same-length
+    returns-2
+    same-length-2
+    returns-3
+    same-length-3
+    returns-4
+    store-dual-requires
+    add-t13
+    same-length-4
+    returns-5)

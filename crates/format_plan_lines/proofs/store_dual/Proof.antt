@@ -1,0 +1,56 @@
+-- `format_plan_lines::store_dual` meets its contract: the record takes the place of that of the buffer.
+use native.Mathlib.Omega.{arith}
+use borrow.Author.Needs.{needs}
+use mathlib.Core.Path.{sym}
+use lib.ListN.{length-take, length-drop}
+use Rattle.format_plan_lines.specs.Lines.{listedDual}
+use Rattle.format_plan_lines.specs.Laws.Lines.{dual-put-part, dual-left}
+use Rattle.format_plan_lines.proofs.store_dual.Statement.{statement}
+use Rattle.format_plan_lines.proofs.store_dual.Tie as tie
+
+mul-start : tie.Need-mul-start
+mul-start c = search needs
+
+add-end : tie.Need-add-end
+add-end c = search needs
+
+sub-fill-record : tie.Need-sub-fill-record
+sub-fill-record c = search needs
+
+part-fill-record-start : tie.Need-part-fill-record-start
+part-fill-record-start c = search needs
+
+part-fill-record-end : tie.Need-part-fill-record-end
+part-fill-record-end c = search needs
+
+fill-record-requires : tie.Need-fill-record-requires
+fill-record-requires c κs =
+    let a = c .before .before .before .before .args in
+    (simp (length-take, length-drop) (omega arith), c .before .before .before .before .pre)
+
+same-length : tie.Need-same-length
+same-length c = search needs
+
+returns : tie.Need-returns
+returns c =
+    let a = c .before .before .before .before .before .before .before .args in
+    rw (c .before .before .fill-record .ensures) (dual-put-part (a .records .now) (a .i) (listedDual (a .text .now) (a .amount) (a .list .at)) (c .before .before .before .before .if1 .taken))
+
+returns-2 : tie.Need-returns-2
+returns-2 c =
+    let a = c .before .before .before .args in
+    sym (dual-left (a .records .now) (a .i) _ (c .if1 .left))
+
+pub store-dual-spec : {M : Type 1} → statement M
+store-dual-spec =
+    tie.close
+    (tie.spec
+    mul-start
+    add-end
+    sub-fill-record
+    part-fill-record-start
+    part-fill-record-end
+    fill-record-requires
+    same-length
+    returns
+    returns-2)

@@ -1,0 +1,64 @@
+-- `format_survey_lines::survey_lines` meets its contract: a refused group line stays, and the edge lines follow the group lines.
+use borrow.Author.Needs.{needs}
+use mathlib.Core.Path.{refl, ap, sym, _∙_}
+use Rattle.format_number.specs.Answer.{numberStep}
+use Rattle.format_survey_lines.specs.Laws.Body.{lines-stopped, lines-read}
+use Rattle.format_survey_lines.proofs.survey_lines.Statement.{statement}
+use Rattle.format_survey_lines.proofs.survey_lines.Tie as tie
+
+group-lines-requires : tie.Need-group-lines-requires
+group-lines-requires c κs = search needs
+
+enum-known-heads : tie.Need-enum-known-heads
+enum-known-heads c = search needs
+
+enum-told : tie.Need-enum-told
+enum-told c = search needs
+
+same-length : tie.Need-same-length
+same-length c = search needs
+
+returns : tie.Need-returns
+unfolding numberStep
+returns c =
+    let a = c .before .before .before .before .before .before .before .before .before .before .before .args in
+    rw (c .enum-told .given .1)
+    (lines-stopped (a .text .now) (a .vertices) (a .edges) (a .cursor .at) (sym (c .before .before .before .before .group-lines .ensures .0) ∙ ap numberStep (c .enum-told .given .1)) (c .before .before .before .before .group-lines .ensures .1) refl refl refl)
+
+edge-lines-requires : tie.Need-edge-lines-requires
+edge-lines-requires c κs = search needs
+
+same-length-2 : tie.Need-same-length-2
+same-length-2 c = search needs
+
+same-length-3 : tie.Need-same-length-3
+same-length-3 c = search needs
+
+same-length-4 : tie.Need-same-length-4
+same-length-4 c = search needs
+
+same-length-5 : tie.Need-same-length-5
+same-length-5 c = search needs
+
+returns-2 : tie.Need-returns-2
+unfolding numberStep
+returns-2 c =
+    let a = c .before .before .before .before .before .before .before .before .before .before .before .before .before .before .before .before .before .before .before .before .before .before .args in
+    let e = c .before .before .before .before .before .before .edge-lines .ensures in
+    lines-read (a .text .now) (a .vertices) (a .edges) (a .cursor .at) (sym (c .before .before .before .before .before .before .before .before .before .before .before .before .before .before .before .group-lines .ensures .0) ∙ ap numberStep (c .before .before .before .before .before .before .before .before .before .before .before .heads .given .1)) (e .0) (c .before .before .before .before .before .before .before .before .before .before .before .before .before .before .before .group-lines .ensures .1) (e .1) (e .2) (e .3)
+
+pub survey-lines-spec : {M : Type 1} → statement M
+survey-lines-spec =
+    tie.close
+    (tie.spec
+    group-lines-requires
+    enum-known-heads
+    enum-told
+    same-length
+    returns
+    edge-lines-requires
+    same-length-2
+    same-length-3
+    same-length-4
+    same-length-5
+    returns-2)

@@ -1,0 +1,52 @@
+-- `put_edge`: the key and the three numbers.
+use Prim.Native.Nat.{_≤_}
+use native.Mathlib.Omega.{arith}
+use lib.ListN.{length}
+use Rattle.format_write.specs.Wrote.{farthest}
+use Rattle.format_write.specs.Laws.Wrote.{wrote-then}
+use Rattle.format_survey_lines.specs.Render.{edgeText}
+use borrow.Author.Needs.{needs}
+use Rattle.format_survey_print.proofs.put_edge.Statement.{statement}
+use Rattle.format_survey_print.proofs.put_edge.Tie as tie
+
+slice-aggregate-put-bytes : tie.Need-slice-aggregate-put-bytes
+slice-aggregate-put-bytes c = search needs
+
+put-bytes-requires : tie.Need-put-bytes-requires
+put-bytes-requires c κs = search needs
+
+put-field-requires : tie.Need-put-field-requires
+put-field-requires c κs = search needs
+
+put-field-requires-2 : tie.Need-put-field-requires-2
+put-field-requires-2 c κs = search needs
+
+put-field-requires-3 : tie.Need-put-field-requires-3
+put-field-requires-3 c κs = search needs
+
+same-length : tie.Need-same-length
+same-length c = search needs
+
+returns : tie.Need-returns
+unfolding edgeText
+returns c =
+    let third = c .before .before in
+    let second = third .before .before .before .before in
+    let first = second .before .before .before .before in
+    let key = first .before .before .before .before in
+    let small : length (key .before .before .before .before .args .out .now) ≤ farthest = omega arith in
+    wrote-then small
+    (wrote-then small (wrote-then small (key .put-bytes .ensures) (first .put-field .ensures)) (second .put-field2 .ensures))
+    (third .put-field3 .ensures)
+
+pub put-edge-spec : {M : Type 1} → statement M
+put-edge-spec =
+    tie.close
+    (tie.spec
+    slice-aggregate-put-bytes
+    put-bytes-requires
+    put-field-requires
+    put-field-requires-2
+    put-field-requires-3
+    same-length
+    returns)

@@ -1,0 +1,72 @@
+-- `put_survey`: the two counts, the vertices and the edges.
+use Prim.Native.Nat.{_≤_}
+use native.Mathlib.Omega.{arith}
+use mathlib.Core.Path.{_≡_, ap, sym, _∙_}
+use lib.ListN.{length}
+use Rattle.format_key.specs.Key.{nodesKey, linksKey}
+use Rattle.format_write.specs.Text.{lineOf}
+use Rattle.format_write.specs.Wrote.{farthest}
+use Rattle.format_write.specs.Laws.Wrote.{wrote-then, wrote-as}
+use Rattle.format_survey.specs.Render.{render}
+use Rattle.format_survey_print.specs.Print.{edgesFrom, surveyText}
+use Rattle.format_survey_print.specs.Laws.Print.{edges-count}
+use borrow.Author.Needs.{needs}
+use Rattle.format_survey_print.proofs.put_survey.Statement.{statement}
+use Rattle.format_survey_print.proofs.put_survey.Tie as tie
+
+slice-aggregate-put-line : tie.Need-slice-aggregate-put-line
+slice-aggregate-put-line c = search needs
+
+wide-requires : tie.Need-wide-requires
+wide-requires c κs = search needs
+
+put-line-requires : tie.Need-put-line-requires
+put-line-requires c κs = search needs
+
+slice-aggregate-put-line-2 : tie.Need-slice-aggregate-put-line-2
+slice-aggregate-put-line-2 c = search needs
+
+wide-requires-2 : tie.Need-wide-requires-2
+wide-requires-2 c κs = search needs
+
+put-line-requires-2 : tie.Need-put-line-requires-2
+put-line-requires-2 c κs = search needs
+
+put-groups-requires : tie.Need-put-groups-requires
+put-groups-requires c κs = search needs
+
+put-edges-requires : tie.Need-put-edges-requires
+put-edges-requires c κs = search needs
+
+same-length : tie.Need-same-length
+same-length c = search needs
+
+returns : tie.Need-returns
+unfolding surveyText render
+returns c =
+    let edges = c .before .before in
+    let groups = edges .before .before .before .before in
+    let links = groups .before .before .before .before in
+    let nodes = links .before .before .before .before .before .before in
+    let start = nodes .before .before .before .before .before .before .before .before .before in
+    let a = start .args in
+    let small : length (a .out .now) ≤ farthest = omega (arith, start .good .0) in
+    let n = wrote-as (nodes .put-line .ensures) (ap (lineOf nodesKey) (nodes .before .wide .ensures)) in
+    let m = wrote-as (links .put-line2 .ensures)
+    (ap (lineOf linksKey) (links .before .wide2 .ensures ∙ sym (edges-count (a .firsts .now) (a .seconds .now) (a .weights .now)))) in
+    wrote-then small (wrote-then small (wrote-then small n m) (groups .put-groups .ensures)) (edges .put-edges .ensures)
+
+pub put-survey-spec : {M : Type 1} → statement M
+put-survey-spec =
+    tie.close
+    (tie.spec
+    slice-aggregate-put-line
+    wide-requires
+    put-line-requires
+    slice-aggregate-put-line-2
+    wide-requires-2
+    put-line-requires-2
+    put-groups-requires
+    put-edges-requires
+    same-length
+    returns)

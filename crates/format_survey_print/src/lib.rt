@@ -1,0 +1,133 @@
+// Printing of a survey's text, which reading takes back. Definitions in specs/.
+ghost use Rattle.base_buffer.specs.Lent.{old, new};
+ghost use mathlib.Core.Path.{_≡_};
+ghost use lib.ListN.{getD};
+ghost use Rattle.format_key.specs.Key.{nodeKey};
+ghost use Rattle.format_write.specs.Text.{lineOf};
+ghost use Rattle.format_write.specs.Wrote.{Wrote};
+ghost use Rattle.format_number.specs.Number.{numberText};
+ghost use Rattle.format_survey_lines.specs.Render.{edgeText};
+ghost use Rattle.format_grammar.specs.Lines.{textOf};
+ghost use Rattle.format_survey_print.specs.Print.{edgeOf, edgesFrom, surveyText, surveyPrinted, surveyPrintedOut};
+use format_print::Printed;
+use format_write::put;
+use format_write::put_bytes;
+use format_write::put_line;
+use format_write::put_number;
+
+// The number at i, or 0 past the end.
+fn wide_at(s: &[u32], i: usize) -> u64
+    ensures { λ r. ⌜ r ≡ getD (old s) i 0 ⌝ }
+{
+    base_buffer::wide32(base_buffer::at32(s, i))
+}
+
+// Writes a number and the byte behind it.
+fn put_field(out: &mut [u8], at: usize, x: u64, stop: u8) -> usize
+    ensures { λ r. ⌜ Wrote (old out) at (numberText stop x) (new out) r ⌝ }
+{
+    let next = put_number(out, at, x);
+    put(out, next, stop)
+}
+
+// Writes the line of an edge.
+fn put_edge(out: &mut [u8], at: usize, first: u64, second: u64, weight: u64) -> usize
+    ensures { λ r. ⌜ Wrote (old out) at (edgeText (edgeOf first second weight)) (new out) r ⌝ }
+{
+    let next = put_bytes(out, at, &format_key::LINK);
+    let next = put_field(out, next, first, b',');
+    let next = put_field(out, next, second, b',');
+    put_field(out, next, weight, b'\n')
+}
+
+// Writes the line of a vertex.
+fn put_group(out: &mut [u8], at: usize, group: u8) -> usize
+    ensures { λ r. ⌜ Wrote (old out) at (lineOf nodeKey group) (new out) r ⌝ }
+{
+    put_line(out, at, &format_key::NODE, base_buffer::wide8(group))
+}
+
+// Writes the line of each vertex.
+fn put_groups(out: &mut [u8], at: usize, groups: &[u8]) -> usize
+    ensures { λ r. ⌜ Wrote (old out) at (textOf (lineOf nodeKey) (old groups)) (new out) r ⌝ }
+{
+    let mut next = at;
+    let mut v = 0;
+    while v < groups.len() {
+        next = put_group(out, next, groups[v]);
+        v += 1;
+    }
+    next
+}
+
+// Writes the line of each edge.
+fn put_edges(out: &mut [u8], at: usize, firsts: &[u32], seconds: &[u32], weights: &[u32]) -> usize
+    ensures { λ r. ⌜ Wrote (old out) at (textOf edgeText (edgesFrom (old firsts) (old seconds) (old weights))) (new out) r ⌝ }
+{
+    let mut next = at;
+    let mut e = 0;
+    while e < firsts.len() {
+        let first = wide_at(firsts, e);
+        let second = wide_at(seconds, e);
+        let weight = wide_at(weights, e);
+        next = put_edge(out, next, first, second, weight);
+        e += 1;
+    }
+    next
+}
+
+// Writes a whole survey.
+fn put_survey(
+    out: &mut [u8],
+    at: usize,
+    groups: &[u8],
+    firsts: &[u32],
+    seconds: &[u32],
+    weights: &[u32],
+) -> usize
+    ensures { λ r. ⌜ Wrote (old out) at (surveyText (old groups) (old firsts) (old seconds) (old weights)) (new out) r ⌝ }
+{
+    let next = put_line(out, at, &format_key::NODES, base_buffer::wide(groups.len()));
+    let next = put_line(
+        out,
+        next,
+        &format_key::LINKS,
+        base_buffer::wide(firsts.len()),
+    );
+    let next = put_groups(out, next, groups);
+    put_edges(out, next, firsts, seconds, weights)
+}
+
+// Prints a survey's text: 2 where the buffers of the edges differ in length, then 7 where the text does not fit, and then nothing is
+// written. It checks nothing else: the text of a survey that planning refuses is printed too.
+pub fn print_survey(
+    groups: &[u8],
+    firsts: &[u32],
+    seconds: &[u32],
+    weights: &[u32],
+    out: &mut [u8],
+) -> Printed
+    ensures { λ r. ⌜ r ≡ surveyPrinted (old groups) (old firsts) (old seconds) (old weights) (old out) ⌝ }
+    ensures { λ _. ⌜ new out ≡ surveyPrintedOut (old groups) (old firsts) (old seconds) (old weights) (old out) ⌝ }
+{
+    if firsts.len() != seconds.len() {
+        return Printed::Refused {
+            number: 2,
+            place: 0,
+        };
+    }
+    if firsts.len() != weights.len() {
+        return Printed::Refused {
+            number: 2,
+            place: 0,
+        };
+    }
+    let need = put_survey(&mut out[0..0], 0, groups, firsts, seconds, weights);
+    if out.len() < need {
+        return Printed::Refused {
+            number: 7,
+            place: 0,
+        };
+    }
+    Printed::Length(put_survey(out, 0, groups, firsts, seconds, weights))
+}
