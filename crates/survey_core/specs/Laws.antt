@@ -2,3 +2,4 @@ pub mod Member
 pub mod Refusal
 pub mod Group
 pub mod Cut
+pub mod Accuracy
