@@ -13,6 +13,7 @@
 
 pub mod blunder;
 pub mod brute;
+pub mod calls;
 pub mod check;
 pub mod gen;
 #[cfg(feature = "native")]

@@ -1,24 +1,43 @@
--- An answer as one number, and the counts in a lent buffer (document 01, 'Refused surveys and plans': a call that can return only one number).
-use Prim.Native.Nat.{ℕ, _+_, _*_, _%_}
-use mathlib.Core.List.{List}
-use lib.ListN.{set}
-use Rattle.base_limits.specs.Verdict.{Outcome, refusal, answer}
-use Rattle.plan_core.specs.Plan.{Counts}
+-- Calls from other languages (document 01, 'Refused surveys and plans', where a call returns one number): the answer is a number, and counts go into a lent buffer.
+use Prim.Native.Nat.{ℕ, _+_, _*_}
+use mathlib.Core.List.{List, [], _∷_}
+use lib.ListN.{length}
+use lib.Seq.{sets}
+use lib.Dec.{ltb}
+use Rattle.base_limits.specs.Verdict.{refuseIf, _before_, Outcome, refusal, answer, outcome, written}
+use Rattle.base_limits.specs.declared.Verdict.{Verdict}
+use Rattle.base_limits.specs.declared.Verdict.the-variants.{Fine, Refused}
+use Rattle.survey_core.specs.Survey.{Survey}
+use Rattle.survey_core.specs.Refusal.{surveyRefusal}
+use Rattle.plan_core.specs.Plan.{Counts, planRefusal, planOf, countsOf}
+use Rattle.check_rule.specs.Check.{Checked, checkRefusal, checkedOf}
 
--- In an answer of one number a refusal's place counts this much, and its number lies below it.
+-- a place counts this many times in the one number
 abbrev pub placeUnit : ℕ
 placeUnit = 256
 
--- Places of planning lie below this.
-abbrev pub placeLimit : ℕ
-placeLimit = 65536
+-- entries of the counts: k, cost, bound, rounds and moats of planning; k, cost and bound of checking
+abbrev pub planFigures : ℕ
+planFigures = 5
 
--- 0, or the refusal's number plus its place in units.
-unfoldable pub codeOf : Outcome Counts → ℕ
-codeOf (answer c) = 0
-codeOf (refusal number place) = number % placeUnit + placeUnit * (place % placeLimit)
+abbrev pub checkFigures : ℕ
+checkFigures = 3
 
--- The counts in document 01's order; a refusal writes nothing.
-unfoldable pub countsAfter : Outcome Counts → List ℕ → List ℕ
-countsAfter (answer c) old = set (set (set (set (set old 0 (c .terminals)) 1 (c .cost)) 2 (c .bound)) 3 (c .rounds)) 4 (c .duals)
-countsAfter (refusal number place) old = old
+-- 0 for an answer, else number and place of the refusal in one.
+unfoldable pub codeOf : Verdict → ℕ
+codeOf Fine = 0
+codeOf (Refused number place) = number + placeUnit * place
+
+-- A buffer that is too short for the counts is 7, after 1 to 6 and before all else.
+unfoldable pub withCounts : Survey → (wanted counts : ℕ) → Verdict → Verdict
+withCounts s wanted counts rest = surveyRefusal s before refuseIf (ltb counts wanted) 7 0 before rest
+
+-- What the lent counts hold at the end: the figures in document 01's order, and behind them what was there; a refusal writes nothing.
+unfoldable pub countsAfter : Verdict → (figures counts : List ℕ) → List ℕ
+countsAfter v figures counts = written v (sets counts 0 figures) counts
+
+unfoldable pub planFiguresOf : Counts → List ℕ
+planFiguresOf c = c .terminals ∷ c .cost ∷ c .bound ∷ c .rounds ∷ c .duals ∷ []
+
+unfoldable pub checkFiguresOf : Checked → List ℕ
+checkFiguresOf c = c .terminals ∷ c .cost ∷ c .bound ∷ []

@@ -1,3 +1,4 @@
 pub mod Member
 pub mod Refusal
 pub mod Group
+pub mod Accuracy

@@ -11,3 +11,4 @@ pub mod Dual
 pub mod WeakDuality
 pub mod Degree
 pub mod Accuracy
+pub mod Terminals

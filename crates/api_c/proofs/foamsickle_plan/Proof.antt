@@ -1,9 +1,31 @@
--- `foamsickle_plan` meets its contract: it answers what `plan` answers, as one number.
-use mathlib.Core.Path.{_∙_}
-use Rattle.api_c.specs.Laws.{finished-code, finished-counts, refused-code, refused-counts}
+-- `foamsickle_plan` meets its contract: counts that fit get what `plan` answers, others are 7 after the survey's refusals.
 use borrow.Author.Needs.{needs}
+use Rattle.api_c.specs.Laws.Call.{
+  plan-short-code,
+  plan-short-marks,
+  plan-short-records,
+  plan-short-counts,
+  plan-marks,
+  plan-records,
+  plan-finished,
+  plan-stored,
+  plan-fits,
+  plan-refused,
+  plan-kept,
+}
 use Rattle.api_c.proofs.foamsickle_plan.Statement.{statement}
 use Rattle.api_c.proofs.foamsickle_plan.Tie as tie
+
+short-counts-requires : tie.Need-short-counts-requires
+short-counts-requires c κs = search needs
+
+-- 1 to 6, or 7
+returns : tie.Need-returns
+returns c =
+    let short = c .before .if1 .taken in (
+      plan-short-code _ _ _ _ short (c .short-counts .ensures),
+      (plan-short-marks _ _ _ _ short, (plan-short-records _ _ _ _ short, plan-short-counts _ _ _ _ short)),
+    )
 
 plan-requires : tie.Need-plan-requires
 plan-requires c κs = search needs
@@ -11,17 +33,17 @@ plan-requires c κs = search needs
 enum-known-answer : tie.Need-enum-known-answer
 enum-known-answer c = search needs
 
-store-counts-requires : tie.Need-store-counts-requires
-store-counts-requires c κs = search needs
+store-five-requires : tie.Need-store-five-requires
+store-five-requires c κs = search needs
 
 enum-known-answer-2 : tie.Need-enum-known-answer-2
 enum-known-answer-2 c = search needs
 
-mul-result : tie.Need-mul-result
-mul-result c = search needs
-
-add-result : tie.Need-add-result
-add-result c = search needs
+-- the refusal fits one number
+code-requires : tie.Need-code-requires
+code-requires c κs =
+    let called = c .before .before .before .before .before .before .before in
+    plan-fits _ _ _ (called .plan .ensures .0) _ _ (c .before .answer2 .given .1)
 
 same-length : tie.Need-same-length
 same-length c = search needs
@@ -33,14 +55,18 @@ same-length-3 : tie.Need-same-length-3
 same-length-3 c = search needs
 
 -- finished
-returns : tie.Need-returns
-returns c =
-    let call = c .before .before .before .before .before .before .before .before .before .before .before in
-    let told = c .before .before .before .before .before .answer .given .1 in (
-      finished-code _ _ (call .plan .ensures .0) _ _ _ _ _ told,
+returns-2 : tie.Need-returns-2
+returns-2 c =
+    let matched = c .before .before .before .before .before in
+    let called = matched .before .before .before .before .before .before in
+    let long = called .before .before .before .if1 .left in (
+      plan-finished _ _ _ _ long (called .plan .ensures .0) _ _ _ _ _ (matched .answer .given .1),
       (
-        call .plan .ensures .1 .0,
-        (call .plan .ensures .1 .1 .0, c .before .before .store-counts .ensures ∙ finished-counts _ _ (call .plan .ensures .0) _ _ _ _ _ told _),
+        plan-marks _ _ _ _ long (called .plan .ensures .1 .0),
+        (
+          plan-records _ _ _ _ long (called .plan .ensures .1 .1 .0),
+          plan-stored _ _ _ _ long (called .plan .ensures .0) _ _ _ _ _ (matched .answer .given .1) (c .before .before .store-five .ensures),
+        ),
       ),
     )
 
@@ -51,28 +77,33 @@ same-length-5 : tie.Need-same-length-5
 same-length-5 c = search needs
 
 -- refused
-returns-2 : tie.Need-returns-2
-returns-2 c =
-    let call = c .before .before .before .before .before .before .before in
-    let told = c .before .answer2 .given .1 in (
-      refused-code _ _ (call .plan .ensures .0) _ _ told,
-      (call .plan .ensures .1 .0, (call .plan .ensures .1 .1 .0, refused-counts _ _ (call .plan .ensures .0) _ _ told _)),
+returns-3 : tie.Need-returns-3
+returns-3 c =
+    let matched = c .before .before in
+    let called = matched .before .before .before .before .before .before in
+    let long = called .before .before .before .if1 .left in (
+      plan-refused _ _ _ _ long (called .plan .ensures .0) _ _ (matched .answer2 .given .1) (c .code .ensures),
+      (
+        plan-marks _ _ _ _ long (called .plan .ensures .1 .0),
+        (plan-records _ _ _ _ long (called .plan .ensures .1 .1 .0), plan-kept _ _ _ _ long (called .plan .ensures .0) _ _ (matched .answer2 .given .1)),
+      ),
     )
 
 pub foamsickle-plan-spec : {M : Type 1} → statement M
 foamsickle-plan-spec =
     tie.close
     (tie.spec
+    short-counts-requires
+    returns
     plan-requires
     enum-known-answer
-    store-counts-requires
+    store-five-requires
     enum-known-answer-2
-    mul-result
-    add-result
+    code-requires
     same-length
     same-length-2
     same-length-3
-    returns
+    returns-2
     same-length-4
     same-length-5
-    returns-2)
+    returns-3)

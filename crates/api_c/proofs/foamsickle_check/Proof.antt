@@ -1,0 +1,58 @@
+-- `foamsickle_check` meets its contract: counts that fit get what `check` finds, others are 7 after the survey's refusals.
+use borrow.Author.Needs.{needs}
+use Rattle.api_c.specs.Laws.Call.{check-short-code, check-short-counts, check-passed, check-stored, check-fits, check-refused, check-kept}
+use Rattle.api_c.proofs.foamsickle_check.Statement.{statement}
+use Rattle.api_c.proofs.foamsickle_check.Tie as tie
+
+short-counts-requires : tie.Need-short-counts-requires
+short-counts-requires c κs = search needs
+
+-- 1 to 6, or 7
+returns : tie.Need-returns
+returns c =
+    let short = c .before .if1 .taken in
+    (check-short-code _ _ _ _ short (c .short-counts .ensures), check-short-counts _ _ _ _ short)
+
+check-requires : tie.Need-check-requires
+check-requires c κs = search needs
+
+enum-known-answer : tie.Need-enum-known-answer
+enum-known-answer c = search needs
+
+store-three-requires : tie.Need-store-three-requires
+store-three-requires c κs = search needs
+
+enum-known-answer-2 : tie.Need-enum-known-answer-2
+enum-known-answer-2 c = search needs
+
+-- the refusal fits one number
+code-requires : tie.Need-code-requires
+code-requires c κs =
+    let called = c .before .before .before in
+    check-fits _ _ _ (called .check .ensures .0) _ _ (c .before .answer2 .given .1)
+
+same-length : tie.Need-same-length
+same-length c = search needs
+
+-- passed
+returns-2 : tie.Need-returns-2
+returns-2 c =
+    let matched = c .before .before .before .before .before in
+    let called = matched .before .before in (
+      check-passed _ _ _ _ (called .before .if1 .left) (called .check .ensures .0) _ _ _ (matched .answer .given .1),
+      check-stored _ _ _ _ (called .before .if1 .left) (called .check .ensures .0) _ _ _ (matched .answer .given .1) (c .before .before .store-three .ensures),
+    )
+
+-- refused
+returns-3 : tie.Need-returns-3
+returns-3 c =
+    let matched = c .before .before in
+    let called = matched .before .before in (
+      check-refused _ _ _ _ (called .before .if1 .left) (called .check .ensures .0) _ _ (matched .answer2 .given .1) (c .code .ensures),
+      check-kept _ _ _ _ (called .before .if1 .left) (called .check .ensures .0) _ _ (matched .answer2 .given .1),
+    )
+
+pub foamsickle-check-spec : {M : Type 1} → statement M
+foamsickle-check-spec =
+    tie.close
+    (tie.spec short-counts-requires returns check-requires enum-known-answer store-three-requires enum-known-answer-2 code-requires same-length returns-2 returns-3)

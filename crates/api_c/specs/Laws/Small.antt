@@ -1,0 +1,105 @@
+-- Refusals of surveys, plans and checks fit one number of 64 bits: each number is below 256 and each place below 2^32.
+use Prim.Native.Nat.{ℕ, _+_, _*_, _<_, _≤_, _^_, _/_, _%_}
+use native.Mathlib.Omega.{arith}
+use mathlib.Core.Path.{_≡_, refl, sym, _∙_}
+use mathlib.Core.Logic.{⊎-elim}
+use mathlib.Core.Bool.{Bool, _||_, not}
+use mathlib.Core.List.{List}
+use lib.ListN.{length}
+use lib.Dec.{lit<, ltb, eqb}
+use borrow.Author.Tests.{ltb-false}
+use Rattle.base_finite.specs.Laws.Test.{or-false-right}
+use Rattle.base_limits.specs.Limits.{maxEdges, maxDuals, groupNumbers, recordBytes}
+use Rattle.base_limits.specs.Verdict.{refuseIf, _before_, lowestBelow}
+use Rattle.base_limits.specs.declared.Verdict.{Verdict}
+use Rattle.base_limits.specs.declared.Verdict.the-variants.{Fine, Refused}
+use Rattle.base_limits.specs.Laws.Verdict.{Lowest, lowest-elim, refused-refuse, before-fine, before-refused, fine-refuse}
+use Rattle.survey_core.specs.Survey.{Survey, edgeCount, vertexCount}
+use Rattle.survey_core.specs.Refusal.{edgeRefusal, surveyRefusal, groupRefusal}
+use Rattle.survey_core.specs.Sound.{SurveySound}
+use Rattle.survey_core.specs.Laws.Refusal.{fine-survey}
+use Rattle.check_rule.specs.Check.{checkRefusal, shapeRefusal, dualRefusal, ruleRefusal}
+use Rattle.plan_core.specs.Plan.{planRefusal}
+use Rattle.api_c.specs.Code.{placeUnit, withCounts}
+
+-- Number and place of a finding are small.
+pub record Small (v : Verdict) : Type 0 where
+  pub number-small : (number place : ℕ) → v ≡ Refused number place → number < 2 ^ 8
+  pub place-small : (number place : ℕ) → v ≡ Refused number place → place < 2 ^ 32
+
+-- So they fit one number.
+pub small-fits : (v : Verdict) → Small v → (number place : ℕ) → v ≡ Refused number place → number + placeUnit * place < 2 ^ 64
+small-fits v h number place e =
+    let a : number < 2 ^ 8 = h .number-small number place e in
+    let b : place < 2 ^ 32 = h .place-small number place e in
+    omega arith
+
+small-refuse : (t : Bool) (number place : ℕ) → number < 2 ^ 8 → place < 2 ^ 32 → Small (refuseIf t number place)
+small-refuse t number place a b =
+    record {
+      number-small = λ n p e. let x = refused-refuse t number place n p e .1 .0 in omega arith;
+      place-small = λ n p e. let x = refused-refuse t number place n p e .1 .1 in omega arith;
+    }
+
+small-before : (v w : Verdict) → Small v → (v ≡ Fine → Small w) → Small (v before w)
+unfolding _before_
+small-before Fine w h k = k refl
+small-before (Refused a b) w h k = h
+
+small-lowest : (n : ℕ) (f : ℕ → Verdict) → ((i : ℕ) → i < n → Small (f i)) → Small (lowestBelow n f)
+small-lowest n f h =
+    record {
+      number-small = λ number place e. let l : Lowest n f number place = lowest-elim n f number place e in h (l .at) (l .below) .number-small number place (l .found);
+      place-small = λ number place e. let l : Lowest n f number place = lowest-elim n f number place e in h (l .at) (l .below) .place-small number place (l .found);
+    }
+
+edge-small : (s : Survey) (e : ℕ) → e < 2 ^ 32 → Small (edgeRefusal s e)
+unfolding edgeRefusal
+edge-small s e b =
+    small-before _ _ (small-refuse _ 4 e (lit< tt) b) λ _. small-before _ _ (small-refuse _ 5 e (lit< tt) b) λ _. small-refuse _ 6 e (lit< tt) b
+
+pub survey-small : (s : Survey) → Small (surveyRefusal s)
+unfolding surveyRefusal
+survey-small s =
+    small-before _ _ (small-refuse _ 1 0 (lit< tt) (lit< tt)) λ _.
+    small-before _ _ (small-refuse _ 2 0 (lit< tt) (lit< tt)) λ _.
+    small-before _ _ (small-refuse _ 3 0 (lit< tt) (lit< tt)) λ few.
+    small-lowest (edgeCount s) (edgeRefusal s) λ e b. edge-small s e (below few b)
+  where
+    below : {e : ℕ} → refuseIf (ltb maxEdges (edgeCount s)) 3 0 ≡ Fine → e < edgeCount s → e < 2 ^ 32
+    below few b = let l = ltb-false maxEdges (edgeCount s) (fine-refuse _ 3 0 few) in omega arith
+
+group-small : (s : Survey) (number : ℕ) (F : ℕ → Bool) → number < 2 ^ 8 → Small (groupRefusal s number F)
+unfolding groupRefusal
+group-small s number F h = small-lowest groupNumbers _ λ g b. small-refuse _ number g h (omega arith)
+
+pub plan-small : (s : Survey) (marks records : ℕ) → Small (planRefusal s marks records)
+unfolding planRefusal
+plan-small s marks records =
+    small-before _ _ (survey-small s) λ _. small-before _ _ (small-refuse _ 7 0 (lit< tt) (lit< tt)) λ _. group-small s 8 _ (lit< tt)
+
+pub check-small : (s : Survey) (marks records : List ℕ) → Small (checkRefusal s marks records)
+unfolding edgeCount checkRefusal shapeRefusal dualRefusal ruleRefusal
+check-small s marks records =
+    small-before _ _ (survey-small s) λ fine.
+    small-before _ _ (small-refuse _ 9 0 (lit< tt) (lit< tt)) λ shaped.
+    small-before _ _ (small-lowest (edgeCount s) _ λ e b. small-refuse _ 10 e (lit< tt) (edge fine b)) λ _.
+    small-before _ _ (small-lowest (length records / recordBytes) _ λ i b. small-refuse _ 11 i (lit< tt) (dual shaped b)) λ _.
+    small-before _ _ (small-lowest (length records / recordBytes) _ λ i b. small-refuse _ 12 i (lit< tt) (dual shaped b)) λ _.
+    small-before _ _ (small-lowest (edgeCount s) _ λ e b. small-refuse _ 13 e (lit< tt) (edge fine b)) λ _.
+    small-before _ _ (group-small s 14 _ (lit< tt)) λ _.
+    small-refuse _ 15 0 (lit< tt) (lit< tt)
+  where
+    edge : {e : ℕ} → surveyRefusal s ≡ Fine → e < edgeCount s → e < 2 ^ 32
+    edge fine b = let f = fine-survey s fine .edges-few in omega arith
+
+    dual : {i : ℕ} → shapeRefusal s marks records ≡ Fine → i < length records / recordBytes → i < 2 ^ 32
+    dual shaped b =
+        let few = or-false-right (not (eqb (length marks) (length (s .firsts))) || not (eqb (length records % recordBytes) 0)) (ltb maxDuals (length records / recordBytes)) (fine-refuse _ 9 0 shaped) in
+        let l = ltb-false maxDuals (length records / recordBytes) few in
+        omega arith
+
+pub counts-small : (s : Survey) (wanted counts : ℕ) (v : Verdict) → Small v → Small (withCounts s wanted counts v)
+unfolding withCounts
+counts-small s wanted counts v h =
+    small-before _ _ (survey-small s) λ _. small-before _ _ (small-refuse _ 7 0 (lit< tt) (lit< tt)) λ _. h

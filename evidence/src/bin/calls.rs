@@ -1,0 +1,50 @@
+//! Single calls of the library that the feature `native` links, held against the second implementation:
+//!
+//!     calls [--count N] [--seed S]
+//!
+//! N calls of each operation. Prints how often each refusal came, and the first difference, if there is one.
+
+use evidence::calls::{Library, OPERATIONS};
+use std::collections::BTreeMap;
+use std::process::ExitCode;
+
+#[cfg(feature = "native")]
+const LIBRARY: Library = evidence::native::LIBRARY;
+#[cfg(not(feature = "native"))]
+const LIBRARY: Library = evidence::calls::SECOND;
+
+fn main() -> ExitCode {
+    let (mut count, mut seed) = (20_000, 1);
+    let mut words = std::env::args().skip(1);
+    while let Some(word) = words.next() {
+        let number = words.next().and_then(|w| w.parse().ok());
+        match (word.as_str(), number) {
+            ("--count", Some(n)) => count = n,
+            ("--seed", Some(n)) => seed = n,
+            _ => {
+                eprintln!("calls [--count N] [--seed S]");
+                return ExitCode::from(2);
+            }
+        }
+    }
+    if !cfg!(feature = "native") {
+        println!("without the feature native the second implementation is held against itself");
+    }
+    for (name, run) in OPERATIONS {
+        let mut came: BTreeMap<u64, u64> = BTreeMap::new();
+        for case in 0..count {
+            match run(&LIBRARY, seed, case) {
+                Ok(number) => *came.entry(number).or_default() += 1,
+                Err(trouble) => {
+                    println!("seed {seed} case {case}, {trouble}");
+                    println!("{} compared, 1 differ", case + 1);
+                    return ExitCode::FAILURE;
+                }
+            }
+        }
+        let came: Vec<String> = came.iter().map(|(number, many)| format!("{number}: {many}")).collect();
+        println!("{name}: {}", came.join(", "));
+    }
+    println!("{} compared, 0 differ", count * OPERATIONS.len() as u64);
+    ExitCode::SUCCESS
+}
