@@ -45,8 +45,9 @@ fn note(table: &mut [u64], group: u8, label: u64)
 
 // The table of all groups under given labels.
 pub fn spreads(groups: &[u8], labels: &[u32]) -> [u64; GROUP_NUMBERS]
-    ensures { λ r. let label : ℕ → ℕ = λ v. getD (old labels) v 0 in
-        ⌜ r ≡ tabulate groupNumbers (λ g. spread (groupsAlone (old groups)) label g (length (old groups))) ⌝ }
+    ensures { λ r. let s = groupsAlone (old groups) in
+        let label : ℕ → ℕ = λ v. getD (old labels) v 0 in
+        ⌜ r ≡ tabulate groupNumbers (λ g. spread s label g (length (old groups))) ⌝ }
 {
     let mut table = [0u64; GROUP_NUMBERS];
     let mut v = 0;
@@ -95,8 +96,9 @@ fn first_split(table: &[u64], number: u64) -> Verdict
 
 // The lowest group whose members have different labels.
 pub fn split_refusal(groups: &[u8], labels: &[u32], number: u64) -> Verdict
-    ensures { λ r. let label : ℕ → ℕ = λ v. getD (old labels) v 0 in
-        ⌜ r ≡ lowestBelow groupNumbers (λ g. refuseIf (not (groupJoined (groupsAlone (old groups)) label g)) number g) ⌝ }
+    ensures { λ r. let s = groupsAlone (old groups) in
+        let label : ℕ → ℕ = λ v. getD (old labels) v 0 in
+        ⌜ r ≡ lowestBelow groupNumbers (λ g. refuseIf (not (groupJoined s label g)) number g) ⌝ }
 {
     let table = spreads(groups, labels);
     first_split(&table, number)

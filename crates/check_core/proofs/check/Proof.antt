@@ -16,6 +16,7 @@ all-but-rule-requires c κs = search needs
 enum-known-found : tie.Need-enum-known-found
 enum-known-found c = search needs
 
+-- a refusal before 15
 returns : tie.Need-returns
 unfolding outcomeOf
 returns c =
@@ -28,6 +29,7 @@ enum-told c = search needs
 judge-requires : tie.Need-judge-requires
 judge-requires c κs = plan-fits _ _ _ (sym (c .before .before .all-but-rule .ensures) ∙ c .enum-told .given .1)
 
+-- 15 or passed
 returns-2 : tie.Need-returns-2
 returns-2 c =
     promises _ _ _ _ (λ v. omega (arith, c .before .before .before .before .before .before .before .before .before .shared-slice-known .given v))

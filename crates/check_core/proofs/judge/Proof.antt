@@ -28,12 +28,14 @@ enum-told c = search needs
 enum-known-found : tie.Need-enum-known-found
 enum-known-found c = search needs
 
+-- passed
 returns : tie.Need-returns
 unfolding outcomeOf checkedOf terminals terminal cost problemOf vertexCount edgeCount sameGroup member
 returns c = let args = c .before .before .before .before .before .before .before .before .before .before .before .args in
     let counts = checkedOf (surveyFrom (args .groups .now) (args .firsts .now) [] (args .weights .now)) (args .marks .now) (args .records .now) in
     judged-passed counts (c .before .before .before .before .before .terminals .ensures) (kept-cost-all _ _ _ (c .before .before .before .before .before .before .before .before .before .before .before .pre .edges-few) (c .before .before .before .before .kept-cost .ensures)) (c .before .before .before .bound .ensures) (c .before .before .rule-refusal .ensures) (c .enum-told .given .1)
 
+-- 15
 returns-2 : tie.Need-returns-2
 unfolding outcomeOf checkedOf terminals terminal cost problemOf vertexCount edgeCount sameGroup member
 returns-2 c = let args = c .before .before .before .before .before .before .before .before .before .before .before .before .args in

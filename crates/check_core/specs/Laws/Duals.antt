@@ -24,7 +24,7 @@ use Rattle.base_finite.specs.Laws.Count.{sum-end}
 use Rattle.survey_core.specs.Sound.{SurveySound}
 use Rattle.check_rule.specs.Check.{dualAt, dualsIn, keptBy, dualRefusal}
 use Rattle.check_core.specs.Stage.{loadBetween, DualsFit, CountsFit}
-use Rattle.check_rule.specs.Laws.Refusal.{fine-dual}
+use Rattle.check_rule.specs.Laws.Meaning.{fine-dual}
 
 -- What record i adds to the duals that pass the test.
 abbrev pub weighedAt : List ℕ → ((ℕ → Bool) → Bool) → ℕ → ℕ
@@ -81,7 +81,7 @@ unfolding dualAt
 duals-fit s records few h =
     record {
       few = few;
-      small = λ i b. fine-dual s (dualAt records i) i (none-lowest (length records / recordBytes) (λ i. dualRefusal s (dualAt records i) i) h i b);
+      small = λ i b. fine-dual s (dualAt records i) i (none-lowest (length records / recordBytes) (λ i. dualRefusal s (dualAt records i) i) h i b) .small;
     }
 
 -- 1 to 11 leave counts whose products fit 64 bits.

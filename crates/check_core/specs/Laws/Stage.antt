@@ -20,7 +20,7 @@ use Rattle.survey_core.specs.Sound.{SurveySound}
 use Rattle.survey_core.specs.Laws.Refusal.{fine-survey}
 use Rattle.check_rule.specs.Check.{Checked, dualAt, dualsIn, keptBy, shapeRefusal, dualRefusal, ruleRefusal, checkedOf, checkRefusal, checking}
 use Rattle.check_core.specs.Stage.{checkedAs, inputRefusal, dualsRefusal, allButRule, PlanFits}
-use Rattle.check_rule.specs.Laws.Refusal.{fine-shape}
+use Rattle.check_rule.specs.Laws.Meaning.{fine-shape}
 use Rattle.check_core.specs.Laws.Duals.{duals-fit, counts-fit}
 
 module _ (s : Survey) (marks records : List ℕ) where
@@ -59,7 +59,7 @@ module _ (s : Survey) (marks records : List ℕ) where
 
   pub input-few : inputRefusal s marks records ≡ Fine → length records / recordBytes ≤ maxDuals
   unfolding inputRefusal
-  input-few h = fine-shape s marks records (fine-left _ _ (fine-right _ _ h))
+  input-few h = fine-shape s marks records (fine-left _ _ (fine-right _ _ h)) .2
 
   -- The call for 14 repeats 1 to 6.
   pub group-found : inputRefusal s marks records ≡ Fine → {found : Verdict} → found ≡ (surveyRefusal s before groupRefusal s 14 (chosen Kept marks))

@@ -6,15 +6,19 @@ use Rattle.base_limits.specs.Laws.Verdict.{refuse-true, refuse-false}
 use Rattle.check_marks.proofs.mark_refusal.Statement.{statement}
 use Rattle.check_marks.proofs.mark_refusal.Tie as tie
 
+-- 0
 returns : tie.Need-returns
 returns c = sym (refuse-false (le-ltb 2 (c .before .args .mark) (omega arith)) 10 _)
 
+-- 1
 returns-2 : tie.Need-returns-2
 returns-2 c = sym (refuse-false (le-ltb 2 (c .before .args .mark) (omega arith)) 10 _)
 
+-- 2
 returns-3 : tie.Need-returns-3
 returns-3 c = sym (refuse-false (le-ltb 2 (c .before .args .mark) (omega arith)) 10 _)
 
+-- 10
 returns-4 : tie.Need-returns-4
 returns-4 c = sym (refuse-true (lt-ltb 2 (c .before .args .mark) (omega (arith, c .match .rest))) 10 _)
 

@@ -10,7 +10,7 @@ use native.Mathlib.Omega.{arith}
 use native.Mathlib.Nat.{not-le-of-lt}
 use lib.ListN.{length, getD, List·getD-eq-default}
 use lib.Dec.{eqb, ltb, leb}
-use borrow.Author.Tests.{eqb-true, eqb-false, eq-eqb, ne-eqb, ltb-false, le-ltb, leb-true, leb-false, not-true, not-false}
+use borrow.Author.Tests.{eqb-true, eqb-false, eq-eqb, ltb-false, le-ltb, leb-true, leb-false, not-true, not-false}
 use Rattle.base_finite.specs.Below.{anyBelow}
 use Rattle.base_finite.specs.Laws.Test.{and-left, and-right, or-false-left, or-false-right, not-true-false, true-not-false, and-false-cases}
 use Rattle.base_finite.specs.Laws.Below.{any-none, any-elim, Found, lt-or-ge}
@@ -24,6 +24,7 @@ use Rattle.survey_core.specs.Sound.{Numbered}
 use Rattle.survey_core.specs.Laws.Refusal.{survey-fine, fine-survey}
 use Rattle.survey_core.specs.Laws.Group.{group-fine, joins-fine}
 use Rattle.check_rule.specs.Passing.{DualSound, Passing}
+use Rattle.check_rule.specs.Laws.Refusal.{shape-fine, dual-fine}
 use Rattle.check_rule.specs.Check.{
   Checked,
   dualAt,
@@ -39,10 +40,10 @@ use Rattle.check_rule.specs.Check.{
 -- ---- each refusal
 
 module _ (s : Survey) (marks records : List ℕ) where
-  shape-fine : shapeRefusal s marks records ≡ Fine →
+  pub fine-shape : shapeRefusal s marks records ≡ Fine →
       (length marks ≡ edgeCount s) × (length records % recordBytes ≡ 0) × (length records / recordBytes ≤ maxDuals)
   unfolding shapeRefusal
-  shape-fine h =
+  fine-shape h =
       let a = eqb (length marks) (edgeCount s) in
       let b = eqb (length records % recordBytes) 0 in
       let c = ltb maxDuals (length records / recordBytes) in
@@ -53,15 +54,9 @@ module _ (s : Survey) (marks records : List ℕ) where
         ltb-false maxDuals (length records / recordBytes) (or-false-right (not a || not b) c k),
       )
 
-  fine-shape : length marks ≡ edgeCount s → length records % recordBytes ≡ 0 → length records / recordBytes ≤ maxDuals → shapeRefusal s marks records ≡ Fine
-  unfolding shapeRefusal
-  fine-shape x y z =
-      refuse-false
-      (rw (eq-eqb (length marks) (edgeCount s) x, eq-eqb (length records % recordBytes) 0 y, le-ltb maxDuals (length records / recordBytes) z)) 9 0
-
-dual-fine : (s : Survey) (d : Dual) (i : ℕ) → dualRefusal s d i ≡ Fine → DualSound s d
+pub fine-dual : (s : Survey) (d : Dual) (i : ℕ) → dualRefusal s d i ≡ Fine → DualSound s d
 unfolding dualRefusal
-dual-fine s d i h =
+fine-dual s d i h =
     let a = eqb (d .value) 0 in
     let b = ltb maxValue (d .value) in
     let c = anyBelow (8 * memberBytes) (λ v. leb (vertexCount s) v && d .holds v) in
@@ -78,24 +73,19 @@ dual-fine s d i h =
           (and-false-cases (leb (vertexCount s) v) (d .holds v) (none v bv));
     }
 
-fine-dual : (s : Survey) (d : Dual) (i : ℕ) → DualSound s d → dualRefusal s d i ≡ Fine
-unfolding dualRefusal
-fine-dual s d i h =
-    refuse-false
-    (rw
-    (ne-eqb (d .value) 0 (λ e. let p : 0 < d .value = h .positive in omega arith), le-ltb maxValue (d .value) (h .small), none-out)) 11 i
-  where
-    none-out : anyBelow (8 * memberBytes) (λ v. leb (vertexCount s) v && d .holds v) ≡ false
-    none-out =
-        not-true-false (anyBelow (8 * memberBytes) (λ v. leb (vertexCount s) v && d .holds v))
-        (λ a.
-        let f : Found (8 * memberBytes) (λ v. leb (vertexCount s) v && d .holds v) = any-elim (8 * memberBytes) _ a in
-        not-le-of-lt (h .vertices-only (f .at) (f .below) (and-right (leb (vertexCount s) (f .at)) (d .holds (f .at)) (f .passes)))
-        (leb-true (vertexCount s) (f .at) (and-left (leb (vertexCount s) (f .at)) (d .holds (f .at)) (f .passes))))
+sound-dual : (s : Survey) (d : Dual) (i : ℕ) → DualSound s d → dualRefusal s d i ≡ Fine
+unfolding vertexCount
+sound-dual s d i h =
+    dual-fine s d i (λ e. let p : 0 < d .value = h .positive in omega arith) (h .small)
+    (not-true-false (anyBelow (8 * memberBytes) (λ v. leb (vertexCount s) v && d .holds v))
+    (λ a.
+    let f : Found (8 * memberBytes) (λ v. leb (vertexCount s) v && d .holds v) = any-elim (8 * memberBytes) _ a in
+    not-le-of-lt (h .vertices-only (f .at) (f .below) (and-right (leb (vertexCount s) (f .at)) (d .holds (f .at)) (f .passes)))
+    (leb-true (vertexCount s) (f .at) (and-left (leb (vertexCount s) (f .at)) (d .holds (f .at)) (f .passes)))))
 
-rule-fine : (c : Checked) → ruleRefusal c ≡ Fine → (c .terminals ≡ 0 → c .cost ≡ 0) × (c .terminals * c .cost ≤ (c .terminals - 1) * c .bound)
+fine-rule : (c : Checked) → ruleRefusal c ≡ Fine → (c .terminals ≡ 0 → c .cost ≡ 0) × (c .terminals * c .cost ≤ (c .terminals - 1) * c .bound)
 unfolding ruleRefusal
-rule-fine c h =
+fine-rule c h =
     let a = eqb (c .terminals) 0 in
     let b = eqb (c .cost) 0 in
     let x = ltb ((c .terminals - 1) * c .bound) (c .terminals * c .cost) in
@@ -108,9 +98,9 @@ rule-fine c h =
       ltb-false ((c .terminals - 1) * c .bound) (c .terminals * c .cost) (or-false-right (a && not b) x k),
     )
 
-fine-rule : (c : Checked) → (c .terminals ≡ 0 → c .cost ≡ 0) → c .terminals * c .cost ≤ (c .terminals - 1) * c .bound → ruleRefusal c ≡ Fine
+rule-fine : (c : Checked) → (c .terminals ≡ 0 → c .cost ≡ 0) → c .terminals * c .cost ≤ (c .terminals - 1) * c .bound → ruleRefusal c ≡ Fine
 unfolding ruleRefusal
-fine-rule c none rule =
+rule-fine c none rule =
     refuse-false (rw (free, le-ltb ((c .terminals - 1) * c .bound) (c .terminals * c .cost) rule)) 15 0
   where
     free : (eqb (c .terminals) 0 && not (eqb (c .cost) 0)) ≡ false
@@ -147,15 +137,15 @@ module _ (s : Survey) (numbered : Numbered s) (marks records : List ℕ) where
       let h13 = fine-right _ _ h12 in
       let h14 = fine-right _ _ h13 in
       let h15 = fine-right _ _ h14 in
-      let shape = shape-fine s marks records (fine-left _ _ h9) in
-      let rule = rule-fine _ h15 in
+      let shape = fine-shape s marks records (fine-left _ _ h9) in
+      let rule = fine-rule _ h15 in
       record {
         survey = fine-survey s (fine-left _ _ h);
         marks-long = shape .0;
         records-whole = shape .1;
         records-few = shape .2;
         marks-known = λ e b. ltb-false 2 (getD marks e 0) (fine-refuse (ltb 2 (getD marks e 0)) 10 e (none-lowest (edgeCount s) _ (fine-left _ _ h10) e b));
-        duals-sound = λ i b. dual-fine s (dualAt records i) i (none-lowest (length records / recordBytes) _ (fine-left _ _ h11) i b);
+        duals-sound = λ i b. fine-dual s (dualAt records i) i (none-lowest (length records / recordBytes) _ (fine-left _ _ h11) i b);
         duals-separate = λ i b.
             not-false (separates (problemOf s) (dualAt records i .holds))
             (fine-refuse (not (separates (problemOf s) (dualAt records i .holds))) 12 i (none-lowest (length records / recordBytes) _ (fine-left _ _ h12) i b));
@@ -169,18 +159,18 @@ module _ (s : Survey) (numbered : Numbered s) (marks records : List ℕ) where
 
   -- And all that passes.
   pub passing-check : Passing s marks records → checkRefusal s marks records ≡ Fine
-  unfolding checkRefusal checkedOf
+  unfolding checkRefusal checkedOf edgeCount
   passing-check h =
       before-fine (survey-fine s (h .survey)) _
-      ∙ before-fine (fine-shape s marks records (h .marks-long) (h .records-whole) (h .records-few)) _
+      ∙ before-fine (shape-fine s marks records (h .marks-long) (h .records-whole) (h .records-few)) _
       ∙ before-fine (lowest-none (edgeCount s) _ (λ e b. refuse-false (le-ltb 2 (getD marks e 0) (h .marks-known e b)) 10 e)) _
-      ∙ before-fine (lowest-none (length records / recordBytes) _ (λ i b. fine-dual s (dualAt records i) i (h .duals-sound i b))) _
+      ∙ before-fine (lowest-none (length records / recordBytes) _ (λ i b. sound-dual s (dualAt records i) i (h .duals-sound i b))) _
       ∙ before-fine (lowest-none (length records / recordBytes) _ (λ i b. refuse-false (rw (h .duals-separate i b)) 12 i)) _
       ∙ before-fine
       (lowest-none (edgeCount s) _
       (λ e b. refuse-false (le-ltb (2 * problemOf s .weight e) (felt (problemOf s) (dualsIn records) e) (h .not-overtight e b)) 13 e)) _
       ∙ before-fine (joins-fine s 14 (keptBy marks) (kept-bounded s marks (h .marks-long)) (h .kept-joins)) _
-      ∙ fine-rule _ (h .none-free) (h .rule)
+      ∙ rule-fine _ (h .none-free) (h .rule)
 
   -- Passed exactly if none of 1 to 6 and 9 to 15 applies, each in its own terms.
   pub passes-iff : (checkRefusal s marks records ≡ Fine) ↔ Passing s marks records

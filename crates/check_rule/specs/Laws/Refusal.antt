@@ -2,17 +2,15 @@
 use Prim.Native.Nat.{ℕ, _*_, _-_, _/_, _%_, _<_, _≤_}
 use native.Mathlib.Omega.{arith}
 use mathlib.Core.Path.{_≡_}
-use mathlib.Core.Bool.{Bool, true, false, _&&_, _||_, not}
+use mathlib.Core.Bool.{Bool, true, false, _&&_}
 use mathlib.Core.List.{List}
 use lib.ListN.{length}
-use lib.Dec.{eqb, ltb, leb}
-use borrow.Author.Tests.{eq-eqb, ne-eqb, le-ltb, lt-ltb, ltb-false}
+use lib.Dec.{leb}
+use borrow.Author.Tests.{eq-eqb, ne-eqb, le-ltb, lt-ltb}
 use Rattle.base_finite.specs.Below.{anyBelow}
-use Rattle.base_finite.specs.Laws.Test.{or-false-left, or-false-right}
 use Rattle.base_limits.specs.Limits.{maxValue, memberBytes, recordBytes, maxDuals}
 use Rattle.base_limits.specs.Verdict.{refuseIf}
 use Rattle.base_limits.specs.declared.Verdict.the-variants.{Fine, Refused}
-use Rattle.base_limits.specs.Laws.Verdict.{fine-refuse}
 use Rattle.theory_steiner.specs.Dual.{Dual}
 use Rattle.survey_core.specs.Survey.{Survey, vertexCount, edgeCount}
 use Rattle.check_rule.specs.Check.{Checked, shapeRefusal, dualRefusal, ruleRefusal}
@@ -46,18 +44,6 @@ module _ (s : Survey) (marks records : List ℕ) where
             le-ltb maxDuals (length records / recordBytes) h,
           )
 
-  -- What 9 leaves of the records.
-  pub fine-shape : shapeRefusal s marks records ≡ Fine → length records / recordBytes ≤ maxDuals
-  unfolding shapeRefusal
-  fine-shape h =
-      ltb-false
-      maxDuals
-      (length records / recordBytes)
-      (or-false-right
-      (not (eqb (length marks) (edgeCount s)) || not (eqb (length records % recordBytes) 0))
-      (ltb maxDuals (length records / recordBytes))
-      (fine-refuse _ 9 0 h))
-
 module _ (s : Survey) (d : Dual) (i : ℕ) where
   abbrev strays : Bool
   strays = anyBelow (8 * memberBytes) (λ v. leb (length (s .groups)) v && d .holds v)
@@ -80,18 +66,6 @@ module _ (s : Survey) (d : Dual) (i : ℕ) where
     pub dual-fine : strays ≡ false → dualRefusal s d i ≡ Fine
     unfolding dualRefusal vertexCount refuseIf
     dual-fine h = rw (ne-eqb (d .value) 0 some, le-ltb maxValue (d .value) fits, h)
-
-  -- What 11 leaves of a dual's value.
-  pub fine-dual : dualRefusal s d i ≡ Fine → d .value ≤ maxValue
-  unfolding dualRefusal vertexCount
-  fine-dual h =
-      ltb-false
-      maxValue
-      (d .value)
-      (or-false-right
-      (eqb (d .value) 0)
-      (ltb maxValue (d .value))
-      (or-false-left (eqb (d .value) 0 || ltb maxValue (d .value)) strays (fine-refuse _ 11 i h)))
 
 module _ (c : Checked) where
   pub rule-none : c .terminals ≡ 0 → c .cost ≡ 0 → ruleRefusal c ≡ Fine

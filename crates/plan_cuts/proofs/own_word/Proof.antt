@@ -10,10 +10,12 @@ use borrow.Author.Needs.{needs}
 use Rattle.plan_cuts.proofs.own_word.Statement.{statement}
 use Rattle.plan_cuts.proofs.own_word.Tie as tie
 
+-- before the batch
 returns : tie.Need-returns
 returns c =
     sym (own-before _ _ (c .if1 .taken))
 
+-- after the batch
 returns-2 : tie.Need-returns-2
 returns-2 c =
     sym (own-after _ _ (omega arith) (omega arith))
@@ -21,6 +23,7 @@ returns-2 c =
 shl-result : tie.Need-shl-result
 shl-result c = search needs
 
+-- in the batch
 returns-3 : tie.Need-returns-3
 returns-3 c =
     let b = c .before .before .args .base in

@@ -15,24 +15,29 @@ at32-requires-2 c κs = search needs
 index32-requires : tie.Need-index32-requires
 index32-requires c κs = search needs
 
+-- 4: the first end
 returns : tie.Need-returns
 returns c = sym (edge-first-out _ _ (omega arith))
 
 index32-requires-2 : tie.Need-index32-requires-2
 index32-requires-2 c κs = search needs
 
+-- 4: the second end
 returns-2 : tie.Need-returns-2
 returns-2 c = sym (edge-second-out _ _ (omega arith) (omega arith))
 
+-- 5
 returns-3 : tie.Need-returns-3
 returns-3 c = sym (edge-loop _ _ (omega arith) (omega arith))
 
 at32-requires-3 : tie.Need-at32-requires-3
 at32-requires-3 c κs = search needs
 
+-- 6
 returns-4 : tie.Need-returns-4
 returns-4 c = sym (edge-heavy _ _ (omega arith) (omega arith) (omega (arith, c .before .before .if3 .left)) (omega arith))
 
+-- nothing wrong
 returns-5 : tie.Need-returns-5
 returns-5 c = sym (edge-fine _ _ (omega (arith, c .before .before .if3 .left)))
 

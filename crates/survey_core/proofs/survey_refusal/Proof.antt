@@ -6,24 +6,30 @@ use borrow.Author.Needs.{needs}
 use Rattle.survey_core.proofs.survey_refusal.Statement.{statement}
 use Rattle.survey_core.proofs.survey_refusal.Tie as tie
 
+-- 1: no vertex
 returns : tie.Need-returns
 returns c = sym (survey-empty _ (omega arith))
 
+-- 1: too many
 returns-2 : tie.Need-returns-2
 returns-2 c = sym (survey-large _ (omega arith))
 
+-- 2: the second ends
 returns-3 : tie.Need-returns-3
 returns-3 c = sym (survey-uneven _ (omega (arith, c .before .before .if1 .left)) (omega arith) (λ w. c .if3 .taken (w .0)))
 
+-- 2: the prices
 returns-4 : tie.Need-returns-4
 returns-4 c = sym (survey-uneven _ (omega (arith, c .before .before .before .if1 .left)) (omega arith) (λ w. c .if4 .taken (w .1)))
 
+-- 3
 returns-5 : tie.Need-returns-5
 returns-5 c = sym (survey-many _ (omega (arith, c .before .before .before .before .if1 .left)) (omega arith) (omega arith) (omega arith) (omega arith))
 
 edges-refusal-requires : tie.Need-edges-refusal-requires
 edges-refusal-requires c κs = search needs
 
+-- 4 to 6 or nothing
 returns-6 : tie.Need-returns-6
 returns-6 c =
     c .edges-refusal .ensures

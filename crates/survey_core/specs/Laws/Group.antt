@@ -2,14 +2,12 @@
 -- exactly if no set of tracks joins it (document 01, 'The survey and the plan'; refusals 8 and 14).
 use Prim.Native.Nat.{ℕ, _<_}
 use mathlib.Core.Path.{_≡_, refl, sym, subst}
-use mathlib.Core.Logic.{⊎-elim, _↔_}
-use mathlib.Core.Bool.{Bool, true, false, _&&_, _||_, not}
+use mathlib.Core.Logic.{_↔_}
+use mathlib.Core.Bool.{Bool, true, false, _&&_, not}
 use lib.ListN.{getD}
 use lib.Dec.{eqb}
 use borrow.Author.Tests.{eqb-true, eq-eqb, not-true, not-false}
-use Rattle.base_finite.specs.Below.{allBelow}
-use Rattle.base_finite.specs.Laws.Test.{either, and-left, and-right, and-both, or-cases, or-left, or-right, not-of-false, true-not-false}
-use Rattle.base_finite.specs.Laws.Below.{all-intro, all-elim}
+use Rattle.base_finite.specs.Laws.Test.{and-left, and-right, and-both, true-not-false}
 use Rattle.theory_graph.specs.Laws.Linked.{linked-mono}
 use Rattle.base_limits.specs.Limits.{groupNumbers}
 use Rattle.base_limits.specs.Verdict.{refuseIf}
@@ -18,9 +16,10 @@ use Rattle.base_limits.specs.Laws.Verdict.{lowest-none, none-lowest, refuse-fal
 use Rattle.theory_steiner.specs.Problem.{EdgeSet, Joins, allUsable, Bounded}
 use Rattle.theory_steiner.specs.Laws.Joined.{label-linked, linked-label}
 use Rattle.theory_steiner.specs.Laws.Finish.{allUsable-all, allUsable-edges}
-use Rattle.survey_core.specs.Survey.{Survey, vertexCount, member, sameGroup, problemOf, JoinsGroup, groupJoined, componentsOf}
+use Rattle.survey_core.specs.Survey.{Survey, member, sameGroup, problemOf, JoinsGroup, groupJoined, componentsOf}
 use Rattle.survey_core.specs.Sound.{Numbered}
 use Rattle.survey_core.specs.Refusal.{groupRefusal, LowestUnjoined}
+use Rattle.survey_core.specs.Laws.Member.{joined-elim, joined-intro}
 
 -- Two vertices share a group exactly if they are members of one.
 pub same-group-member : (s : Survey) (u v : ℕ) → sameGroup s u v ≡ true → member s (getD (s .groups) u 0) u ≡ true
@@ -47,31 +46,13 @@ groups-join s F numbered h u v bu bv r = h (getD (s .groups) u 0) (numbered u) u
 -- ---- the test of one group
 
 pub group-joined-elim : (s : Survey) (F : ℕ → Bool) (g : ℕ) → groupJoined s (componentsOf s F) g ≡ true → JoinsGroup s F g
-unfolding groupJoined componentsOf problemOf
-group-joined-elim s F g h u v bu bv mu mv =
-    label-linked (problemOf s) F u v
-    (⊎-elim
-    (λ n. true-not-false (member s g u && member s g v) (and-both (member s g u) (member s g v) mu mv) (not-true (member s g u && member s g v) n))
-    (λ e. eqb-true (componentsOf s F u) (componentsOf s F v) e)
-    (or-cases (not (member s g u && member s g v)) (eqb (componentsOf s F u) (componentsOf s F v))
-    (all-elim (vertexCount s) (λ v. not (member s g u && member s g v) || eqb (componentsOf s F u) (componentsOf s F v))
-    (all-elim (vertexCount s) (λ u. allBelow (vertexCount s) (λ v. not (member s g u && member s g v) || eqb (componentsOf s F u) (componentsOf s F v))) h u bu)
-    v bv)))
+unfolding componentsOf problemOf
+group-joined-elim s F g h u v bu bv mu mv = label-linked (problemOf s) F u v (joined-elim s (componentsOf s F) g h u v bu bv mu mv)
 
 pub group-joined-intro : (s : Survey) (F : ℕ → Bool) → Bounded (problemOf s) F → (g : ℕ) → JoinsGroup s F g → groupJoined s (componentsOf s F) g ≡ true
-unfolding groupJoined componentsOf problemOf
+unfolding componentsOf problemOf
 group-joined-intro s F bounded g h =
-    all-intro (vertexCount s) (λ u. allBelow (vertexCount s) (λ v. not (member s g u && member s g v) || eqb (componentsOf s F u) (componentsOf s F v)))
-    (λ u bu.
-    all-intro (vertexCount s) (λ v. not (member s g u && member s g v) || eqb (componentsOf s F u) (componentsOf s F v))
-    (λ v bv.
-    ⊎-elim
-    (λ m.
-    or-right (not (member s g u && member s g v)) (eqb (componentsOf s F u) (componentsOf s F v))
-    (eq-eqb (componentsOf s F u) (componentsOf s F v)
-    (linked-label (problemOf s) F bounded u v (h u v bu bv (and-left (member s g u) (member s g v) m) (and-right (member s g u) (member s g v) m)))))
-    (λ n. or-left (not (member s g u && member s g v)) (eqb (componentsOf s F u) (componentsOf s F v)) (not-of-false (member s g u && member s g v) n))
-    (either (member s g u && member s g v))))
+    joined-intro s (componentsOf s F) g (λ u v bu bv mu mv. linked-label (problemOf s) F bounded u v (h u v bu bv mu mv))
 
 -- ---- the lowest group that is not joined
 

@@ -1,12 +1,15 @@
--- What it is that a vertex is a member of a group.
-use Prim.Native.Nat.{ℕ}
+-- What it is that a vertex is a member of a group, and that labels join a group.
+use Prim.Native.Nat.{ℕ, _<_}
 use mathlib.Core.Path.{_≡_}
-use mathlib.Core.Bool.{true, not}
+use mathlib.Core.Logic.{⊎-elim}
+use mathlib.Core.Bool.{Bool, true, _&&_, _||_, not}
 use lib.ListN.{getD}
 use lib.Dec.{eqb}
 use borrow.Author.Tests.{eq-eqb, ne-eqb, eqb-true, eqb-false, not-true}
-use Rattle.base_finite.specs.Laws.Test.{and-left, and-right, and-both, not-of-false}
-use Rattle.survey_core.specs.Survey.{Survey, member}
+use Rattle.base_finite.specs.Below.{allBelow}
+use Rattle.base_finite.specs.Laws.Below.{all-intro, all-elim}
+use Rattle.base_finite.specs.Laws.Test.{either, and-left, and-right, and-both, or-right, not-of-false}
+use Rattle.survey_core.specs.Survey.{Survey, vertexCount, member, groupJoined}
 
 pub record IsMember (s : Survey) (g v : ℕ) : Type 0 where
   pub some : g ≡ 0 → ⊥
@@ -24,3 +27,32 @@ pub member-intro : (s : Survey) (g v : ℕ) → (g ≡ 0 → ⊥) → getD (s .g
 unfolding member
 member-intro s g v n e =
     and-both (not (eqb g 0)) (eqb (getD (s .groups) v 0) g) (not-of-false (eqb g 0) (ne-eqb g 0 n)) (eq-eqb (getD (s .groups) v 0) g e)
+
+-- The test of `groupJoined` at two vertices.
+abbrev test : Survey → (label : ℕ → ℕ) → (g u v : ℕ) → Bool
+test s label g u v = not (member s g u && member s g v) || eqb (label u) (label v)
+
+-- A group is joined exactly if any two members have the same label.
+pub joined-elim : (s : Survey) (label : ℕ → ℕ) (g : ℕ) → groupJoined s label g ≡ true → (u v : ℕ) → u < vertexCount s → v < vertexCount s
+    → member s g u ≡ true → member s g v ≡ true → label u ≡ label v
+unfolding groupJoined
+joined-elim s label g h u v bu bv mu mv =
+    let t : test s label g u v ≡ true =
+    all-elim (vertexCount s) (test s label g u) (all-elim (vertexCount s) (λ u. allBelow (vertexCount s) (test s label g u)) h u bu) v bv in
+    let m : (member s g u && member s g v) ≡ true = and-both (member s g u) (member s g v) mu mv in
+    eqb-true (label u) (label v) (rw m at t)
+
+pub joined-intro : (s : Survey) (label : ℕ → ℕ) (g : ℕ)
+    → ((u v : ℕ) → u < vertexCount s → v < vertexCount s → member s g u ≡ true → member s g v ≡ true → label u ≡ label v) → groupJoined s label g ≡ true
+unfolding groupJoined
+joined-intro s label g h =
+    all-intro (vertexCount s) (λ u. allBelow (vertexCount s) (test s label g u))
+    (λ u bu.
+    all-intro (vertexCount s) (test s label g u)
+    (λ v bv.
+    ⊎-elim
+    (λ m.
+    or-right (not (member s g u && member s g v)) (eqb (label u) (label v))
+    (eq-eqb (label u) (label v) (h u v bu bv (and-left (member s g u) (member s g v) m) (and-right (member s g u) (member s g v) m))))
+    (λ n. rw n)
+    (either (member s g u && member s g v))))

@@ -9,6 +9,7 @@ use Rattle.survey_groups.proofs.noted_label.Tie as tie
 add-result : tie.Need-add-result
 add-result c = search needs
 
+-- the first member
 returns : tie.Need-returns
 unfolding noted
 returns c = rw (eq-eqb (c .before .args .summary) 0 (c .if1 .taken))
@@ -19,10 +20,12 @@ add-if2 c = search needs
 add-result-2 : tie.Need-add-result-2
 add-result-2 c = search needs
 
+-- the same label again
 returns-2 : tie.Need-returns-2
 unfolding noted
 returns-2 c = rw (or-right _ _ (eq-eqb (c .before .before .args .summary) _ (c .if2 .taken)))
 
+-- another label
 returns-3 : tie.Need-returns-3
 unfolding noted
 returns-3 c = rw (ne-eqb (c .before .before .args .summary) 0 (c .before .if1 .left), ne-eqb (c .before .before .args .summary) _ (c .if2 .left))

@@ -4,14 +4,12 @@ use Prim.Native.Nat.{ℕ, _<_, _≤_}
 use native.Mathlib.Omega.{arith}
 use mathlib.Core.Path.{_≡_, refl, ap, sym, _∙_}
 use mathlib.Core.Logic.{_⊎_, inl, inr, ⊎-elim}
-use mathlib.Core.Bool.{Bool, true, false, _&&_, _||_, not}
+use mathlib.Core.Bool.{Bool, true, false, not}
 use mathlib.Core.List.{List}
 use lib.ListN.{length, getD}
-use lib.Dec.{eqb}
-use borrow.Author.Tests.{eq-eqb, eqb-true}
-use Rattle.base_finite.specs.Below.{counted, allBelow, tabulate}
-use Rattle.base_finite.specs.Laws.Below.{all-intro, all-elim, counted-true, counted-false, getD-tabulate}
-use Rattle.base_finite.specs.Laws.Test.{either, and-left, and-right, and-both, or-right, true-not-false, not-true-false, not-of-false}
+use Rattle.base_finite.specs.Below.{counted, tabulate}
+use Rattle.base_finite.specs.Laws.Below.{counted-true, counted-false, getD-tabulate}
+use Rattle.base_finite.specs.Laws.Test.{either, true-not-false, not-true-false, not-of-false}
 use Rattle.base_limits.specs.Limits.{groupNumbers}
 use Rattle.base_limits.specs.Verdict.{refuseIf, lowestBelow}
 use Rattle.base_limits.specs.declared.Verdict.{Verdict}
@@ -21,11 +19,7 @@ use Rattle.theory_steiner.specs.Problem.{separates}
 use Rattle.theory_steiner.specs.Laws.Joined.{Split, separates-elim, separates-intro}
 use Rattle.survey_core.specs.Survey.{Survey, vertexCount, member, sameGroup, problemOf, groupJoined}
 use Rattle.survey_groups.specs.Spread.{Sides}
-use Rattle.survey_core.specs.Laws.Member.{member-elim, member-intro}
-
--- The test of `groupJoined` at two vertices.
-abbrev test : Survey → (label : ℕ → ℕ) → (g u v : ℕ) → Bool
-test s label g u v = not (member s g u && member s g v) || eqb (label u) (label v)
+use Rattle.survey_core.specs.Laws.Member.{member-elim, member-intro, joined-elim, joined-intro}
 
 module _ (s : Survey) (S : ℕ → Bool) (label : ℕ → ℕ) (sided : (v : ℕ) → v < length (s .groups) → label v ≡ counted (S v) 1) where
   -- A pair on two sides has two labels.
@@ -52,44 +46,16 @@ module _ (s : Survey) (S : ℕ → Bool) (label : ℕ → ℕ) (sided : (v : ℕ
         outside = hv;
       })
 
-  whole-pair : separates (problemOf s) S ≡ false → (g u v : ℕ) → u < length (s .groups) → v < length (s .groups) → test s label g u v ≡ true
-  whole-pair h g u v bu bv = by (either (member s g u && member s g v)) (either (S u)) (either (S v))
-    where
-      alike : S u ≡ S v → test s label g u v ≡ true
-      alike e = or-right (not (member s g u && member s g v)) (eqb (label u) (label v)) (eq-eqb (label u) (label v) (sides-agree u v bu bv e))
-
-      by : ((member s g u && member s g v) ≡ true) ⊎ ((member s g u && member s g v) ≡ false) → (S u ≡ true) ⊎ (S u ≡ false) → (S v ≡ true) ⊎ (S v ≡ false)
-          → test s label g u v ≡ true
-      by (inr m) a b = rw m
-      by (inl m) (inl a) (inl b) = alike (a ∙ sym b)
-      by (inl m) (inr a) (inr b) = alike (a ∙ sym b)
-      by (inl m) (inl a) (inr b) =
-          true-not-false
-          (separates (problemOf s) S)
-          (parted g u v bu bv (and-left (member s g u) (member s g v) m) (and-right (member s g u) (member s g v) m) a b)
-          h
-      by (inl m) (inr a) (inl b) =
-          true-not-false
-          (separates (problemOf s) S)
-          (parted g v u bv bu (and-right (member s g u) (member s g v) m) (and-left (member s g u) (member s g v) m) b a)
-          h
-
   whole-joined : separates (problemOf s) S ≡ false → (g : ℕ) → groupJoined s label g ≡ true
-  unfolding groupJoined vertexCount
-  whole-joined h g =
-      all-intro
-      (length (s .groups))
-      (λ u. allBelow (length (s .groups)) (test s label g u))
-      (λ u bu. all-intro (length (s .groups)) (test s label g u) (λ v bv. whole-pair h g u v bu bv))
-
-  joined-pair : (g : ℕ) → groupJoined s label g ≡ true → (u v : ℕ) → u < length (s .groups) → v < length (s .groups) → member s g u ≡ true → member s g v ≡ true
-      → label u ≡ label v
-  unfolding groupJoined vertexCount
-  joined-pair g h u v bu bv mu mv =
-      let t : test s label g u v ≡ true =
-      all-elim (length (s .groups)) (test s label g u) (all-elim (length (s .groups)) (λ u. allBelow (length (s .groups)) (test s label g u)) h u bu) v bv in
-      let m : (member s g u && member s g v) ≡ true = and-both (member s g u) (member s g v) mu mv in
-      eqb-true (label u) (label v) (rw m at t)
+  unfolding vertexCount
+  whole-joined h g = joined-intro s label g (λ u v bu bv mu mv. by u v bu bv mu mv (either (S u)) (either (S v)))
+    where
+      by : (u v : ℕ) → u < length (s .groups) → v < length (s .groups) → member s g u ≡ true → member s g v ≡ true → (S u ≡ true) ⊎ (S u ≡ false)
+          → (S v ≡ true) ⊎ (S v ≡ false) → label u ≡ label v
+      by u v bu bv mu mv (inl a) (inl b) = sides-agree u v bu bv (a ∙ sym b)
+      by u v bu bv mu mv (inr a) (inr b) = sides-agree u v bu bv (a ∙ sym b)
+      by u v bu bv mu mv (inl a) (inr b) = true-not-false (separates (problemOf s) S) (parted g u v bu bv mu mv a b) h
+      by u v bu bv mu mv (inr a) (inl b) = true-not-false (separates (problemOf s) S) (parted g v u bv bu mv mu b a) h
 
   module _ (number : ℕ) where
     -- The lowest group that the sides part.
@@ -128,7 +94,9 @@ module _ (s : Survey) (S : ℕ → Bool) (label : ℕ → ℕ) (sided : (v : ℕ
         (p .v-below)
         (p .inside)
         (p .outside)
-        (joined-pair
+        (joined-elim
+        s
+        label
         g
         j
         (p .u)

@@ -11,8 +11,8 @@ use mathlib.Core.List.{List}
 use lib.ListN.{getD, set}
 use lib.Dec.{eqb}
 use borrow.Author.Tests.{eq-eqb, ne-eqb, eqb-true, eqb-false, not-true}
-use Rattle.base_finite.specs.Below.{countBelow, anyBelow, allBelow, tabulate}
-use Rattle.base_finite.specs.Laws.Below.{below-suc, any-intro, any-elim, any-cong, all-intro, all-elim, Found, getD-tabulate, count-cong}
+use Rattle.base_finite.specs.Below.{countBelow, anyBelow, tabulate}
+use Rattle.base_finite.specs.Laws.Below.{below-suc, any-intro, any-elim, any-cong, Found, getD-tabulate, count-cong}
 use Rattle.base_finite.specs.Laws.Test.{either, and-left, and-right, and-both, or-right, same-test, not-of-false, true-not-false, not-true-false}
 use Rattle.base_limits.specs.Limits.{groupNumbers}
 use Rattle.base_limits.specs.Verdict.{refuseIf, lowestBelow}
@@ -22,7 +22,7 @@ use Rattle.theory_steiner.specs.Growth.{active}
 use Rattle.survey_core.specs.Survey.{Survey, vertexCount, member, sameGroup, problemOf, groupJoined}
 use Rattle.survey_groups.specs.Spread.{noted, spread, split, notedIn}
 use Rattle.survey_core.specs.Laws.Refusal.{same-group-symmetric}
-use Rattle.survey_core.specs.Laws.Member.{member-elim, member-intro}
+use Rattle.survey_core.specs.Laws.Member.{member-elim, member-intro, joined-elim, joined-intro}
 use Rattle.base_buffer.specs.Laws.Store.{tabulate-cong, set-table}
 
 -- Two members of g below n with different labels.
@@ -46,10 +46,6 @@ data Spread (s : Survey) (label : ℕ → ℕ) (g n x : ℕ) : Type 0 where
   nowhere : x ≡ 0 → ((v : ℕ) → v < n → member s g v ≡ true → ⊥) → Spread s label g n x
   once : (l w : ℕ) → x ≡ l + 2 → Together s label g n l w → Spread s label g n x
   several : x ≡ 1 → Apart s label g n → Spread s label g n x
-
--- The test of `groupJoined` at two vertices.
-abbrev test : Survey → (label : ℕ → ℕ) → (g u v : ℕ) → Bool
-test s label g u v = not (member s g u && member s g v) || eqb (label u) (label v)
 
 module _ (s : Survey) (label : ℕ → ℕ) (g : ℕ) where
   apart-more : {n : ℕ} → Apart s label g n → Apart s label g (suc n)
@@ -166,38 +162,16 @@ module _ (s : Survey) (label : ℕ → ℕ) (g : ℕ) where
       by (several e a) = eq-eqb (spread s label g (vertexCount s)) 1 e
 
   joined-unsplit : groupJoined s label g ≡ true → split s label g ≡ true → ⊥
-  unfolding groupJoined
   joined-unsplit h k =
       let a = split-apart k in
-      let t : test s label g (a .u) (a .v) ≡ true =
-      all-elim
-      (vertexCount s)
-      (test s label g (a .u))
-      (all-elim (vertexCount s) (λ u. allBelow (vertexCount s) (test s label g u)) h (a .u) (a .u-below))
-      (a .v)
-      (a .v-below) in
-      let m : (member s g (a .u) && member s g (a .v)) ≡ true = and-both (member s g (a .u)) (member s g (a .v)) (a .u-member) (a .v-member) in
-      a .differ (eqb-true (label (a .u)) (label (a .v)) (rw m at t))
-
-  unsplit-pair : split s label g ≡ false → (u v : ℕ) → u < vertexCount s → v < vertexCount s → test s label g u v ≡ true
-  unsplit-pair h u v ub vb = by (either (member s g u && member s g v)) (ℕ-discrete (label u) (label v))
-    where
-      by : ((member s g u && member s g v) ≡ true) ⊎ ((member s g u && member s g v) ≡ false) → Dec (label u ≡ label v) → test s label g u v ≡ true
-      by (inr m) d = rw m
-      by (inl m) (yes e) = or-right (not (member s g u && member s g v)) (eqb (label u) (label v)) (eq-eqb (label u) (label v) e)
-      by (inl m) (no d) =
-          true-not-false
-          (split s label g)
-          (apart-split u v ub vb (and-left (member s g u) (member s g v) m) (and-right (member s g u) (member s g v) m) d)
-          h
+      a .differ (joined-elim s label g h (a .u) (a .v) (a .u-below) (a .v-below) (a .u-member) (a .v-member))
 
   unsplit-joined : split s label g ≡ false → groupJoined s label g ≡ true
-  unfolding groupJoined
-  unsplit-joined h =
-      all-intro
-      (vertexCount s)
-      (λ u. allBelow (vertexCount s) (test s label g u))
-      (λ u ub. all-intro (vertexCount s) (test s label g u) (λ v vb. unsplit-pair h u v ub vb))
+  unsplit-joined h = joined-intro s label g (λ u v bu bv mu mv. by u v bu bv mu mv (ℕ-discrete (label u) (label v)))
+    where
+      by : (u v : ℕ) → u < vertexCount s → v < vertexCount s → member s g u ≡ true → member s g v ≡ true → Dec (label u ≡ label v) → label u ≡ label v
+      by u v bu bv mu mv (yes e) = e
+      by u v bu bv mu mv (no d) = true-not-false (split s label g) (apart-split u v bu bv mu mv d) h
 
   -- A group is joined exactly if it is not split.
   pub joined-not-split : groupJoined s label g ≡ not (split s label g)

@@ -8,9 +8,11 @@ use Rattle.check_core.proofs.cuts.side.Tie as tie
 member-requires : tie.Need-member-requires
 member-requires c κs = search needs
 
+-- inside
 returns : tie.Need-returns
 returns c = sym (counted-true (sym (c .before .member .ensures) ∙ c .if1 .taken) 1)
 
+-- outside
 returns-2 : tie.Need-returns-2
 returns-2 c = sym (counted-false (sym (c .before .member .ensures) ∙ c .if1 .left) 1)
 

@@ -9,18 +9,22 @@ use Rattle.check_core.proofs.duals.dual_refusal.Tie as tie
 value-requires : tie.Need-value-requires
 value-requires c κs = search needs
 
+-- 11: value 0
 returns : tie.Need-returns
 returns c = sym (dual-zero _ _ _ (sym (c .before .value .ensures) ∙ c .if1 .taken))
 
+-- 11: too large a value
 returns-2 : tie.Need-returns-2
 returns-2 c = sym (dual-large _ _ _ (omega (arith, c .before .before .value .ensures)))
 
 has-stray-requires : tie.Need-has-stray-requires
 has-stray-requires c κs = search needs
 
+-- 11: a member that is no vertex
 returns-3 : tie.Need-returns-3
 returns-3 c = sym (dual-stray _ _ _ (λ e. c .before .before .before .if1 .left (c .before .before .before .before .value .ensures ∙ e)) (omega (arith, c .before .before .before .before .value .ensures)) (sym (c .before .has-stray .ensures) ∙ c .if3 .taken))
 
+-- nothing wrong
 returns-4 : tie.Need-returns-4
 returns-4 c = sym (dual-fine _ _ _ (λ e. c .before .before .before .if1 .left (c .before .before .before .before .value .ensures ∙ e)) (omega (arith, c .before .before .before .before .value .ensures)) (sym (c .before .has-stray .ensures) ∙ c .if3 .left))
 

@@ -7,9 +7,11 @@ use Rattle.check_core.specs.Laws.Duals.{product-fits}
 use Rattle.check_core.proofs.rule.rule_refusal.Statement.{statement}
 use Rattle.check_core.proofs.rule.rule_refusal.Tie as tie
 
+-- no terminal and no cost
 returns : tie.Need-returns
 returns c = sym (rule-none _ (c .before .if1 .taken) (c .if2 .taken))
 
+-- 15: a cost with no terminal
 returns-2 : tie.Need-returns-2
 returns-2 c = sym (rule-cost _ (c .before .if1 .taken) (c .if2 .left))
 
@@ -22,9 +24,11 @@ mul-if3 c = record { fits = product-fits (omega arith) (omega arith) }
 mul-if3-2 : tie.Need-mul-if3-2
 mul-if3-2 c = record { fits = product-fits (omega arith) (omega arith) }
 
+-- 15: the rule
 returns-3 : tie.Need-returns-3
 returns-3 c = sym (rule-exceeded _ (c .before .if1 .left) (c .if3 .taken))
 
+-- the rule holds
 returns-4 : tie.Need-returns-4
 returns-4 c = sym (rule-met _ (c .before .if1 .left) (c .if3 .left))
 

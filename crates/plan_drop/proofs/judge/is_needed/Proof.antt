@@ -6,10 +6,12 @@ use borrow.Author.Needs.{needs}
 use Rattle.plan_drop.proofs.judge.is_needed.Statement.{statement}
 use Rattle.plan_drop.proofs.judge.is_needed.Tie as tie
 
+-- before the batch
 returns : tie.Need-returns
 returns c =
     sym (judged-before _ _ _ _ (c .if1 .taken))
 
+-- after the batch
 returns-2 : tie.Need-returns-2
 returns-2 c =
     sym (judged-after _ _ _ _ (omega arith) (omega arith))
@@ -17,6 +19,7 @@ returns-2 c =
 parts-group-requires : tie.Need-parts-group-requires
 parts-group-requires c κs = search needs
 
+-- in the batch
 returns-3 : tie.Need-returns-3
 returns-3 c =
     c .parts-group .ensures ∙ sym (judged-in _ _ _ _ (omega arith) (omega arith))

@@ -10,11 +10,13 @@ use Rattle.plan_drop.proofs.judge.side.Tie as tie
 shr-if1 : tie.Need-shr-if1
 shr-if1 c = search needs
 
+-- inside
 returns : tie.Need-returns
 unfolding bitAt
 returns c =
     sym (counted-true (eq-eqb _ 1 (c .if1 .taken)) 1)
 
+-- outside
 returns-2 : tie.Need-returns-2
 unfolding bitAt
 returns-2 c =
