@@ -1,13 +1,13 @@
 -- Sums over the duals of a buffer of records, as a loop over the records gathers them, and their limits: no sum wraps.
-use Prim.Native.Nat.{ℕ, zero, suc, _+_, _*_, _-_, _/_, _<_, _≤_, _^_}
+use Prim.Native.Nat.{ℕ, _+_, _*_, _-_, _/_, _<_, _≤_, _^_}
 use native.Mathlib.Omega.{arith}
 use native.Mathlib.Nat.{mul-le-mul}
-use mathlib.Core.Path.{_≡_, refl, ap, ap₂, sym, _∙_}
+use mathlib.Core.Path.{_≡_, ap, ap₂, sym, _∙_}
 use mathlib.Core.Bool.{Bool, true}
-use mathlib.Core.List.{List, [], _∷_}
+use mathlib.Core.List.{List}
 use lib.ListN.{length, getD}
 use lib.Dec.{ltb}
-use Rattle.base_finite.specs.Below.{counted, sumBelow, tabulate}
+use Rattle.base_finite.specs.Below.{counted, sumBelow}
 use Rattle.base_finite.specs.Laws.Below.{counted-le, count-le, sum-limit}
 use Rattle.base_limits.specs.Limits.{maxVertices, maxWeight, maxValue, recordBytes, maxDuals}
 use Rattle.theory_graph.specs.Path.{crosses}
@@ -17,8 +17,8 @@ use Rattle.base_limits.specs.declared.Verdict.the-variants.{Fine}
 use Rattle.base_limits.specs.Laws.Verdict.{none-lowest}
 use Rattle.format_record.specs.Record.{valueIn, memberIn, recordAt}
 use Rattle.theory_steiner.specs.Problem.{terminal, terminals, cost}
-use Rattle.theory_steiner.specs.Dual.{Dual, weigh, total, felt}
-use Rattle.theory_steiner.specs.Laws.Dual.{weigh-append}
+use Rattle.theory_steiner.specs.Dual.{weigh, total, felt}
+use Rattle.theory_steiner.specs.Laws.Dual.{weigh-tabulate}
 use Rattle.survey_core.specs.Survey.{Survey, vertexCount, edgeCount, problemOf}
 use Rattle.base_finite.specs.Laws.Count.{sum-end}
 use Rattle.survey_core.specs.Laws.Refusal.{SurveySound}
@@ -29,11 +29,6 @@ use Rattle.check_rule.specs.Laws.Refusal.{fine-dual}
 -- What record i adds to the duals that pass the test.
 abbrev pub weighedAt : List ℕ → ((ℕ → Bool) → Bool) → ℕ → ℕ
 weighedAt records t i = counted (t (memberIn (recordAt records i))) (valueIn (recordAt records i))
-
-weigh-tabulate : (n : ℕ) (f : ℕ → Dual) (t : (ℕ → Bool) → Bool) → weigh (tabulate n f) t ≡ sumBelow n (λ i. counted (t (f i .holds)) (f i .value))
-unfolding weigh tabulate sumBelow
-weigh-tabulate zero f t = refl
-weigh-tabulate (suc n) f t = omega (arith, weigh-append (tabulate n f) (f n ∷ []) t, weigh-tabulate n f t)
 
 pub weigh-records : (records : List ℕ) (t : (ℕ → Bool) → Bool) → weigh (dualsIn records) t ≡ sumBelow (length records / recordBytes) (weighedAt records t)
 unfolding dualsIn dualAt

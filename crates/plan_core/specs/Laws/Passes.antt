@@ -27,7 +27,7 @@ use Rattle.theory_steiner.specs.Laws.Partition.{members-below}
 use Rattle.theory_steiner.specs.Laws.Weighed.{Local, value-fresh}
 use Rattle.theory_steiner.specs.Laws.Rounds.{grown-reached}
 use Rattle.theory_steiner.specs.Laws.Finish.{kept-joins, kept-picked, kept-edges}
-use Rattle.theory_steiner.specs.Laws.Dual.{Each, none, more, weigh-append, each-dual, value-separates, value-fits, duals-count, total-duals}
+use Rattle.theory_steiner.specs.Laws.Dual.{Each, none, more, weigh-tabulate, each-dual, value-separates, value-fits, duals-count, total-duals}
 use Rattle.theory_steiner.specs.Laws.Accuracy.{kept-accurate, no-terminal-free, grown-feasible}
 use Rattle.survey_core.specs.Survey.{Survey, vertexCount, edgeCount, problemOf}
 use Rattle.survey_core.specs.Accuracy.{Accurate}
@@ -54,12 +54,6 @@ weigh-at [] t = refl
 weigh-at (d ∷ ds) t =
     ap (λ x. counted (t (d .holds)) (d .value) + x) (weigh-at ds t)
     ∙ sym (sum-front (length ds) (λ i. counted (t (getD (d ∷ ds) i nothing .holds)) (getD (d ∷ ds) i nothing .value)))
-
-weigh-tabulate : (n : ℕ) (f : ℕ → Dual) (t : (ℕ → Bool) → Bool) → weigh (tabulate n f) t ≡ sumBelow n (λ i. counted (t (f i .holds)) (f i .value))
-unfolding tabulate weigh sumBelow
-weigh-tabulate zero f t = refl
-weigh-tabulate (suc n) f t =
-    weigh-append (tabulate n f) (f n ∷ []) t ∙ omega (arith, weigh-tabulate n f t)
 
 each-at : {P : Dual → Type 0} {ds : List Dual} → Each P ds → (i : ℕ) → i < length ds → P (getD ds i nothing)
 each-at none i b = absurd (omega arith)

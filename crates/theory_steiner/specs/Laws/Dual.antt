@@ -10,7 +10,7 @@ use native.Mathlib.Decide.{ℕ-discrete}
 use lib.ListN.{length, length-append, length-map}
 use lib.Dec.{eqb, ltb}
 use borrow.Author.Tests.{ltb-true, ltb-false}
-use Rattle.base_finite.specs.Below.{counted, sumBelow, countBelow, thoseBelow}
+use Rattle.base_finite.specs.Below.{counted, sumBelow, countBelow, thoseBelow, tabulate}
 use Rattle.base_finite.specs.Laws.Test.{either}
 use Rattle.base_finite.specs.Laws.Below.{lt-or-ge, sum-member, counted-true, counted-false, counted-zero, count-le}
 use Rattle.theory_graph.specs.Path.{crosses}
@@ -37,6 +37,11 @@ pub weigh-append : (ds es : List Dual) (t : (ℕ → Bool) → Bool) → weigh (
 unfolding weigh
 weigh-append [] es t = omega arith
 weigh-append (d ∷ ds) es t = omega (arith, weigh-append ds es t)
+
+pub weigh-tabulate : (n : ℕ) (f : ℕ → Dual) (t : (ℕ → Bool) → Bool) → weigh (tabulate n f) t ≡ sumBelow n (λ i. counted (t (f i .holds)) (f i .value))
+unfolding weigh tabulate sumBelow
+weigh-tabulate zero f t = refl
+weigh-tabulate (suc n) f t = omega (arith, weigh-append (tabulate n f) (f n ∷ []) t, weigh-tabulate n f t)
 
 map-append : {A B : Type 0} (f : A → B) (xs ys : List A) → map f (xs ++ ys) ≡ map f xs ++ map f ys
 map-append f [] ys = refl
