@@ -25,7 +25,7 @@ fn store_counts(counts: &mut [u64], terminals: u64, cost: u64, bound: u64, round
     base_buffer::put64(counts, 4, duals);
 }
 
-// Plans a survey: 0 with the counts stored, or the refusal's number plus 256 times its place, with nothing written.
+// Plans a survey: 0 with the counts stored, or a refusal's code, with nothing written.
 #[no_mangle]
 pub extern "C" fn foamsickle_plan(
     groups: &[u8],
