@@ -54,7 +54,7 @@ arisen a b n c labels = cond (ltb c n) labels (relabelled (getD labels a 0) (get
 unfoldable pub memberOf : Trace → (c v : ℕ) → Bool
 memberOf t c v = ltb v (t .vertices) && eqb (labelAfter t (c + 1 - t .vertices) v) c
 
--- 'Single junctions come first, rising; then merged components as they arose.'
+-- By component number, so that single vertices come before merged components ('What a plan holds').
 unfoldable pub traceDuals : Trace → List Dual
 traceDuals t = dualsBelow (t .value) (memberOf t) (t .vertices + t .rounds)
 

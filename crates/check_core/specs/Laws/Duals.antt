@@ -1,5 +1,5 @@
 -- Sums over the duals of a buffer of records, as a loop over the records gathers them, and their limits: no sum wraps.
-use Prim.Native.Nat.{ℕ, _+_, _*_, _/_, _<_, _≤_, _^_}
+use Prim.Native.Nat.{ℕ, _+_, _*_, _-_, _/_, _<_, _≤_, _^_}
 use native.Mathlib.Omega.{arith}
 use native.Mathlib.Nat.{mul-le-mul}
 use mathlib.Core.Path.{_≡_, ap, ap₂, sym, _∙_}

@@ -21,7 +21,8 @@ use Rattle.theory_steiner.specs.Growth.{State, start, numbers, Winner, nobody, 
 use Rattle.theory_steiner.specs.Dual.{Dual, dualsOf, dualOf}
 use Rattle.theory_steiner.specs.Laws.Round.{stateAt-reached, pick-rounds, pick-numbers, pick-label, pick-holds-old}
 use Rattle.theory_steiner.specs.Laws.Partition.{winner-below, members, members-below}
-use Rattle.theory_steiner.specs.Laws.Rounds.{stateAt-pick, stateAt-still, steps-or-still, rounds-lt, grown-reached}
+use Rattle.theory_steiner.specs.Laws.Rounds.{stateAt-pick, stateAt-still, stateAt-last, steps-or-still, rounds-lt, grown-reached}
+use Rattle.theory_steiner.specs.Laws.Dual.{dualOf}
 use Rattle.plan_duals.specs.Drawing.{dualIf, dualsBelow}
 use Rattle.plan_duals.specs.Trace.{Trace, endOf, traceFrom, labelAfter, memberOf, traceDuals, Drawable, TraceOf}
 
@@ -36,13 +37,6 @@ rounds-le p (suc r) = by (rounds-le p r) (winner p (stateAt p r)) refl
     by : stateAt p r .rounds ≤ r → (w : Winner) → winner p (stateAt p r) ≡ w → stateAt p (suc r) .rounds ≤ suc r
     by ih nobody h = omega (arith, ap (λ s. s .rounds) (stateAt-still p r h))
     by ih (edge e d) h = omega (arith, ap (λ s. s .rounds) (stateAt-pick p r e d h), pick-rounds p (stateAt p r) e d)
-
--- With no candidate nothing happens any more.
-still-on : (p : Problem) (r k : ℕ) → winner p (stateAt p r) ≡ nobody → stateAt p (r + k) ≡ stateAt p r
-still-on p r zero h = let e : r + 0 ≡ r = omega arith in ap (stateAt p) e
-still-on p r (suc k) h =
-    let ih : stateAt p (r + k) ≡ stateAt p r = still-on p r k h in
-    rw (add-suc r k) (stateAt-still p (r + k) (ap (winner p) ih ∙ h) ∙ ih)
 
 -- What round r of a growth does.
 record Picks (p : Problem) (r : ℕ) : Type 0 where
@@ -59,9 +53,7 @@ picks p r b = by (winner p (stateAt p r)) refl
     n = p .vertices
 
     by : (w : Winner) → winner p (stateAt p r) ≡ w → Picks p r
-    by nobody h =
-        let split : r + (n - r) ≡ n = omega (arith, rounds-le p n) in
-        absurd (omega (arith, ap (λ s. s .rounds) (ap (stateAt p) (sym split) ∙ still-on p r (n - r) h), rounds-le p r))
+    by nobody h = let few = rounds-le p n in absurd (omega (arith, ap (λ s. s .rounds) (stateAt-last p r n h (omega arith)), rounds-le p r))
     by (edge f d) h =
         record {
           e = f;

@@ -1,8 +1,7 @@
 -- One round after another: what the arrays represent before the first and after each, and the growth that they are when no candidate is left (001, Algorithm 22.3).
 -- `grow_rounds` and `no_rounds` cite it.
-use Prim.Native.Nat.{ℕ, zero, suc, _+_, _-_, _<_, _≤_, _^_}
+use Prim.Native.Nat.{ℕ, _+_, _-_, _<_, _≤_, _^_}
 use native.Mathlib.Omega.{arith}
-use native.Mathlib.Nat.{add-zero, add-suc}
 use mathlib.Core.Path.{_≡_, refl, ap, sym, _∙_}
 use mathlib.Core.Logic.{_⊎_, inl, inr}
 use mathlib.Core.Bool.{Bool, true, false}
@@ -17,7 +16,7 @@ use Rattle.theory_steiner.specs.Problem.{Problem}
 use Rattle.theory_steiner.specs.Growth.{Winner, nobody, edge, never, winner, numbers, start, stateAt}
 use Rattle.theory_steiner.specs.Pruning.{dualBound}
 use Rattle.theory_steiner.specs.Laws.Round.{stateAt-reached}
-use Rattle.theory_steiner.specs.Laws.Rounds.{stateAt-still, value-bounded}
+use Rattle.theory_steiner.specs.Laws.Rounds.{stateAt-last, value-bounded}
 use Rattle.theory_steiner.specs.Laws.Feasible.{load-start}
 use Rattle.base_buffer.specs.Store.{remade}
 use Rattle.base_buffer.specs.Laws.Store.{tabulate-cong, remade-table, replicate-table}
@@ -76,26 +75,16 @@ represents-start {s} sound h =
 
 -- ---- when no candidate is left
 
--- Steps after the last round change nothing.
-module _ (p : Problem) (r : ℕ) (w : winner p (stateAt p r) ≡ nobody) where
-  still-at : (k : ℕ) → stateAt p (r + k) ≡ stateAt p r
-  still-at zero = ap (stateAt p) (add-zero r)
-  still-at (suc k) =
-      let ih : stateAt p (r + k) ≡ stateAt p r = still-at k in
-      ap (stateAt p) (add-suc r k) ∙ stateAt-still p (r + k) (ap (winner p) ih ∙ w) ∙ ih
-
-  still-state : (k : ℕ) → r ≤ k → stateAt p k ≡ stateAt p r
-  still-state k b = let e : k ≡ r + (k - r) = omega arith in ap (stateAt p) e ∙ still-at (k - r)
-
-  still-picks : (k : ℕ) → r ≤ k → (i : ℕ) → counted (ltb i r) (pickAt p i) ≡ counted (ltb i k) (pickAt p i)
-  unfolding pickAt winnerEdge
-  still-picks k b i = by (lt-or-ge i r)
-    where
-      by : (i < r) ⊎ (r ≤ i) → counted (ltb i r) (pickAt p i) ≡ counted (ltb i k) (pickAt p i)
-      by (inl h) = ap (λ x. counted x (pickAt p i)) (lt-ltb i r h ∙ sym (lt-ltb i k (omega arith)))
-      by (inr h) =
-          let z : pickAt p i ≡ 0 = ap winnerEdge (ap (winner p) (still-state i h) ∙ w) in
-          none (ltb i r) z ∙ sym (none (ltb i k) z)
+-- Steps after the last round pick nothing.
+last-picks : (p : Problem) (r k : ℕ) → winner p (stateAt p r) ≡ nobody → r ≤ k → (i : ℕ) → counted (ltb i r) (pickAt p i) ≡ counted (ltb i k) (pickAt p i)
+unfolding pickAt winnerEdge
+last-picks p r k w b i = by (lt-or-ge i r)
+  where
+    by : (i < r) ⊎ (r ≤ i) → counted (ltb i r) (pickAt p i) ≡ counted (ltb i k) (pickAt p i)
+    by (inl h) = ap (λ x. counted x (pickAt p i)) (lt-ltb i r h ∙ sym (lt-ltb i k (omega arith)))
+    by (inr h) =
+        let z : pickAt p i ≡ 0 = ap winnerEdge (ap (winner p) (stateAt-last p r i w h) ∙ w) in
+        none (ltb i r) z ∙ sym (none (ltb i k) z)
 
 no-win : (w : Winner) → never ≡ winnerDelay w → w ≡ nobody
 unfolding winnerDelay
@@ -146,7 +135,7 @@ module _ {s : Survey} {r time : ℕ} {a : Arrays} (h : Represents s r time a) wh
   grown-end delays t e =
       let p = problemOf s in
       let w = no-win (winner p (stateAt p r)) (sym (ap delayIn t) ∙ delays) in
-      let still = sym (still-state p r w (length (s .groups)) (omega (arith, going h))) in
+      let still = sym (stateAt-last p r (length (s .groups)) w (omega (arith, going h))) in
       rw
       e
       (record {
@@ -155,5 +144,5 @@ module _ {s : Survey} {r time : ℕ} {a : Arrays} (h : Represents s r time a) wh
         labels-are = h .labels-are ∙ ap (λ t. tabulate maxVertices (t .label)) still;
         values-are = h .values-are ∙ ap (λ t. tabulate maxDuals (t .value)) still;
         picked-are = h .picked-are ∙ ap (λ t. tabulate maxEdges (λ i. counted (t .picked i) 1)) still;
-        order-is = h .order-is ∙ tabulate-cong maxVertices _ _ (λ i _. still-picks p r w (length (s .groups)) (omega (arith, going h)) i);
+        order-is = h .order-is ∙ tabulate-cong maxVertices _ _ (λ i _. last-picks p r (length (s .groups)) w (omega (arith, going h)) i);
       })

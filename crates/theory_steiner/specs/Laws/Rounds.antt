@@ -9,7 +9,7 @@ use lib.Dec.{eqb}
 use borrow.Author.Tests.{eqb-true, eq-eqb}
 use Rattle.base_finite.specs.Below.{counted, sumBelow, countBelow, anyBelow}
 use Rattle.base_finite.specs.Laws.Test.{same-test, not-true-false, and-left, and-right, and-both, or-left, or-right, or-cases}
-use Rattle.base_finite.specs.Laws.Below.{sum-suc, sum-zero, sum-at, sum-at-two, counted-true, counted-false, counted-le, any-intro, any-elim, Found, count-all, count-positive}
+use Rattle.base_finite.specs.Laws.Below.{sum-suc, sum-zero, sum-at, sum-at-two, counted-true, counted-false, counted-le, any-intro, any-elim, Found, count-all, count-positive, lt-or-ge}
 use Rattle.theory_graph.specs.Component.{merged}
 use Rattle.theory_graph.specs.Laws.Component.{Merging, inside, outside, merged-in}
 use Rattle.theory_steiner.specs.Problem.{Problem, Sound}
@@ -211,6 +211,15 @@ stateAt-pick p r e d h = stateAt-suc p r ∙ ap (advance p (stateAt p r)) h
 pub stateAt-still : (p : Problem) (r : ℕ) → winner p (stateAt p r) ≡ nobody → stateAt p (suc r) ≡ stateAt p r
 unfolding advance
 stateAt-still p r h = stateAt-suc p r ∙ ap (advance p (stateAt p r)) h
+
+-- Steps after the last round change nothing.
+pub stateAt-last : (p : Problem) (r k : ℕ) → winner p (stateAt p r) ≡ nobody → r ≤ k → stateAt p k ≡ stateAt p r
+stateAt-last p r zero h b = let e : 0 ≡ r = omega arith in ap (stateAt p) e
+stateAt-last p r (suc k) h b =
+    ⊎-elim
+    (λ l. let e : suc k ≡ r = omega arith in ap (stateAt p) e)
+    (λ l. let ih = stateAt-last p r k h l in stateAt-still p k (ap (winner p) ih ∙ h) ∙ ih)
+    (lt-or-ge k r)
 
 pub steps-or-still : (p : Problem) (r : ℕ) → (stateAt p r .rounds ≡ r) ⊎ (winner p (stateAt p r) ≡ nobody)
 unfolding stateAt start
