@@ -15,10 +15,10 @@ use Rattle.format_number.specs.Number.{classOf, isDigit, digitsEnd, numeralEnd,
 use Rattle.format_grammar.specs.Bytes.{byteIs, fixedAt}
 use Rattle.format_grammar.specs.Items.{itemsFrom}
 use Rattle.format_plan_lines.specs.Lines.{keptTest, keepLine, keepReader, keptAt, separator, memberAt, risen, memberReader, membersAt, dualTest, dualHead, dualLineAt, dualReader, dualsAt}
-use Rattle.format_plan.specs.Plan.{Plan, claimsAt, bodyAt, planAt}
+use Rattle.format_plan.specs.Plan.{PrintedPlan, claimsAt, bodyAt, planAt}
 
 -- What P3's plan says.
-p3 : Plan
+p3 : PrintedPlan
 p3 =
     record {
       claims = record { terminals = 2; cost = 7; bound = 14; rounds = 2 };

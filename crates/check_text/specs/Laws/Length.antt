@@ -29,7 +29,7 @@ use Rattle.survey_core.specs.Survey.{edgeCount}
 use Rattle.check_rule.specs.Check.{Checked}
 use Rattle.format_grammar.specs.Language.{Each, none, more}
 use Rattle.format_plan_lines.specs.Lines.{separator, memberNumbers, PrintedDual}
-use Rattle.format_plan.specs.Plan.{Plan, planAt}
+use Rattle.format_plan.specs.Plan.{PrintedPlan, planAt}
 use Rattle.check_text.specs.Verify.{prefixAt, planFrom, verifying}
 use Rattle.check_text.specs.Pair.{surveyIn}
 use Rattle.check_text.specs.Laws.Accuracy.{verified-parts}
@@ -112,7 +112,7 @@ kept-most few h (rising {e = e} {es = ks} a b r) =
 -- ---- the whole text
 
 -- A plan's text is no longer than the room for every plan.
-pub words-most : (m : ℕ) (p : Plan) → m ≤ maxEdges → Printable m p → length (planWords p) ≤ planRoom
+pub words-most : (m : ℕ) (p : PrintedPlan) → m ≤ maxEdges → Printable m p → length (planWords p) ≤ planRoom
 unfolding planWords claimsText
 words-most m p few w =
     let C = claimsText (p .claims) in

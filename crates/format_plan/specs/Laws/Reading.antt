@@ -16,7 +16,7 @@ use Rattle.format_grammar.specs.Language.{Each}
 use Rattle.format_plan_lines.specs.Lines.{keptAt, dualsAt, putMark, putDual}
 use Rattle.format_plan_lines.specs.Laws.Puts.{mark-length, dual-length}
 use Rattle.format_grammar.specs.Laws.Items.{empty-pass}
-use Rattle.format_plan.specs.Plan.{Claims, Plan, PlanLines, claimsAt, bodyAt, planAt, marksOf, dualRecords, cleared, roomTest, withRoom, planReading, marksAfter, recordsAfter}
+use Rattle.format_plan.specs.Plan.{Claims, PrintedPlan, PlanLines, claimsAt, bodyAt, planAt, marksOf, dualRecords, cleared, roomTest, withRoom, planReading, marksAfter, recordsAfter}
 use Rattle.format_plan.specs.Answer.{roomed, readOf, PlanStored, PlanFilled, PlanRead}
 use Rattle.format_plan.specs.Laws.Fill.{kept-below, duals-count, marks-filled, records-filled}
 
@@ -130,7 +130,7 @@ module _ (t : List ℕ) (from m : ℕ) (marks records : List ℕ) where
   reads-refused e = rw e record { answered = refl; intoMarks = refl; intoRecords = refl }
 
   module _ {claims : Claims} {p : ℕ} (head : claimsAt t from ≡ found claims p) where
-    plan : Plan
+    plan : PrintedPlan
     plan = record { claims = claims; kept = bodyAt t m p .kept; duals = bodyAt t m p .duals }
 
     outcome-refused : {n q : ℕ} → roomed (bodyAt t m p) m (length marks) (length records) ≡ refused n q → planReading t from m marks records ≡ refusal n q

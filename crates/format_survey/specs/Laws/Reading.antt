@@ -10,7 +10,7 @@ use Rattle.format_survey_lines.specs.Laws.Body.{lines-sizes}
 use Rattle.base_limits.specs.Verdict.{Outcome, refusal, answer}
 use Rattle.base_limits.specs.declared.Verdict.{Verdict}
 use Rattle.format_grammar.specs.Step.{Step, found, refused, _then_, storedIf}
-use Rattle.format_survey_lines.specs.Line.{Tests, testsFor, countsAt, Counts, firstsOf, secondsOf, weightsOf, linesAt}
+use Rattle.format_survey_lines.specs.Line.{Tests, testsFor, countsAt, SurveyCounts, firstsOf, secondsOf, weightsOf, linesAt}
 use Rattle.format_number.specs.Answer.{numberStep}
 use Rattle.format_number.specs.declared.Cursor.{Cursor}
 use Rattle.format_number.specs.declared.Number.{Number}
@@ -30,7 +30,7 @@ sets-filled values old h =
     sets-eq values old 0 (omega arith) ∙ ap (λ (k : ℕ). values ++ drop k old) e
 
 -- What reading answers, and what each lent buffer then holds: the clauses of its contract.
-abbrev pub SurveyRead : (t : List ℕ) (counts : Outcome Counts) (groups groups′ firsts firsts′ seconds seconds′ weights weights′ : List ℕ) → Type 0
+abbrev pub SurveyRead : (t : List ℕ) (counts : Outcome SurveyCounts) (groups groups′ firsts firsts′ seconds seconds′ weights weights′ : List ℕ) → Type 0
 SurveyRead t counts groups groups′ firsts firsts′ seconds seconds′ weights weights′ =
     let read = reading t groups firsts seconds weights in
     (counts ≡ countsOf read)
