@@ -1,4 +1,4 @@
-// Reads a printed plan behind a survey text: the counts, the kept tracks, the moats. Definitions in specs/. Each step
+// Reads a printed plan behind a survey text: the figures, the kept edges, the duals. Definitions in specs/. Each step
 // answers a value with the next cursor, or a refusal.
 ghost use Rattle.base_buffer.specs.Lent.{old, new};
 ghost use mathlib.Core.Path.{_≡_};
@@ -150,7 +150,7 @@ fn plan_lines(
     plan_body(text, cursor, edges, marks, records)
 }
 
-// What a printed plan says of its counts, and the number of its moats; or a refusal.
+// What a printed plan says of its counts, and the number of its duals; or a refusal.
 pub enum PlanText {
     Plan {
         terminals: u64,

@@ -6,7 +6,7 @@ use mathlib.Core.Path.{_≡_, ap, sym, _∙_}
 use mathlib.Core.Logic.{⊎-elim}
 use mathlib.Core.List.{List, [], _∷_, _++_}
 use lib.ListN.{length, length-append}
-use Rattle.format_number.specs.Laws.Words.{digits-most}
+use Rattle.format_number.specs.Laws.NumberWord.{digits-most}
 use Rattle.base_finite.specs.Below.{sumBelow}
 use Rattle.base_finite.specs.Laws.Below.{lt-or-ge}
 use Rattle.base_limits.specs.Limits.{recordBytes, maxVertices, maxEdges, maxDuals, valueDigits}

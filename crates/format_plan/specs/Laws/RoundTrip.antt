@@ -1,4 +1,4 @@
--- Printed lines that stand in a text are read back: a number's line, the counts, and the kept tracks.
+-- Printed lines that stand in a text are read back: a number's line, the figures, the kept tracks, the moats, and the whole plan.
 use Prim.Native.Nat.{ℕ, zero, suc, _+_, _^_, _≤_, _<_}
 use Prim.Native.Char.{code}
 use native.Mathlib.Omega.{arith}
