@@ -105,7 +105,7 @@ unfoldable pub planIn : Claims → (marks records : List ℕ) → PrintedPlan
 planIn claims marks records = record { claims = claims; kept = keptIn marks; duals = printedDuals records }
 
 -- What a printed plan is asked: counts of at most ten digits, tracks and moats within the limits, amounts of at most seven digits.
-pub record PlanFits (claims : Claims) (marks records : List ℕ) : Type 0 where
+pub record PrintFits (claims : Claims) (marks records : List ℕ) : Type 0 where
   pub few : ClaimDigits claims
   pub tracks : length marks ≤ maxEdges
   pub duals : length records / recordBytes ≤ maxDuals

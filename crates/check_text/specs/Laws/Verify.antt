@@ -15,7 +15,7 @@ use Rattle.base_limits.specs.Verdict.{refuseIf, Outcome, refusal, answer, outco
 use Rattle.format_grammar.specs.Step.{Step, found, refused, _then_}
 use Rattle.format_survey.specs.Reading.{surveyOf, outcomeOf}
 use Rattle.format_survey_lines.specs.Line.{SurveyCounts, testsFor, countsAt, firstsOf, secondsOf, weightsOf, SurveyLines, linesAt}
-use Rattle.format_survey_lines.specs.Laws.Tests.{counts-fit}
+use Rattle.format_survey_lines.specs.Laws.Tests.{counts-passed}
 use Rattle.format_survey.specs.Laws.Reading.{sets-filled}
 use Rattle.survey_core.specs.Survey.{Survey, surveyFrom, edgeCount}
 use Rattle.check_rule.specs.Check.{Checked, checking}
@@ -159,4 +159,4 @@ module _ (t : List ℕ) {step : Step SurveyCounts} (read : step ≡ countsAt (te
     verified-counted = rw (sym read ∙ counted) refl
 
     pub counted-few : (n ≤ maxVertices) × (m ≤ maxEdges)
-    counted-few = let f = counts-fit maxVertices maxEdges maxEdges maxEdges t (sym read ∙ counted) in (f .vertices .most, f .edges .most)
+    counted-few = let f = counts-passed maxVertices maxEdges maxEdges maxEdges t (sym read ∙ counted) in (f .vertices .most, f .edges .most)

@@ -140,13 +140,13 @@ pub below-word : (limit : ℕ) {x : ℕ} → limit ≤ 9 → OfDigits limit x �
 below-word limit l h = let p : 10 ^ limit ≤ 10 ^ 9 = pow-le-pow-right {n = 10} (omega arith) {i = limit} {j = 9} l in omega arith
 
 -- What the counts that pass their tests are.
-pub record CountsFit (a b c d : ℕ) (counts : SurveyCounts) : Type 0 where
+pub record CountsPassed (a b c d : ℕ) (counts : SurveyCounts) : Type 0 where
   pub vertices : VerticesPass a (counts .vertices)
   pub edges : EdgesPass b c d (counts .edges)
 
-pub counts-fit : (a b c d : ℕ) (t : List ℕ) {counts : SurveyCounts} {q : ℕ} → countsAt (testsFor a b c d) t ≡ found counts q → CountsFit a b c d counts
+pub counts-passed : (a b c d : ℕ) (t : List ℕ) {counts : SurveyCounts} {q : ℕ} → countsAt (testsFor a b c d) t ≡ found counts q → CountsPassed a b c d counts
 unfolding countsAt testsFor countLine
-counts-fit a b c d t {counts} {q} e =
+counts-passed a b c d t {counts} {q} e =
     let one = then-value (countLine nodesKey (verticesTest a) t 0) _ e in
     let n = then-value (numberLine nodesKey countDigits t 0) _ (one .2) in
     let two = then-value (countLine linksKey (edgesTest b c d) t (one .1)) _ (one .3) in
@@ -154,5 +154,5 @@ counts-fit a b c d t {counts} {q} e =
     let u = checked-value _ _ _ (n .3) in
     let v = checked-value _ _ _ (m .3) in
     let same : _≡_ {A = SurveyCounts} (record { vertices = n .0; edges = m .0 }) counts = cc (u, v, two .3) in
-    subst (CountsFit a b c d) same
+    subst (CountsPassed a b c d) same
     record { vertices = vertices-passed a (n .0) (checked-fine _ _ _ (n .3)); edges = edges-passed b c d (m .0) (checked-fine _ _ _ (m .3)) }
