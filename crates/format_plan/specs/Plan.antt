@@ -42,8 +42,8 @@ pub record PlanLines : Type 0 where
   pub duals : List PrintedDual
   pub end : Step ℕ
 
-unfoldable pub bodyAt : List ℕ → (m at : ℕ) → PlanLines
-bodyAt t m at =
+unfoldable pub planLinesAt : List ℕ → (m at : ℕ) → PlanLines
+planLinesAt t m at =
     let ks = keptAt t m at in
     let ds = linesAfter (ks .end) (dualsAt t) in
     record { kept = ks .values; duals = ds .values; end = ds .end }
@@ -51,7 +51,7 @@ bodyAt t m at =
 unfoldable pub planAt : List ℕ → (m at : ℕ) → Step PrintedPlan
 planAt t m at =
     claimsAt t at then λ claims p.
-    let body = bodyAt t m p in
+    let body = planLinesAt t m p in
     body .end then λ count q. found (record { claims = claims; kept = body .kept; duals = body .duals }) q
 
 -- ---- marks and records

@@ -4,7 +4,7 @@ ghost use Rattle.base_buffer.specs.Lent.{old, new};
 ghost use mathlib.Core.Path.{_≡_};
 ghost use Rattle.format_number.specs.Answer.{numberStep};
 ghost use Rattle.format_grammar.specs.Step.{stopped};
-ghost use Rattle.format_plan.specs.Plan.{bodyAt, claimsAt, cleared, planReading};
+ghost use Rattle.format_plan.specs.Plan.{planLinesAt, claimsAt, cleared, planReading};
 ghost use Rattle.format_plan.specs.Answer.{PlanStored, PlanFilled, PlanRead, claimsStep, planOutcome};
 use base_limits::FIGURE_DIGITS;
 use base_limits::RECORD_BYTES;
@@ -104,7 +104,7 @@ fn plan_body(
     records: &mut [u8],
 ) -> Number
     ensures { λ r.
-        let lines = bodyAt (old text) edges (cursor .at) in
+        let lines = planLinesAt (old text) edges (cursor .at) in
         ⌜ PlanStored lines (numberStep r) (old marks) (new marks) (old records) (new records) ⌝ }
 {
     let kept = format_plan_lines::keep_lines(text, cursor, edges, marks);
@@ -123,7 +123,7 @@ fn plan_lines(
     records: &mut [u8],
 ) -> Number
     ensures { λ r.
-        let lines = bodyAt (old text) edges (cursor .at) in
+        let lines = planLinesAt (old text) edges (cursor .at) in
         ⌜ PlanFilled lines edges (numberStep r) (old marks) (new marks) (old records) (new records) ⌝ }
 {
     let found = plan_body(text, cursor, edges, &mut marks[0..0], &mut records[0..0]);

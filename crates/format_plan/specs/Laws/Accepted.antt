@@ -25,7 +25,7 @@ use Rattle.format_grammar.specs.Laws.Language.{bound, reads-then, reads-as, rea
 use Rattle.format_number.specs.Laws.Keyed.{reads-line}
 use Rattle.format_grammar.specs.Items.{ItemReader, Standing, stop, item, Lists}
 use Rattle.format_plan_lines.specs.Lines.{keepReader, keptAt, memberReader, membersAt, memberNumbers, PrintedDual, dualLineAt, dualReader, dualsAt}
-use Rattle.format_plan.specs.Plan.{Claims, claimsAt, PrintedPlan, bodyAt, planAt, withRoom, planReading}
+use Rattle.format_plan.specs.Plan.{Claims, claimsAt, PrintedPlan, planLinesAt, planAt, withRoom, planReading}
 use Rattle.format_plan_lines.specs.Laws.Tests.{risen-next}
 use Rattle.format_plan_lines.specs.Laws.Lines.{keep-passed, risen-rises}
 use Rattle.format_grammar.specs.Laws.Items.{items-stop}
@@ -159,7 +159,7 @@ pub record AcceptedPlan (t : List ℕ) (m at : ℕ) (p : PrintedPlan) (q : ℕ) 
 
 -- A plan is read only by reading its counts, its keep lines and its moats.
 pub plan-read : (t : List ℕ) (m at : ℕ) (p : PrintedPlan) (q : ℕ) → planAt t m at ≡ found p q → AcceptedPlan t m at p q
-unfolding planAt bodyAt linesAfter _then_
+unfolding planAt planLinesAt linesAfter _then_
 plan-read t m at p q e =
     let h = then-value (claimsAt t at) _ e in
     by-kept (h .0) (h .1) (keptAt t m (h .1) .end) (h .2) refl (h .3)

@@ -25,7 +25,7 @@ use Rattle.format_grammar.specs.Language.{NotMalformed, read, otherwise, Each, 
 use Rattle.format_grammar.specs.Laws.Language.{bound, read-again, text-stands}
 use Rattle.format_grammar.specs.Items.{ItemReader, Standing, stop, item, Broken, here, later}
 use Rattle.format_plan_lines.specs.Lines.{keptTest, keepReader, keptAt, PrintedDual, dualTest, dualReader, dualsAt}
-use Rattle.format_plan.specs.Plan.{Claims, claimsAt, PrintedPlan, bodyAt, planAt, withRoom, planReading}
+use Rattle.format_plan.specs.Plan.{Claims, claimsAt, PrintedPlan, planLinesAt, planAt, withRoom, planReading}
 use Rattle.format_plan.specs.Laws.Room.{room-refusal}
 use Rattle.format_grammar.specs.Laws.Items.{items-reads-back}
 use Rattle.format_plan.specs.Laws.RoundTrip.{keep-line-reads-back, dual-line-reads-back, claims-reads-back, claims-some, lines-long, line-some, dual-some, no-keep}
@@ -89,7 +89,7 @@ met-duals t w at s q = met-lines (dualReader t) t DualDigits dualText tested w 0
 
 -- A well-formed plan that stands to the end of a text is read, or refused for another reason than its form.
 pub plan-lively : (t : List ℕ) (m at : ℕ) (p : PrintedPlan) → WellFormedPlan p → Stands t at (planWords p) → at + length (planWords p) ≡ length t → NotMalformed (planAt t m at) p (length t)
-unfolding planAt bodyAt planWords keptAt dualsAt _then_ linesAfter
+unfolding planAt planLinesAt planWords keptAt dualsAt _then_ linesAfter
 plan-lively t m at p w s q =
     let C = claimsText (p .claims) in
     let K = textOf (lineOf keptKey) (p .kept) in
@@ -135,7 +135,7 @@ data PlanStops (t : List ℕ) (m at q : ℕ) : Type 0 where
 
 -- 16 comes from the counts, the keep lines or the moats.
 plan-stops : (t : List ℕ) (m at q : ℕ) → planAt t m at ≡ refused 16 q → PlanStops t m at q
-unfolding planAt bodyAt linesAfter _then_
+unfolding planAt planLinesAt linesAfter _then_
 plan-stops t m at q e = by-claims (claimsAt t at) refl e
   where
     again : {A : Type 0} {n r : ℕ} → _≡_ {A = Step PrintedPlan} (refused n r) (refused 16 q) → _≡_ {A = Step A} (refused n r) (refused 16 q)
@@ -154,7 +154,7 @@ plan-stops t m at q e = by-claims (claimsAt t at) refl e
     by-kept c from (found last middle) h k e = by-duals c from last middle (dualsAt t middle .end) h k refl e
     by-kept c from (refused n y) h k e = in-kept c from h (k ∙ again e)
 
-    by-claims : (s : Step Claims) → claimsAt t at ≡ s → (s then λ c from. ends c (bodyAt t m from .kept) (bodyAt t m from .duals) (bodyAt t m from .end)) ≡ refused 16 q → PlanStops t m at q
+    by-claims : (s : Step Claims) → claimsAt t at ≡ s → (s then λ c from. ends c (planLinesAt t m from .kept) (planLinesAt t m from .duals) (planLinesAt t m from .end)) ≡ refused 16 q → PlanStops t m at q
     by-claims (found c from) h e = by-kept c from (keptAt t m from .end) h refl e
     by-claims (refused n y) h e = in-claims (h ∙ again e)
 
@@ -206,7 +206,7 @@ module _ (t : List ℕ) (m at : ℕ) (h : at ≤ length t) where
 
   -- Where 16 stands depends on nothing behind that place.
   pub plan-same : (u : List ℕ) (q : ℕ) → planAt t m at ≡ refused 16 q → take (q + 1) t ≡ take (q + 1) u → planAt u m at ≡ refused 16 q
-  unfolding planAt bodyAt keptAt dualsAt linesAfter _then_
+  unfolding planAt planLinesAt keptAt dualsAt linesAfter _then_
   plan-same u q e k = by-place (plan-stops t m at q e)
     where
       rest : Claims → Lines ℕ ℕ → Step PrintedPlan

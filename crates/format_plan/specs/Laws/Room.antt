@@ -17,7 +17,7 @@ use Rattle.format_survey.specs.Reading.{outcomeOf}
 use Rattle.format_grammar.specs.Laws.Step.{then-value, checked-fine}
 use Rattle.format_grammar.specs.Items.{itemsFrom}
 use Rattle.format_plan_lines.specs.Lines.{PrintedDual, dualHead, membersAt, dualTest, dualLineAt, dualReader, dualsAt, keptAt, memberNumbers}
-use Rattle.format_plan.specs.Plan.{PrintedPlan, bodyAt, claimsAt, planAt, roomTest, withRoom}
+use Rattle.format_plan.specs.Plan.{PrintedPlan, planLinesAt, claimsAt, planAt, roomTest, withRoom}
 use Rattle.format_plan_lines.specs.Laws.Tests.{dual-falls, dual-many}
 use Rattle.format_plan.specs.Laws.Reading.{room-marks, room-records, room-fine}
 
@@ -89,8 +89,8 @@ items-few t (suc fuel) low i at h = by-stop (dualReader t .stop at) (dualLineAt 
         omega arith
     by-stop false (refused n p) e ih = omega arith
 
-body-few : (t : List ℕ) (m at : ℕ) → length (bodyAt t m at .duals) ≤ maxDuals
-unfolding bodyAt linesAfter dualsAt
+body-few : (t : List ℕ) (m at : ℕ) → length (planLinesAt t m at .duals) ≤ maxDuals
+unfolding planLinesAt linesAfter dualsAt
 body-few t m at = by-kept (keptAt t m at .end)
   where
     by-kept : (s : Step ℕ) → length (linesAfter s (dualsAt t) .values) ≤ maxDuals
@@ -101,8 +101,8 @@ plan-few : (t : List ℕ) (m at : ℕ) {p : PrintedPlan} {q : ℕ} → planAt t 
 unfolding planAt
 plan-few t m at {p} {q} e =
     let one = then-value (claimsAt t at) _ e in
-    let two = then-value (bodyAt t m (one .1) .end) _ (one .3) in
-    let same : _≡_ {A = PrintedPlan} (record { claims = one .0; kept = bodyAt t m (one .1) .kept; duals = bodyAt t m (one .1) .duals }) p = cc (two .3) in
+    let two = then-value (planLinesAt t m (one .1) .end) _ (one .3) in
+    let same : _≡_ {A = PrintedPlan} (record { claims = one .0; kept = planLinesAt t m (one .1) .kept; duals = planLinesAt t m (one .1) .duals }) p = cc (two .3) in
     subst (λ (x : PrintedPlan). length (x .duals) ≤ maxDuals) same (body-few t m (one .1))
 
 -- Where there is room for every plan within the limits 7 cannot come: what is answered is what the text says.
