@@ -13,7 +13,7 @@ use Rattle.base_limits.specs.Verdict.{answer}
 use Rattle.format_key.specs.Key.{keptKey, comma}
 use Rattle.format_write.specs.Decimal.{decimal}
 use Rattle.format_write.specs.Text.{lineOf, listed, keptLine}
-use Rattle.format_print.specs.Room.{longestDual, planRoom}
+use Rattle.base_limits.specs.Limits.{longestDual, planRoom}
 use Rattle.format_write.specs.Laws.Decimal.{length-decimal}
 use Rattle.format_print.specs.Laws.Room.{roomBelow, room-of-members, length-dual, kept-line-le, length-count-lines}
 use Rattle.format_number.specs.Step.{found}

@@ -7,7 +7,7 @@ use lib.ListN.{length, length-append}
 use Rattle.base_limits.specs.Limits.{maxVertices, maxEdges}
 use Rattle.base_limits.specs.Verdict.{answer}
 use Rattle.format_record.specs.Bits.{Bytes}
-use Rattle.format_print.specs.Room.{planRoom}
+use Rattle.base_limits.specs.Limits.{planRoom}
 use Rattle.format_write.specs.Text.{planText}
 use Rattle.format_print.specs.Laws.Room.{plan-text-le}
 use Rattle.format_number.specs.Step.{found}

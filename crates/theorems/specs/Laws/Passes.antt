@@ -4,7 +4,7 @@ use native.Mathlib.Omega.{arith}
 use mathlib.Core.Path.{_≡_, ap, ap₂, sym, _∙_, subst}
 use mathlib.Core.List.{List, _++_}
 use lib.ListN.{length, take}
-use Rattle.base_limits.specs.Limits.{recordBytes}
+use Rattle.base_limits.specs.Limits.{recordBytes, verifyRoom}
 use Rattle.base_limits.specs.Verdict.{answer}
 use Rattle.base_limits.specs.declared.Verdict.the-variants.{Fine}
 use Rattle.format_write.specs.Text.{planText}
@@ -27,10 +27,6 @@ use Rattle.check_text.specs.Verify.{verifying}
 use Rattle.check_text.specs.Laws.Accuracy.{surveyIn}
 use Rattle.check_text.specs.Laws.Passes.{read-numbered, printed-passes, printed-length}
 use Rattle.check_text.specs.Laws.Length.{verified-length}
-
--- bytes that the checking program reads, at most
-abbrev pub verifyRoom : ℕ
-verifyRoom = 1048576
 
 -- The plan of the survey that a text says, and its text.
 abbrev pub planFor : SurveyText → Plan
