@@ -9,12 +9,11 @@ use lib.ListN.{length, length-append}
 use Rattle.format_number.specs.Laws.NumberWord.{digits-most}
 use Rattle.base_finite.specs.Below.{sumBelow}
 use Rattle.base_finite.specs.Laws.Below.{lt-or-ge}
-use Rattle.base_limits.specs.Limits.{recordBytes, maxVertices, maxEdges, maxDuals, valueDigits}
+use Rattle.base_limits.specs.Limits.{recordBytes, maxVertices, maxEdges, maxDuals, valueDigits, longestDual, planRoom}
 use Rattle.base_limits.specs.Verdict.{answer}
 use Rattle.format_key.specs.Key.{keptKey, comma}
 use Rattle.format_write.specs.Decimal.{decimal}
 use Rattle.format_write.specs.Text.{lineOf, listed, keptLine}
-use Rattle.format_print.specs.Room.{longestDual, planRoom}
 use Rattle.format_print.specs.Laws.Room.{roomBelow, room-of-members, length-dual, kept-line-le, length-count-lines}
 use Rattle.format_grammar.specs.Step.{found}
 use Rattle.format_survey_lines.specs.Line.{testsFor}

@@ -4,10 +4,9 @@ use native.Mathlib.Omega.{arith}
 use mathlib.Core.Path.{_≡_, refl, ap, sym, _∙_, subst}
 use mathlib.Core.List.{List, [], _++_}
 use lib.ListN.{length, length-append}
-use Rattle.base_limits.specs.Limits.{maxVertices, maxEdges, figureDigits}
+use Rattle.base_limits.specs.Limits.{maxVertices, maxEdges, figureDigits, planRoom}
 use Rattle.base_limits.specs.Verdict.{answer}
 use Rattle.format_record.specs.Bits.{Bytes}
-use Rattle.format_print.specs.Room.{planRoom}
 use Rattle.format_write.specs.Text.{planText}
 use Rattle.format_print.specs.Laws.Room.{plan-text-le}
 use Rattle.format_grammar.specs.Step.{found}
