@@ -72,3 +72,35 @@ memberDigits = 7
 -- no number of a text has more digits
 abbrev pub maxDigits : ℕ
 maxDigits = figureDigits
+
+-- digits of a 64-bit number, at most
+abbrev pub wordDigits : ℕ
+wordDigits = 20
+
+-- bytes of all members with commas between, for 100 to 1,000 junctions: 10 of one digit, 90 of two, the others of three
+abbrev pub longestMembers : ℕ
+longestMembers = 4 * maxVertices - 111
+
+-- bytes of the longest moat line: 7 fixed, the amount, all members
+abbrev pub longestDual : ℕ
+longestDual = 7 + wordDigits + longestMembers
+
+-- bytes that hold every moat line
+abbrev pub dualRoom : ℕ
+dualRoom = 1024
+
+-- bytes that hold every plan within the limits: four counts behind 24 bytes of keys, a line of at most 10 bytes for each track, the moat lines
+abbrev pub planRoom : ℕ
+planRoom = 24 + 4 * (wordDigits + 1) + 10 * maxEdges + longestDual * maxDuals
+
+-- bytes that hold every refusal: two numbers, and 16 bytes of keys and newlines
+abbrev pub refusalRoom : ℕ
+refusalRoom = 16 + 2 * wordDigits
+
+-- bytes that the program `plan` reads, at most: every survey's text
+abbrev pub surveyRoom : ℕ
+surveyRoom = 65536
+
+-- bytes that the program `verify` reads, at most: every survey's text with a plan's behind it
+abbrev pub verifyRoom : ℕ
+verifyRoom = 1048576

@@ -51,3 +51,23 @@ pub enum Verdict {
     Fine,
     Refused { number: u64, place: usize },
 }
+
+// Digits of a 64-bit number, at most.
+pub const WORD_DIGITS: usize = 20;
+
+// Bytes of all members with commas between, for 100 to 1,000 vertices; and of the longest dual line, which has 7 more and the value.
+pub const LONGEST_MEMBERS: usize = 4 * MAX_VERTICES - 111;
+
+pub const LONGEST_DUAL: usize = 7 + WORD_DIGITS + LONGEST_MEMBERS;
+
+// Bytes that hold every dual line, every plan within the limits, every refusal.
+pub const DUAL_ROOM: usize = 1024;
+
+pub const PLAN_ROOM: usize = 24 + 4 * (WORD_DIGITS + 1) + 10 * MAX_EDGES + LONGEST_DUAL * MAX_DUALS;
+
+pub const REFUSAL_ROOM: usize = 16 + 2 * WORD_DIGITS;
+
+// Bytes that the programs `plan` and `verify` read, at most: every survey's text, and every survey's text with a plan's behind it.
+pub const SURVEY_ROOM: usize = 65536;
+
+pub const VERIFY_ROOM: usize = 1048576;

@@ -8,7 +8,7 @@ use Rattle.base_limits.specs.Verdict.{answer}
 use Rattle.check_rule.specs.Check.{Checked, checking}
 use Rattle.check_text.specs.Verify.{prefixAt}
 use Rattle.format_grammar.specs.Step.{found}
-use Rattle.format_plan.specs.Plan.{Claims, Plan, marksOf, dualRecords}
+use Rattle.format_plan.specs.Plan.{Claims, PrintedPlan, marksOf, dualRecords}
 use Rattle.format_plan.specs.WellFormed.{Printable, planWords}
 use Rattle.format_survey.specs.Reading.{SurveyText}
 use Rattle.format_survey.specs.Render.{render}
@@ -42,7 +42,7 @@ surveyWith groups edges = surveyIn (surveyOfText groups edges)
 pub record Pair (t : List ℕ) (c : Checked) : Type 0 where
   pub groups : List ℕ
   pub edges : List Edge
-  pub plan : Plan
+  pub plan : PrintedPlan
   pub within : WithinCounts groups edges
   pub printable : Printable (length edges) plan
   pub word : t ≡ render groups edges ++ planWords plan

@@ -9,13 +9,13 @@ use Rattle.base_limits.specs.Verdict.{refuseIf, _before_, Outcome, refusal, ans
 use Rattle.base_limits.specs.declared.Verdict.{Verdict}
 use Rattle.format_grammar.specs.Step.{Step, found, refused, _then_}
 use Rattle.format_survey.specs.Reading.{surveyOf, SurveyText}
-use Rattle.format_survey_lines.specs.Line.{Counts, Tests, testsFor, countsAt, linesAt}
+use Rattle.format_survey_lines.specs.Line.{SurveyCounts, Tests, testsFor, countsAt, linesAt}
 use Rattle.survey_core.specs.Survey.{Survey, surveyFrom, edgeCount}
 use Rattle.check_rule.specs.Check.{Checked, checking}
-use Rattle.format_plan.specs.Plan.{Plan, planAt, withRoom, marksOf, dualRecords}
+use Rattle.format_plan.specs.Plan.{PrintedPlan, planAt, withRoom, marksOf, dualRecords}
 
 -- The survey of these counts, and the offset behind its lines.
-unfoldable pub surveyAt : List ℕ → Counts → (at : ℕ) → Step SurveyText
+unfoldable pub surveyAt : List ℕ → SurveyCounts → (at : ℕ) → Step SurveyText
 surveyAt t counts at =
     let body = linesAt t (counts .vertices) (counts .edges) at in
     body .end then λ z q. found (surveyOf counts (body .groups) (body .edges)) q
@@ -36,13 +36,13 @@ judged (refusal number place) terminals cost bound = refusal number place
 judged (answer c) terminals cost bound = outcome (claimTest c terminals cost bound) c
 
 -- The plan that was read, against its survey.
-unfoldable pub planVerified : Survey → Outcome Plan → Outcome Checked
+unfoldable pub planVerified : Survey → Outcome PrintedPlan → Outcome Checked
 planVerified s (refusal number place) = refusal number place
 planVerified s (answer p) =
     judged (checking s (marksOf (edgeCount s) (p .kept)) (dualRecords (p .duals))) (p .claims .terminals) (p .claims .cost) (p .claims .bound)
 
 -- The plan from an offset on, with room for every plan within the limits.
-unfoldable pub planFrom : List ℕ → Survey → (at : ℕ) → Outcome Plan
+unfoldable pub planFrom : List ℕ → Survey → (at : ℕ) → Outcome PrintedPlan
 planFrom t s at = withRoom (planAt t (edgeCount s) at) (edgeCount s) maxEdges (recordBytes * maxDuals)
 
 unfoldable pub verifiedFrom : List ℕ → Step SurveyText → Outcome Checked

@@ -1,4 +1,6 @@
-// Prints document 01's survey text of P3 and its plan from marks and records written by hand, moat lines, and what is refused.
+// Prints document 01's survey text of P3 and its plan from marks and records written by hand, dual lines, and what is refused.
+use base_limits::RECORD_BYTES;
+use base_limits::VALUE_BYTES;
 use format_print::Printed;
 
 fn write(out: &[u8], n: usize) {
@@ -12,7 +14,7 @@ fn show(out: &[u8], answer: Printed) {
     match answer {
         Printed::Length(n) => write(out, n),
         Printed::Refused { number, place } => {
-            let mut text = [0u8; 56];
+            let mut text = format_print::refusal_buffer();
             if let Printed::Length(n) = format_print::print_refusal(number, place, &mut text) {
                 write(&text, n);
             }
@@ -26,7 +28,7 @@ fn survey() {
     let firsts = [0u32, 1u32];
     let seconds = [1u32, 2u32];
     let weights = [3u32, 4u32];
-    let mut out = [0u8; 1024];
+    let mut out = format_print::dual_buffer();
     let answer = format_survey_print::print_survey(&groups, &firsts, &seconds, &weights, &mut out);
     show(&out, answer);
     let answer = format_survey_print::print_survey(
@@ -39,33 +41,33 @@ fn survey() {
     show(&out, answer);
 }
 
-// P3: two marks, and three records of 40 bytes: the amount's lowest byte and the first member byte of each.
+// P3: two marks, and three records: the value's lowest byte and the first member byte of each.
 fn plan() {
     let marks = [2u8, 2u8];
-    let mut duals = [0u8; 120];
+    let mut duals = [0u8; 3 * RECORD_BYTES];
     duals[0] = 6;
-    duals[8] = 1;
-    duals[40] = 7;
-    duals[48] = 4;
-    duals[80] = 1;
-    duals[88] = 3;
-    let mut out = [0u8; 1024];
+    duals[VALUE_BYTES] = 1;
+    duals[RECORD_BYTES] = 7;
+    duals[RECORD_BYTES + VALUE_BYTES] = 4;
+    duals[2 * RECORD_BYTES] = 1;
+    duals[2 * RECORD_BYTES + VALUE_BYTES] = 3;
+    let mut out = format_print::dual_buffer();
     let answer = format_print::print_plan(2, 7, 14, 2, &marks, &duals, &mut out);
     show(&out, answer);
 }
 
-// The largest amount, and no member.
+// The largest value, and no member.
 fn empty() {
-    let mut part = [0u8; 40];
+    let mut part = [0u8; RECORD_BYTES];
     format_record::start_record(&mut part, 18446744073709551615);
-    let mut out = [0u8; 1024];
+    let mut out = format_print::dual_buffer();
     let answer = format_print::print_dual(&part, &mut out);
     show(&out, answer);
 }
 
 // A line of 14 bytes into as many.
 fn exact() {
-    let mut part = [0u8; 40];
+    let mut part = [0u8; RECORD_BYTES];
     format_record::start_record(&mut part, 10);
     format_record::add_member(&mut part, 255);
     format_record::add_member(&mut part, 9);
@@ -76,7 +78,7 @@ fn exact() {
 
 // The shortest line, `moat=0:`, into a byte less.
 fn short() {
-    let part = [0u8; 40];
+    let part = [0u8; RECORD_BYTES];
     let mut out = [0u8; 7];
     let answer = format_print::print_dual(&part, &mut out);
     show(&out, answer);
@@ -84,8 +86,8 @@ fn short() {
 
 // A record that lacks a byte.
 fn cut() {
-    let part = [0u8; 39];
-    let mut out = [0u8; 1024];
+    let part = [0u8; RECORD_BYTES - 1];
+    let mut out = format_print::dual_buffer();
     let answer = format_print::print_dual(&part, &mut out);
     show(&out, answer);
 }

@@ -15,6 +15,7 @@ unfoldable pub fixedAt : (bytes t : List ℕ) → (at : ℕ) → Step ℕ
 fixedAt [] t at = found 0 at
 fixedAt (b ∷ bytes) t at = cond (byteIs t at b) (fixedAt bytes t (at + 1)) (refused 16 at)
 
+-- One byte, as a step.
 unfoldable pub byteStep : ℕ → List ℕ → ℕ → Step ℕ
 byteStep b t at = cond (byteIs t at b) (found 0 (at + 1)) (refused 16 at)
 

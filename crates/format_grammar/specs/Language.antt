@@ -28,6 +28,8 @@ pub record Extends {A : Type 0} (G : A → List ℕ → Type 0) (t : List ℕ) (
   pub rest : List ℕ
   pub whole : take p t ++ rest ≡ take at t ++ word
 
+-- A step reads the words of W, which are words of G: it finds their values and nothing else, and a word of G is not malformed. Where it refuses
+-- with 16, the bytes before that place go on to a word of G, and nothing behind that place matters.
 pub record Reads {A : Type 0} (f : List ℕ → ℕ → Step A) (W G : A → List ℕ → Type 0) : Type 0 where
   pub complete : (t : List ℕ) (at : ℕ) (a : A) (w : List ℕ) → W a w → Stands t at w → f t at ≡ found a (at + length w)
   pub sound : (t : List ℕ) (at : ℕ) (a : A) (p : ℕ) → at ≤ length t → f t at ≡ found a p → Word W t at a p

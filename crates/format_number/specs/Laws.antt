@@ -3,6 +3,6 @@ pub mod Number
 pub mod Step
 pub mod Digits
 pub mod Decimal
-pub mod Words
+pub mod NumberWord
 pub mod Keyed
 pub mod Near

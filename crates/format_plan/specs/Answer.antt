@@ -8,7 +8,7 @@ use Rattle.base_limits.specs.Verdict.{Outcome, refusal, answer}
 use Rattle.format_grammar.specs.Step.{Step, found, refused, _then_, checked, storedIf}
 use Rattle.format_grammar.specs.Items.{puts}
 use Rattle.format_plan_lines.specs.Lines.{putMark, putDual}
-use Rattle.format_plan.specs.Plan.{Claims, Plan, PlanLines, marksOf, dualRecords, roomTest, marksAfter, recordsAfter}
+use Rattle.format_plan.specs.Plan.{Claims, PrintedPlan, PlanLines, marksOf, dualRecords, roomTest, marksAfter, recordsAfter}
 use Rattle.format_plan.specs.declared.PlanText.{PlanText}
 use Rattle.format_plan.specs.declared.PlanText.the-variants.{Plan as PlanFound, Refused as PlanRefused}
 use Rattle.format_plan.specs.declared.Claims.{Claims as ClaimsLines}
@@ -43,12 +43,12 @@ unfoldable pub planOutcome : PlanText → Outcome Read
 planOutcome (PlanFound k c b r duals) = answer (record { claims = record { terminals = k; cost = c; bound = b; rounds = r }; duals = duals })
 planOutcome (PlanRefused number place) = refusal number place
 
-unfoldable pub readOf : Outcome Plan → Outcome Read
+unfoldable pub readOf : Outcome PrintedPlan → Outcome Read
 readOf (refusal number place) = refusal number place
 readOf (answer p) = answer (record { claims = p .claims; duals = length (p .duals) })
 
 -- What reading a plan answers, and what each lent buffer, with its primed content at the end, then holds.
-pub record PlanRead (o : Outcome Plan) (m : ℕ) (read : Outcome Read) (marks marks′ records records′ : List ℕ) : Type 0 where
+pub record PlanRead (o : Outcome PrintedPlan) (m : ℕ) (read : Outcome Read) (marks marks′ records records′ : List ℕ) : Type 0 where
   pub answered : read ≡ readOf o
   pub intoMarks : marks′ ≡ marksAfter o m marks
   pub intoRecords : records′ ≡ recordsAfter o records

@@ -15,10 +15,10 @@ use Rattle.format_number.specs.Number.{classOf, isDigit, digitsEnd, numeralEnd,
 use Rattle.format_grammar.specs.Bytes.{byteIs, fixedAt}
 use Rattle.format_grammar.specs.Items.{itemsFrom}
 use Rattle.format_plan_lines.specs.Lines.{keptTest, keepLine, keepReader, keptAt, separator, memberAt, risen, memberReader, membersAt, dualTest, dualHead, dualLineAt, dualReader, dualsAt}
-use Rattle.format_plan.specs.Plan.{Plan, claimsAt, bodyAt, planAt}
+use Rattle.format_plan.specs.Plan.{PrintedPlan, claimsAt, planLinesAt, planAt}
 
 -- What P3's plan says.
-p3 : Plan
+p3 : PrintedPlan
 p3 =
     record {
       claims = record { terminals = 2; cost = 7; bound = 14; rounds = 2 };
@@ -29,7 +29,7 @@ p3 =
 p3-said : planAt (ascii "sites=2\ncost=7\nbound=14\nrounds=2\nkeep=0\nkeep=1\nmoat=6:0\nmoat=7:2\nmoat=1:0,1\n") 2 0 ≡ found p3 76
 unfolding refuseIf _before_ terminalsKey costKey boundKey roundsKey keptKey dualKey _then_ checked linesAfter classOf isDigit byteIs fixedAt digitsEnd
     numeralEnd numeralAt spelledAfter numberAt numberTo following itemsFrom numberLine claimsAt keptTest keepLine keepReader keptAt separator memberAt risen
-    memberReader membersAt dualTest dualHead dualLineAt dualReader dualsAt bodyAt planAt p3
+    memberReader membersAt dualTest dualHead dualLineAt dualReader dualsAt planLinesAt planAt p3
 p3-said = refl
 
 pub p3-read-back : planAt

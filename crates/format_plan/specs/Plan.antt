@@ -31,7 +31,7 @@ claimsAt t at =
     found (record { terminals = k; cost = c; bound = y; rounds = r }) e
 
 -- What a printed plan says.
-pub record Plan : Type 0 where
+pub record PrintedPlan : Type 0 where
   pub claims : Claims
   pub kept : List ℕ
   pub duals : List PrintedDual
@@ -42,16 +42,16 @@ pub record PlanLines : Type 0 where
   pub duals : List PrintedDual
   pub end : Step ℕ
 
-unfoldable pub bodyAt : List ℕ → (m at : ℕ) → PlanLines
-bodyAt t m at =
+unfoldable pub planLinesAt : List ℕ → (m at : ℕ) → PlanLines
+planLinesAt t m at =
     let ks = keptAt t m at in
     let ds = linesAfter (ks .end) (dualsAt t) in
     record { kept = ks .values; duals = ds .values; end = ds .end }
 
-unfoldable pub planAt : List ℕ → (m at : ℕ) → Step Plan
+unfoldable pub planAt : List ℕ → (m at : ℕ) → Step PrintedPlan
 planAt t m at =
     claimsAt t at then λ claims p.
-    let body = bodyAt t m p in
+    let body = planLinesAt t m p in
     body .end then λ count q. found (record { claims = claims; kept = body .kept; duals = body .duals }) q
 
 -- ---- marks and records
@@ -68,20 +68,20 @@ dualRecords (d ∷ ds) = dualRecord d ++ dualRecords ds
 unfoldable pub roomTest : (m count marks records : ℕ) → Verdict
 roomTest m count marks records = refuseIf (ltb marks m || ltb (records / recordBytes) count) 7 0
 
-unfoldable pub withRoom : Step Plan → (m : ℕ) (marks records : ℕ) → Outcome Plan
+unfoldable pub withRoom : Step PrintedPlan → (m : ℕ) (marks records : ℕ) → Outcome PrintedPlan
 withRoom (found plan next) m marks records = outcome (roomTest m (length (plan .duals)) marks records) plan
 withRoom (refused number place) m marks records = refusal number place
 
 -- Reading a printed plan of m tracks from an offset of a text on; of the lent buffers only the lengths matter.
-unfoldable pub planReading : (t : List ℕ) (from m : ℕ) (marks records : List ℕ) → Outcome Plan
+unfoldable pub planReading : (t : List ℕ) (from m : ℕ) (marks records : List ℕ) → Outcome PrintedPlan
 planReading t from m marks records = withRoom (planAt t m from) m (length marks) (length records)
 
 -- What the lent buffers hold at the end: a refusal writes nothing, and bytes behind what is written keep their values.
-unfoldable pub marksAfter : Outcome Plan → (m : ℕ) (marks : List ℕ) → List ℕ
+unfoldable pub marksAfter : Outcome PrintedPlan → (m : ℕ) (marks : List ℕ) → List ℕ
 marksAfter (refusal number place) m marks = marks
 marksAfter (answer plan) m marks = marksOf m (plan .kept) ++ drop m marks
 
-unfoldable pub recordsAfter : Outcome Plan → (records : List ℕ) → List ℕ
+unfoldable pub recordsAfter : Outcome PrintedPlan → (records : List ℕ) → List ℕ
 recordsAfter (refusal number place) records = records
 recordsAfter (answer plan) records = dualRecords (plan .duals) ++ drop (recordBytes * length (plan .duals)) records
 

@@ -13,7 +13,7 @@ use Rattle.format_grammar.specs.Stands.{Stands}
 use Rattle.format_key.specs.Key.{newline, colon, dualKey, keptKey}
 use Rattle.format_number.specs.Number.{OfDigits}
 use Rattle.format_plan_lines.specs.Lines.{memberNumbers, PrintedDual}
-use Rattle.format_plan.specs.Plan.{Claims, Plan}
+use Rattle.format_plan.specs.Plan.{Claims, PrintedPlan}
 use Rattle.format_record.specs.Record.{valueIn, recordAt}
 use Rattle.format_write.specs.Decimal.{decimal}
 use Rattle.format_write.specs.Text.{lineOf, listed, countLines, membersOf}
@@ -48,17 +48,17 @@ unfoldable pub claimsText : Claims → List ℕ
 claimsText c = countLines (c .terminals) (c .cost) (c .bound) (c .rounds)
 
 -- A plan as it is printed, and what makes it fit: counts of ten digits, tracks that rise below m, moats that rise and are few.
-unfoldable pub planWords : Plan → List ℕ
+unfoldable pub planWords : PrintedPlan → List ℕ
 planWords p = claimsText (p .claims) ++ textOf (lineOf keptKey) (p .kept) ++ textOf dualText (p .duals)
 
-pub record Printable (m : ℕ) (p : Plan) : Type 0 where
+pub record Printable (m : ℕ) (p : PrintedPlan) : Type 0 where
   pub few : ClaimDigits (p .claims)
   pub kept : Rising m 0 (p .kept)
   pub duals : Each Printed (p .duals)
   pub count : length (p .duals) ≤ maxDuals
 
 -- A well-formed plan: any counts, tracks, amounts and members of at most so many digits, whether or not they rise or pass their limits.
-pub record WellFormedPlan (p : Plan) : Type 0 where
+pub record WellFormedPlan (p : PrintedPlan) : Type 0 where
   pub few : ClaimDigits (p .claims)
   pub kept : Each (OfDigits keptDigits) (p .kept)
   pub duals : Each DualDigits (p .duals)
@@ -68,24 +68,24 @@ pub record PlanBegins (t : List ℕ) (at q : ℕ) : Type 0 where
   pub after : at ≤ q
   pub inside : q ≤ length t
   pub rest : List ℕ
-  pub plan : Plan
+  pub plan : PrintedPlan
   pub well : WellFormedPlan plan
   pub whole : take q t ++ rest ≡ take at t ++ planWords plan
 
 -- A plan that is printed from an offset of a text to its end.
-pub record Rendering (t : List ℕ) (m at : ℕ) (p : Plan) (q : ℕ) : Type 0 where
+pub record Rendering (t : List ℕ) (m at : ℕ) (p : PrintedPlan) (q : ℕ) : Type 0 where
   pub printable : Printable m p
   pub stands : Stands t at (planWords p)
   pub ends : at + length (planWords p) ≡ length t
   pub next : q ≡ length t
 
 -- Marks and records with room for a plan of m tracks.
-pub record RoomFor (m : ℕ) (p : Plan) (marks records : List ℕ) : Type 0 where
+pub record RoomFor (m : ℕ) (p : PrintedPlan) (marks records : List ℕ) : Type 0 where
   pub tracks : m ≤ length marks
   pub duals : recordBytes * length (p .duals) ≤ length records
 
 -- A plan of m tracks keeps at most m, and has at most 511 moats of at most 256 members.
-pub record FewParts (m : ℕ) (p : Plan) : Type 0 where
+pub record FewParts (m : ℕ) (p : PrintedPlan) : Type 0 where
   pub kept : length (p .kept) ≤ m
   pub duals : length (p .duals) ≤ maxDuals
   pub members : Each (λ d. length (d .members) ≤ memberNumbers) (p .duals)
@@ -101,11 +101,11 @@ printedDual r = record { value = valueIn r; members = membersOf r }
 unfoldable pub printedDuals : List ℕ → List PrintedDual
 printedDuals records = tabulate (length records / recordBytes) (λ i. printedDual (recordAt records i))
 
-unfoldable pub planIn : Claims → (marks records : List ℕ) → Plan
+unfoldable pub planIn : Claims → (marks records : List ℕ) → PrintedPlan
 planIn claims marks records = record { claims = claims; kept = keptIn marks; duals = printedDuals records }
 
 -- What a printed plan is asked: counts of at most ten digits, tracks and moats within the limits, amounts of at most seven digits.
-pub record PlanFits (claims : Claims) (marks records : List ℕ) : Type 0 where
+pub record PrintFits (claims : Claims) (marks records : List ℕ) : Type 0 where
   pub few : ClaimDigits claims
   pub tracks : length marks ≤ maxEdges
   pub duals : length records / recordBytes ≤ maxDuals

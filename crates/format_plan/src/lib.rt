@@ -1,10 +1,10 @@
-// Reads a printed plan behind a survey text: the counts, the kept tracks, the moats. Definitions in specs/. Each step
+// Reads a printed plan behind a survey text: the figures, the kept edges, the duals. Definitions in specs/. Each step
 // answers a value with the next cursor, or a refusal.
 ghost use Rattle.base_buffer.specs.Lent.{old, new};
 ghost use mathlib.Core.Path.{_≡_};
 ghost use Rattle.format_number.specs.Answer.{numberStep};
 ghost use Rattle.format_grammar.specs.Step.{stopped};
-ghost use Rattle.format_plan.specs.Plan.{bodyAt, claimsAt, cleared, planReading};
+ghost use Rattle.format_plan.specs.Plan.{planLinesAt, claimsAt, cleared, planReading};
 ghost use Rattle.format_plan.specs.Answer.{PlanStored, PlanFilled, PlanRead, claimsStep, planOutcome};
 use base_limits::FIGURE_DIGITS;
 use base_limits::RECORD_BYTES;
@@ -104,7 +104,7 @@ fn plan_body(
     records: &mut [u8],
 ) -> Number
     ensures { λ r.
-        let lines = bodyAt (old text) edges (cursor .at) in
+        let lines = planLinesAt (old text) edges (cursor .at) in
         ⌜ PlanStored lines (numberStep r) (old marks) (new marks) (old records) (new records) ⌝ }
 {
     let kept = format_plan_lines::keep_lines(text, cursor, edges, marks);
@@ -123,7 +123,7 @@ fn plan_lines(
     records: &mut [u8],
 ) -> Number
     ensures { λ r.
-        let lines = bodyAt (old text) edges (cursor .at) in
+        let lines = planLinesAt (old text) edges (cursor .at) in
         ⌜ PlanFilled lines edges (numberStep r) (old marks) (new marks) (old records) (new records) ⌝ }
 {
     let found = plan_body(text, cursor, edges, &mut marks[0..0], &mut records[0..0]);
@@ -150,7 +150,7 @@ fn plan_lines(
     plan_body(text, cursor, edges, marks, records)
 }
 
-// What a printed plan says of its counts, and the number of its moats; or a refusal.
+// What a printed plan says of its counts, and the number of its duals; or a refusal.
 pub enum PlanText {
     Plan {
         terminals: u64,

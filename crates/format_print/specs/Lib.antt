@@ -1,4 +1,3 @@
 pub mod Examples
 pub mod Print
-pub mod Room
 pub mod Laws

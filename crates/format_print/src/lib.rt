@@ -1,9 +1,14 @@
 // Printing of moat lines, plans and refusals. Definitions in specs/.
 ghost use Rattle.base_buffer.specs.Lent.{old, new};
 ghost use mathlib.Core.Path.{_≡_};
+ghost use lib.ListN.{length};
+ghost use Rattle.base_limits.specs.Limits.{dualRoom, planRoom, refusalRoom};
 ghost use Rattle.format_write.specs.Text.{countLines, planText, refusalText};
 ghost use Rattle.format_print.specs.Print.{printed, printedOut, dualPrinted, dualPrintedOut};
 ghost use Rattle.format_write.specs.Wrote.{Wrote};
+use base_limits::DUAL_ROOM;
+use base_limits::PLAN_ROOM;
+use base_limits::REFUSAL_ROOM;
 use format_write::put_dual;
 use format_write::put_duals;
 use format_write::put_line;
@@ -15,12 +20,24 @@ pub enum Printed {
     Refused { number: u64, place: usize },
 }
 
-// Bytes that hold every moat line, every plan within the limits, and every refusal (specs/Room.antt, with laws).
-pub const DUAL_ROOM: usize = 1024;
+// Buffers that hold every dual line, every plan within the limits, and every refusal (laws in specs/Laws/Room.antt).
+pub fn dual_buffer() -> [u8; DUAL_ROOM]
+    ensures { λ r. ⌜ length r ≡ dualRoom ⌝ }
+{
+    [0; DUAL_ROOM]
+}
 
-pub const PLAN_ROOM: usize = 500928;
+pub fn plan_buffer() -> [u8; PLAN_ROOM]
+    ensures { λ r. ⌜ length r ≡ planRoom ⌝ }
+{
+    [0; PLAN_ROOM]
+}
 
-pub const REFUSAL_ROOM: usize = 56;
+pub fn refusal_buffer() -> [u8; REFUSAL_ROOM]
+    ensures { λ r. ⌜ length r ≡ refusalRoom ⌝ }
+{
+    [0; REFUSAL_ROOM]
+}
 
 // Writes the four lines of counts.
 fn put_counts(

@@ -5,17 +5,17 @@ use mathlib.Core.List.{List}
 use lib.Seq.{sets}
 use Rattle.base_limits.specs.Verdict.{Outcome, refusal, answer}
 use Rattle.format_grammar.specs.Step.{Step, storedIf}
-use Rattle.format_survey_lines.specs.Line.{Counts, firstsOf, secondsOf, weightsOf, SurveyLines}
+use Rattle.format_survey_lines.specs.Line.{SurveyCounts, firstsOf, secondsOf, weightsOf, SurveyLines}
 use Rattle.format_survey.specs.Reading.{SurveyText}
 use Rattle.format_survey.specs.declared.Reading.{Reading}
 use Rattle.format_survey.specs.declared.Reading.the-variants.{Survey as SurveyRead, Refused as ReadingRefused}
 
 -- The answer of reading: n and m.
-unfoldable pub countsOutcome : Reading → Outcome Counts
+unfoldable pub countsOutcome : Reading → Outcome SurveyCounts
 countsOutcome (SurveyRead n m) = answer (record { vertices = n; edges = m })
 countsOutcome (ReadingRefused number place) = refusal number place
 
-unfoldable pub countsOf : Outcome SurveyText → Outcome Counts
+unfoldable pub countsOf : Outcome SurveyText → Outcome SurveyCounts
 countsOf (refusal number place) = refusal number place
 countsOf (answer s) = answer (record { vertices = s .vertices; edges = s .edges })
 

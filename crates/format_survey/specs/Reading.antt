@@ -4,12 +4,12 @@ use mathlib.Core.List.{List, _++_}
 use lib.ListN.{length, drop}
 use Rattle.base_limits.specs.Verdict.{Outcome, refusal, answer}
 use Rattle.base_limits.specs.declared.Verdict.{Verdict}
-use Rattle.format_survey_lines.specs.Line.{Tests, groupTest, testsFor, Edge, firstsOf, secondsOf, weightsOf, Counts, countsAt, SurveyLines, linesOf}
+use Rattle.format_survey_lines.specs.Line.{Tests, groupTest, testsFor, Edge, firstsOf, secondsOf, weightsOf, SurveyCounts, countsAt, SurveyLines, linesOf}
 use Rattle.format_grammar.specs.Bytes.{endAt}
 use Rattle.format_grammar.specs.Step.{Step, found, refused, _then_}
 
 -- The lines after the counts, to the end of the text.
-unfoldable pub bodyAt : (ℕ → ℕ → Verdict) → List ℕ → Counts → (at : ℕ) → SurveyLines
+unfoldable pub bodyAt : (ℕ → ℕ → Verdict) → List ℕ → SurveyCounts → (at : ℕ) → SurveyLines
 bodyAt test t counts at =
     let lines = linesOf test t counts at in
     record { groups = lines .groups; edges = lines .edges; end = lines .end then λ z p. endAt t p }
@@ -26,7 +26,7 @@ pub record SurveyText : Type 0 where
   pub seconds : List ℕ
   pub weights : List ℕ
 
-unfoldable pub surveyOf : Counts → (groups : List ℕ) → (edges : List Edge) → SurveyText
+unfoldable pub surveyOf : SurveyCounts → (groups : List ℕ) → (edges : List Edge) → SurveyText
 surveyOf counts groups edges =
     record {
       vertices = counts .vertices;

@@ -4,7 +4,7 @@ use mathlib.Core.Path.{_≡_}
 use mathlib.Core.List.{List}
 use lib.Seq.{sets}
 use Rattle.format_grammar.specs.Step.{Step, found, refused}
-use Rattle.format_survey_lines.specs.Line.{Edge, Counts, firstsOf, secondsOf, weightsOf, SurveyLines}
+use Rattle.format_survey_lines.specs.Line.{Edge, SurveyCounts, firstsOf, secondsOf, weightsOf, SurveyLines}
 use Rattle.format_survey_lines.specs.declared.EdgeLine.{EdgeLine}
 use Rattle.format_survey_lines.specs.declared.EdgeLine.the-variants.{Edge as EdgeRead, Refused as EdgeRefused}
 use Rattle.format_survey_lines.specs.declared.Head.{Head}
@@ -14,7 +14,7 @@ unfoldable pub edgeStep : EdgeLine → Step Edge
 edgeStep (EdgeRead u v w next) = found (record { first = u; second = v; weight = w }) (next .at)
 edgeStep (EdgeRefused number place) = refused number place
 
-unfoldable pub countsStep : Head → Step Counts
+unfoldable pub countsStep : Head → Step SurveyCounts
 countsStep (CountsRead n m next) = found (record { vertices = n; edges = m }) (next .at)
 countsStep (HeadRefused number place) = refused number place
 

@@ -74,11 +74,11 @@ edgeLine t e at =
     numberTo weightDigits newline t c then λ w d.
     found (record { first = u; second = v; weight = w }) d
 
-pub record Counts : Type 0 where
+pub record SurveyCounts : Type 0 where
   pub vertices : ℕ
   pub edges : ℕ
 
-unfoldable pub countsAt : Tests → List ℕ → Step Counts
+unfoldable pub countsAt : Tests → List ℕ → Step SurveyCounts
 countsAt tests t =
     countLine nodesKey (tests .vertices) t 0 then λ n p.
     countLine linksKey (tests .edges) t p then λ m q.
@@ -96,7 +96,7 @@ pub record SurveyLines : Type 0 where
   pub edges : List Edge
   pub end : Step ℕ
 
-unfoldable pub linesOf : (ℕ → ℕ → Verdict) → List ℕ → Counts → (at : ℕ) → SurveyLines
+unfoldable pub linesOf : (ℕ → ℕ → Verdict) → List ℕ → SurveyCounts → (at : ℕ) → SurveyLines
 linesOf test t counts at =
     let gs = groupLines test t (counts .vertices) at in
     let es = linesAfter (gs .end) (edgeLines t (counts .edges)) in

@@ -1,4 +1,4 @@
--- The text of an edge's line, and of lines one after another (document 01, 'Survey text and printed plan').
+-- The text of an edge's line (document 01, 'Survey text and printed plan').
 use Prim.Native.Nat.{ℕ}
 use mathlib.Core.List.{List, _++_}
 use Rattle.format_key.specs.Key.{comma, newline, linkKey}

@@ -1,7 +1,14 @@
-// Reads a survey text on standard input and prints its plan, or the two lines of a refusal. A thin shell: reading, planning and printing are the libraries'.
+// Reads a survey text on standard input and prints its plan, or the two lines of a refusal. A thin shell: reading, planning and
+// printing are the libraries'.
+ghost use mathlib.Core.Path.{_≡_};
+ghost use lib.ListN.{length};
+ghost use Rattle.base_limits.specs.Limits.{surveyRoom};
+use base_limits::MAX_DUALS;
 use base_limits::MAX_EDGES;
 use base_limits::MAX_VERTICES;
+use base_limits::RECORD_BYTES;
 use base_limits::RECORDS_ROOM;
+use base_limits::SURVEY_ROOM;
 use format_print::Printed;
 use format_survey::Reading;
 use plan_core::Planned;
@@ -16,7 +23,7 @@ fn write(out: &[u8], answer: Printed) {
 }
 
 fn refuse(number: u64, place: usize) {
-    let mut out = [0u8; 56];
+    let mut out = format_print::refusal_buffer();
     let answer = format_print::print_refusal(number, place, &mut out);
     write(&out, answer);
 }
@@ -32,17 +39,18 @@ fn show(
     records: &[u8],
     duals: u64,
 ) {
-    if 511 < duals {
+    let count = duals as usize;
+    if MAX_DUALS < count {
         return;
     }
-    let end = 40 * (duals as usize);
+    let end = RECORD_BYTES * count;
     if marks.len() < m {
         return;
     }
     if records.len() < end {
         return;
     }
-    let mut out = [0u8; 500928];
+    let mut out = format_print::plan_buffer();
     let answer = format_print::print_plan(
         terminals,
         cost,
@@ -118,8 +126,15 @@ fn respond(input: &[u8]) {
     }
 }
 
+// Bytes for every survey's text.
+fn room() -> [u8; SURVEY_ROOM]
+    ensures { λ r. ⌜ length r ≡ surveyRoom ⌝ }
+{
+    [0; SURVEY_ROOM]
+}
+
 fn main() {
-    let mut input = io::large_buffer();
+    let mut input = room();
     let got = io::read_full(0, &mut input);
     if got <= input.len() {
         respond(&input[0..got]);

@@ -1,4 +1,4 @@
--- The plan of the survey that a text says, as the program `plan` prints it, and the bytes that the checking program reads.
+-- The plan of the survey that a text says, and its text as the program `plan` prints it.
 use Prim.Native.Nat.{ℕ, _*_}
 use mathlib.Core.List.{List}
 use lib.ListN.{take}
@@ -9,10 +9,6 @@ use Rattle.format_write.specs.Text.{planText}
 use Rattle.plan_core.specs.Plan.{Plan, planOf, Counts, marksAfter, recordsAfter}
 use Rattle.plan_duals.specs.Drawing.{recordsOf}
 use Rattle.survey_core.specs.Survey.{Survey, edgeCount, problemOf}
-
--- bytes that the checking program reads, at most
-abbrev pub verifyRoom : ℕ
-verifyRoom = 1048576
 
 -- The plan of the survey that a text says, and its text.
 abbrev pub planFor : SurveyText → Plan

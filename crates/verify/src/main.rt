@@ -1,5 +1,9 @@
-// Reads a survey text and the printed plan behind it on standard input, and prints what the plan is worth: `passed`, sites, cost and bound as
-// the checker finds them, or the refusal.
+// Reads a survey text and the printed plan behind it on standard input, and prints what the plan is worth: `passed`, terminals, cost
+// and bound as the checker finds them, or the refusal.
+ghost use mathlib.Core.Path.{_≡_};
+ghost use lib.ListN.{length};
+ghost use Rattle.base_limits.specs.Limits.{verifyRoom};
+use base_limits::VERIFY_ROOM;
 use check_text::Verified;
 
 fn line(key: &[u8], value: u64) {
@@ -27,9 +31,11 @@ fn show(found: Verified) {
     }
 }
 
-// Room for every survey and plan within the limits.
-fn room() -> [u8; 1048576] {
-    [0; 1048576]
+// Bytes for every survey's text with a plan's behind it.
+fn room() -> [u8; VERIFY_ROOM]
+    ensures { λ r. ⌜ length r ≡ verifyRoom ⌝ }
+{
+    [0; VERIFY_ROOM]
 }
 
 fn main() {

@@ -16,30 +16,35 @@ enum-known-number c = search needs
 enum-known-k : tie.Need-enum-known-k
 enum-known-k c = search needs
 
+-- 25 0: another number of terminals
 returns : tie.Need-returns
 unfolding verifiedOutcome outcomeOf
 returns c =
     let a = c .before .before .before .before .before .before .before .before .before .before .before .args in
     sym (claim-terminals (a .terminals) (a .cost) (a .bound) (sym (c .before .before .before .before .check .ensures .0) ∙ ap outcomeOf (c .before .before .k .given .1)) (c .if1 .taken))
 
+-- 25 1: another cost
 returns-2 : tie.Need-returns-2
 unfolding verifiedOutcome outcomeOf
 returns-2 c =
     let a = c .before .before .before .before .before .before .before .before .before .before .before .before .args in
     sym (claim-cost (a .terminals) (a .cost) (a .bound) (sym (c .before .before .before .before .before .check .ensures .0) ∙ ap outcomeOf (c .before .before .before .k .given .1)) (c .before .if1 .left) (c .if2 .taken))
 
+-- 25 2: another bound
 returns-3 : tie.Need-returns-3
 unfolding verifiedOutcome outcomeOf
 returns-3 c =
     let a = c .before .before .before .before .before .before .before .before .before .before .before .before .before .args in
     sym (claim-bound (a .terminals) (a .cost) (a .bound) (sym (c .before .before .before .before .before .before .check .ensures .0) ∙ ap outcomeOf (c .before .before .before .before .k .given .1)) (c .before .before .if1 .left) (c .before .if2 .left) (c .if3 .taken))
 
+-- the checker refuses
 returns-4 : tie.Need-returns-4
 unfolding verifiedOutcome outcomeOf
 returns-4 c =
     let a = c .before .before .before .before .before .before .before .before .before .before .args in
     sym (judged-refused (a .terminals) (a .cost) (a .bound) (sym (c .before .before .before .check .ensures .0) ∙ ap outcomeOf (c .before .number .given .1)))
 
+-- the figures are those found
 returns-5 : tie.Need-returns-5
 unfolding verifiedOutcome outcomeOf
 returns-5 c =

@@ -20,10 +20,12 @@ verify-lines-requires : tie.Need-verify-lines-requires
 unfolding countsStep
 verify-lines-requires c κs = counted-few (c .before .before .before .before .before .args .text .now) (c .before .before .before .counts .ensures) (ap countsStep (c .before .vertices .given .1))
 
+-- the counts are refused
 returns : tie.Need-returns
 unfolding verifiedOutcome countsStep
 returns c = verified-uncounted (c .before .before .before .before .before .args .text .now) (c .before .before .before .counts .ensures) (ap countsStep (c .before .number .given .1))
 
+-- the lines follow
 returns-2 : tie.Need-returns-2
 unfolding countsStep
 returns-2 c = c .verify-lines .ensures ∙ verified-counted (c .before .before .before .before .before .before .args .text .now) (c .before .before .before .before .counts .ensures) (ap countsStep (c .before .before .vertices .given .1))

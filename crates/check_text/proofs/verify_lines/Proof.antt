@@ -67,19 +67,22 @@ part-verify-plan-end-4 c = search needs
 verify-plan-requires : tie.Need-verify-plan-requires
 verify-plan-requires c κs = search needs
 
+-- a line is refused
 returns : tie.Need-returns
 unfolding verifiedOutcome numberStep
 returns c =
     let a = c .before .before .before .before .before .before .before .before .before .before .before .before .before .args in
     lines-refused (a .text .now) (a .vertices) (a .edges) (a .cursor .at) (c .before .before .before .before .before .before .before .survey-lines .ensures .end) (ap numberStep (c .before .step .given .1))
 
+-- the plan behind the lines
 returns-2 : tie.Need-returns-2
 unfolding numberStep
 returns-2 c =
-    let start = c .before .before .before .before .before .before .before .before .before .before .before .before .before .before .before .before .before .before .before .before .before .before in
+    let far = c .before .before .before .before .before .before .before .before .before .before in
+    let start = far .before .before .before .before .before .before .before .before .before .before .before .before in
     let a = start .args in
     let few = start .pre in
-    c .verify-plan .ensures ∙ lines-verified (a .text .now) (a .vertices) (a .edges) (a .cursor .at) (few .0) (few .1) (few .1) (few .1) (c .before .before .before .before .before .before .before .before .before .before .before .before .before .before .before .before .survey-lines .ensures) (ap numberStep (c .before .before .before .before .before .before .before .before .before .before .step2 .given .1))
+    c .verify-plan .ensures ∙ lines-verified (a .text .now) (a .vertices) (a .edges) (a .cursor .at) (few .0) (few .1) (few .1) (few .1) (far .before .before .before .before .before .before .survey-lines .ensures) (ap numberStep (c .before .before .before .before .before .before .before .before .before .before .step2 .given .1))
 
 pub verify-lines-spec : {M : Type 1} → statement M
 verify-lines-spec =

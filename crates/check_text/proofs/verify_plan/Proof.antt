@@ -52,13 +52,15 @@ part-judge-start-2 c = search needs
 part-judge-end-2 : tie.Need-part-judge-end-2
 unfolding planOutcome planReading
 part-judge-end-2 c =
-    let a = c .before .before .before .before .before .before .before .before .before .before .before .before .before .before .before .before .args in
+    let far = c .before .before .before .before .before .before .before .before .before .before in
+    let a = far .before .before .before .before .before .before .args in
     let few = plan-room (a .text .now) (a .at) _ maxEdges recordsRoom (c .before .before .before .before .before .before .before .before .read-plan .ensures .answered) (ap planOutcome (c .before .before .before .before .terminals .given .1)) in
     search (needs, few)
 
 judge-requires : tie.Need-judge-requires
 judge-requires c κs = search needs
 
+-- the plan is refused
 returns : tie.Need-returns
 unfolding planOutcome verifiedOutcome planReading planFrom edgeCount
 returns c =
@@ -66,10 +68,12 @@ returns c =
     let s = surveyFrom (a .groups .now) (a .firsts .now) (a .seconds .now) (a .weights .now) in
     plan-refused s (planFrom (a .text .now) s (a .at)) (c .before .before .before .before .before .read-plan .ensures .answered) (ap planOutcome (c .before .number .given .1))
 
+-- the plan is judged
 returns-2 : tie.Need-returns-2
 unfolding planOutcome planReading planFrom edgeCount
 returns-2 c =
-    let a = c .before .before .before .before .before .before .before .before .before .before .before .before .before .before .before .before .before .before .args in
+    let far = c .before .before .before .before .before .before .before .before .before .before in
+    let a = far .before .before .before .before .before .before .before .before .args in
     let s = surveyFrom (a .groups .now) (a .firsts .now) (a .seconds .now) (a .weights .now) in
     c .judge .ensures ∙ plan-judged s (planFrom (a .text .now) s (a .at)) (c .before .before .before .before .before .before .before .before .before .before .read-plan .ensures) (ap planOutcome (c .before .before .before .before .before .before .terminals .given .1))
 

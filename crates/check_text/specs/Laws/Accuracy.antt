@@ -21,7 +21,7 @@ use Rattle.survey_core.specs.Survey.{edgeCount}
 use Rattle.survey_core.specs.Sound.{Numbered}
 use Rattle.check_rule.specs.Check.{Checked, checking}
 use Rattle.check_rule.specs.Laws.Accuracy.{checking-accurate}
-use Rattle.format_plan.specs.Plan.{Claims, Plan, marksOf, dualRecords}
+use Rattle.format_plan.specs.Plan.{Claims, PrintedPlan, marksOf, dualRecords}
 use Rattle.check_text.specs.Verify.{surveyAt, prefixAt, claimTest, judged, planVerified, planFrom, verifiedFrom, verifying}
 use Rattle.check_text.specs.Pair.{surveyIn, Claimed, Worth}
 
@@ -73,7 +73,7 @@ judged-claims (answer y) x {c} e = by-tests (eqb (y .terminals) (x .terminals)) 
 pub record Parts (t : List ℕ) (c : Checked) : Type 0 where
   pub survey : SurveyText
   pub next : ℕ
-  pub plan : Plan
+  pub plan : PrintedPlan
   pub read : prefixAt (testsFor maxVertices maxEdges maxEdges maxEdges) t ≡ found survey next
   pub behind : planFrom t (surveyIn survey) next ≡ answer plan
   pub passes : checking (surveyIn survey) (marksOf (edgeCount (surveyIn survey)) (plan .kept)) (dualRecords (plan .duals)) ≡ answer c
@@ -84,7 +84,7 @@ pub verified-parts : (t : List ℕ) (c : Checked) → verifying t ≡ answer c �
 unfolding verifying verifiedFrom planVerified
 verified-parts t c e = by-survey (prefixAt (testsFor maxVertices maxEdges maxEdges maxEdges) t) refl e
   where
-    by-plan : (s : SurveyText) (at : ℕ) (o : Outcome Plan) → prefixAt (testsFor maxVertices maxEdges maxEdges maxEdges) t ≡ found s at → planFrom t (surveyIn s) at ≡ o
+    by-plan : (s : SurveyText) (at : ℕ) (o : Outcome PrintedPlan) → prefixAt (testsFor maxVertices maxEdges maxEdges maxEdges) t ≡ found s at → planFrom t (surveyIn s) at ≡ o
         → planVerified (surveyIn s) o ≡ answer c → Parts t c
     by-plan s at (refusal n p) q b e = let z : _≡_ {A = ℕ} 0 1 = cc in absurd (omega arith)
     by-plan s at (answer p) q b e = record { survey = s; next = at; plan = p; read = q; behind = b; passes = judged-answer _ _ _ _ e; claims = judged-claims _ (p .claims) e }

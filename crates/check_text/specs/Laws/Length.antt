@@ -6,15 +6,14 @@ use mathlib.Core.Path.{_≡_, ap, sym, _∙_}
 use mathlib.Core.Logic.{⊎-elim}
 use mathlib.Core.List.{List, [], _∷_, _++_}
 use lib.ListN.{length, length-append}
-use Rattle.format_number.specs.Laws.Words.{digits-most}
+use Rattle.format_number.specs.Laws.NumberWord.{digits-most}
 use Rattle.base_finite.specs.Below.{sumBelow}
 use Rattle.base_finite.specs.Laws.Below.{lt-or-ge}
-use Rattle.base_limits.specs.Limits.{recordBytes, maxVertices, maxEdges, maxDuals, valueDigits}
+use Rattle.base_limits.specs.Limits.{recordBytes, maxVertices, maxEdges, maxDuals, valueDigits, longestDual, planRoom}
 use Rattle.base_limits.specs.Verdict.{answer}
 use Rattle.format_key.specs.Key.{keptKey, comma}
 use Rattle.format_write.specs.Decimal.{decimal}
 use Rattle.format_write.specs.Text.{lineOf, listed, keptLine}
-use Rattle.format_print.specs.Room.{longestDual, planRoom}
 use Rattle.format_print.specs.Laws.Room.{roomBelow, room-of-members, length-dual, kept-line-le, length-count-lines}
 use Rattle.format_grammar.specs.Step.{found}
 use Rattle.format_survey_lines.specs.Line.{testsFor}
@@ -29,7 +28,7 @@ use Rattle.survey_core.specs.Survey.{edgeCount}
 use Rattle.check_rule.specs.Check.{Checked}
 use Rattle.format_grammar.specs.Language.{Each, none, more}
 use Rattle.format_plan_lines.specs.Lines.{separator, memberNumbers, PrintedDual}
-use Rattle.format_plan.specs.Plan.{Plan, planAt}
+use Rattle.format_plan.specs.Plan.{PrintedPlan, planAt}
 use Rattle.check_text.specs.Verify.{prefixAt, planFrom, verifying}
 use Rattle.check_text.specs.Pair.{surveyIn}
 use Rattle.check_text.specs.Laws.Accuracy.{verified-parts}
@@ -112,7 +111,7 @@ kept-most few h (rising {e = e} {es = ks} a b r) =
 -- ---- the whole text
 
 -- A plan's text is no longer than the room for every plan.
-pub words-most : (m : ℕ) (p : Plan) → m ≤ maxEdges → Printable m p → length (planWords p) ≤ planRoom
+pub words-most : (m : ℕ) (p : PrintedPlan) → m ≤ maxEdges → Printable m p → length (planWords p) ≤ planRoom
 unfolding planWords claimsText
 words-most m p few w =
     let C = claimsText (p .claims) in

@@ -4,10 +4,9 @@ use native.Mathlib.Omega.{arith}
 use mathlib.Core.Path.{_≡_, refl, ap, sym, _∙_, subst}
 use mathlib.Core.List.{List, [], _++_}
 use lib.ListN.{length, length-append}
-use Rattle.base_limits.specs.Limits.{maxVertices, maxEdges, figureDigits}
+use Rattle.base_limits.specs.Limits.{maxVertices, maxEdges, figureDigits, planRoom}
 use Rattle.base_limits.specs.Verdict.{answer}
 use Rattle.format_record.specs.Bits.{Bytes}
-use Rattle.format_print.specs.Room.{planRoom}
 use Rattle.format_write.specs.Text.{planText}
 use Rattle.format_print.specs.Laws.Room.{plan-text-le}
 use Rattle.format_grammar.specs.Step.{found}
@@ -28,7 +27,7 @@ use Rattle.check_text.specs.Verify.{planVerified, planFrom, verifiedFrom
 use Rattle.check_text.specs.Laws.Verify.{claim-fine, room-suffices}
 use Rattle.check_text.specs.Pair.{surveyIn}
 use Rattle.check_text.specs.Laws.Accuracy.{prefix-numbered}
-use Rattle.format_plan.specs.WellFormed.{planIn, PlanFits}
+use Rattle.format_plan.specs.WellFormed.{planIn, PrintFits}
 use Rattle.format_plan.specs.Laws.Printed.{read-back}
 use Rattle.check_text.specs.Laws.Prefix.{prefix-render}
 use Rattle.check_text.specs.Laws.Same.{drawn-passes}
@@ -43,7 +42,7 @@ printed c rounds marks records = planText (c .terminals) (c .cost) (c .bound) ro
 
 module _ (s : Survey) (numbered : Numbered s) (marks records : List ℕ) (c : Checked) (passed : checking s marks records ≡ answer c) where
   -- What passes fits the digits and the limits of a printed plan.
-  passed-fits : (rounds : ℕ) → rounds < 10 ^ figureDigits → PlanFits (claimsOf c rounds) marks records
+  passed-fits : (rounds : ℕ) → rounds < 10 ^ figureDigits → PrintFits (claimsOf c rounds) marks records
   unfolding checkedOf dualAt edgeCount
   passed-fits rounds h =
       let law = checking-passing s numbered marks records in

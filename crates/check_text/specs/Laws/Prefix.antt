@@ -23,11 +23,11 @@ prefix-content a b c d t = content-then (testsFor a b c d) t (λ x p. found (sur
 
 -- A rendering is read back from the start of a text, and the offset behind it is its length.
 pub prefix-render : (groups : List ℕ) (edges : List Edge) (w : List ℕ) → WithinCounts groups edges
-    → prefixAt (testsFor maxVertices maxEdges maxEdges maxEdges) (render groups edges ++ w) ≡ found (surveyFrom groups edges) (length (render groups edges))
-unfolding surveyFrom
+    → prefixAt (testsFor maxVertices maxEdges maxEdges maxEdges) (render groups edges ++ w) ≡ found (surveyOfText groups edges) (length (render groups edges))
+unfolding surveyOfText
 prefix-render groups edges w h =
     let t = render groups edges in
     let e = h .fewEdges in
     let a = within-accepted maxVertices maxEdges maxEdges maxEdges groups edges h (h .fewGroups) e e e in
     let c = reads-content (testsFor maxVertices maxEdges maxEdges maxEdges) (never-malformed _ _ _ _) .complete (t ++ w) 0 (contentFrom groups edges) t a (stands-first t w (stands-whole (t ++ w))) in
-    prefix-content maxVertices maxEdges maxEdges maxEdges (t ++ w) ∙ then-found _ c ∙ ap (λ (p : ℕ). found (surveyFrom groups edges) p) (zero-add (length t))
+    prefix-content maxVertices maxEdges maxEdges maxEdges (t ++ w) ∙ then-found _ c ∙ ap (λ (p : ℕ). found (surveyOfText groups edges) p) (zero-add (length t))

@@ -14,13 +14,13 @@ use Rattle.base_limits.specs.Limits.{recordBytes, maxEdges, maxVertices}
 use Rattle.base_limits.specs.Verdict.{refuseIf, Outcome, refusal, answer, outcome, _before_}
 use Rattle.format_grammar.specs.Step.{Step, found, refused, _then_}
 use Rattle.format_survey.specs.Reading.{surveyOf, outcomeOf}
-use Rattle.format_survey_lines.specs.Line.{Counts, testsFor, countsAt, firstsOf, secondsOf, weightsOf, SurveyLines, linesAt}
-use Rattle.format_survey_lines.specs.Laws.Tests.{counts-fit}
+use Rattle.format_survey_lines.specs.Line.{SurveyCounts, testsFor, countsAt, firstsOf, secondsOf, weightsOf, SurveyLines, linesAt}
+use Rattle.format_survey_lines.specs.Laws.Tests.{counts-passed}
 use Rattle.format_survey.specs.Laws.Reading.{sets-filled}
 use Rattle.survey_core.specs.Survey.{Survey, surveyFrom, edgeCount}
 use Rattle.check_rule.specs.Check.{Checked, checking}
 use Rattle.format_plan_lines.specs.Lines.{PrintedDual, dualRecord}
-use Rattle.format_plan.specs.Plan.{Claims, Plan, planAt, withRoom, marksOf, dualRecords, marksAfter, recordsAfter}
+use Rattle.format_plan.specs.Plan.{Claims, PrintedPlan, planAt, withRoom, marksOf, dualRecords, marksAfter, recordsAfter}
 use Rattle.check_text.specs.Verify.{surveyAt, prefixAt, claimTest, judged, planVerified, planFrom, verifiedFrom, verifying}
 use Rattle.format_plan.specs.Answer.{Read, readOf, PlanRead}
 use Rattle.format_plan_lines.specs.Laws.Lines.{length-dual-record}
@@ -51,7 +51,7 @@ module _ {o : Outcome Checked} {k c b : ℕ} (terminals cost bound : ℕ) (found
 
 -- ---- the plan
 
-pub plan-refused : (s : Survey) (o : Outcome Plan) {read : Outcome Read} {n p : ℕ} → read ≡ readOf o → read ≡ refusal n p → refusal n p ≡ planVerified s o
+pub plan-refused : (s : Survey) (o : Outcome PrintedPlan) {read : Outcome Read} {n p : ℕ} → read ≡ readOf o → read ≡ refusal n p → refusal n p ≡ planVerified s o
 unfolding readOf planVerified
 plan-refused s (refusal x y) a e = cc
 plan-refused s (answer p) a e = let z : _≡_ {A = ℕ} 0 1 = cc in absurd (omega arith)
@@ -65,13 +65,13 @@ unfolding dualRecords
 length-records [] = refl
 length-records (d ∷ ds) = omega (arith, length-append (dualRecord d) (dualRecords ds), length-dual-record d, length-records ds)
 
-plan-read : (s : Survey) (o : Outcome Plan) {claims : Claims} {duals : ℕ} {marks marks′ records records′ : List ℕ}
+plan-read : (s : Survey) (o : Outcome PrintedPlan) {claims : Claims} {duals : ℕ} {marks marks′ records records′ : List ℕ}
     → PlanRead o (edgeCount s) (answer (record { claims = claims; duals = duals })) marks marks′ records records′
     → planVerified s o ≡ judged (checking s (take (edgeCount s) marks′) (take (recordBytes * duals) records′)) (claims .terminals) (claims .cost) (claims .bound)
 unfolding readOf marksAfter recordsAfter planVerified
 plan-read s o {claims} {duals} {marks} {marks′} {records} {records′} r = by-outcome o (r .answered) (r .intoMarks) (r .intoRecords)
   where
-    by-outcome : (x : Outcome Plan) → answer (record { claims = claims; duals = duals }) ≡ readOf x → marks′ ≡ marksAfter x (edgeCount s) marks → records′ ≡ recordsAfter x records
+    by-outcome : (x : Outcome PrintedPlan) → answer (record { claims = claims; duals = duals }) ≡ readOf x → marks′ ≡ marksAfter x (edgeCount s) marks → records′ ≡ recordsAfter x records
         → planVerified s x ≡ judged (checking s (take (edgeCount s) marks′) (take (recordBytes * duals) records′)) (claims .terminals) (claims .cost) (claims .bound)
     by-outcome (refusal n p) a b c = let z : _≡_ {A = ℕ} 0 1 = cc in absurd (omega arith)
     by-outcome (answer p) a b c =
@@ -83,7 +83,7 @@ plan-read s o {claims} {duals} {marks} {marks′} {records} {records′} r = by-
         rw (tm, tr, same) refl
 
 -- The same of the parts that are lent.
-pub plan-judged : (s : Survey) (o : Outcome Plan) {read : Outcome Read} {claims : Claims} {duals : ℕ} {marks marks′ records records′ : List ℕ}
+pub plan-judged : (s : Survey) (o : Outcome PrintedPlan) {read : Outcome Read} {claims : Claims} {duals : ℕ} {marks marks′ records records′ : List ℕ}
     → PlanRead o (edgeCount s) read marks marks′ records records′ → read ≡ answer (record { claims = claims; duals = duals })
     → judged (checking s (take (edgeCount s - 0) marks′) (take (recordBytes * duals - 0) records′)) (claims .terminals) (claims .cost) (claims .bound) ≡ planVerified s o
 plan-judged s o {claims = claims} {duals = duals} {marks = marks} {marks′ = marks′} {records = records} {records′ = records′} r e =
@@ -95,7 +95,7 @@ pub plan-room : (t : List ℕ) (at m marks records : ℕ) {read : Outcome Read} 
 unfolding readOf
 plan-room t at m marks records {read} {claims} {duals} a e = by-outcome (withRoom (planAt t m at) m marks records) refl (sym e ∙ a)
   where
-    by-outcome : (o : Outcome Plan) → withRoom (planAt t m at) m marks records ≡ o → answer (record { claims = claims; duals = duals }) ≡ readOf o → recordBytes * duals ≤ records
+    by-outcome : (o : Outcome PrintedPlan) → withRoom (planAt t m at) m marks records ≡ o → answer (record { claims = claims; duals = duals }) ≡ readOf o → recordBytes * duals ≤ records
     by-outcome (refusal n q) r e = let z : _≡_ {A = ℕ} 0 1 = cc in absurd (omega arith)
     by-outcome (answer p) r e =
         let same : _≡_ {A = Read} (record { claims = claims; duals = duals }) (record { claims = p .claims; duals = length (p .duals) }) = cc e in
@@ -148,7 +148,7 @@ module _ (t : List ℕ) (n m at : ℕ) {step : Step ℕ} where
 
 -- ---- the whole
 
-module _ (t : List ℕ) {step : Step Counts} (read : step ≡ countsAt (testsFor maxVertices maxEdges maxEdges maxEdges) t) where
+module _ (t : List ℕ) {step : Step SurveyCounts} (read : step ≡ countsAt (testsFor maxVertices maxEdges maxEdges maxEdges) t) where
   pub verified-uncounted : {n p : ℕ} → step ≡ refused n p → refusal n p ≡ verifying t
   unfolding verifying verifiedFrom prefixAt _then_
   verified-uncounted e = rw (sym read ∙ e)
@@ -159,4 +159,4 @@ module _ (t : List ℕ) {step : Step Counts} (read : step ≡ countsAt (testsFor
     verified-counted = rw (sym read ∙ counted) refl
 
     pub counted-few : (n ≤ maxVertices) × (m ≤ maxEdges)
-    counted-few = let f = counts-fit maxVertices maxEdges maxEdges maxEdges t (sym read ∙ counted) in (f .vertices .most, f .edges .most)
+    counted-few = let f = counts-passed maxVertices maxEdges maxEdges maxEdges t (sym read ∙ counted) in (f .vertices .most, f .edges .most)

@@ -71,7 +71,7 @@ module _ (bytes t : List ℕ) (i at : ℕ) where
   unfolding fixedAt
   fixed-done h = rw (drop-of-length-le bytes h)
 
--- A number's end.
+-- One byte, with a value that was read before it.
 pub stop-found : (t : List ℕ) (b v at : ℕ) → byteIs t at b ≡ true → (fixedAt (b ∷ []) t at then λ z q. found v q) ≡ found v (at + 1)
 unfolding fixedAt _then_
 stop-found t b v at e = rw e

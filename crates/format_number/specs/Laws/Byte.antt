@@ -1,4 +1,4 @@
--- Laws of single bytes: their classes, and what the byte at an offset says of the text's length.
+-- Laws of single bytes: their classes, and which of them end a number.
 use Prim.Native.Nat.{ℕ, _≤_, _<_}
 use native.Mathlib.Omega.{arith}
 use mathlib.Core.Path.{_≡_, refl, ap}

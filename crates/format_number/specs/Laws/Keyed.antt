@@ -1,4 +1,4 @@
--- The words that a line of a key and a number reads: the text of its number.
+-- The words that a line of a key and a number reads: the text of its number, for any digit limit.
 use Prim.Native.Nat.{ℕ, _^_, _≤_, _<_, _+_}
 use native.Mathlib.Omega.{arith}
 use mathlib.Core.Path.{_≡_, refl, ap, sym, _∙_, subst}
@@ -11,7 +11,7 @@ use Rattle.format_key.specs.Key.{comma, newline}
 use Rattle.format_write.specs.Decimal.{decimal}
 use Rattle.format_write.specs.Text.{lineOf}
 use Rattle.format_number.specs.Number.{isDigit, classOf, numberTo, numberLine, numberText, numberAt, OfDigits}
-use Rattle.format_number.specs.Laws.Words.{Numeral, reads-number}
+use Rattle.format_number.specs.Laws.NumberWord.{NumberWord, reads-number}
 use Rattle.format_grammar.specs.Bytes.{fixedAt}
 use Rattle.format_grammar.specs.Language.{Reads, Seq, Empty, Fixed, Text}
 use Rattle.format_grammar.specs.Laws.Bytes.{reads-fixed, fixed-one}
@@ -35,14 +35,14 @@ pub reads-keyed : (key : List ℕ) (limit stop : ℕ) → 1 ≤ limit → isDigi
 unfolding numberText
 reads-keyed key limit stop positive no-digit = reads-as (λ t at. refl) to from to from (reads-then (reads-fixed key) (λ z. reads-number limit stop positive no-digit))
   where
-    to : (a : ℕ) (w : List ℕ) → Seq (Fixed key) (λ z. Numeral limit stop) a w → Text (OfDigits limit) (λ x. key ++ decimal x ++ (stop ∷ [])) a w
+    to : (a : ℕ) (w : List ℕ) → Seq (Fixed key) (λ z. NumberWord limit stop) a w → Text (OfDigits limit) (λ x. key ++ decimal x ++ (stop ∷ [])) a w
     to a w m =
         record {
           holds = m .second .below;
           word = m .whole ∙ ap (λ (x : List ℕ). x ++ m .right) (m .first .word) ∙ ap (λ (x : List ℕ). key ++ x) (m .second .word) ∙ sym (append-assoc key (decimal a) (stop ∷ []));
         }
 
-    from : (a : ℕ) (w : List ℕ) → Text (OfDigits limit) (λ x. key ++ decimal x ++ (stop ∷ [])) a w → Seq (Fixed key) (λ z. Numeral limit stop) a w
+    from : (a : ℕ) (w : List ℕ) → Text (OfDigits limit) (λ x. key ++ decimal x ++ (stop ∷ [])) a w → Seq (Fixed key) (λ z. NumberWord limit stop) a w
     from a w m =
         record {
           value = 0;

@@ -18,7 +18,7 @@ use Rattle.format_grammar.specs.Laws.Step.{then-found, then-refused, then-value
 use Rattle.format_grammar.specs.Step.{Step, found, refused, _then_, checked}
 use Rattle.format_write.specs.Decimal.{spelledAfter}
 use Rattle.format_number.specs.Laws.Number.{numeral-range, numeral-width}
-use Rattle.format_number.specs.Laws.Words.{numeral-same}
+use Rattle.format_number.specs.Laws.NumberWord.{numeral-same}
 use Rattle.format_number.specs.Number.{numeralEnd, numeralAt, numberAt, numberTo, numberLine, lineBytes}
 use Rattle.format_key.specs.Key.{newline}
 

@@ -1,4 +1,4 @@
--- Laws of steps: what follows a value, a refusal and a test; and fixed bytes, read one at a time.
+-- Laws of the code's answers as steps: what follows a value, a refusal and a test.
 use Prim.Native.Nat.{ℕ}
 use mathlib.Core.Path.{_≡_, ap, sym, _∙_}
 use Rattle.base_limits.specs.declared.Verdict.{Verdict}

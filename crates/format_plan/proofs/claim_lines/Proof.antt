@@ -90,19 +90,21 @@ stopped-claims-requires-4 c κs = search needs
 returns-4 : tie.Need-returns-4
 unfolding claimsAt terminalsKey costKey boundKey roundsKey
 returns-4 c =
+    let far = c .before .before .before .before .before .before .before .before .before .before in
     c .stopped-claims4 .ensures
     ∙ stopped-stays _ (c .before .before .before .number-line4 .ensures) (c .before .enum-told4 .given .1)
     ∙ sym (value-goes _ (c .before .before .before .before .before .before .before .before .number-line3 .ensures) (c .before .before .before .before .before .before .three .given .1))
-    ∙ sym (value-goes _ (c .before .before .before .before .before .before .before .before .before .before .before .before .before .number-line2 .ensures) (c .before .before .before .before .before .before .before .before .before .before .before .two .given .1))
-    ∙ sym (value-goes _ (c .before .before .before .before .before .before .before .before .before .before .before .before .before .before .before .before .before .before .number-line .ensures) (c .before .before .before .before .before .before .before .before .before .before .before .before .before .before .before .before .one .given .1))
+    ∙ sym (value-goes _ (far .before .before .before .number-line2 .ensures) (far .before .two .given .1))
+    ∙ sym (value-goes _ (far .before .before .before .before .before .before .before .before .number-line .ensures) (far .before .before .before .before .before .before .one .given .1))
 
 returns-5 : tie.Need-returns-5
 unfolding claimsAt terminalsKey costKey boundKey roundsKey claimsStep
 returns-5 c =
+    let far = c .before .before .before .before .before .before .before .before .before .before in
     sym (value-goes _ (c .before .before .before .number-line4 .ensures) (c .before .four .given .1))
     ∙ sym (value-goes _ (c .before .before .before .before .before .before .before .before .number-line3 .ensures) (c .before .before .before .before .before .before .three .given .1))
-    ∙ sym (value-goes _ (c .before .before .before .before .before .before .before .before .before .before .before .before .before .number-line2 .ensures) (c .before .before .before .before .before .before .before .before .before .before .before .two .given .1))
-    ∙ sym (value-goes _ (c .before .before .before .before .before .before .before .before .before .before .before .before .before .before .before .before .before .before .number-line .ensures) (c .before .before .before .before .before .before .before .before .before .before .before .before .before .before .before .before .one .given .1))
+    ∙ sym (value-goes _ (far .before .before .before .number-line2 .ensures) (far .before .two .given .1))
+    ∙ sym (value-goes _ (far .before .before .before .before .before .before .before .before .number-line .ensures) (far .before .before .before .before .before .before .one .given .1))
 
 pub claim-lines-spec : {M : Type 1} → statement M
 claim-lines-spec =

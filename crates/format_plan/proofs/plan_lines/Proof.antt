@@ -39,6 +39,7 @@ same-length c = search needs
 same-length-2 : tie.Need-same-length-2
 same-length-2 c = search needs
 
+-- the first pass is refused
 returns : tie.Need-returns
 unfolding numberStep
 returns c =
@@ -52,6 +53,7 @@ same-length-3 c = search needs
 same-length-4 : tie.Need-same-length-4
 same-length-4 c = search needs
 
+-- 7: the mark buffer is short
 returns-2 : tie.Need-returns-2
 unfolding numberStep
 returns-2 c =
@@ -64,6 +66,7 @@ same-length-5 c = search needs
 same-length-6 : tie.Need-same-length-6
 same-length-6 c = search needs
 
+-- 7: the record buffer is short
 returns-3 : tie.Need-returns-3
 unfolding numberStep
 returns-3 c =
@@ -82,11 +85,13 @@ same-length-7 c = search needs
 same-length-8 : tie.Need-same-length-8
 same-length-8 c = search needs
 
+-- both passes
 returns-4 : tie.Need-returns-4
 unfolding numberStep
 returns-4 c =
-    let a = c .before .before .before .before .before .before .before .before .before .before .before .before .before .before .before .before .before .before .before .before .before .before .before .before .before .before .args in
-    pass-read (a .text .now) (a .edges) (a .cursor .at) (a .marks .now) (a .records .now) (c .before .before .before .before .before .before .before .before .before .before .before .before .before .before .before .before .before .before .before .before .plan-body .ensures) (ap numberStep (c .before .before .before .before .before .before .before .before .before .before .before .before .before .before .found .given .1)) (c .before .before .before .before .before .before .before .before .before .before .before .before .if1 .left) (c .before .before .before .before .before .before .before .before .before .before .before .if2 .left) (c .before .before .before .before .before .before .before .before .before .clear .ensures) (c .before .before .before .before .plan-body2 .ensures)
+    let far = c .before .before .before .before .before .before .before .before .before .before in
+    let a = far .before .before .before .before .before .before .before .before .before .before .before .before .before .before .before .before .args in
+    pass-read (a .text .now) (a .edges) (a .cursor .at) (a .marks .now) (a .records .now) (far .before .before .before .before .before .before .before .before .before .before .plan-body .ensures) (ap numberStep (far .before .before .before .before .found .given .1)) (far .before .before .if1 .left) (far .before .if2 .left) (c .before .before .before .before .before .before .before .before .before .clear .ensures) (c .before .before .before .before .plan-body2 .ensures)
 
 pub plan-lines-spec : {M : Type 1} → statement M
 plan-lines-spec =

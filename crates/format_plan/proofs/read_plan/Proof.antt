@@ -25,6 +25,7 @@ enum-known-number-2 c = search needs
 enum-known-value : tie.Need-enum-known-value
 enum-known-value c = search needs
 
+-- the counts are refused
 returns : tie.Need-returns
 unfolding planOutcome claimsStep
 returns c =
@@ -37,11 +38,13 @@ same-length c = search needs
 same-length-2 : tie.Need-same-length-2
 same-length-2 c = search needs
 
+-- a line is refused
 returns-2 : tie.Need-returns-2
 unfolding planOutcome claimsStep numberStep
 returns-2 c =
-    let a = c .before .before .before .before .before .before .before .before .before .before .before .before .before .before .before .before .before .args in
-    reads-stopped (a .text .now) (a .from) (a .edges) (a .marks .now) (a .records .now) (sym (c .before .before .before .before .before .before .before .before .before .before .before .before .before .claim-lines .ensures) ∙ ap claimsStep (c .before .before .before .before .before .before .before .before .before .before .before .terminals .given .1))
+    let far = c .before .before .before .before .before .before .before .before .before .before in
+    let a = far .before .before .before .before .before .before .before .args in
+    reads-stopped (a .text .now) (a .from) (a .edges) (a .marks .now) (a .records .now) (sym (far .before .before .before .claim-lines .ensures) ∙ ap claimsStep (far .before .terminals .given .1))
     (c .before .before .before .before .before .before .before .plan-lines .ensures) (ap numberStep (c .before .number2 .given .1))
 
 same-length-3 : tie.Need-same-length-3
@@ -50,11 +53,13 @@ same-length-3 c = search needs
 same-length-4 : tie.Need-same-length-4
 same-length-4 c = search needs
 
+-- all is read
 returns-3 : tie.Need-returns-3
 unfolding planOutcome claimsStep numberStep
 returns-3 c =
-    let a = c .before .before .before .before .before .before .before .before .before .before .before .before .before .before .before .before .before .args in
-    reads-found (a .text .now) (a .from) (a .edges) (a .marks .now) (a .records .now) (sym (c .before .before .before .before .before .before .before .before .before .before .before .before .before .claim-lines .ensures) ∙ ap claimsStep (c .before .before .before .before .before .before .before .before .before .before .before .terminals .given .1))
+    let far = c .before .before .before .before .before .before .before .before .before .before in
+    let a = far .before .before .before .before .before .before .before .args in
+    reads-found (a .text .now) (a .from) (a .edges) (a .marks .now) (a .records .now) (sym (far .before .before .before .claim-lines .ensures) ∙ ap claimsStep (far .before .terminals .given .1))
     (c .before .before .before .before .before .before .before .plan-lines .ensures) (ap numberStep (c .before .value .given .1))
 
 pub read-plan-spec : {M : Type 1} → statement M

@@ -25,7 +25,7 @@ use Rattle.format_grammar.specs.Laws.Language.{bound, reads-then, reads-as, rea
 use Rattle.format_number.specs.Laws.Keyed.{reads-line}
 use Rattle.format_grammar.specs.Items.{ItemReader, Standing, stop, item, Lists}
 use Rattle.format_plan_lines.specs.Lines.{keepReader, keptAt, memberReader, membersAt, memberNumbers, PrintedDual, dualLineAt, dualReader, dualsAt}
-use Rattle.format_plan.specs.Plan.{Claims, claimsAt, Plan, bodyAt, planAt, withRoom, planReading}
+use Rattle.format_plan.specs.Plan.{Claims, claimsAt, PrintedPlan, planLinesAt, planAt, withRoom, planReading}
 use Rattle.format_plan_lines.specs.Laws.Tests.{risen-next}
 use Rattle.format_plan_lines.specs.Laws.Lines.{keep-passed, risen-rises}
 use Rattle.format_grammar.specs.Laws.Items.{items-stop}
@@ -146,7 +146,7 @@ duals-printed t {low} {i} {at} h (more {a = d} w ws) (item {next = next} e f s) 
 -- ---- the whole plan
 
 -- A plan that is read, part by part.
-pub record AcceptedPlan (t : List ℕ) (m at : ℕ) (p : Plan) (q : ℕ) : Type 0 where
+pub record AcceptedPlan (t : List ℕ) (m at : ℕ) (p : PrintedPlan) (q : ℕ) : Type 0 where
   pub claims : Claims
   pub from : ℕ
   pub last : ℕ
@@ -158,8 +158,8 @@ pub record AcceptedPlan (t : List ℕ) (m at : ℕ) (p : Plan) (q : ℕ) : Type 
   pub plan : record { claims = claims; kept = keptAt t m from .values; duals = dualsAt t middle .values } ≡ p
 
 -- A plan is read only by reading its counts, its keep lines and its moats.
-pub plan-read : (t : List ℕ) (m at : ℕ) (p : Plan) (q : ℕ) → planAt t m at ≡ found p q → AcceptedPlan t m at p q
-unfolding planAt bodyAt linesAfter _then_
+pub plan-read : (t : List ℕ) (m at : ℕ) (p : PrintedPlan) (q : ℕ) → planAt t m at ≡ found p q → AcceptedPlan t m at p q
+unfolding planAt planLinesAt linesAfter _then_
 plan-read t m at p q e =
     let h = then-value (claimsAt t at) _ e in
     by-kept (h .0) (h .1) (keptAt t m (h .1) .end) (h .2) refl (h .3)
@@ -184,7 +184,7 @@ lines-words {f = f} x t {i = i} {l = l} h s =
     record { word = w .word; member = record { holds = w .member .holds; word = w .member .word ∙ text-from f i l }; ends = w .ends; stands = w .stands }
 
 -- What is accepted is a rendering.
-pub accepted-rendering : (t : List ℕ) (m at : ℕ) → at ≤ length t → {p : Plan} {q : ℕ} → planAt t m at ≡ found p q → Rendering t m at p q
+pub accepted-rendering : (t : List ℕ) (m at : ℕ) → at ≤ length t → {p : PrintedPlan} {q : ℕ} → planAt t m at ≡ found p q → Rendering t m at p q
 unfolding keptAt dualsAt planWords dualReader
 accepted-rendering t m at h {p} {q} e =
     let r = plan-read t m at p q e in
@@ -209,7 +209,7 @@ accepted-rendering t m at h {p} {q} e =
     let o = length-append (C ++ K) D in
     let ck : Stands t at (C ++ K) = stands-append C K (text-stands c .0) (subst (λ (z : ℕ). Stands t z K) ce (text-stands k .0)) in
     let there : r .middle ≡ at + length (C ++ K) = omega arith in
-    subst (λ (x : Plan). Rendering t m at x q) (r .plan)
+    subst (λ (x : PrintedPlan). Rendering t m at x q) (r .plan)
     record {
       printable = record { few = c .member .holds; kept = kept-rise t m a; duals = f .0; count = omega arith };
       stands = stands-append (C ++ K) D ck (subst (λ (z : ℕ). Stands t z D) there (text-stands d .0));
@@ -218,13 +218,13 @@ accepted-rendering t m at h {p} {q} e =
     }
 
 -- The text is what stands before the plan, and the plan.
-pub rendering-whole : {t : List ℕ} {m at : ℕ} {p : Plan} {q : ℕ} → Rendering t m at p q → t ≡ take at t ++ planWords p
+pub rendering-whole : {t : List ℕ} {m at : ℕ} {p : PrintedPlan} {q : ℕ} → Rendering t m at p q → t ≡ take at t ++ planWords p
 rendering-whole {t} {at = at} {p = p} r =
     let e = r .ends in
     sym (take-all (at + length (planWords p)) t (omega arith)) ∙ r .stands .is
 
 -- A rendering is accepted.
-pub rendering-accepted : (t : List ℕ) (m at : ℕ) → m ≤ 10 ^ keptDigits → {p : Plan} {q : ℕ} → Rendering t m at p q → planAt t m at ≡ found p q
+pub rendering-accepted : (t : List ℕ) (m at : ℕ) → m ≤ 10 ^ keptDigits → {p : PrintedPlan} {q : ℕ} → Rendering t m at p q → planAt t m at ≡ found p q
 rendering-accepted t m at few {p} r = plan-reads-back t m at p few (r .printable) (r .stands) (r .ends) ∙ ap (λ (z : ℕ). found p z) (sym (r .next))
 
 -- At the end of a text, or behind it, no plan stands: the first byte of its first key is missing.
@@ -233,7 +233,7 @@ unfolding planAt claimsAt numberLine terminalsKey
 plan-missing t m at h = then-refused _ (then-refused _ (then-refused _ (fixed-short terminalsKey t 0 at (omega arith) h)))
 
 -- What is accepted from any offset is a rendering, which ends where the text does.
-pub found-rendering : (t : List ℕ) (m at : ℕ) {p : Plan} {q : ℕ} → planAt t m at ≡ found p q → Rendering t m at p q
+pub found-rendering : (t : List ℕ) (m at : ℕ) {p : PrintedPlan} {q : ℕ} → planAt t m at ≡ found p q → Rendering t m at p q
 found-rendering t m at {p} {q} e = by-test (leb at (length t)) refl
   where
     by-test : (b : Bool) → leb at (length t) ≡ b → Rendering t m at p q
@@ -244,13 +244,13 @@ found-rendering t m at {p} {q} e = by-test (leb at (length t)) refl
         absurd (omega arith)
 
 -- A plan is accepted exactly if the text from there to its end is the plan's rendering.
-pub accepted-iff : (t : List ℕ) (m at : ℕ) → m ≤ 10 ^ keptDigits → (p : Plan) (q : ℕ) → (planAt t m at ≡ found p q) ↔ Rendering t m at p q
+pub accepted-iff : (t : List ℕ) (m at : ℕ) → m ≤ 10 ^ keptDigits → (p : PrintedPlan) (q : ℕ) → (planAt t m at ≡ found p q) ↔ Rendering t m at p q
 accepted-iff t m at few p q = (found-rendering t m at, rendering-accepted t m at few)
 
 -- ---- with lent buffers
 
 -- Reading answers a plan exactly if the text from there to its end is the plan's rendering and the lent buffers have room for it.
-pub reading-accepted : (t : List ℕ) (from m : ℕ) (marks records : List ℕ) → m ≤ 10 ^ keptDigits → (p : Plan)
+pub reading-accepted : (t : List ℕ) (from m : ℕ) (marks records : List ℕ) → m ≤ 10 ^ keptDigits → (p : PrintedPlan)
     → (planReading t from m marks records ≡ answer p) ↔ (Rendering t m from p (length t) × RoomFor m p marks records)
 unfolding planReading withRoom outcome
 reading-accepted t from m marks records few p = (to, back)
@@ -280,5 +280,5 @@ members-few none = none
 members-few (more {a = d} {l = ds} p r) = let n = rising-few (p .rises) in more {a = d} {l = ds} (omega arith) (members-few r)
 
 -- What is accepted is no more than that.
-pub accepted-few : {t : List ℕ} {m at : ℕ} {p : Plan} {q : ℕ} → Rendering t m at p q → FewParts m p
+pub accepted-few : {t : List ℕ} {m at : ℕ} {p : PrintedPlan} {q : ℕ} → Rendering t m at p q → FewParts m p
 accepted-few r = let w = r .printable in let n = rising-few (w .kept) in record { kept = omega arith; duals = w .count; members = members-few (w .duals) }

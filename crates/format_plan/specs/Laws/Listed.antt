@@ -25,7 +25,7 @@ use Rattle.format_grammar.specs.Stands.{Stands}
 use Rattle.format_grammar.specs.Laws.Stands.{stands-append, stands-byte, stands-same, take-less, as-long}
 use Rattle.format_grammar.specs.Language.{Reads, Word, Extends, Fixed, Text, none}
 use Rattle.format_grammar.specs.Laws.Language.{bound, read-again, text-stands}
-use Rattle.format_number.specs.Laws.Words.{NumberOrNone, absent, present, number-or-none, number-is, no-digit-number, numeral-same}
+use Rattle.format_number.specs.Laws.NumberWord.{NumberOrNone, absent, present, number-or-none, number-is, no-digit-number, numeral-same}
 use Rattle.format_number.specs.Laws.Keyed.{Passes, reads-keyed, reads-tested}
 use Rattle.format_survey.specs.Laws.WellFormed.{one-not-malformed, two-not-malformed}
 use Rattle.format_grammar.specs.Items.{Broken, Lists, textFrom}

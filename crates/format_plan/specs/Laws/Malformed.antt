@@ -25,7 +25,7 @@ use Rattle.format_grammar.specs.Language.{NotMalformed, read, otherwise, Each, 
 use Rattle.format_grammar.specs.Laws.Language.{bound, read-again, text-stands}
 use Rattle.format_grammar.specs.Items.{ItemReader, Standing, stop, item, Broken, here, later}
 use Rattle.format_plan_lines.specs.Lines.{keptTest, keepReader, keptAt, PrintedDual, dualTest, dualReader, dualsAt}
-use Rattle.format_plan.specs.Plan.{Claims, claimsAt, Plan, bodyAt, planAt, withRoom, planReading}
+use Rattle.format_plan.specs.Plan.{Claims, claimsAt, PrintedPlan, planLinesAt, planAt, withRoom, planReading}
 use Rattle.format_plan.specs.Laws.Room.{room-refusal}
 use Rattle.format_grammar.specs.Laws.Items.{items-reads-back}
 use Rattle.format_plan.specs.Laws.RoundTrip.{keep-line-reads-back, dual-line-reads-back, claims-reads-back, claims-some, lines-long, line-some, dual-some, no-keep}
@@ -88,8 +88,8 @@ met-duals t w at s q = met-lines (dualReader t) t DualDigits dualText tested w 0
         record { test = dualTest i (b .last); notMalformed = dual-not-malformed i (b .last); begins = lt-leb (length t) at (omega arith); line = b .line }
 
 -- A well-formed plan that stands to the end of a text is read, or refused for another reason than its form.
-pub plan-lively : (t : List ℕ) (m at : ℕ) (p : Plan) → WellFormedPlan p → Stands t at (planWords p) → at + length (planWords p) ≡ length t → NotMalformed (planAt t m at) p (length t)
-unfolding planAt bodyAt planWords keptAt dualsAt _then_ linesAfter
+pub plan-lively : (t : List ℕ) (m at : ℕ) (p : PrintedPlan) → WellFormedPlan p → Stands t at (planWords p) → at + length (planWords p) ≡ length t → NotMalformed (planAt t m at) p (length t)
+unfolding planAt planLinesAt planWords keptAt dualsAt _then_ linesAfter
 plan-lively t m at p w s q =
     let C = claimsText (p .claims) in
     let K = textOf (lineOf keptKey) (p .kept) in
@@ -112,10 +112,10 @@ plan-lively t m at p w s q =
         let l₂ = length-append (claimsText (p .claims) ++ textOf (lineOf keptKey) (p .kept)) (textOf dualText (p .duals)) in
         omega arith
 
-    rest : Lines ℕ ℕ → Step Plan
+    rest : Lines ℕ ℕ → Step PrintedPlan
     rest k = let l = linesAfter (k .end) (dualsAt t) in l .end then λ count z. found (record { claims = p .claims; kept = k .values; duals = l .values }) z
 
-    last : List ℕ → Lines ℕ PrintedDual → Step Plan
+    last : List ℕ → Lines ℕ PrintedDual → Step PrintedPlan
     last ks l = l .end then λ count z. found (record { claims = p .claims; kept = ks; duals = l .values }) z
 
     by-duals : {y : ℕ} → planAt t m at ≡ last (p .kept) (dualsAt t y) → Met (dualReader t) 0 0 y (p .duals) (length t) → NotMalformed (planAt t m at) p (length t)
@@ -135,13 +135,13 @@ data PlanStops (t : List ℕ) (m at q : ℕ) : Type 0 where
 
 -- 16 comes from the counts, the keep lines or the moats.
 plan-stops : (t : List ℕ) (m at q : ℕ) → planAt t m at ≡ refused 16 q → PlanStops t m at q
-unfolding planAt bodyAt linesAfter _then_
+unfolding planAt planLinesAt linesAfter _then_
 plan-stops t m at q e = by-claims (claimsAt t at) refl e
   where
-    again : {A : Type 0} {n r : ℕ} → _≡_ {A = Step Plan} (refused n r) (refused 16 q) → _≡_ {A = Step A} (refused n r) (refused 16 q)
+    again : {A : Type 0} {n r : ℕ} → _≡_ {A = Step PrintedPlan} (refused n r) (refused 16 q) → _≡_ {A = Step A} (refused n r) (refused 16 q)
     again {A} {n} {r} e = let a : n ≡ 16 = cc in let b : r ≡ q = cc in cc
 
-    ends : Claims → List ℕ → List PrintedDual → Step ℕ → Step Plan
+    ends : Claims → List ℕ → List PrintedDual → Step ℕ → Step PrintedPlan
     ends c ks ds s = s then λ count y. found (record { claims = c; kept = ks; duals = ds }) y
 
     by-duals : (c : Claims) (from last middle : ℕ) (s : Step ℕ) → claimsAt t at ≡ found c from → keptAt t m from .end ≡ found last middle → dualsAt t middle .end ≡ s
@@ -154,7 +154,7 @@ plan-stops t m at q e = by-claims (claimsAt t at) refl e
     by-kept c from (found last middle) h k e = by-duals c from last middle (dualsAt t middle .end) h k refl e
     by-kept c from (refused n y) h k e = in-kept c from h (k ∙ again e)
 
-    by-claims : (s : Step Claims) → claimsAt t at ≡ s → (s then λ c from. ends c (bodyAt t m from .kept) (bodyAt t m from .duals) (bodyAt t m from .end)) ≡ refused 16 q → PlanStops t m at q
+    by-claims : (s : Step Claims) → claimsAt t at ≡ s → (s then λ c from. ends c (planLinesAt t m from .kept) (planLinesAt t m from .duals) (planLinesAt t m from .end)) ≡ refused 16 q → PlanStops t m at q
     by-claims (found c from) h e = by-kept c from (keptAt t m from .end) h refl e
     by-claims (refused n y) h e = in-claims (h ∙ again e)
 
@@ -206,10 +206,10 @@ module _ (t : List ℕ) (m at : ℕ) (h : at ≤ length t) where
 
   -- Where 16 stands depends on nothing behind that place.
   pub plan-same : (u : List ℕ) (q : ℕ) → planAt t m at ≡ refused 16 q → take (q + 1) t ≡ take (q + 1) u → planAt u m at ≡ refused 16 q
-  unfolding planAt bodyAt keptAt dualsAt linesAfter _then_
+  unfolding planAt planLinesAt keptAt dualsAt linesAfter _then_
   plan-same u q e k = by-place (plan-stops t m at q e)
     where
-      rest : Claims → Lines ℕ ℕ → Step Plan
+      rest : Claims → Lines ℕ ℕ → Step PrintedPlan
       rest c ks = let l = linesAfter (ks .end) (dualsAt u) in l .end then λ count z. found (record { claims = c; kept = ks .values; duals = l .values }) z
 
       by-place : PlanStops t m at q → planAt u m at ≡ refused 16 q
@@ -300,7 +300,7 @@ plan-malformed-begins t m at h {q} e = by-place (plan-stops t m at q e)
 
 -- With the byte at that place they begin none.
 pub plan-malformed-stops : (t : List ℕ) (m at : ℕ) → at ≤ length t → {q : ℕ} → planAt t m at ≡ refused 16 q → q < length t
-    → (rest : List ℕ) (p : Plan) → WellFormedPlan p → take (q + 1) t ++ rest ≡ take at t ++ planWords p → ⊥
+    → (rest : List ℕ) (p : PrintedPlan) → WellFormedPlan p → take (q + 1) t ++ rest ≡ take at t ++ planWords p → ⊥
 plan-malformed-stops t m at h {q} e l rest p w whole =
     let u = take (q + 1) t ++ rest in
     let W = planWords p in
@@ -329,10 +329,10 @@ module _ (t : List ℕ) (from m : ℕ) (marks records : List ℕ) (h : from ≤ 
   reading-malformed-begins = plan-malformed-begins t m from h text-refused
 
   -- With the byte at that place they begin none.
-  pub reading-malformed-stops : q < length t → (rest : List ℕ) (p : Plan) → WellFormedPlan p → take (q + 1) t ++ rest ≡ take from t ++ planWords p → ⊥
+  pub reading-malformed-stops : q < length t → (rest : List ℕ) (p : PrintedPlan) → WellFormedPlan p → take (q + 1) t ++ rest ≡ take from t ++ planWords p → ⊥
   reading-malformed-stops = plan-malformed-stops t m from h text-refused
 
 -- From the end of the text on, or from behind it, reading is refused with 16 where it begins.
 pub reading-missing : (t : List ℕ) (from m : ℕ) (marks records : List ℕ) → length t ≤ from → planReading t from m marks records ≡ refusal 16 from
 unfolding planReading withRoom
-reading-missing t from m marks records h = ap (λ (x : Step Plan). withRoom x m (length marks) (length records)) (plan-missing t m from h)
+reading-missing t from m marks records h = ap (λ (x : Step PrintedPlan). withRoom x m (length marks) (length records)) (plan-missing t m from h)

@@ -20,7 +20,7 @@ use Rattle.format_grammar.specs.Language.{Each, none, more}
 use Rattle.format_plan_lines.specs.Lines.{memberNumbers, PrintedDual}
 use Rattle.format_plan.specs.Plan.{Claims, planAt}
 use Rattle.format_plan.specs.Laws.RoundTrip.{plan-reads-back}
-use Rattle.format_plan.specs.WellFormed.{Rising, ended, rising, Printed, Printable, dualText, claimsText, planWords, keptIn, printedDual, printedDuals, planIn, PlanFits}
+use Rattle.format_plan.specs.WellFormed.{Rising, ended, rising, Printed, Printable, dualText, claimsText, planWords, keptIn, printedDual, printedDuals, planIn, PrintFits}
 
 text-append : {A : Type 0} (f : A → List ℕ) (a b : List A) → textOf f (a ++ b) ≡ textOf f a ++ textOf f b
 unfolding textOf
@@ -81,7 +81,7 @@ unfolding tabulate
 each-printed zero h p = none
 each-printed (suc n) h p = each-snoc (each-printed n h (λ i k. p i (omega arith))) (p n (omega arith))
 
-printable : (claims : Claims) (marks records : List ℕ) → PlanFits claims marks records → Printable (length marks) (planIn claims marks records)
+printable : (claims : Claims) (marks records : List ℕ) → PrintFits claims marks records → Printable (length marks) (planIn claims marks records)
 unfolding planIn keptIn printedDuals printedDual membersOf
 printable claims marks records f =
     let n = length records / recordBytes in
@@ -95,7 +95,7 @@ printable claims marks records f =
     }
 
 -- Printing a plan behind any text and reading it back.
-pub read-back : (u : List ℕ) (k c b r : ℕ) (marks records : List ℕ) → PlanFits (record { terminals = k; cost = c; bound = b; rounds = r }) marks records
+pub read-back : (u : List ℕ) (k c b r : ℕ) (marks records : List ℕ) → PrintFits (record { terminals = k; cost = c; bound = b; rounds = r }) marks records
     → planAt (u ++ planText k c b r marks records) (length marks) (length u)
     ≡ found (planIn (record { terminals = k; cost = c; bound = b; rounds = r }) marks records) (length (u ++ planText k c b r marks records))
 read-back u k c b r marks records f =

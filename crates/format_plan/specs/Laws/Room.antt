@@ -17,7 +17,7 @@ use Rattle.format_survey.specs.Reading.{outcomeOf}
 use Rattle.format_grammar.specs.Laws.Step.{then-value, checked-fine}
 use Rattle.format_grammar.specs.Items.{itemsFrom}
 use Rattle.format_plan_lines.specs.Lines.{PrintedDual, dualHead, membersAt, dualTest, dualLineAt, dualReader, dualsAt, keptAt, memberNumbers}
-use Rattle.format_plan.specs.Plan.{Plan, bodyAt, claimsAt, planAt, roomTest, withRoom}
+use Rattle.format_plan.specs.Plan.{PrintedPlan, planLinesAt, claimsAt, planAt, roomTest, withRoom}
 use Rattle.format_plan_lines.specs.Laws.Tests.{dual-falls, dual-many}
 use Rattle.format_plan.specs.Laws.Reading.{room-marks, room-records, room-fine}
 
@@ -34,7 +34,7 @@ room-passed m count marks records f = by-tests (ltb marks m) (ltb (records / rec
     by-tests false false p q = let k = ltb-false (records / recordBytes) count q in (ltb-false marks m p, omega arith)
 
 -- A plan for which there is room was read whole.
-pub room-answer : (x : Step Plan) (m marks records : ℕ) {p : Plan} → withRoom x m marks records ≡ answer p
+pub room-answer : (x : Step PrintedPlan) (m marks records : ℕ) {p : PrintedPlan} → withRoom x m marks records ≡ answer p
     → (q : ℕ) × (x ≡ found p q) × (m ≤ marks) × (recordBytes * length (p .duals) ≤ records)
 unfolding withRoom outcome
 room-answer (found y q) m marks records {p} e = by-test (roomTest m (length (y .duals)) marks records) refl e
@@ -44,12 +44,12 @@ room-answer (found y q) m marks records {p} e = by-test (roomTest m (length (y .
     by-test Fine f e =
         let same : y ≡ p = cc in
         let h = room-passed m (length (y .duals)) marks records f in
-        (q, ap (λ (z : Plan). found z q) same, h .0, subst (λ (z : Plan). recordBytes * length (z .duals) ≤ records) same (h .1))
+        (q, ap (λ (z : PrintedPlan). found z q) same, h .0, subst (λ (z : PrintedPlan). recordBytes * length (z .duals) ≤ records) same (h .1))
     by-test (Refused n r) f e = let z : _≡_ {A = ℕ} 0 1 = cc in absurd (omega arith)
 room-answer (refused n q) m marks records e = let z : _≡_ {A = ℕ} 0 1 = cc in absurd (omega arith)
 
 -- Want of room is refused with 7: another number comes from the text.
-pub room-refusal : (x : Step Plan) (m marks records : ℕ) {n q : ℕ} → (n ≡ 7 → ⊥) → withRoom x m marks records ≡ refusal n q → x ≡ refused n q
+pub room-refusal : (x : Step PrintedPlan) (m marks records : ℕ) {n q : ℕ} → (n ≡ 7 → ⊥) → withRoom x m marks records ≡ refusal n q → x ≡ refused n q
 unfolding withRoom roomTest refuseIf outcome
 room-refusal (found y next) m marks records {n} {q} h e = by-test (ltb marks m || ltb (records / recordBytes) (length (y .duals))) e
   where
@@ -89,27 +89,27 @@ items-few t (suc fuel) low i at h = by-stop (dualReader t .stop at) (dualLineAt 
         omega arith
     by-stop false (refused n p) e ih = omega arith
 
-body-few : (t : List ℕ) (m at : ℕ) → length (bodyAt t m at .duals) ≤ maxDuals
-unfolding bodyAt linesAfter dualsAt
+body-few : (t : List ℕ) (m at : ℕ) → length (planLinesAt t m at .duals) ≤ maxDuals
+unfolding planLinesAt linesAfter dualsAt
 body-few t m at = by-kept (keptAt t m at .end)
   where
     by-kept : (s : Step ℕ) → length (linesAfter s (dualsAt t) .values) ≤ maxDuals
     by-kept (found z p) = let few = items-few t (length t) 0 0 p (omega arith) in omega arith
     by-kept (refused n p) = omega arith
 
-plan-few : (t : List ℕ) (m at : ℕ) {p : Plan} {q : ℕ} → planAt t m at ≡ found p q → length (p .duals) ≤ maxDuals
+plan-few : (t : List ℕ) (m at : ℕ) {p : PrintedPlan} {q : ℕ} → planAt t m at ≡ found p q → length (p .duals) ≤ maxDuals
 unfolding planAt
 plan-few t m at {p} {q} e =
     let one = then-value (claimsAt t at) _ e in
-    let two = then-value (bodyAt t m (one .1) .end) _ (one .3) in
-    let same : _≡_ {A = Plan} (record { claims = one .0; kept = bodyAt t m (one .1) .kept; duals = bodyAt t m (one .1) .duals }) p = cc (two .3) in
-    subst (λ (x : Plan). length (x .duals) ≤ maxDuals) same (body-few t m (one .1))
+    let two = then-value (planLinesAt t m (one .1) .end) _ (one .3) in
+    let same : _≡_ {A = PrintedPlan} (record { claims = one .0; kept = planLinesAt t m (one .1) .kept; duals = planLinesAt t m (one .1) .duals }) p = cc (two .3) in
+    subst (λ (x : PrintedPlan). length (x .duals) ≤ maxDuals) same (body-few t m (one .1))
 
 -- Where there is room for every plan within the limits 7 cannot come: what is answered is what the text says.
 pub room-enough : (t : List ℕ) (m at : ℕ) → m ≤ maxEdges → withRoom (planAt t m at) m maxEdges (recordBytes * maxDuals) ≡ outcomeOf (planAt t m at)
 unfolding withRoom outcomeOf outcome
 room-enough t m at h = by-plan (planAt t m at) refl
   where
-    by-plan : (x : Step Plan) → planAt t m at ≡ x → withRoom x m maxEdges (recordBytes * maxDuals) ≡ outcomeOf x
+    by-plan : (x : Step PrintedPlan) → planAt t m at ≡ x → withRoom x m maxEdges (recordBytes * maxDuals) ≡ outcomeOf x
     by-plan (found p q) e = let f = plan-few t m at e in rw (room-fine m (length (p .duals)) maxEdges (recordBytes * maxDuals) h f) refl
     by-plan (refused n q) e = refl

@@ -1,4 +1,4 @@
--- Printed lines that stand in a text are read back: a number's line, the counts, and the kept tracks.
+-- Printed lines that stand in a text are read back: a number's line, the figures, the kept tracks, the moats, and the whole plan.
 use Prim.Native.Nat.{ℕ, zero, suc, _+_, _^_, _≤_, _<_}
 use Prim.Native.Char.{code}
 use native.Mathlib.Omega.{arith}
@@ -19,7 +19,7 @@ use Rattle.format_number.specs.Laws.Decimal.{decimal-numeral}
 use Rattle.format_number.specs.Laws.Keyed.{newline-no-digit, comma-no-digit, keyed-reads-back, number-reads-back}
 use Rattle.format_plan_lines.specs.Laws.Tests.{kept-fine, risen-next, dual-fine}
 use Rattle.format_plan_lines.specs.Lines.{keptTest, keepLine, keepReader, separator, memberNumbers, memberAt, risen, memberReader, membersAt, PrintedDual, dualTest, dualHead, listedDual, dualLineAt, dualReader, dualsAt, keptAt}
-use Rattle.format_plan.specs.Plan.{Claims, claimsAt, bodyAt, Plan, planAt}
+use Rattle.format_plan.specs.Plan.{Claims, claimsAt, planLinesAt, PrintedPlan, planAt}
 use Rattle.format_grammar.specs.Bytes.{byteIs}
 use Rattle.format_grammar.specs.Items.{Standing, stop, item}
 use Rattle.format_grammar.specs.Language.{Each, none, more}
@@ -292,8 +292,8 @@ claims-some c =
     omega arith
 
 -- A printed plan that stands at the end of a text is read back.
-pub plan-reads-back : (t : List ℕ) (m at : ℕ) (p : Plan) → m ≤ 10 ^ keptDigits → Printable m p → Stands t at (planWords p) → at + length (planWords p) ≡ length t → planAt t m at ≡ found p (length t)
-unfolding planAt bodyAt planWords keptAt dualsAt _then_ linesAfter
+pub plan-reads-back : (t : List ℕ) (m at : ℕ) (p : PrintedPlan) → m ≤ 10 ^ keptDigits → Printable m p → Stands t at (planWords p) → at + length (planWords p) ≡ length t → planAt t m at ≡ found p (length t)
+unfolding planAt planLinesAt planWords keptAt dualsAt _then_ linesAfter
 plan-reads-back t m at p few w s q =
     let C = claimsText (p .claims) in
     let K = textOf (lineOf keptKey) (p .kept) in

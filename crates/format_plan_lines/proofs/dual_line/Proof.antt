@@ -20,6 +20,7 @@ enum-known-head c = search needs
 enum-told : tie.Need-enum-told
 enum-told c = search needs
 
+-- the head is refused
 returns : tie.Need-returns
 unfolding numberStep
 returns c =
@@ -47,6 +48,7 @@ enum-told-2 c = search needs
 same-length : tie.Need-same-length
 same-length c = search needs
 
+-- the members are refused
 returns-2 : tie.Need-returns-2
 unfolding numberStep
 returns-2 c =
@@ -59,6 +61,7 @@ returns-2 c =
 same-length-2 : tie.Need-same-length-2
 same-length-2 c = search needs
 
+-- 27: the members do not rise
 returns-3 : tie.Need-returns-3
 unfolding numberStep
 returns-3 c =
@@ -71,6 +74,7 @@ returns-3 c =
 same-length-3 : tie.Need-same-length-3
 same-length-3 c = search needs
 
+-- 28: a dual too many
 returns-4 : tie.Need-returns-4
 unfolding numberStep
 returns-4 c =
@@ -83,27 +87,31 @@ returns-4 c =
 store-dual-requires : tie.Need-store-dual-requires
 unfolding numberStep
 store-dual-requires c κs =
-    let a = c .before .before .before .before .before .before .before .before .before .before .before .before .before .before .before .before .args in
+    let far = c .before .before .before .before .before .before .before .before .before .before in
+    let a = far .before .before .before .before .before .before .args in
     members-below (a .text .now) _ (sym (c .before .before .before .before .before .before .before .before .members .ensures .end) ∙ ap numberStep (c .before .before .before .before .step .given .1)) (c .before .before .if1 .left)
 
 add-t13 : tie.Need-add-t13
 unfolding numberStep
 add-t13 c =
-    let a = c .before .before .before .before .before .before .before .before .before .before .before .before .before .before .before .before .before .before .before .args in
-    let k = members-end (a .text .now) _ (sym (c .before .before .before .before .before .before .before .before .before .before .before .members .ensures .end) ∙ ap numberStep (c .before .before .before .before .before .before .before .step .given .1)) in
+    let far = c .before .before .before .before .before .before .before .before .before .before in
+    let a = far .before .before .before .before .before .before .before .before .before .args in
+    let k = members-end (a .text .now) _ (sym (far .before .members .ensures .end) ∙ ap numberStep (c .before .before .before .before .before .before .before .step .given .1)) in
     omega (arith, k)
 
 same-length-4 : tie.Need-same-length-4
 same-length-4 c = search needs
 
+-- the line is read
 returns-5 : tie.Need-returns-5
 unfolding numberStep
 returns-5 c =
-    let a = c .before .before .before .before .before .before .before .before .before .before .before .before .before .before .before .before .before .before .before .args in
-    dual-read (a .text .now) (a .i) (a .cursor .at) (sym (c .before .before .before .before .before .before .before .before .before .before .before .before .before .before .before .before .dual-head .ensures) ∙ ap numberStep (c .before .before .before .before .before .before .before .before .before .before .before .before .before .before .head .given .1))
-    (sym (c .before .before .before .before .before .before .before .before .before .before .before .members .ensures .end) ∙ ap numberStep (c .before .before .before .before .before .before .before .step .given .1))
+    let far = c .before .before .before .before .before .before .before .before .before .before in
+    let a = far .before .before .before .before .before .before .before .before .before .args in
+    dual-read (a .text .now) (a .i) (a .cursor .at) (sym (far .before .before .before .before .before .before .dual-head .ensures) ∙ ap numberStep (far .before .before .before .before .head .given .1))
+    (sym (far .before .members .ensures .end) ∙ ap numberStep (c .before .before .before .before .before .before .before .step .given .1))
     (dual-fine (a .i) _ (c .before .before .before .before .before .if1 .left) (c .before .before .before .before .if2 .left))
-    (c .before .before .store-dual .ensures ∙ ap (λ l. putDual l (a .i) (listedDual (a .text .now) (c .before .before .before .before .before .before .before .before .before .before .before .before .before .before .head .given .0 .0) (c .before .before .before .before .before .before .before .before .before .before .before .before .before .before .head .given .0 .1 .0 .at))) (empty-pass putMember member-length (a .records .now) _ (c .before .before .before .before .before .before .before .before .before .before .before .members .ensures .stored)))
+    (c .before .before .store-dual .ensures ∙ ap (λ l. putDual l (a .i) (listedDual (a .text .now) (far .before .before .before .before .head .given .0 .0) (far .before .before .before .before .head .given .0 .1 .0 .at))) (empty-pass putMember member-length (a .records .now) _ (far .before .members .ensures .stored)))
 
 pub dual-line-spec : {M : Type 1} → statement M
 dual-line-spec =

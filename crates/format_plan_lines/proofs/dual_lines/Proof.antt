@@ -30,6 +30,7 @@ wide-requires c κs = search needs
 same-length : tie.Need-same-length Inv-loop μ-loop
 same-length c = left-length putDual dual-length (c .before .before .before .loop .inv)
 
+-- the items end
 returns : tie.Need-returns Inv-loop μ-loop
 unfolding numberStep dualReader
 returns c = rw (c .wide .ensures) (left-stop _ _ _ _ _ _ _ _ _ (c .before .before .loop-test .taken) (le-leb _ _ (c .before .if1 .taken)) (c .before .before .before .loop .inv))
@@ -49,6 +50,7 @@ same-length-2 c =
     let e = c .before .before .before .before .dual-line .ensures in
     duals-refused _ _ _ _ _ _ _ (c .before .before .before .before .before .before .before .loop-test .taken) (c .before .before .before .before .before .before .if1 .left) (sym (ap numberStep (c .enum-told .given .1)) ∙ e .end) (e .stored) (c .before .before .before .before .before .before .before .before .loop .inv) .1
 
+-- a dual is refused
 returns-2 : tie.Need-returns-2 Inv-loop μ-loop
 unfolding numberStep
 returns-2 c =
@@ -71,6 +73,7 @@ loop-again c =
 same-length-3 : tie.Need-same-length-3 Inv-loop μ-loop
 same-length-3 c = left-length putDual dual-length (c .before .loop .inv)
 
+-- 16: no fuel left
 returns-3 : tie.Need-returns-3 Inv-loop μ-loop
 unfolding numberStep
 returns-3 c = left-out _ _ _ _ _ _ _ _ _ (c .loop-test .left) (c .before .loop .inv)

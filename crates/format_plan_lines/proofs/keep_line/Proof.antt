@@ -24,6 +24,7 @@ returns : tie.Need-returns
 unfolding keepLine keptKey
 returns c = refusal-stays _ (c .before .before .number-line .ensures) (c .enum-told .given .1)
 
+-- 26: the edge does not rise
 returns-2 : tie.Need-returns-2
 unfolding keepLine keptKey numberStep
 returns-2 c =
@@ -31,6 +32,7 @@ returns-2 c =
     check-refused (keptTest (a .edges) (a .low) (a .i)) (c .before .before .before .before .number-line .ensures) (c .before .before .step .given .1)
     (kept-low (a .edges) (a .low) (a .i) (c .before .before .step .given .0 .0) (c .if1 .taken))
 
+-- 26: no such edge
 returns-3 : tie.Need-returns-3
 unfolding keepLine keptKey numberStep
 returns-3 c =
@@ -38,6 +40,7 @@ returns-3 c =
     check-refused (keptTest (a .edges) (a .low) (a .i)) (c .before .before .before .before .before .number-line .ensures) (c .before .before .before .step .given .1)
     (kept-high (a .edges) (a .low) (a .i) (c .before .before .before .step .given .0 .0) (c .before .if1 .left) (c .if2 .taken))
 
+-- the edge passes
 returns-4 : tie.Need-returns-4
 unfolding keepLine keptKey numberStep
 returns-4 c =

@@ -28,6 +28,7 @@ byte-is-requires c κs = search needs
 same-length : tie.Need-same-length Inv-loop μ-loop
 same-length c = left-length putMember member-length (c .before .before .before .loop .inv)
 
+-- the items end
 returns : tie.Need-returns Inv-loop μ-loop
 unfolding numberStep memberReader
 returns c = left-stop _ _ _ _ _ _ _ _ _ (c .before .before .loop-test .taken) (sym (c .before .byte-is .ensures) ∙ c .if1 .taken) (c .before .before .before .loop .inv)
@@ -44,6 +45,7 @@ enum-told c = search needs
 same-length-2 : tie.Need-same-length-2 Inv-loop μ-loop
 same-length-2 c = left-length putMember member-length (c .before .before .before .before .before .before .loop .inv)
 
+-- an item is refused
 returns-2 : tie.Need-returns-2 Inv-loop μ-loop
 unfolding numberStep memberReader
 returns-2 c =
@@ -71,6 +73,7 @@ loop-again c =
 same-length-3 : tie.Need-same-length-3 Inv-loop μ-loop
 same-length-3 c = left-length putMember member-length (c .before .loop .inv)
 
+-- 16: no fuel left
 returns-3 : tie.Need-returns-3 Inv-loop μ-loop
 unfolding numberStep memberReader
 returns-3 c = left-out _ _ _ _ _ _ _ _ _ (c .loop-test .left) (c .before .loop .inv)

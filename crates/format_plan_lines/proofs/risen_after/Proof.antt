@@ -5,15 +5,18 @@ use Rattle.format_plan_lines.specs.Laws.Tests.{risen-low, risen-high, ri
 use Rattle.format_plan_lines.proofs.risen_after.Statement.{statement}
 use Rattle.format_plan_lines.proofs.risen_after.Tie as tie
 
+-- not above the one before
 returns : tie.Need-returns
 returns c = sym (risen-low _ _ (c .if1 .taken))
 
+-- no member
 returns-2 : tie.Need-returns-2
 returns-2 c = sym (risen-high _ _ (c .before .if1 .left) (c .if2 .taken))
 
 add-result : tie.Need-add-result
 add-result c = search needs
 
+-- the next one
 returns-3 : tie.Need-returns-3
 returns-3 c = sym (risen-next _ _ (c .before .if1 .left) (c .if2 .left))
 

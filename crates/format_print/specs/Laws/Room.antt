@@ -1,4 +1,4 @@
--- Laws of room: 1,024 bytes hold every moat line, the longest of which has 940, and `planRoom` bytes hold every plan within the limits.
+-- Laws of room: `dualRoom` bytes hold every moat line, `planRoom` every plan within the limits, `refusalRoom` every refusal.
 use Prim.Native.Nat.{ℕ, zero, suc, _+_, _*_, _/_, _^_, _≤_, _<_}
 use native.Mathlib.Omega.{arith}
 use borrow.Author.Tests.{le-ltb, eq-eqb}
@@ -10,7 +10,7 @@ use lib.ListN.{length, getD, length-append}
 use lib.Dec.{eqb}
 use Rattle.base_finite.specs.Below.{sumBelow, thoseBelow}
 use Rattle.base_finite.specs.Laws.Test.{either}
-use Rattle.base_limits.specs.Limits.{memberBytes, recordBytes, maxEdges, maxDuals}
+use Rattle.base_limits.specs.Limits.{memberBytes, recordBytes, maxEdges, maxDuals, wordDigits, longestMembers, longestDual, dualRoom, planRoom, refusalRoom}
 use Rattle.base_limits.specs.Verdict.{refuseIf, _before_}
 use Rattle.format_record.specs.Bits.{Bytes}
 use Rattle.format_record.specs.Record.{valueIn, memberIn, recordAt}
@@ -21,7 +21,6 @@ use Rattle.format_write.specs.Decimal.{digitsWithin, decimal}
 use Rattle.format_write.specs.Text.{lineOf, listed, membersOf, dualLine, textBelow, keptLine, keptLines, dualLines, countLines, planText, refusalText}
 use Rattle.format_write.specs.Wrote.{isNone, itemOf}
 use Rattle.format_print.specs.Print.{printRefusal, answerOf, printed, dualPrintRefusal, dualPrinted}
-use Rattle.format_print.specs.Room.{dualRoom, longestDual, planRoom, refusalRoom}
 use Rattle.format_write.specs.Laws.Decimal.{length-decimal}
 use Rattle.format_write.specs.Laws.Text.{listed-snoc}
 
@@ -53,8 +52,8 @@ taken-below (suc n) t =
     let more : taken (thoseBelow n t ++ cond (t n) (n ∷ []) []) ≤ taken (thoseBelow n t) + (length (decimal n) + 1) = taken-more (thoseBelow n t) (t n) n in
     omega arith
 
--- All members: 658 digits and 255 commas.
-pub room-of-members : roomBelow (8 * memberBytes) ≡ 914
+-- All members, with a comma after the last.
+pub room-of-members : roomBelow (8 * memberBytes) ≡ longestMembers + 1
 unfolding roomBelow sumBelow decimal digitsWithin
 room-of-members = refl
 
@@ -64,17 +63,16 @@ unfolding taken listed isNone
 taken-last [] n h = omega arith
 taken-last (x ∷ xs) n h = omega arith
 
-length-members : (r : List ℕ) → length (listed (membersOf r)) ≤ 913
+length-members : (r : List ℕ) → length (listed (membersOf r)) ≤ longestMembers
 unfolding membersOf
 length-members r =
     let all : taken (thoseBelow (8 * memberBytes) (memberIn r)) ≤ roomBelow (8 * memberBytes) = taken-below (8 * memberBytes) (memberIn r) in
     let e = room-of-members in
-    taken-last (thoseBelow (8 * memberBytes) (memberIn r)) 913 (omega arith)
+    taken-last (thoseBelow (8 * memberBytes) (memberIn r)) longestMembers (omega arith)
 
 -- ---- lines
 
--- A 64-bit number has at most 20 digits.
-word-digits : (x : ℕ) → x < 2 ^ 64 → length (decimal x) ≤ 20
+word-digits : (x : ℕ) → x < 2 ^ 64 → length (decimal x) ≤ wordDigits
 word-digits x h = length-decimal 19 x (omega arith)
 
 length-line : (key : List ℕ) (x : ℕ) → length (lineOf key x) ≡ length key + length (decimal x) + 1
@@ -101,8 +99,8 @@ length-dual x vs =
 pub dual-line-le : (r : List ℕ) → Bytes r → length (dualLine r) ≤ longestDual
 unfolding dualLine
 dual-line-le r h =
-    let value : length (decimal (valueIn r)) ≤ 20 = word-digits (valueIn r) (value-lt r h) in
-    let most : length (listed (membersOf r)) ≤ 913 = length-members r in
+    let value : length (decimal (valueIn r)) ≤ wordDigits = word-digits (valueIn r) (value-lt r h) in
+    let most : length (listed (membersOf r)) ≤ longestMembers = length-members r in
     let l = length-dual (valueIn r) (membersOf r) in
     omega arith
 
@@ -148,7 +146,7 @@ length-dual-lines records h few =
     omega arith
 
 -- Four counts of 64 bits.
-pub length-count-lines : (k c b r : ℕ) → k < 2 ^ 64 → c < 2 ^ 64 → b < 2 ^ 64 → r < 2 ^ 64 → length (countLines k c b r) ≤ 24 + 4 * 21
+pub length-count-lines : (k c b r : ℕ) → k < 2 ^ 64 → c < 2 ^ 64 → b < 2 ^ 64 → r < 2 ^ 64 → length (countLines k c b r) ≤ 24 + 4 * (wordDigits + 1)
 unfolding countLines terminalsKey costKey boundKey roundsKey
 length-count-lines k c b r hk hc hb hr =
     let l₁ = lineOf terminalsKey k in
@@ -200,7 +198,7 @@ plan-room k c b r marks records out w room =
     let fits : length (planText k c b r marks records) ≤ length out = omega arith in
     rw (le-ltb (length out) (length (planText k c b r marks records)) fits)
 
--- A refusal's two lines take at most 56 bytes.
+-- Room for every refusal.
 pub refusal-text-le : (number place : ℕ) → number < 2 ^ 64 → place < 2 ^ 64 → length (refusalText number place) ≤ refusalRoom
 unfolding refusalText refusedKey placeKey
 refusal-text-le number place hn hp =

@@ -23,6 +23,7 @@ enum-known-number-2 c = search needs
 enum-told : tie.Need-enum-told
 enum-told c = search needs
 
+-- the counts are refused
 returns : tie.Need-returns
 unfolding countsOutcome
 returns c =
@@ -42,6 +43,7 @@ same-length-3 c = c .before .before .before .before .before .before .seconds .gi
 same-length-4 : tie.Need-same-length-4
 same-length-4 c = c .before .before .before .before .weights .given
 
+-- a line is refused
 returns-2 : tie.Need-returns-2
 unfolding countsOutcome
 returns-2 c =
@@ -62,6 +64,7 @@ same-length-7 c = c .before .before .before .before .before .seconds .given
 same-length-8 : tie.Need-same-length-8
 same-length-8 c = c .before .before .before .weights .given
 
+-- all is read
 returns-3 : tie.Need-returns-3
 unfolding countsOutcome
 returns-3 c =

@@ -62,6 +62,7 @@ same-length-3 c = c .before .before .before .before .before .seconds .given .1
 same-length-4 : tie.Need-same-length-4
 same-length-4 c = c .before .before .before .weights .given .1
 
+-- the first pass is refused
 returns : tie.Need-returns
 returns c =
     let p = c .before .before .before .before .before .before .before .before .before .before in
@@ -72,17 +73,26 @@ body-requires-2 : tie.Need-body-requires-2
 body-requires-2 c κs = search needs
 
 same-length-5 : tie.Need-same-length-5
-same-length-5 c = c .before .before .before .before .before .before .before .groups2 .given ∙ c .before .before .before .before .before .before .before .before .before .before .before .before .before .before .before .before .before .before .before .before .before .before .groups .given .1
+same-length-5 c =
+    let far = c .before .before .before .before .before .before .before .before .before .before in
+    c .before .before .before .before .before .before .before .groups2 .given ∙ far .before .before .before .before .before .before .before .before .before .before .before .before .groups .given .1
 
 same-length-6 : tie.Need-same-length-6
-same-length-6 c = c .before .before .before .before .before .firsts2 .given ∙ c .before .before .before .before .before .before .before .before .before .before .before .before .before .before .before .before .before .before .before .before .firsts .given .1
+same-length-6 c =
+    let far = c .before .before .before .before .before .before .before .before .before .before in
+    c .before .before .before .before .before .firsts2 .given ∙ far .before .before .before .before .before .before .before .before .before .before .firsts .given .1
 
 same-length-7 : tie.Need-same-length-7
-same-length-7 c = c .before .before .before .seconds2 .given ∙ c .before .before .before .before .before .before .before .before .before .before .before .before .before .before .before .before .before .before .seconds .given .1
+same-length-7 c =
+    let far = c .before .before .before .before .before .before .before .before .before .before in
+    c .before .before .before .seconds2 .given ∙ far .before .before .before .before .before .before .before .before .seconds .given .1
 
 same-length-8 : tie.Need-same-length-8
-same-length-8 c = c .before .weights2 .given ∙ c .before .before .before .before .before .before .before .before .before .before .before .before .before .before .before .before .weights .given .1
+same-length-8 c =
+    let far = c .before .before .before .before .before .before .before .before .before .before in
+    c .before .weights2 .given ∙ far .before .before .before .before .before .before .weights .given .1
 
+-- both passes
 returns-2 : tie.Need-returns-2
 returns-2 c =
     let p = c .before .before .before .before .before .before .before .before in

@@ -11,7 +11,7 @@ use Rattle.format_write.specs.Text.{lineOf}
 use Rattle.format_grammar.specs.Step.{Step, found, refused, _then_}
 use Rattle.format_grammar.specs.Lines.{linesAfter, textOf, whole}
 use Rattle.format_key.specs.Key.{nodesKey, linksKey, nodeKey}
-use Rattle.format_survey_lines.specs.Line.{Tests, countLine, countsAt, groupLine, groupLines, Edge, edgeLine, edgeLines, Counts, EdgeDigits, linesOf}
+use Rattle.format_survey_lines.specs.Line.{Tests, countLine, countsAt, groupLine, groupLines, Edge, edgeLine, edgeLines, SurveyCounts, EdgeDigits, linesOf}
 use Rattle.format_grammar.specs.Bytes.{endAt}
 use Rattle.format_survey.specs.Reading.{bodyAt, surveyOf, surveyAt}
 use Rattle.format_survey_lines.specs.Render.{edgeText}
@@ -25,7 +25,7 @@ use Rattle.format_grammar.specs.Laws.Lines.{reads-lines}
 
 -- What a text says before its end is looked for.
 pub record SurveyContent : Type 0 where
-  pub counts : Counts
+  pub counts : SurveyCounts
   pub groups : List ℕ
   pub edges : List Edge
 
@@ -138,7 +138,7 @@ reads-content tests h =
     reads-value (record { counts = record { vertices = n; edges = m }; groups = gs; edges = es }))
 
 -- The groups and the edges from an offset on, and what is read behind them.
-abbrev pub linesThen : {B : Type 0} → Tests → List ℕ → (SurveyContent → ℕ → Step B) → Counts → ℕ → Step B
+abbrev pub linesThen : {B : Type 0} → Tests → List ℕ → (SurveyContent → ℕ → Step B) → SurveyCounts → ℕ → Step B
 linesThen tests t last c p =
     let gs = groupLines (tests .group) t (c .vertices) p in
     let es = linesAfter (gs .end) (edgeLines t (c .edges)) in
@@ -149,12 +149,12 @@ pub content-then : {B : Type 0} (tests : Tests) (t : List ℕ) (last : SurveyCon
 unfolding contentAt countsAt linesAfter whole _then_
 content-then tests t last = by-vertices (countLine nodesKey (tests .vertices) t 0)
   where
-    by-edges : (c : Counts) (gs : List ℕ) (es : List Edge) (s : Step ℕ)
+    by-edges : (c : SurveyCounts) (gs : List ℕ) (es : List Edge) (s : Step ℕ)
         → (s then λ z q. last (record { counts = c; groups = gs; edges = es }) q) ≡ (((s then λ z p. found es p) then λ l q. found (record { counts = c; groups = gs; edges = l }) q) then last)
     by-edges c gs es (found z p) = refl
     by-edges c gs es (refused n p) = refl
 
-    by-groups : (c : Counts) (gs : List ℕ) (s : Step ℕ)
+    by-groups : (c : SurveyCounts) (gs : List ℕ) (s : Step ℕ)
         → (let es = linesAfter s (edgeLines t (c .edges)) in es .end then λ z q. last (record { counts = c; groups = gs; edges = es .values }) q)
         ≡ (((s then λ z p. found gs p) then λ l r. whole (edgeLines t (c .edges) r) then λ es s. found (record { counts = c; groups = l; edges = es }) s) then last)
     by-groups c gs (found z p) = by-edges c gs (edgeLines t (c .edges) p .values) (edgeLines t (c .edges) p .end)

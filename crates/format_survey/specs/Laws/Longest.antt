@@ -4,7 +4,7 @@ use native.Mathlib.Omega.{arith}
 use mathlib.Core.Path.{_≡_, refl, ap, sym, subst}
 use mathlib.Core.List.{List, [], _∷_, _++_}
 use lib.ListN.{length, length-append}
-use Rattle.format_number.specs.Laws.Words.{digits-most}
+use Rattle.format_number.specs.Laws.NumberWord.{digits-most}
 use Rattle.base_limits.specs.Limits.{maxVertices, maxEdges, groupDigits, endpointDigits, weightDigits}
 use Rattle.base_limits.specs.Verdict.{answer}
 use Rattle.format_key.specs.Key.{nodesKey, linksKey, nodeKey, linkKey, comma, newline}

@@ -10,7 +10,7 @@ use Rattle.format_survey_lines.specs.Laws.Body.{lines-sizes}
 use Rattle.base_limits.specs.Verdict.{Outcome, refusal, answer}
 use Rattle.base_limits.specs.declared.Verdict.{Verdict}
 use Rattle.format_grammar.specs.Step.{Step, found, refused, _then_, storedIf}
-use Rattle.format_survey_lines.specs.Line.{Tests, testsFor, countsAt, Counts, firstsOf, secondsOf, weightsOf, linesAt}
+use Rattle.format_survey_lines.specs.Line.{Tests, testsFor, countsAt, SurveyCounts, firstsOf, secondsOf, weightsOf, linesAt}
 use Rattle.format_number.specs.Answer.{numberStep}
 use Rattle.format_number.specs.declared.Cursor.{Cursor}
 use Rattle.format_number.specs.declared.Number.{Number}
@@ -22,7 +22,7 @@ use Rattle.format_survey.specs.Reading.{bodyAt, bodyOf, SurveyText, surv
 use Rattle.format_grammar.specs.Bytes.{endAt}
 use Rattle.format_survey.specs.Answer.{countsOf, LinesFilled}
 use Rattle.format_grammar.specs.Laws.Step.{then-value, stored-found, stored-refused}
-use Rattle.format_survey_lines.specs.Laws.Tests.{counts-fit}
+use Rattle.format_survey_lines.specs.Laws.Tests.{counts-passed}
 
 pub sets-filled : (values old : List ℕ) → length values ≤ length old → sets old 0 values ≡ values ++ drop (length values) old
 sets-filled values old h =
@@ -30,7 +30,7 @@ sets-filled values old h =
     sets-eq values old 0 (omega arith) ∙ ap (λ (k : ℕ). values ++ drop k old) e
 
 -- What reading answers, and what each lent buffer then holds: the clauses of its contract.
-abbrev pub SurveyRead : (t : List ℕ) (counts : Outcome Counts) (groups groups′ firsts firsts′ seconds seconds′ weights weights′ : List ℕ) → Type 0
+abbrev pub SurveyRead : (t : List ℕ) (counts : Outcome SurveyCounts) (groups groups′ firsts firsts′ seconds seconds′ weights weights′ : List ℕ) → Type 0
 SurveyRead t counts groups groups′ firsts firsts′ seconds seconds′ weights weights′ =
     let read = reading t groups firsts seconds weights in
     (counts ≡ countsOf read)
@@ -112,7 +112,7 @@ module _ (t groups firsts seconds weights : List ℕ) where
           let b : bodyOf t n m (c .at) .end ≡ found z (d .at) = sym (f .end) ∙ ap numberStep h in
           let r = reading-found e b in
           let s = surveyOf (record { vertices = n; edges = m }) (bodyOf t n m (c .at) .groups) (bodyOf t n m (c .at) .edges) in
-          let fit = counts-fit (length groups) (length firsts) (length seconds) (length weights) t e in
+          let fit = counts-passed (length groups) (length firsts) (length seconds) (length weights) t e in
           let lines = then-value (linesAt t n m (c .at) .end) (λ x q. endAt t q) b in
           let size = lines-sizes t n m (c .at) (lines .2) in
           let es = bodyOf t n m (c .at) .edges in (

@@ -52,6 +52,7 @@ same-length-2 c = stored-length (c .before .before .before .before .before .loop
 same-length-3 : tie.Need-same-length-3 Inv-loop μ-loop
 same-length-3 c = stored-length (c .before .before .before .before .before .loop .inv .three)
 
+-- the items end
 returns : tie.Need-returns Inv-loop μ-loop
 unfolding numberStep edgeStep firstsOf secondsOf weightsOf
 returns c =
@@ -125,6 +126,7 @@ same-length-5 c = stored-length (c .before .loop .inv .two)
 same-length-6 : tie.Need-same-length-6 Inv-loop μ-loop
 same-length-6 c = stored-length (c .before .loop .inv .three)
 
+-- all lines are read
 returns-2 : tie.Need-returns-2 Inv-loop μ-loop
 unfolding numberStep firstsOf secondsOf weightsOf
 returns-2 c =

@@ -23,6 +23,7 @@ returns : tie.Need-returns
 unfolding countLine
 returns c = refusal-stays _ (c .before .before .number-line .ensures) (c .enum-told .given .1)
 
+-- 3: too many edges
 returns-2 : tie.Need-returns-2
 unfolding countLine numberStep
 returns-2 c =
@@ -31,6 +32,7 @@ returns-2 c =
     check-refused (edgesTest (a .firsts) (a .seconds) (a .weights)) (c .before .before .before .before .number-line .ensures) (c .before .before .step .given .1)
     (edges-many (a .firsts) (a .seconds) (a .weights) n (c .if1 .taken))
 
+-- 7: the buffer of first ends is short
 returns-3 : tie.Need-returns-3
 unfolding countLine numberStep
 returns-3 c =
@@ -39,6 +41,7 @@ returns-3 c =
     check-refused (edgesTest (a .firsts) (a .seconds) (a .weights)) (c .before .before .before .before .before .number-line .ensures) (c .before .before .before .step .given .1)
     (edges-first (a .firsts) (a .seconds) (a .weights) n (c .before .if1 .left) (c .if2 .taken))
 
+-- 7: the buffer of second ends is short
 returns-4 : tie.Need-returns-4
 unfolding countLine numberStep
 returns-4 c =
@@ -47,6 +50,7 @@ returns-4 c =
     check-refused (edgesTest (a .firsts) (a .seconds) (a .weights)) (c .before .before .before .before .before .before .number-line .ensures) (c .before .before .before .before .step .given .1)
     (edges-second (a .firsts) (a .seconds) (a .weights) n (c .before .before .if1 .left) (c .before .if2 .left) (c .if3 .taken))
 
+-- 7: the weight buffer is short
 returns-5 : tie.Need-returns-5
 unfolding countLine numberStep
 returns-5 c =
@@ -55,6 +59,7 @@ returns-5 c =
     check-refused (edgesTest (a .firsts) (a .seconds) (a .weights)) (c .before .before .before .before .before .before .before .number-line .ensures) (c .before .before .before .before .before .step .given .1)
     (edges-weight (a .firsts) (a .seconds) (a .weights) n (c .before .before .before .if1 .left) (c .before .before .if2 .left) (c .before .if3 .left) (c .if4 .taken))
 
+-- the count passes
 returns-6 : tie.Need-returns-6
 unfolding countLine numberStep
 returns-6 c =

@@ -23,6 +23,7 @@ returns : tie.Need-returns
 unfolding groupLine
 returns c = refusal-stays _ (c .before .before .number-line .ensures) (c .enum-told .given .1)
 
+-- 17: no group number
 returns-2 : tie.Need-returns-2
 unfolding groupLine numberStep
 returns-2 c =
@@ -31,6 +32,7 @@ returns-2 c =
     check-refused (groupTest (a .vertex)) (c .before .before .before .before .number-line .ensures) (c .before .before .step .given .1)
     (group-high (a .vertex) n (c .if1 .taken))
 
+-- the group passes
 returns-3 : tie.Need-returns-3
 unfolding groupLine numberStep
 returns-3 c =

@@ -38,6 +38,7 @@ enum-told c = search needs
 same-length : tie.Need-same-length Inv-loop μ-loop
 same-length c = stored-length (c .before .before .before .before .loop .inv .1)
 
+-- the items end
 returns : tie.Need-returns Inv-loop μ-loop
 unfolding numberStep
 returns c =
@@ -73,6 +74,7 @@ loop-again c =
 same-length-2 : tie.Need-same-length-2 Inv-loop μ-loop
 same-length-2 c = stored-length (c .before .loop .inv .1)
 
+-- all lines are read
 returns-2 : tie.Need-returns-2 Inv-loop μ-loop
 unfolding numberStep
 returns-2 c =

@@ -1,7 +1,7 @@
 -- `format_survey_lines::stopped_head` meets its contract, by the case that the step is.
 use borrow.Author.Needs.{needs}
 use mathlib.Core.Path.{sym, ap}
-use Rattle.format_survey_lines.specs.Line.{Counts}
+use Rattle.format_survey_lines.specs.Line.{SurveyCounts}
 use Rattle.format_survey_lines.specs.Answer.{countsStep}
 use Rattle.format_number.specs.Answer.{numberStep}
 use Rattle.format_grammar.specs.Step.{stopped}
@@ -16,11 +16,11 @@ enum-known-step-2 c = search needs
 
 returns : tie.Need-returns
 unfolding countsStep numberStep stopped
-returns c = sym (ap (λ x. stopped {B = Counts} (numberStep x)) (c .before .step .given .1))
+returns c = sym (ap (λ x. stopped {B = SurveyCounts} (numberStep x)) (c .before .step .given .1))
 
 returns-2 : tie.Need-returns-2
 unfolding countsStep numberStep stopped
-returns-2 c = sym (ap (λ x. stopped {B = Counts} (numberStep x)) (c .before .step2 .given .1))
+returns-2 c = sym (ap (λ x. stopped {B = SurveyCounts} (numberStep x)) (c .before .step2 .given .1))
 
 pub stopped-head-spec : {M : Type 1} → statement M
 stopped-head-spec = tie.close (tie.spec enum-known-step enum-known-step-2 returns returns-2)

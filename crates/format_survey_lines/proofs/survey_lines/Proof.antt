@@ -18,6 +18,7 @@ enum-told c = search needs
 same-length : tie.Need-same-length
 same-length c = search needs
 
+-- a group line is refused
 returns : tie.Need-returns
 unfolding numberStep
 returns c =
@@ -40,12 +41,14 @@ same-length-4 c = search needs
 same-length-5 : tie.Need-same-length-5
 same-length-5 c = search needs
 
+-- the edge lines follow
 returns-2 : tie.Need-returns-2
 unfolding numberStep
 returns-2 c =
-    let a = c .before .before .before .before .before .before .before .before .before .before .before .before .before .before .before .before .before .before .before .before .before .before .args in
+    let far = c .before .before .before .before .before .before .before .before .before .before in
+    let a = far .before .before .before .before .before .before .before .before .before .before .before .before .args in
     let e = c .before .before .before .before .before .before .edge-lines .ensures in
-    lines-read (a .text .now) (a .vertices) (a .edges) (a .cursor .at) (sym (c .before .before .before .before .before .before .before .before .before .before .before .before .before .before .before .group-lines .ensures .0) ∙ ap numberStep (c .before .before .before .before .before .before .before .before .before .before .before .heads .given .1)) (e .0) (c .before .before .before .before .before .before .before .before .before .before .before .before .before .before .before .group-lines .ensures .1) (e .1) (e .2) (e .3)
+    lines-read (a .text .now) (a .vertices) (a .edges) (a .cursor .at) (sym (far .before .before .before .before .before .group-lines .ensures .0) ∙ ap numberStep (far .before .heads .given .1)) (e .0) (far .before .before .before .before .before .group-lines .ensures .1) (e .1) (e .2) (e .3)
 
 pub survey-lines-spec : {M : Type 1} → statement M
 survey-lines-spec =

@@ -20,6 +20,7 @@ returns : tie.Need-returns
 unfolding countLine
 returns c = refusal-stays _ (c .before .before .first-line .ensures) (c .enum-told .given .1)
 
+-- 1: no vertex
 returns-2 : tie.Need-returns-2
 unfolding countLine numberStep
 returns-2 c =
@@ -28,6 +29,7 @@ returns-2 c =
     check-refused (verticesTest (a .lent)) (c .before .before .before .before .first-line .ensures) (c .before .before .step .given .1)
     (vertices-none (a .lent) n (c .if1 .taken))
 
+-- 1: too many vertices
 returns-3 : tie.Need-returns-3
 unfolding countLine numberStep
 returns-3 c =
@@ -36,6 +38,7 @@ returns-3 c =
     check-refused (verticesTest (a .lent)) (c .before .before .before .before .before .first-line .ensures) (c .before .before .before .step .given .1)
     (vertices-many (a .lent) n (c .before .if1 .left) (c .if2 .taken))
 
+-- 7: the group buffer is short
 returns-4 : tie.Need-returns-4
 unfolding countLine numberStep
 returns-4 c =
@@ -44,6 +47,7 @@ returns-4 c =
     check-refused (verticesTest (a .lent)) (c .before .before .before .before .before .before .first-line .ensures) (c .before .before .before .before .step .given .1)
     (vertices-short (a .lent) n (c .before .before .if1 .left) (c .before .if2 .left) (c .if3 .taken))
 
+-- the count passes
 returns-5 : tie.Need-returns-5
 unfolding countLine numberStep
 returns-5 c =

@@ -1,4 +1,4 @@
--- The words that lines read: an edge's line the text of its values, many lines their texts one after another.
+-- The words that an edge's line reads: the text of its values.
 use Prim.Native.Nat.{ℕ}
 use native.Mathlib.Omega.{arith}
 use mathlib.Core.Path.{_≡_, refl, ap, sym, _∙_, subst}
@@ -8,7 +8,7 @@ use Rattle.format_key.specs.Key.{comma, newline, linkKey}
 use Rattle.format_survey_lines.specs.Line.{Edge, edgeLine, EdgeDigits}
 use Rattle.format_number.specs.Number.{numberText}
 use Rattle.format_survey_lines.specs.Render.{edgeText}
-use Rattle.format_number.specs.Laws.Words.{Numeral, reads-number}
+use Rattle.format_number.specs.Laws.NumberWord.{NumberWord, reads-number}
 use Rattle.format_number.specs.Laws.Keyed.{newline-no-digit, comma-no-digit}
 use Rattle.format_grammar.specs.Language.{Reads, Seq, Empty, Fixed, Text}
 use Rattle.format_grammar.specs.Laws.Bytes.{reads-fixed}
@@ -17,7 +17,7 @@ use Rattle.format_grammar.specs.Lines.{whole}
 
 EdgeParts : Edge → List ℕ → Type 0
 EdgeParts =
-    Seq (Fixed linkKey) λ z. Seq (Numeral endpointDigits comma) λ u. Seq (Numeral endpointDigits comma) λ v. Seq (Numeral weightDigits newline) λ w.
+    Seq (Fixed linkKey) λ z. Seq (NumberWord endpointDigits comma) λ u. Seq (NumberWord endpointDigits comma) λ v. Seq (NumberWord weightDigits newline) λ w.
     Empty (record { first = u; second = v; weight = w })
 
 pub reads-edge : (e : ℕ) → Reads (λ t at. edgeLine t e at) (Text EdgeDigits edgeText) (Text EdgeDigits edgeText)

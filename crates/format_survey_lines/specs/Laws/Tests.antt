@@ -13,7 +13,7 @@ use Rattle.base_limits.specs.declared.Verdict.{Verdict}
 use Rattle.base_limits.specs.declared.Verdict.the-variants.{Fine, Refused}
 use Rattle.format_key.specs.Key.{comma, newline, nodeKey, linkKey, nodesKey, linksKey}
 use Rattle.format_grammar.specs.Step.{found, checked}
-use Rattle.format_survey_lines.specs.Line.{verticesTest, edgesTest, groupTest, groupLine, Edge, edgeLine, testsFor, countLine, countsAt, Counts, EdgeDigits, wordNumbers}
+use Rattle.format_survey_lines.specs.Line.{verticesTest, edgesTest, groupTest, groupLine, Edge, edgeLine, testsFor, countLine, countsAt, SurveyCounts, EdgeDigits, wordNumbers}
 use Rattle.format_number.specs.Number.{numberLine, numberTo, OfDigits}
 use Rattle.format_grammar.specs.Bytes.{fixedAt}
 use Rattle.format_number.specs.Laws.Digits.{number-to-below}
@@ -140,19 +140,19 @@ pub below-word : (limit : ℕ) {x : ℕ} → limit ≤ 9 → OfDigits limit x �
 below-word limit l h = let p : 10 ^ limit ≤ 10 ^ 9 = pow-le-pow-right {n = 10} (omega arith) {i = limit} {j = 9} l in omega arith
 
 -- What the counts that pass their tests are.
-pub record CountsFit (a b c d : ℕ) (counts : Counts) : Type 0 where
+pub record CountsPassed (a b c d : ℕ) (counts : SurveyCounts) : Type 0 where
   pub vertices : VerticesPass a (counts .vertices)
   pub edges : EdgesPass b c d (counts .edges)
 
-pub counts-fit : (a b c d : ℕ) (t : List ℕ) {counts : Counts} {q : ℕ} → countsAt (testsFor a b c d) t ≡ found counts q → CountsFit a b c d counts
+pub counts-passed : (a b c d : ℕ) (t : List ℕ) {counts : SurveyCounts} {q : ℕ} → countsAt (testsFor a b c d) t ≡ found counts q → CountsPassed a b c d counts
 unfolding countsAt testsFor countLine
-counts-fit a b c d t {counts} {q} e =
+counts-passed a b c d t {counts} {q} e =
     let one = then-value (countLine nodesKey (verticesTest a) t 0) _ e in
     let n = then-value (numberLine nodesKey countDigits t 0) _ (one .2) in
     let two = then-value (countLine linksKey (edgesTest b c d) t (one .1)) _ (one .3) in
     let m = then-value (numberLine linksKey countDigits t (one .1)) _ (two .2) in
     let u = checked-value _ _ _ (n .3) in
     let v = checked-value _ _ _ (m .3) in
-    let same : _≡_ {A = Counts} (record { vertices = n .0; edges = m .0 }) counts = cc (u, v, two .3) in
-    subst (CountsFit a b c d) same
+    let same : _≡_ {A = SurveyCounts} (record { vertices = n .0; edges = m .0 }) counts = cc (u, v, two .3) in
+    subst (CountsPassed a b c d) same
     record { vertices = vertices-passed a (n .0) (checked-fine _ _ _ (n .3)); edges = edges-passed b c d (m .0) (checked-fine _ _ _ (m .3)) }

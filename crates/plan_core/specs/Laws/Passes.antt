@@ -19,15 +19,15 @@ use Rattle.format_record.specs.Record.{valueIn, memberIn}
 use Rattle.format_record.specs.Laws.Record.{value-of-record, member-of-record}
 use Rattle.theory_steiner.specs.Problem.{Problem, Sound, Joins, separates, terminals, cost, allUsable}
 use Rattle.theory_steiner.specs.Growth.{numbers, grown}
-use Rattle.theory_steiner.specs.Dual.{Dual, weigh, total, felt, EachDual, none, more}
-use Rattle.theory_steiner.specs.Dual.{dualsOf as grownDuals}
+use Rattle.theory_steiner.specs.Dual.{Dual, weigh, total, felt, EachDual, none, more, dualsOf as grownDuals}
 use Rattle.theory_steiner.specs.Pruning.{picked, kept, markOf, mark, dualBound}
 use Rattle.theory_steiner.specs.Laws.Joined.{separates-cong}
 use Rattle.theory_steiner.specs.Laws.Partition.{members-below}
 use Rattle.theory_steiner.specs.Laws.Weighed.{Local, value-fresh}
 use Rattle.theory_steiner.specs.Laws.Rounds.{grown-reached}
 use Rattle.theory_steiner.specs.Laws.Finish.{kept-joins, kept-picked, kept-edges}
-use Rattle.theory_steiner.specs.Laws.Dual.{Each, none, more, weigh-tabulate, each-dual, value-separates, value-fits, duals-count, total-duals}
+use Rattle.format_grammar.specs.Language.{Each}
+use Rattle.theory_steiner.specs.Laws.Dual.{none, weigh-tabulate, each-dual, value-separates, value-fits, duals-count, total-duals}
 use Rattle.theory_steiner.specs.Laws.Accuracy.{kept-accurate, no-terminal-free, grown-feasible}
 use Rattle.survey_core.specs.Survey.{Survey, vertexCount, edgeCount, problemOf}
 use Rattle.survey_core.specs.Accuracy.{Accurate}

@@ -14,15 +14,13 @@ use Rattle.base_finite.specs.Below.{thoseBelow, tabulate}
 use Rattle.base_finite.specs.Laws.Test.{not-true-false}
 use Rattle.base_finite.specs.Laws.Below.{lt-or-ge, getD-tabulate}
 use Rattle.theory_graph.specs.Component.{merged}
-use Rattle.base_limits.specs.Limits.{maxVertices, maxDuals, recordBytes}
-use Rattle.base_limits.specs.Limits.{dualsOf as maxDualsOf}
+use Rattle.base_limits.specs.Limits.{maxVertices, maxDuals, recordBytes, dualsOf as maxDualsOf}
 use Rattle.theory_steiner.specs.Problem.{Problem, Sound}
 use Rattle.theory_steiner.specs.Growth.{State, start, numbers, Winner, nobody, edge, winner, pick, stateAt, grown}
 use Rattle.theory_steiner.specs.Dual.{Dual, dualsOf, dualOf}
 use Rattle.theory_steiner.specs.Laws.Round.{stateAt-reached, pick-rounds, pick-numbers, pick-label, pick-holds-old}
 use Rattle.theory_steiner.specs.Laws.Partition.{winner-below, members, members-below}
 use Rattle.theory_steiner.specs.Laws.Rounds.{stateAt-pick, stateAt-still, stateAt-last, steps-or-still, rounds-lt, grown-reached}
-use Rattle.theory_steiner.specs.Laws.Dual.{dualOf}
 use Rattle.plan_duals.specs.Drawing.{dualIf, dualsBelow}
 use Rattle.plan_duals.specs.Trace.{Trace, endOf, traceFrom, labelAfter, memberOf, traceDuals, Drawable, TraceOf}
 

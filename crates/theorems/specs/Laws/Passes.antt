@@ -4,7 +4,7 @@ use native.Mathlib.Omega.{arith}
 use mathlib.Core.Path.{_≡_, ap, ap₂, sym, _∙_, subst}
 use mathlib.Core.List.{List, _++_}
 use lib.ListN.{length}
-use Rattle.base_limits.specs.Limits.{figureDigits}
+use Rattle.base_limits.specs.Limits.{figureDigits, verifyRoom}
 use Rattle.base_limits.specs.Verdict.{answer}
 use Rattle.base_limits.specs.declared.Verdict.the-variants.{Fine}
 use Rattle.format_write.specs.Text.{planText}
@@ -26,7 +26,7 @@ use Rattle.check_text.specs.Verify.{verifying}
 use Rattle.check_text.specs.Pair.{surveyIn}
 use Rattle.check_text.specs.Laws.Passes.{read-numbered, printed-passes, printed-length}
 use Rattle.check_text.specs.Laws.Length.{verified-length}
-use Rattle.theorems.specs.Printed.{verifyRoom, planFor, printedPlan, printedCall}
+use Rattle.theorems.specs.Printed.{planFor, printedPlan, printedCall}
 
 -- Rounds have few digits.
 rounds-few : (s : Survey) → SurveySound s → planOf (problemOf s) .rounds < 10 ^ figureDigits

@@ -1,4 +1,4 @@
--- The words that the parts of a line read: fixed bytes, and numbers with the byte that ends them.
+-- The words that a number reads: its digits, and the byte that ends them.
 use Prim.Native.Nat.{ℕ, zero, suc, _+_, _-_, _^_, _≤_, _<_}
 use native.Mathlib.Omega.{arith}
 use native.Mathlib.Nat.{add-sub-cancel-left, one-le-pow}
@@ -186,7 +186,7 @@ number-or-none t limit at h = by-digit (isDigit (classOf (getD t at 0))) refl
         (q ∙ ap (λ (z : List ℕ). at + length z) (sym x))
 
 -- A number of at most limit digits, and the byte that ends it.
-pub record Numeral (limit stop v : ℕ) (w : List ℕ) : Type 0 where
+pub record NumberWord (limit stop v : ℕ) (w : List ℕ) : Type 0 where
   pub below : v < 10 ^ limit
   pub word : w ≡ numberText stop v
 
@@ -195,7 +195,7 @@ module _ (limit stop : ℕ) (positive : 1 ≤ limit) (no-digit : isDigit (classO
   unfolding numberText
   text-length v at = let l = length-append (decimal v) (stop ∷ []) in omega arith
 
-  number-complete : (t : List ℕ) (at v : ℕ) (w : List ℕ) → Numeral limit stop v w → Stands t at w → numberTo limit stop t at ≡ found v (at + length w)
+  number-complete : (t : List ℕ) (at v : ℕ) (w : List ℕ) → NumberWord limit stop v w → Stands t at w → numberTo limit stop t at ≡ found v (at + length w)
   unfolding numberTo numberText
   number-complete t at v w m s =
       let s′ : Stands t at (decimal v ++ (stop ∷ [])) = subst (Stands t at) (m .word) s in
@@ -229,10 +229,10 @@ module _ (limit stop : ℕ) (positive : 1 ≤ limit) (no-digit : isDigit (classO
       by-number (absent e) = no-number e (then-refused _ (no-digit-number t limit at e))
       by-number (present v k s e) = by-stop v k s e (byteIs t (at + length (decimal v)) stop) refl
 
-  number-sound : (t : List ℕ) (at v p : ℕ) → at ≤ length t → numberTo limit stop t at ≡ found v p → Word (Numeral limit stop) t at v p
+  number-sound : (t : List ℕ) (at v p : ℕ) → at ≤ length t → numberTo limit stop t at ≡ found v p → Word (NumberWord limit stop) t at v p
   number-sound t at v p h e = by-case (met t at)
     where
-      by-case : Met t at (numberTo limit stop t at) → Word (Numeral limit stop) t at v p
+      by-case : Met t at (numberTo limit stop t at) → Word (NumberWord limit stop) t at v p
       by-case (no-number x y) = let z : _≡_ {A = ℕ} 0 1 = cc in absurd (omega arith)
       by-case (unended u k s l x y) = let z : _≡_ {A = ℕ} 0 1 = cc in absurd (omega arith)
       by-case (ended u k s y) =
@@ -243,11 +243,11 @@ module _ (limit stop : ℕ) (positive : 1 ≤ limit) (no-digit : isDigit (classO
   zero-below : 0 < 10 ^ limit
   zero-below = one-le-pow limit 10 (omega arith)
 
-  number-extends : (t : List ℕ) (at p : ℕ) → at ≤ length t → numberTo limit stop t at ≡ refused 16 p → Extends (Numeral limit stop) t at p
+  number-extends : (t : List ℕ) (at p : ℕ) → at ≤ length t → numberTo limit stop t at ≡ refused 16 p → Extends (NumberWord limit stop) t at p
   unfolding numberText
   number-extends t at p h e = by-case (met t at)
     where
-      by-case : Met t at (numberTo limit stop t at) → Extends (Numeral limit stop) t at p
+      by-case : Met t at (numberTo limit stop t at) → Extends (NumberWord limit stop) t at p
       by-case (no-number x y) =
           let q : p ≡ at = cc in
           record { value = 0; word = numberText stop 0; member = record { below = zero-below; word = refl }; rest = numberText stop 0; whole = ap (λ (k : ℕ). take k t ++ numberText stop 0) q }
@@ -281,7 +281,7 @@ module _ (limit stop : ℕ) (positive : 1 ≤ limit) (no-digit : isDigit (classO
           then-found _ (number-is u limit at v m s′) ∙ stop-refused u stop v (at + length (decimal v)) b ∙ ap (λ (n : ℕ). refused 16 n) q
       by-case (ended v i s y) = let z : _≡_ {A = ℕ} 0 1 = cc in absurd (omega arith)
 
-  pub reads-number : Reads (numberTo limit stop) (Numeral limit stop) (Numeral limit stop)
+  pub reads-number : Reads (numberTo limit stop) (NumberWord limit stop) (NumberWord limit stop)
   reads-number =
       record {
         complete = number-complete;
