@@ -31,7 +31,36 @@ fn code(number: u64, place: usize) -> u64
     number + PLACE_UNIT * base_buffer::wide(place)
 }
 
-// Plans a survey: 0 with the counts stored, or a refusal's code, with nothing written.
+// The answer of a call whose counts do not fit: 1 to 6, else 7.
+fn short_counts(groups: &[u8], firsts: &[u32], seconds: &[u32], weights: &[u32]) -> u64
+    ensures { λ r. ⌜ r ≡ codeOf (surveyRefusal (lentSurvey groups firsts seconds weights) before Refused 7 0) ⌝ }
+{
+    let found = survey_core::survey_refusal(groups, firsts, seconds, weights);
+    match found {
+        Verdict::Refused { number, place } => code(number, place),
+        Verdict::Fine => 7,
+    }
+}
+
+// k, cost and bound, at the beginning of a buffer.
+fn store_three(counts: &mut [u64], terminals: u64, cost: u64, bound: u64)
+    ensures { λ _. ⌜ new counts ≡ sets (old counts) 0 (terminals ∷ cost ∷ bound ∷ []) ⌝ }
+{
+    put64(counts, 0, terminals);
+    put64(counts, 1, cost);
+    put64(counts, 2, bound);
+}
+
+// The same with rounds and the number of moats behind them.
+fn store_five(counts: &mut [u64], terminals: u64, cost: u64, bound: u64, rounds: u64, duals: u64)
+    ensures { λ _. ⌜ new counts ≡ sets (old counts) 0 (terminals ∷ cost ∷ bound ∷ rounds ∷ duals ∷ []) ⌝ }
+{
+    store_three(counts, terminals, cost, bound);
+    put64(counts, 3, rounds);
+    put64(counts, 4, duals);
+}
+
+// Plans a survey. `counts` gets k, cost, bound, rounds and the number of moats.
 #[no_mangle]
 pub extern "C" fn foamsickle_plan(
     groups: &[u8],

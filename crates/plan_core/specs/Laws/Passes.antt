@@ -26,8 +26,7 @@ use Rattle.theory_steiner.specs.Laws.Partition.{members-below}
 use Rattle.theory_steiner.specs.Laws.Weighed.{Local, value-fresh}
 use Rattle.theory_steiner.specs.Laws.Rounds.{grown-reached}
 use Rattle.theory_steiner.specs.Laws.Finish.{kept-joins, kept-picked, kept-edges}
-use Rattle.format_grammar.specs.Language.{Each}
-use Rattle.theory_steiner.specs.Laws.Dual.{none, weigh-tabulate, each-dual, value-separates, value-fits, duals-count, total-duals}
+use Rattle.theory_steiner.specs.Laws.Dual.{weigh-tabulate, each-dual, value-separates, value-fits, duals-count, total-duals}
 use Rattle.theory_steiner.specs.Laws.Accuracy.{kept-accurate, no-terminal-free, grown-feasible}
 use Rattle.survey_core.specs.Survey.{Survey, vertexCount, edgeCount, problemOf}
 use Rattle.survey_core.specs.Accuracy.{Accurate}
@@ -56,7 +55,7 @@ weigh-at (d ∷ ds) t =
     ap (λ x. counted (t (d .holds)) (d .value) + x) (weigh-at ds t)
     ∙ sym (sum-front (length ds) (λ i. counted (t (getD (d ∷ ds) i nothing .holds)) (getD (d ∷ ds) i nothing .value)))
 
-each-at : {P : Dual → Type 0} {ds : List Dual} → Each P ds → (i : ℕ) → i < length ds → P (getD ds i nothing)
+each-at : {P : Dual → Type 0} {ds : List Dual} → EachDual P ds → (i : ℕ) → i < length ds → P (getD ds i nothing)
 each-at none i b = absurd (omega arith)
 each-at (more h hs) zero b = h
 each-at (more h hs) (suc i) b = each-at hs i (omega arith)

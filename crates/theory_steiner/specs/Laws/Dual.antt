@@ -39,10 +39,6 @@ unfolding weigh tabulate sumBelow
 weigh-tabulate zero f t = refl
 weigh-tabulate (suc n) f t = omega (arith, weigh-append (tabulate n f) (f n ∷ []) t, weigh-tabulate n f t)
 
-map-append : {A B : Type 0} (f : A → B) (xs ys : List A) → map f (xs ++ ys) ≡ map f xs ++ map f ys
-map-append f [] ys = refl
-map-append f (x ∷ xs) ys = ap (λ l. f x ∷ l) (map-append f xs ys)
-
 -- Those with value 0 weigh nothing.
 weigh-those : (s : State) (t : (ℕ → Bool) → Bool) (n : ℕ) →
     weigh (map (dualOf s) (thoseBelow n (λ c. ltb 0 (s .value c)))) t ≡ sumBelow n (λ c. counted (t (s .holds c)) (s .value c))
