@@ -7,7 +7,7 @@ ghost use Rattle.format_write.specs.Text.{lineOf};
 ghost use Rattle.format_write.specs.Wrote.{Wrote};
 ghost use Rattle.format_number.specs.Number.{numberText};
 ghost use Rattle.format_survey_lines.specs.Render.{edgeText, textOf};
-ghost use Rattle.format_survey_print.specs.Print.{edgeOf, edgesFrom, surveyText, surveyPrinted, surveyPrintedOut};
+ghost use Rattle.format_survey_print.specs.Print.{edgeWith, edgesFrom, surveyText, surveyPrinted, surveyPrintedOut};
 use format_print::Printed;
 use format_write::put;
 use format_write::put_bytes;
@@ -31,7 +31,7 @@ fn put_field(out: &mut [u8], at: usize, x: u64, stop: u8) -> usize
 
 // Writes the line of an edge.
 fn put_edge(out: &mut [u8], at: usize, first: u64, second: u64, weight: u64) -> usize
-    ensures { λ r. ⌜ Wrote (old out) at (edgeText (edgeOf first second weight)) (new out) r ⌝ }
+    ensures { λ r. ⌜ Wrote (old out) at (edgeText (edgeWith first second weight)) (new out) r ⌝ }
 {
     let next = put_bytes(out, at, &format_key::LINK);
     let next = put_field(out, next, first, b',');
