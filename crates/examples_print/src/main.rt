@@ -1,7 +1,12 @@
-// Prints document 01's survey text of P3 and its plan from marks and records written by hand, dual lines, and what is refused.
+// Prints document 01's survey text of P3, its plan from marks and records written by hand, dual lines, and refusals.
 use base_limits::RECORD_BYTES;
 use base_limits::VALUE_BYTES;
 use format_print::Printed;
+
+// The largest 64-bit number, and the length of the line `moat=10:9,255`.
+const LARGEST: u64 = 18446744073709551615;
+
+const LINE: usize = 14;
 
 fn write(out: &[u8], n: usize) {
     if n <= out.len() {
@@ -59,19 +64,19 @@ fn plan() {
 // The largest value, and no member.
 fn empty() {
     let mut part = [0u8; RECORD_BYTES];
-    format_record::start_record(&mut part, 18446744073709551615);
+    format_record::start_record(&mut part, LARGEST);
     let mut out = format_print::dual_buffer();
     let answer = format_print::print_dual(&part, &mut out);
     show(&out, answer);
 }
 
-// A line of 14 bytes into as many.
+// A line into as many bytes as it has.
 fn exact() {
     let mut part = [0u8; RECORD_BYTES];
     format_record::start_record(&mut part, 10);
     format_record::add_member(&mut part, 255);
     format_record::add_member(&mut part, 9);
-    let mut out = [0u8; 14];
+    let mut out = [0u8; LINE];
     let answer = format_print::print_dual(&part, &mut out);
     show(&out, answer);
 }

@@ -1,4 +1,4 @@
-// The keys of the texts, each in this one place: readers compare them and writers write them. specs/Key.antt has the same bytes.
+// The keys of the texts, each in this one place: readers compare them, writers write them. Definitions in specs/.
 
 // A survey's text: the two counts, a vertex's group, an edge.
 pub const NODES: [u8; 6] = *b"nodes=";
@@ -26,3 +26,6 @@ pub const DUAL: [u8; 5] = *b"moat=";
 pub const REFUSED: [u8; 8] = *b"refused=";
 
 pub const PLACE: [u8; 6] = *b"place=";
+
+// The line with which `verify` begins where a plan passes.
+pub const PASSED: [u8; 7] = *b"passed\n";

@@ -1,4 +1,4 @@
-// Printing of moat lines, plans and refusals. Definitions in specs/.
+// Printing of dual lines, plans and refusals. Definitions in specs/.
 ghost use Rattle.base_buffer.specs.Lent.{old, new};
 ghost use mathlib.Core.Path.{_≡_};
 ghost use lib.ListN.{length};
@@ -82,7 +82,7 @@ fn put_refusal(out: &mut [u8], at: usize, number: u64, place: usize) -> usize
     put_line(out, next, &format_key::PLACE, base_buffer::wide(place))
 }
 
-// Prints the moat line of a record. Each print measures its text on an empty part of the buffer before it writes.
+// Prints the line of a dual record. Each print measures its text on an empty part of the buffer before it writes.
 pub fn print_dual(part: &[u8], out: &mut [u8]) -> Printed
     ensures { λ r. ⌜ r ≡ dualPrinted (old part) (old out) ⌝ }
     ensures { λ _. ⌜ new out ≡ dualPrintedOut (old part) (old out) ⌝ }
@@ -103,7 +103,7 @@ pub fn print_dual(part: &[u8], out: &mut [u8]) -> Printed
     Printed::Length(put_dual(out, 0, part))
 }
 
-// Prints a plan: its counts, the kept tracks, the moats.
+// Prints a plan: its counts, the kept edges, the duals.
 pub fn print_plan(
     terminals: u64,
     cost: u64,

@@ -1,3 +1,3 @@
 pub mod Bits
-pub mod Amount
+pub mod Bytes
 pub mod Record

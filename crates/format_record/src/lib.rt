@@ -1,4 +1,4 @@
-// Moat records: 8 bytes of amount, lowest byte first, then the members as bits. Definitions in specs/.
+// Dual records: the value, lowest byte first, then the members as bits, 8 to a byte. Definitions in specs/.
 // Every function is total: bytes that a part lacks read as 0, and what has no room is not written.
 use base_buffer::put8;
 use base_limits::RECORD_BYTES;
@@ -7,7 +7,8 @@ ghost use Rattle.base_buffer.specs.Lent.{old, new};
 ghost use mathlib.Core.Path.{_≡_};
 ghost use Prim.Native.Nat.{_%_};
 ghost use Rattle.format_record.specs.Bits.{bitAt, withBit, lowBytes};
-ghost use Rattle.format_record.specs.Record.{valueIn, memberIn, recordAt, overwritten, withValue, withMemberIn, startedAs};
+ghost use Rattle.format_record.specs.Record.{valueIn, memberIn, recordAt};
+ghost use Rattle.format_record.specs.Record.{overwritten, withValue, withMemberIn, startedAs};
 
 // Record i of a buffer of records, as a part of it; shorter or empty where the buffer ends before.
 pub fn record(records: &[u8], i: usize) -> &[u8]
@@ -25,7 +26,7 @@ pub fn record(records: &[u8], i: usize) -> &[u8]
     &records[start..end]
 }
 
-// The amount of a record.
+// The value of a record.
 pub fn value(part: &[u8]) -> u64
     ensures { λ r. ⌜ r ≡ valueIn (old part) ⌝ }
 {
@@ -68,14 +69,14 @@ fn write_low(s: &mut [u8], count: usize, x: u64)
     }
 }
 
-// Writes a record's amount.
+// Writes a record's value.
 pub fn write_value(part: &mut [u8], x: u64)
     ensures { λ _. ⌜ new part ≡ withValue (old part) x ⌝ }
 {
     write_low(part, VALUE_BYTES, x);
 }
 
-// Writes a record with this amount and no member.
+// Writes a record with this value and no member.
 pub fn start_record(part: &mut [u8], x: u64)
     ensures { λ _. ⌜ new part ≡ startedAs (old part) x ⌝ }
 {

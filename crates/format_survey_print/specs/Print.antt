@@ -14,12 +14,12 @@ use Rattle.format_survey_lines.specs.Line.{Edge}
 use Rattle.format_survey.specs.Reading.{SurveyText}
 use Rattle.format_survey.specs.Render.{render}
 
-abbrev pub edgeOf : (first second weight : ℕ) → Edge
-edgeOf first second weight = record { first = first; second = second; weight = weight }
+abbrev pub edgeWith : (first second weight : ℕ) → Edge
+edgeWith first second weight = record { first = first; second = second; weight = weight }
 
 -- The edge at e of three buffers, and their edges.
 abbrev pub edgeAt : (firsts seconds weights : List ℕ) → ℕ → Edge
-edgeAt firsts seconds weights e = edgeOf (getD firsts e 0) (getD seconds e 0) (getD weights e 0)
+edgeAt firsts seconds weights e = edgeWith (getD firsts e 0) (getD seconds e 0) (getD weights e 0)
 
 unfoldable pub edgesFrom : (firsts seconds weights : List ℕ) → List Edge
 edgesFrom firsts seconds weights = tabulate (length firsts) (edgeAt firsts seconds weights)

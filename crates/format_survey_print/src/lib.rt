@@ -8,7 +8,7 @@ ghost use Rattle.format_write.specs.Wrote.{Wrote};
 ghost use Rattle.format_number.specs.Number.{numberText};
 ghost use Rattle.format_survey_lines.specs.Render.{edgeText};
 ghost use Rattle.format_grammar.specs.Lines.{textOf};
-ghost use Rattle.format_survey_print.specs.Print.{edgeOf, edgesFrom, surveyText, surveyPrinted, surveyPrintedOut};
+ghost use Rattle.format_survey_print.specs.Print.{edgeWith, edgesFrom, surveyText, surveyPrinted, surveyPrintedOut};
 use format_print::Printed;
 use format_write::put;
 use format_write::put_bytes;
@@ -32,7 +32,7 @@ fn put_field(out: &mut [u8], at: usize, x: u64, stop: u8) -> usize
 
 // Writes the line of an edge.
 fn put_edge(out: &mut [u8], at: usize, first: u64, second: u64, weight: u64) -> usize
-    ensures { λ r. ⌜ Wrote (old out) at (edgeText (edgeOf first second weight)) (new out) r ⌝ }
+    ensures { λ r. ⌜ Wrote (old out) at (edgeText (edgeWith first second weight)) (new out) r ⌝ }
 {
     let next = put_bytes(out, at, &format_key::LINK);
     let next = put_field(out, next, first, b',');
@@ -62,7 +62,9 @@ fn put_groups(out: &mut [u8], at: usize, groups: &[u8]) -> usize
 
 // Writes the line of each edge.
 fn put_edges(out: &mut [u8], at: usize, firsts: &[u32], seconds: &[u32], weights: &[u32]) -> usize
-    ensures { λ r. ⌜ Wrote (old out) at (textOf edgeText (edgesFrom (old firsts) (old seconds) (old weights))) (new out) r ⌝ }
+    ensures { λ r.
+        let edges = edgesFrom (old firsts) (old seconds) (old weights) in
+        ⌜ Wrote (old out) at (textOf edgeText edges) (new out) r ⌝ }
 {
     let mut next = at;
     let mut e = 0;
@@ -85,7 +87,9 @@ fn put_survey(
     seconds: &[u32],
     weights: &[u32],
 ) -> usize
-    ensures { λ r. ⌜ Wrote (old out) at (surveyText (old groups) (old firsts) (old seconds) (old weights)) (new out) r ⌝ }
+    ensures { λ r.
+        let text = surveyText (old groups) (old firsts) (old seconds) (old weights) in
+        ⌜ Wrote (old out) at text (new out) r ⌝ }
 {
     let next = put_line(out, at, &format_key::NODES, base_buffer::wide(groups.len()));
     let next = put_line(
@@ -98,8 +102,8 @@ fn put_survey(
     put_edges(out, next, firsts, seconds, weights)
 }
 
-// Prints a survey's text: 2 where the buffers of the edges differ in length, then 7 where the text does not fit, and then nothing is
-// written. It checks nothing else: the text of a survey that planning refuses is printed too.
+// Prints a survey's text: 2 where the buffers of the edges differ in length, then 7 where the text does not fit;
+// either way nothing is written. It checks nothing else: the text of a survey that planning refuses is printed too.
 pub fn print_survey(
     groups: &[u8],
     firsts: &[u32],

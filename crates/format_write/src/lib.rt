@@ -82,7 +82,9 @@ fn put_item(out: &mut [u8], at: usize, first: bool, v: usize) -> usize
 
 // Writes v if it is a member of the record.
 fn put_member(out: &mut [u8], list: Listing, part: &[u8], v: usize) -> Listing
-    ensures { λ r. ⌜ Wrote (old out) (list .at) (memberText (list .first) (memberIn (old part) v) v) (new out) (r .at) ⌝ }
+    ensures { λ r.
+        let text = memberText (list .first) (memberIn (old part) v) v in
+        ⌜ Wrote (old out) (list .at) text (new out) (r .at) ⌝ }
     ensures { λ r. ⌜ r .first ≡ (list .first && not (memberIn (old part) v)) ⌝ }
 {
     if !format_record::member(part, v) {
@@ -121,7 +123,7 @@ pub fn put_dual(out: &mut [u8], at: usize, part: &[u8]) -> usize
     put(out, next, b'\n')
 }
 
-// Writes the line of track e if its mark says that it is kept.
+// Writes the line of edge e if its mark says that it is kept.
 fn put_mark(out: &mut [u8], at: usize, mark: u8, e: usize) -> usize
     ensures { λ r. ⌜ Wrote (old out) at (keptLine mark e) (new out) r ⌝ }
 {
@@ -133,7 +135,7 @@ fn put_mark(out: &mut [u8], at: usize, mark: u8, e: usize) -> usize
     }
 }
 
-// Writes the lines of the kept tracks, rising.
+// Writes the lines of the kept edges, rising.
 pub fn put_marks(out: &mut [u8], at: usize, marks: &[u8]) -> usize
     ensures { λ r. ⌜ Wrote (old out) at (keptLines (old marks)) (new out) r ⌝ }
 {

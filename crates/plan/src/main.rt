@@ -1,5 +1,5 @@
-// Reads a survey text on standard input and prints its plan, or the two lines of a refusal. A thin shell: reading, planning and
-// printing are the libraries'.
+// Reads a survey text on standard input and prints its plan, or the two lines of a refusal. A thin shell: reading,
+// planning and printing are the libraries'.
 ghost use mathlib.Core.Path.{_≡_};
 ghost use lib.ListN.{length};
 ghost use Rattle.base_limits.specs.Limits.{surveyRoom};

@@ -1,5 +1,5 @@
-// Reads a survey text and the printed plan behind it on standard input, and prints what the plan is worth: `passed`, terminals, cost
-// and bound as the checker finds them, or the refusal.
+// Reads a survey text and the printed plan behind it on standard input, and prints what the plan is worth: `passed`,
+// terminals, cost and bound as the checker finds them, or the refusal.
 ghost use mathlib.Core.Path.{_≡_};
 ghost use lib.ListN.{length};
 ghost use Rattle.base_limits.specs.Limits.{verifyRoom};
@@ -19,7 +19,7 @@ fn show(found: Verified) {
             cost,
             bound,
         } => {
-            io::write_all(1, b"passed\n");
+            io::write_all(1, &format_key::PASSED);
             line(&format_key::TERMINALS, terminals);
             line(&format_key::COST, cost);
             line(&format_key::BOUND, bound);

@@ -16,7 +16,7 @@ use Rattle.base_limits.specs.Limits.{valueBytes, memberBytes, recordBytes}
 use Rattle.format_record.specs.Bits.{Bytes, bytesOf, lowBytes, numberOf, memberAt}
 use Rattle.format_record.specs.Record.{recordOf, valueIn, memberIn, recordAt}
 use Rattle.format_record.specs.Laws.Bits.{bytes-cong, bytes-of-members}
-use Rattle.format_record.specs.Laws.Amount.{low-of-number, bytes-part}
+use Rattle.format_record.specs.Laws.Bytes.{low-of-number, bytes-part}
 use Rattle.format_record.specs.Laws.Record.{bytes-record-at}
 use Rattle.format_write.specs.Text.{membersOf}
 use Rattle.base_limits.specs.Verdict.{answer}

@@ -10,6 +10,7 @@ use borrow.Author.Needs.{needs}
 use Rattle.format_print.proofs.print_dual.Statement.{statement}
 use Rattle.format_print.proofs.print_dual.Tie as tie
 
+-- 9: a record of another length
 returns : tie.Need-returns
 returns c =
     let a = c .before .before .before .args in
@@ -30,6 +31,7 @@ put-dual-requires c κs = search needs
 same-length : tie.Need-same-length
 same-length c = search needs
 
+-- 7: the buffer is short
 returns-2 : tie.Need-returns-2
 returns-2 c =
     let a = c .before .before .before .before .before .before .before .before .args in
@@ -44,6 +46,7 @@ put-dual-requires-2 c κs = search needs
 same-length-2 : tie.Need-same-length-2
 same-length-2 c = search needs
 
+-- printed
 returns-3 : tie.Need-returns-3
 returns-3 c =
     let a = c .before .before .before .before .before .before .before .before .before .before .before .before .args in

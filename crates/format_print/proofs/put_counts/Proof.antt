@@ -40,10 +40,15 @@ same-length c = search needs
 returns : tie.Need-returns
 unfolding countLines terminalsKey costKey boundKey roundsKey
 returns c =
-    let small : length (c .before .before .before .before .before .before .before .before .before .before .before .before .before .before .before .before .before .before .before .before .before .args .out .now) ≤ farthest = omega arith in
-    (wrote-then small
-    (wrote-then small (wrote-then small (c .before .before .before .before .before .before .before .before .before .before .before .before .before .before .before .before .before .put-line .ensures) (c .before .before .before .before .before .before .before .before .before .before .before .before .put-line2 .ensures)) (c .before .before .before .before .before .before .before .put-line3 .ensures))
-    (c .before .before .put-line4 .ensures))
+    let rounds = c .before .before in
+    let bound = rounds .before .before .before .before .before in
+    let cost = bound .before .before .before .before .before in
+    let terminals = cost .before .before .before .before .before in
+    let entry = terminals .before .before .before .before in
+    let small : length (entry .args .out .now) ≤ farthest = omega (arith, entry .good .0) in
+    wrote-then small
+    (wrote-then small (wrote-then small (terminals .put-line .ensures) (cost .put-line2 .ensures)) (bound .put-line3 .ensures))
+    (rounds .put-line4 .ensures)
 
 pub put-counts-spec : {M : Type 1} → statement M
 put-counts-spec =

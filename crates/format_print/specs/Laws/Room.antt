@@ -21,6 +21,7 @@ use Rattle.format_write.specs.Decimal.{digitsWithin, decimal}
 use Rattle.format_write.specs.Text.{lineOf, listed, membersOf, dualLine, textBelow, keptLine, keptLines, dualLines, countLines, planText, refusalText}
 use Rattle.format_write.specs.Wrote.{isNone, itemOf}
 use Rattle.format_print.specs.Print.{printRefusal, answerOf, printed, dualPrintRefusal, dualPrinted}
+use Rattle.format_print.specs.Within.{PlanWithin}
 use Rattle.format_write.specs.Laws.Decimal.{length-decimal}
 use Rattle.format_write.specs.Laws.Text.{listed-snoc}
 
@@ -166,17 +167,7 @@ length-count-lines k c b r hk hc hb hr =
     let d₄ = word-digits r hr in
     omega arith
 
--- A plan within the limits: the counts are 64-bit numbers, and marks and records are no more than planning can make.
-pub record Within (k c b r : ℕ) (marks records : List ℕ) : Type 0 where
-  pub terminals-fit : k < 2 ^ 64
-  pub cost-fits : c < 2 ^ 64
-  pub bound-fits : b < 2 ^ 64
-  pub rounds-fit : r < 2 ^ 64
-  pub marks-few : length marks ≤ maxEdges
-  pub records-few : length records ≤ recordBytes * maxDuals
-  pub records-bytes : Bytes records
-
-pub plan-text-le : (k c b r : ℕ) (marks records : List ℕ) → Within k c b r marks records → length (planText k c b r marks records) ≤ planRoom
+pub plan-text-le : (k c b r : ℕ) (marks records : List ℕ) → PlanWithin k c b r marks records → length (planText k c b r marks records) ≤ planRoom
 unfolding planText
 plan-text-le k c b r marks records w =
     let counts = countLines k c b r in
@@ -190,7 +181,7 @@ plan-text-le k c b r marks records w =
     omega arith
 
 -- Room for every such plan: it is never refused with 7.
-pub plan-room : (k c b r : ℕ) (marks records out : List ℕ) → Within k c b r marks records → planRoom ≤ length out
+pub plan-room : (k c b r : ℕ) (marks records out : List ℕ) → PlanWithin k c b r marks records → planRoom ≤ length out
     → printed (planText k c b r marks records) out ≡ Length (length (planText k c b r marks records))
 unfolding printed printRefusal refuseIf answerOf
 plan-room k c b r marks records out w room =

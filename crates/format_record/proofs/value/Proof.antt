@@ -8,7 +8,7 @@ use lib.Dec.{lit<}
 use borrow.Author.Needs.{needs}
 use Rattle.format_record.specs.Bits.{numberOf}
 use Rattle.format_record.specs.Record.{valueIn}
-use Rattle.format_record.specs.Laws.Amount.{number-down, number-part-lt}
+use Rattle.format_record.specs.Laws.Bytes.{number-down, number-part-lt}
 use Rattle.format_record.proofs.value.Statement.{statement}
 use Rattle.format_record.proofs.value.Tie as tie
 

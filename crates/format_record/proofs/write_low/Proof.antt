@@ -8,7 +8,7 @@ use lib.Seq.{sets}
 use borrow.Author.Needs.{needs}
 use Rattle.format_record.specs.Bits.{lowBytes}
 use Rattle.format_record.specs.Record.{overwritten}
-use Rattle.format_record.specs.Laws.Amount.{store-low}
+use Rattle.format_record.specs.Laws.Bytes.{store-low}
 use Rattle.format_record.proofs.write_low.Statement.{statement}
 use Rattle.format_record.proofs.write_low.Tie as tie
 

@@ -8,7 +8,7 @@ use lib.Pow.{pow-pos, pow-mono, pow-add, shr-shr, shl-exact, mod-pow-add}
 use borrow.Author.Tests.{eq-eqb, ne-eqb, eqb-true, eqb-false}
 use mathlib.Core.Path.{_≡_, refl, ap, sym, _∙_}
 use mathlib.Core.Logic.{⊎-elim}
-use mathlib.Core.Bool.{Bool, true, false, _||_}
+use mathlib.Core.Bool.{Bool, true, false, _||_, or-false}
 use mathlib.Core.List.{List}
 use native.Mathlib.Decide.{ℕ-discrete}
 use lib.Dec.{eqb, lit<}
@@ -23,10 +23,6 @@ use Rattle.format_record.specs.Bits.{bitAt, withBit, Bytes, byteOf, byte
 decide : {A P : Type 0} → Dec P → (P → A) → ((P → ⊥) → A) → A
 decide (yes p) f g = f p
 decide (no d) f g = g d
-
-or-false : (t : Bool) → (t || false) ≡ t
-or-false true = refl
-or-false false = refl
 
 -- ---- one bit
 
@@ -224,14 +220,11 @@ byte-at : (count : ℕ) (S : ℕ → Bool) (j : ℕ) → j < count → getD (byt
 unfolding bytesOf
 byte-at count S j h = getD-tabulate count (λ j. byteOf (λ k. S (8 * j + k))) j 0 h
 
-byte-past : (bytes : List ℕ) (j : ℕ) → length bytes ≤ j → getD bytes j 0 ≡ 0
-byte-past bytes j h = List·getD-eq-default bytes 0 h
-
 pub bytes-bytes : (count : ℕ) (S : ℕ → Bool) → Bytes (bytesOf count S)
 bytes-bytes count S j =
     ⊎-elim
     (λ h. rw (byte-at count S j h) (byte-lt (λ k. S (8 * j + k))))
-    (λ h. rw (byte-past (bytesOf count S) j (rw (length-bytes count S) h)) (omega arith))
+    (λ h. let past : length (bytesOf count S) ≤ j = rw (length-bytes count S) h in rw (List·getD-eq-default (bytesOf count S) 0 past) (omega arith))
     (lt-or-ge j count)
 
 -- Reading back what was written.
@@ -241,10 +234,6 @@ member-of-bytes count S v h =
     ap (λ b. bitAt b (v % 8)) (byte-at count S (v / 8) (omega arith))
     ∙ bit-of-byte (λ k. S (8 * (v / 8) + k)) (v % 8) (omega arith)
     ∙ ap S (div-add-mod v 8)
-
-pub member-past : (bytes : List ℕ) (v : ℕ) → 8 * length bytes ≤ v → memberAt bytes v ≡ false
-unfolding memberAt
-member-past bytes v h = ap (λ b. bitAt b (v % 8)) (byte-past bytes (v / 8) (omega arith)) ∙ bit-of-zero (v % 8)
 
 -- Adding v makes v a member and no other.
 pub member-added : (bytes : List ℕ) (v : ℕ) → v < 8 * length bytes → memberAt (withMember bytes v) v ≡ true

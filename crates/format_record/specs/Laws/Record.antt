@@ -13,7 +13,7 @@ use Rattle.base_limits.specs.Limits.{valueBytes, memberBytes, recordBytes}
 use Rattle.format_record.specs.Bits.{Bytes, bytesOf, memberAt, lowBytes, numberOf}
 use Rattle.format_record.specs.Record.{recordOf, valueIn, memberIn, recordAt, overwritten, withMemberIn, startedAs}
 use Rattle.format_record.specs.Laws.Bits.{length-bytes, bytes-bytes, member-of-bytes, bytes-add, those-cong}
-use Rattle.format_record.specs.Laws.Amount.{length-low, low-bytes, bytes-append, number-of-low, number-part-lt, bytes-part, low-append, bytes-of-none}
+use Rattle.format_record.specs.Laws.Bytes.{length-low, low-bytes, bytes-append, number-of-low, number-part-lt, bytes-part, low-append, bytes-of-none}
 
 pub length-record : (value : ℕ) (S : ℕ → Bool) → length (recordOf value S) ≡ recordBytes
 unfolding recordOf

@@ -11,15 +11,15 @@ use borrow.Author.Needs.{needs}
 use Rattle.format_survey_print.proofs.print_survey.Statement.{statement}
 use Rattle.format_survey_print.proofs.print_survey.Tie as tie
 
-returns : tie.Need-returns
 -- 2: the second ends
+returns : tie.Need-returns
 returns c =
     let a = c .before .before .before .before .before .before .args in
     let h = c .if1 .taken in
     (seconds-answer (a .groups .now) (a .firsts .now) (a .seconds .now) (a .weights .now) (a .out .now) h, seconds-out (a .groups .now) (a .firsts .now) (a .seconds .now) (a .weights .now) (a .out .now) h)
 
-returns-2 : tie.Need-returns-2
 -- 2: the weights
+returns-2 : tie.Need-returns-2
 returns-2 c =
     let a = c .before .before .before .before .before .before .before .args in
     let s = c .before .if1 .left in
@@ -41,8 +41,8 @@ put-survey-requires c κs = search needs
 same-length : tie.Need-same-length
 same-length c = search needs
 
-returns-3 : tie.Need-returns-3
 -- 7: the buffer is short
+returns-3 : tie.Need-returns-3
 returns-3 c =
     let a = c .before .before .before .before .before .before .before .before .before .before .before .before .args in
     let small : length (a .out .now) < farthest = omega arith in
@@ -57,8 +57,8 @@ put-survey-requires-2 c κs = search needs
 same-length-2 : tie.Need-same-length-2
 same-length-2 c = search needs
 
-returns-4 : tie.Need-returns-4
 -- printed
+returns-4 : tie.Need-returns-4
 returns-4 c =
     let a = c .before .before .before .before .before .before .before .before .before .before .before .before .before .before .before .before .args in
     let small : length (a .out .now) < farthest = omega arith in

@@ -9,7 +9,7 @@ use Rattle.format_write.specs.Wrote.{farthest, Wrote}
 use Rattle.format_write.specs.Laws.Wrote.{wrote-none, wrote-length, wrote-then, wrote-as}
 use Rattle.format_survey_lines.specs.Render.{edgeText}
 use Rattle.format_grammar.specs.Lines.{textOf}
-use Rattle.format_survey_print.specs.Print.{edgeOf, edgeAt, edgesFrom}
+use Rattle.format_survey_print.specs.Print.{edgeWith, edgeAt, edgesFrom}
 use Rattle.format_survey_print.specs.Laws.Print.{text-table-none, text-table}
 use borrow.Author.Needs.{needs}
 use Rattle.format_survey_print.proofs.put_edges.Statement.{statement}
@@ -49,7 +49,7 @@ loop-again c =
     let l = c .before .before .before .before .before .before .before .before .loop in
     let third = c .before .before .before .before in
     let small : length (a .out .now) ≤ farthest = omega arith in
-    let here : edgeOf (third .before .before .wide-at .result) (third .before .wide-at2 .result) (third .wide-at3 .result) ≡ edgeAt (a .firsts .now) (a .seconds .now) (a .weights .now) (l .e) =
+    let here : edgeWith (third .before .before .wide-at .result) (third .before .wide-at2 .result) (third .wide-at3 .result) ≡ edgeAt (a .firsts .now) (a .seconds .now) (a .weights .now) (l .e) =
     rw (third .before .before .wide-at .ensures, third .before .wide-at2 .ensures, third .wide-at3 .ensures) in (
       omega arith,
       wrote-as (wrote-then small (l .inv .1) (c .before .before .put-edge .ensures))

@@ -9,7 +9,7 @@ use Rattle.format_write.specs.Text.{lineOf}
 use Rattle.format_write.specs.Wrote.{farthest, Wrote}
 use Rattle.format_write.specs.Laws.Wrote.{wrote-none, wrote-length, wrote-then, wrote-as}
 use Rattle.format_grammar.specs.Lines.{textOf}
-use Rattle.format_survey_print.specs.Laws.Print.{text-none, text-take}
+use Rattle.format_survey_print.specs.Laws.Print.{no-text, text-take}
 use borrow.Author.Needs.{needs}
 use Rattle.format_survey_print.proofs.put_groups.Statement.{statement}
 use Rattle.format_survey_print.proofs.put_groups.Tie as tie
@@ -21,7 +21,7 @@ abbrev μ-loop : tie.MeasureT-loop
 μ-loop out₀ at groups next₀ v₀ out next v = length groups - v
 
 loop-holds : tie.Need-loop-holds Inv-loop μ-loop
-loop-holds c = let a = c .before .before .args in wrote-as (wrote-none (a .out .now) (a .at)) (text-none (lineOf nodeKey))
+loop-holds c = let a = c .before .before .args in wrote-as (wrote-none (a .out .now) (a .at)) (no-text (lineOf nodeKey))
 
 shared-slice-read-put-group : tie.Need-shared-slice-read-put-group Inv-loop μ-loop
 shared-slice-read-put-group c = search needs

@@ -20,9 +20,9 @@ text-more f [] a = append-nil (f a)
 text-more f (x ∷ l) a = ap (λ (w : List ℕ). f x ++ w) (text-more f l a) ∙ sym (append-assoc (f x) (textOf f l) (f a))
 
 -- No line yet, and one line more, of a list and of a table.
-pub text-none : {A : Type 0} (f : A → List ℕ) → [] ≡ textOf f []
+pub no-text : {A : Type 0} (f : A → List ℕ) → [] ≡ textOf f []
 unfolding textOf
-text-none f = refl
+no-text f = refl
 
 pub text-take : (f : ℕ → List ℕ) (l : List ℕ) (v : ℕ) → v < length l → textOf f (take v l) ++ f (getD l v 0) ≡ textOf f (take (v + 1) l)
 text-take f l v h = sym (ap (λ (n : ℕ). textOf f (take n l)) (add-one v) ∙ ap (textOf f) (take-suc l v 0 h) ∙ text-more f (take v l) (getD l v 0))

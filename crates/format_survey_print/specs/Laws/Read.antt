@@ -5,18 +5,18 @@ use borrow.Author.Tests.{eqb-true}
 use mathlib.Core.Path.{_≡_, refl, ap, sym, _∙_}
 use mathlib.Core.Bool.{Bool, true, false, _&&_, not}
 use mathlib.Core.List.{List, [], _∷_, _++_, map, map-append}
-use lib.ListN.{length, getD, take, drop}
+use lib.ListN.{length, getD, take}
 use lib.Seq.{ext-getD, take-at}
 use lib.Dec.{eqb}
 use Rattle.base_finite.specs.Below.{tabulate}
 use Rattle.base_finite.specs.Laws.Below.{length-tabulate, getD-tabulate}
 use Rattle.base_finite.specs.Laws.Test.{and-left, and-right}
-use Rattle.base_limits.specs.Verdict.{answer, refuseIf, written}
+use Rattle.base_limits.specs.Verdict.{answer, written}
 use Rattle.base_limits.specs.Laws.Verdict.{fine-left, fine-refuse}
 use Rattle.base_limits.specs.declared.Verdict.{Verdict}
 use Rattle.base_limits.specs.declared.Verdict.the-variants.{Fine, Refused}
 use Rattle.format_print.specs.declared.Printed.the-variants.{Length}
-use Rattle.format_print.specs.Print.{printRefusal, answerOf, outAfter}
+use Rattle.format_print.specs.Print.{answerOf, outAfter}
 use Rattle.format_survey_lines.specs.Line.{Edge, firstsOf, secondsOf, weightsOf}
 use Rattle.format_survey.specs.Reading.{surveyOf, reading}
 use Rattle.format_survey.specs.WellFormed.{WithinCounts, SurveyRoom, surveyOfText}

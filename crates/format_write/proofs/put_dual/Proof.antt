@@ -40,13 +40,15 @@ same-length c = search needs
 returns : tie.Need-returns
 unfolding dualLine dualKey
 returns c =
-    let part = c .before .before .before .before .before .before .before .before .before .before .before .before .before .before .before .before .before .before .before .before .before .before .before .before .args .part .now in
-    let small : length (c .before .before .before .before .before .before .before .before .before .before .before .before .before .before .before .before .before .before .before .before .before .before .before .before .args .out .now) ≤ farthest = omega arith in
-    let start = wrote-then small (c .before .before .before .before .before .before .before .before .before .before .before .before .before .before .before .before .before .before .before .put-bytes .ensures) (c .before .before .before .before .before .before .before .before .before .before .before .before .before .before .put-number .ensures) in
-    let value = wrote-as start (ap (λ x. dualKey ++ decimal x) (c .before .before .before .before .before .before .before .before .before .before .before .before .before .before .before .value .ensures)) in
-    wrote-then small
-    (wrote-then small (wrote-then small value (c .before .before .before .before .before .before .before .before .before .before .put .ensures)) (c .before .before .before .before .before .before .put-members .ensures))
-    (c .before .before .put2 .ensures)
+    let members = c .before .before .before .before .before .before in
+    let mark = members .before .before .before .before in
+    let number = mark .before .before .before .before in
+    let key = number .before .before .before .before .before in
+    let entry = key .before .before .before .before .before in
+    let small : length (entry .args .out .now) ≤ farthest = omega (arith, entry .good .0) in
+    let start = wrote-then small (key .put-bytes .ensures) (number .put-number .ensures) in
+    let value = wrote-as start (ap (λ x. dualKey ++ decimal x) (number .before .value .ensures)) in
+    wrote-then small (wrote-then small (wrote-then small value (mark .put .ensures)) (members .put-members .ensures)) (c .before .before .put2 .ensures)
 
 pub put-dual-spec : {M : Type 1} → statement M
 put-dual-spec =

@@ -16,7 +16,7 @@ use Rattle.base_finite.specs.Laws.Test.{same-test, and-both, and-left, and-righ
 use Rattle.base_limits.specs.Limits.{maxVertices, recordBytes}
 use Rattle.format_record.specs.Bits.{Bytes}
 use Rattle.format_record.specs.Record.{recordOf, recordAt, withMemberIn, startedAs}
-use Rattle.format_record.specs.Laws.Amount.{bytes-append}
+use Rattle.format_record.specs.Laws.Bytes.{bytes-append}
 use Rattle.format_record.specs.Laws.Record.{length-record, bytes-record, record-at-first, record-at-right, started-whole, member-added-record}
 use Rattle.theory_steiner.specs.Dual.{Dual}
 use Rattle.plan_duals.specs.Drawing.{recordsOf, recordsOver, recordsFrom, dualIf, dualsBelow, withLabel, DualsWritten, RecordsFit}
