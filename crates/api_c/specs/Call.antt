@@ -6,7 +6,7 @@ use Rattle.base_limits.specs.Verdict.{written}
 use Rattle.base_limits.specs.declared.Verdict.{Verdict}
 use Rattle.survey_core.specs.Survey.{Survey, edgeCount, problemOf}
 use Rattle.plan_duals.specs.Drawing.{recordsOver}
-use Rattle.plan_core.specs.Plan.{planRefusal, planOf, countsOf}
+use Rattle.plan_core.specs.Plan.{planRefusal, planOf, planCountsOf}
 use Rattle.check_rule.specs.Check.{checkRefusal, checkedOf}
 use Rattle.api_c.specs.Code.{planFigures, checkFigures, withCounts, countsAfter, planFiguresOf, checkFiguresOf}
 
@@ -21,7 +21,7 @@ unfoldable pub planRecords : Survey → (marks records counts : List ℕ) → Li
 planRecords s marks records counts = written (planCall s marks records counts) (recordsOver (planOf (problemOf s) .duals) records) records
 
 unfoldable pub planCounts : Survey → (marks records counts : List ℕ) → List ℕ
-planCounts s marks records counts = countsAfter (planCall s marks records counts) (planFiguresOf (countsOf (planOf (problemOf s)))) counts
+planCounts s marks records counts = countsAfter (planCall s marks records counts) (planFiguresOf (planCountsOf (planOf (problemOf s)))) counts
 
 -- Checking with lent counts: 1 to 6, 7, 9 to 15.
 unfoldable pub checkCall : Survey → (marks records counts : List ℕ) → Verdict

@@ -9,7 +9,7 @@ use Rattle.base_limits.specs.declared.Verdict.{Verdict}
 use Rattle.base_limits.specs.declared.Verdict.the-variants.{Fine, Refused}
 use Rattle.survey_core.specs.Survey.{Survey}
 use Rattle.survey_core.specs.Refusal.{surveyRefusal}
-use Rattle.plan_core.specs.Plan.{Counts, planRefusal, planOf, countsOf}
+use Rattle.plan_core.specs.Plan.{PlanCounts, planRefusal, planOf, planCountsOf}
 use Rattle.check_rule.specs.Check.{Checked, checkRefusal, checkedOf}
 
 -- a place counts this many times in the one number
@@ -36,7 +36,7 @@ withCounts s wanted counts rest = surveyRefusal s before refuseIf (ltb counts wa
 unfoldable pub countsAfter : Verdict → (figures counts : List ℕ) → List ℕ
 countsAfter v figures counts = written v (sets counts 0 figures) counts
 
-unfoldable pub planFiguresOf : Counts → List ℕ
+unfoldable pub planFiguresOf : PlanCounts → List ℕ
 planFiguresOf c = c .terminals ∷ c .cost ∷ c .bound ∷ c .rounds ∷ c .duals ∷ []
 
 unfoldable pub checkFiguresOf : Checked → List ℕ

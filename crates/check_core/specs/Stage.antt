@@ -10,7 +10,7 @@ use Rattle.base_limits.specs.Verdict.{refuseIf, _before_, lowestBelow, Outcome,
 use Rattle.base_limits.specs.declared.Verdict.{Verdict}
 use Rattle.format_record.specs.Record.{valueIn, memberIn, recordAt}
 use Rattle.theory_steiner.specs.Problem.{separates, terminals, cost}
-use Rattle.theory_steiner.specs.Dual.{Dual, weigh, total, felt}
+use Rattle.theory_steiner.specs.Dual.{Dual, weigh, total, dualLoad}
 use Rattle.survey_core.specs.Survey.{Survey, surveyFrom, groupsAlone, edgeCount, problemOf}
 use Rattle.survey_core.specs.Refusal.{surveyRefusal, groupRefusal}
 use Rattle.check_rule.specs.Check.{Checked, dualAt, dualsIn, keptBy, shapeRefusal, dualRefusal}
@@ -51,7 +51,7 @@ unfoldable pub dualsRefusal : Survey → (records : List ℕ) → Verdict
 dualsRefusal s records =
     lowestBelow (length records / recordBytes) (λ i. dualRefusal s (dualAt records i) i)
     before lowestBelow (length records / recordBytes) (λ i. refuseIf (not (separates (problemOf s) (dualAt records i .holds))) 12 i)
-    before lowestBelow (edgeCount s) (λ e. refuseIf (ltb (2 * problemOf s .weight e) (felt (problemOf s) (dualsIn records) e)) 13 e)
+    before lowestBelow (edgeCount s) (λ e. refuseIf (ltb (2 * problemOf s .weight e) (dualLoad (problemOf s) (dualsIn records) e)) 13 e)
 
 -- All refusals but 15.
 unfoldable pub allButRule : Survey → (marks records : List ℕ) → Verdict

@@ -10,7 +10,7 @@ ghost use Rattle.base_finite.specs.Below.{anyBelow, counted};
 ghost use Rattle.base_limits.specs.Limits.{memberBytes, recordBytes};
 ghost use Rattle.base_limits.specs.Verdict.{refuseIf, lowestBelow};
 ghost use Rattle.format_record.specs.Record.{valueIn, memberIn};
-ghost use Rattle.theory_steiner.specs.Dual.{total, felt};
+ghost use Rattle.theory_steiner.specs.Dual.{total, dualLoad};
 ghost use Rattle.survey_core.specs.Survey.{surveyFrom, groupsAlone, problemOf};
 ghost use Rattle.check_rule.specs.Check.{dualAt, dualsIn, dualRefusal};
 ghost use Rattle.check_core.specs.Stage.{dualOf, loadBetween, DualsFit};
@@ -132,7 +132,7 @@ fn load_refusal(records: &[u8], first: u32, second: u32, weight: u32, e: usize) 
 pub fn loads_refusal(firsts: &[u32], seconds: &[u32], weights: &[u32], records: &[u8]) -> Verdict
     requires { ⌜ DualsFit (now records) ⌝ }
     ensures { λ r. let p = problemOf (surveyFrom [] (old firsts) (old seconds) (old weights)) in
-        let overtight : ℕ → Bool = λ e. ltb (2 * getD (old weights) e 0) (felt p (dualsIn (old records)) e) in
+        let overtight : ℕ → Bool = λ e. ltb (2 * getD (old weights) e 0) (dualLoad p (dualsIn (old records)) e) in
         ⌜ r ≡ lowestBelow (length (old firsts)) (λ e. refuseIf (overtight e) 13 e) ⌝ }
 {
     let mut e = 0;

@@ -10,7 +10,7 @@ use Rattle.base_limits.specs.Verdict.{refuseIf, _before_, lowestBelow, Outcome,
 use Rattle.base_limits.specs.declared.Verdict.{Verdict}
 use Rattle.format_record.specs.Record.{valueIn, memberIn, recordAt}
 use Rattle.theory_steiner.specs.Problem.{separates, terminals, cost}
-use Rattle.theory_steiner.specs.Dual.{Dual, total, felt}
+use Rattle.theory_steiner.specs.Dual.{Dual, total, dualLoad}
 use Rattle.survey_core.specs.Survey.{Survey, vertexCount, edgeCount, problemOf}
 use Rattle.survey_core.specs.Refusal.{surveyRefusal, groupRefusal}
 
@@ -71,7 +71,7 @@ checkRefusal s marks records =
     before lowestBelow (edgeCount s) (λ e. refuseIf (ltb 2 (getD marks e 0)) 10 e)
     before lowestBelow duals (λ i. dualRefusal s (dualAt records i) i)
     before lowestBelow duals (λ i. refuseIf (not (separates p (dualAt records i .holds))) 12 i)
-    before lowestBelow (edgeCount s) (λ e. refuseIf (ltb (2 * p .weight e) (felt p (dualsIn records) e)) 13 e)
+    before lowestBelow (edgeCount s) (λ e. refuseIf (ltb (2 * p .weight e) (dualLoad p (dualsIn records) e)) 13 e)
     before groupRefusal s 14 (keptBy marks)
     before ruleRefusal (checkedOf s marks records)
 

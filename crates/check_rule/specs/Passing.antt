@@ -6,7 +6,7 @@ use mathlib.Core.List.{List}
 use lib.ListN.{length, getD}
 use Rattle.base_limits.specs.Limits.{maxValue, memberBytes, recordBytes, maxDuals}
 use Rattle.theory_steiner.specs.Problem.{Joins, separates, terminals, cost}
-use Rattle.theory_steiner.specs.Dual.{Dual, total, felt}
+use Rattle.theory_steiner.specs.Dual.{Dual, total, dualLoad}
 use Rattle.survey_core.specs.Survey.{Survey, vertexCount, edgeCount, problemOf}
 use Rattle.survey_core.specs.Sound.{SurveySound}
 use Rattle.check_rule.specs.Check.{dualAt, dualsIn, keptBy}
@@ -26,7 +26,7 @@ pub record Passing (s : Survey) (marks records : List ℕ) : Type 0 where
   pub marks-known : (e : ℕ) → e < edgeCount s → getD marks e 0 ≤ 2
   pub duals-sound : (i : ℕ) → i < length records / recordBytes → DualSound s (dualAt records i)
   pub duals-separate : (i : ℕ) → i < length records / recordBytes → separates (problemOf s) (dualAt records i .holds) ≡ true
-  pub not-overtight : (e : ℕ) → e < edgeCount s → felt (problemOf s) (dualsIn records) e ≤ 2 * problemOf s .weight e
+  pub not-overtight : (e : ℕ) → e < edgeCount s → dualLoad (problemOf s) (dualsIn records) e ≤ 2 * problemOf s .weight e
   pub kept-joins : Joins (problemOf s) (keptBy marks)
   pub none-free : terminals (problemOf s) ≡ 0 → cost (problemOf s) (keptBy marks) ≡ 0
   pub rule : terminals (problemOf s) * cost (problemOf s) (keptBy marks) ≤ (terminals (problemOf s) - 1) * total (dualsIn records)

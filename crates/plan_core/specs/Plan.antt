@@ -49,18 +49,18 @@ unfoldable pub planning : Survey → (marksLength recordsLength : ℕ) → Outco
 planning s marksLength recordsLength = outcome (planRefusal s marksLength recordsLength) (planOf (problemOf s))
 
 -- What the call answers in numbers: k, cost, bound, rounds and the number of moats.
-pub record Counts : Type 0 where
+pub record PlanCounts : Type 0 where
   pub terminals : ℕ
   pub cost : ℕ
   pub bound : ℕ
   pub rounds : ℕ
   pub duals : ℕ
 
-unfoldable pub countsOf : Plan → Counts
-countsOf p = record { terminals = p .terminals; cost = p .cost; bound = p .bound; rounds = p .rounds; duals = length (p .duals) }
+unfoldable pub planCountsOf : Plan → PlanCounts
+planCountsOf p = record { terminals = p .terminals; cost = p .cost; bound = p .bound; rounds = p .rounds; duals = length (p .duals) }
 
-unfoldable pub counting : Survey → (marksLength recordsLength : ℕ) → Outcome Counts
-counting s marksLength recordsLength = outcome (planRefusal s marksLength recordsLength) (countsOf (planOf (problemOf s)))
+unfoldable pub counting : Survey → (marksLength recordsLength : ℕ) → Outcome PlanCounts
+counting s marksLength recordsLength = outcome (planRefusal s marksLength recordsLength) (planCountsOf (planOf (problemOf s)))
 
 -- What the two lent buffers hold at the end: bytes after the last mark and the last record keep their values.
 unfoldable pub marksAfter : Survey → (marks records : List ℕ) → List ℕ

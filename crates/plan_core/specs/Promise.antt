@@ -14,7 +14,7 @@ use Rattle.survey_core.specs.Survey.{Survey, vertexCount, edgeCount, problemOf,
 use Rattle.survey_core.specs.Accuracy.{Accurate}
 use Rattle.survey_core.specs.Sound.{SurveySound}
 use Rattle.check_rule.specs.Check.{checking}
-use Rattle.plan_core.specs.Plan.{Counts, countsOf, planOf, marksAfter, recordsAfter}
+use Rattle.plan_core.specs.Plan.{PlanCounts, planCountsOf, planOf, marksAfter, recordsAfter}
 
 -- None of 1 to 8 applies: the survey is sound (1 to 6), the two buffers are long enough (7), and all tracks together join every group (8).
 pub record Ready (s : Survey) (marksLength recordsLength : ℕ) : Type 0 where
@@ -32,7 +32,7 @@ pub record Unjoinable (s : Survey) (marksLength recordsLength g : ℕ) : Type 0 
   pub lower-joined : (i : ℕ) → i < g → JoinsGroup s (allUsable (problemOf s)) i
 
 -- A finished plan with these counts, in buffers that held these marks and records before.
-pub record FinishedPlan (s : Survey) (marks records : List ℕ) (c : Counts) : Type 0 where
+pub record FinishedPlan (s : Survey) (marks records : List ℕ) (c : PlanCounts) : Type 0 where
   pub ready : Ready s (length marks) (length records)
   -- 'How moats grow': as many rounds as picked tracks
   pub rounds-picked : c .rounds ≡ countBelow (edgeCount s) (picked (problemOf s))
@@ -44,10 +44,10 @@ pub record FinishedPlan (s : Survey) (marks records : List ℕ) (c : Counts) : T
   pub accuracy : Accurate s (c .terminals) (c .cost)
 
 -- What a call answers, for any survey and any buffers.
-pub record Promises (s : Survey) (marks records : List ℕ) (o : Outcome Counts) : Type 0 where
+pub record Promises (s : Survey) (marks records : List ℕ) (o : Outcome PlanCounts) : Type 0 where
   -- demand 1: finished exactly if none of 1 to 8 applies
-  pub finished : (c : Counts) → o ≡ answer c → FinishedPlan s marks records c
-  pub finishes : Ready s (length marks) (length records) → o ≡ answer (countsOf (planOf (problemOf s)))
+  pub finished : (c : PlanCounts) → o ≡ answer c → FinishedPlan s marks records c
+  pub finishes : Ready s (length marks) (length records) → o ≡ answer (planCountsOf (planOf (problemOf s)))
   -- demand 2: 8 exactly if no set of tracks joins some group, and then the lowest
   pub unjoinable : (g : ℕ) → o ≡ refusal 8 g → Unjoinable s (length marks) (length records) g
   pub unjoinable-refused : (g : ℕ) → Unjoinable s (length marks) (length records) g → o ≡ refusal 8 g

@@ -10,7 +10,7 @@ ghost use Rattle.base_limits.specs.Limits.{maxVertices, recordBytes, dualsOf};
 ghost use Rattle.base_limits.specs.Verdict.{refuseIf, answer};
 ghost use Rattle.survey_core.specs.Survey.{surveyFrom, lentSurvey, problemOf};
 ghost use Rattle.plan_duals.specs.Drawing.{recordsOver};
-ghost use Rattle.plan_core.specs.Plan.{planRefusal, planOf, countsOf, counting, marksAfter, recordsAfter};
+ghost use Rattle.plan_core.specs.Plan.{planRefusal, planOf, planCountsOf, counting, marksAfter, recordsAfter};
 ghost use Rattle.plan_core.specs.Answer.{outcomeOf};
 ghost use Rattle.plan_core.specs.Promise.{Ready, Promises};
 use base_limits::RECORD_BYTES;
@@ -90,7 +90,7 @@ fn finish(
         (length (now marks)) (length (now records)) ⌝ }
     ensures { λ r.
         let p = planOf (problemOf (lentSurvey groups firsts seconds weights)) in
-        ⌜ outcomeOf r ≡ answer (countsOf p) ⌝ }
+        ⌜ outcomeOf r ≡ answer (planCountsOf p) ⌝ }
     ensures { λ _.
         let p = planOf (problemOf (lentSurvey groups firsts seconds weights)) in
         ⌜ new marks ≡ p .marks ++ drop (length (old firsts)) (old marks) ⌝ }

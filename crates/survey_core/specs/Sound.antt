@@ -6,8 +6,8 @@ use Rattle.base_limits.specs.Limits.{maxVertices, maxEdges, maxWeight, groupNum
 use Rattle.survey_core.specs.Survey.{Survey}
 
 -- Group numbers are bytes.
-abbrev pub Numbered : Survey → Type 0
-Numbered s = (v : ℕ) → getD (s .groups) v 0 < groupNumbers
+abbrev pub ByteGroups : Survey → Type 0
+ByteGroups s = (v : ℕ) → getD (s .groups) v 0 < groupNumbers
 
 -- What 4, 5 and 6 leave of a track.
 pub record EdgeSound (s : Survey) (e : ℕ) : Type 0 where

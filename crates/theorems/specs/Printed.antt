@@ -6,7 +6,7 @@ use Rattle.base_limits.specs.Limits.{recordBytes}
 use Rattle.check_text.specs.Pair.{surveyIn}
 use Rattle.format_survey.specs.Reading.{SurveyText}
 use Rattle.format_write.specs.Text.{planText}
-use Rattle.plan_core.specs.Plan.{Plan, planOf, Counts, marksAfter, recordsAfter}
+use Rattle.plan_core.specs.Plan.{Plan, planOf, PlanCounts, marksAfter, recordsAfter}
 use Rattle.plan_duals.specs.Drawing.{recordsOf}
 use Rattle.survey_core.specs.Survey.{Survey, edgeCount, problemOf}
 
@@ -18,6 +18,6 @@ abbrev pub printedPlan : Plan → List ℕ
 printedPlan p = planText (p .terminals) (p .cost) (p .bound) (p .rounds) (p .marks) (recordsOf (p .duals))
 
 -- What the program `plan` prints after its call: the counts, the first m marks and as many records as there are moats.
-abbrev pub printedCall : Survey → (marks records : List ℕ) → Counts → List ℕ
+abbrev pub printedCall : Survey → (marks records : List ℕ) → PlanCounts → List ℕ
 printedCall s marks records c =
     planText (c .terminals) (c .cost) (c .bound) (c .rounds) (take (edgeCount s) (marksAfter s marks records)) (take (recordBytes * c .duals) (recordsAfter s marks records))

@@ -23,8 +23,8 @@ unfoldable pub total : List Dual → ℕ
 total ds = weigh ds (λ S. true)
 
 -- The dual load of edge e (document 01, refusal 13; 001, section 22.1): the duals with exactly one of its ends inside.
-unfoldable pub felt : Problem → List Dual → ℕ → ℕ
-felt p ds e = weigh ds (λ S. crosses (p .first) (p .second) S e)
+unfoldable pub dualLoad : Problem → List Dual → ℕ → ℕ
+dualLoad p ds e = weigh ds (λ S. crosses (p .first) (p .second) S e)
 
 -- The dual's set has one vertex of a required pair inside and one outside (document 01, refusal 12).
 abbrev pub Separating : Problem → Dual → Type 0

@@ -2,7 +2,7 @@
 use borrow.Author.Needs.{needs}
 use mathlib.Core.Path.{sym, _∙_}
 use Rattle.base_limits.specs.Laws.Verdict.{passed-on, goes-on}
-use Rattle.theory_steiner.specs.Dual.{felt}
+use Rattle.theory_steiner.specs.Dual.{dualLoad}
 use Rattle.theory_steiner.specs.Problem.{separates}
 use Rattle.survey_core.specs.Survey.{vertexCount, edgeCount, member, sameGroup, problemOf}
 use Rattle.check_rule.specs.Check.{dualRefusal}
@@ -22,7 +22,7 @@ enum-told-2 c = search needs
 
 -- 11
 returns : tie.Need-returns
-unfolding dualsRefusal dualRefusal separates felt problemOf vertexCount edgeCount sameGroup member
+unfolding dualsRefusal dualRefusal separates dualLoad problemOf vertexCount edgeCount sameGroup member
 returns c = passed-on (c .before .before .values-refusal .ensures) (c .enum-told2 .given .1) _
 
 cuts-refusal-requires : tie.Need-cuts-refusal-requires
@@ -36,7 +36,7 @@ enum-told-4 c = search needs
 
 -- 12
 returns-2 : tie.Need-returns-2
-unfolding dualsRefusal dualRefusal separates felt problemOf vertexCount edgeCount sameGroup member
+unfolding dualsRefusal dualRefusal separates dualLoad problemOf vertexCount edgeCount sameGroup member
 returns-2 c =
     let found = c .before .before .before in
     goes-on (found .before .before .values-refusal .ensures) (found .enum-told .given .1) (passed-on (c .before .before .cuts-refusal .ensures) (c .enum-told4 .given .1) _)
@@ -49,7 +49,7 @@ loads-refusal-requires c κs =
 
 -- 13 or nothing
 returns-3 : tie.Need-returns-3
-unfolding dualsRefusal dualRefusal separates felt problemOf vertexCount edgeCount sameGroup member
+unfolding dualsRefusal dualRefusal separates dualLoad problemOf vertexCount edgeCount sameGroup member
 returns-3 c =
     let found = c .before .before .before .before in
     goes-on (found .before .before .values-refusal .ensures) (found .enum-told .given .1)

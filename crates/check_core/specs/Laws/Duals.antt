@@ -17,7 +17,7 @@ use Rattle.base_limits.specs.declared.Verdict.the-variants.{Fine}
 use Rattle.base_limits.specs.Laws.Verdict.{none-lowest}
 use Rattle.format_record.specs.Record.{valueIn, memberIn, recordAt}
 use Rattle.theory_steiner.specs.Problem.{terminal, terminals, cost}
-use Rattle.theory_steiner.specs.Dual.{weigh, total, felt}
+use Rattle.theory_steiner.specs.Dual.{weigh, total, dualLoad}
 use Rattle.theory_steiner.specs.Laws.Dual.{weigh-tabulate}
 use Rattle.survey_core.specs.Survey.{Survey, vertexCount, edgeCount, problemOf}
 use Rattle.base_finite.specs.Laws.Count.{sum-end}
@@ -68,8 +68,8 @@ pub load-item : (s : Survey) (records : List ℕ) (e : ℕ) {found : Verdict} {f
     → second ≡ getD (s .seconds) e 0
     → weight ≡ getD (s .weights) e 0
     → found ≡ refuseIf (ltb (2 * weight) (loadBetween records first second)) 13 e
-    → refuseIf (ltb (2 * getD (s .weights) e 0) (felt (problemOf s) (dualsIn records) e)) 13 e ≡ found
-unfolding felt crosses problemOf loadBetween
+    → refuseIf (ltb (2 * getD (s .weights) e 0) (dualLoad (problemOf s) (dualsIn records) e)) 13 e ≡ found
+unfolding dualLoad crosses problemOf loadBetween
 load-item s records e {found} {first} {second} {weight} a b c h =
     sym (h ∙ ap (λ x. refuseIf (ltb (2 * x) (loadBetween records first second)) 13 e) c
     ∙ ap₂ (λ x y. refuseIf (ltb (2 * getD (s .weights) e 0) (loadBetween records x y)) 13 e) a b)

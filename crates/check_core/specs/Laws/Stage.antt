@@ -11,7 +11,7 @@ use Rattle.base_limits.specs.declared.Verdict.{Verdict}
 use Rattle.base_limits.specs.declared.Verdict.the-variants.{Fine, Refused}
 use Rattle.base_limits.specs.Laws.Verdict.{before-fine, before-refused, before-assoc, fine-left, fine-right}
 use Rattle.theory_steiner.specs.Problem.{separates, terminal, terminals, cost}
-use Rattle.theory_steiner.specs.Dual.{felt}
+use Rattle.theory_steiner.specs.Dual.{dualLoad}
 use Rattle.survey_core.specs.Survey.{Survey, surveyFrom, vertexCount, edgeCount, member, sameGroup, problemOf}
 use Rattle.survey_core.specs.Refusal.{surveyRefusal, groupRefusal}
 use Rattle.survey_components.specs.Labels.{chosenMark, chosen}
@@ -35,7 +35,7 @@ module _ (s : Survey) (marks records : List ℕ) where
       let ten = lowestBelow (edgeCount s) (λ e. refuseIf (ltb 2 (getD marks e 0)) 10 e) in
       let eleven = lowestBelow duals (λ i. dualRefusal s (dualAt records i) i) in
       let twelve = lowestBelow duals (λ i. refuseIf (not (separates p (dualAt records i .holds))) 12 i) in
-      let thirteen = lowestBelow (edgeCount s) (λ e. refuseIf (ltb (2 * p .weight e) (felt p (dualsIn records) e)) 13 e) in
+      let thirteen = lowestBelow (edgeCount s) (λ e. refuseIf (ltb (2 * p .weight e) (dualLoad p (dualsIn records) e)) 13 e) in
       sym
       (before-assoc input (dualsRefusal s records before groupRefusal s 14 (keptBy marks)) _
       ∙ ap (λ v. input before v) (before-assoc (dualsRefusal s records) (groupRefusal s 14 (keptBy marks)) _)

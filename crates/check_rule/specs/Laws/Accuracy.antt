@@ -15,7 +15,7 @@ use Rattle.theory_steiner.specs.Dual.{Dual, EachDual, none, more}
 use Rattle.theory_steiner.specs.Laws.Accuracy.{within-factor}
 use Rattle.survey_core.specs.Survey.{Survey, problemOf}
 use Rattle.survey_core.specs.Accuracy.{Accurate}
-use Rattle.survey_core.specs.Sound.{Numbered}
+use Rattle.survey_core.specs.Sound.{ByteGroups}
 use Rattle.check_rule.specs.Check.{Checked, dualAt, dualsIn, keptBy, checkedOf, checkRefusal, checking}
 use Rattle.check_rule.specs.Passing.{Passing}
 use Rattle.check_rule.specs.Laws.Meaning.{check-passing, passing-check}
@@ -45,7 +45,7 @@ answered Fine a b h = (refl, (cc))
 answered (Refused number place) a b h = absurd (let z : _≡_ {A = ℕ} 0 1 = cc in omega arith)
 
 -- Whatever passes is accurate, for the k and the cost reported.
-pub checking-accurate : (s : Survey) → Numbered s → (marks records : List ℕ) (c : Checked) → checking s marks records ≡ answer c →
+pub checking-accurate : (s : Survey) → ByteGroups s → (marks records : List ℕ) (c : Checked) → checking s marks records ≡ answer c →
     Accurate s (c .terminals) (c .cost)
 unfolding checking checkedOf
 checking-accurate s numbered marks records c h =
@@ -53,7 +53,7 @@ checking-accurate s numbered marks records c h =
     subst (λ x. Accurate s (x .terminals) (x .cost)) (v .1) (passing-accurate s marks records (check-passing s numbered marks records (v .0)))
 
 -- Passed exactly if it means what `Passing` says.
-pub checking-passing : (s : Survey) → Numbered s → (marks records : List ℕ) →
+pub checking-passing : (s : Survey) → ByteGroups s → (marks records : List ℕ) →
     ((c : Checked) → checking s marks records ≡ answer c → Passing s marks records)
     × (Passing s marks records → checking s marks records ≡ answer (checkedOf s marks records))
 unfolding checking outcome
@@ -63,7 +63,7 @@ checking-passing s numbered marks records = (
 )
 
 -- What an answer that is the definition's promises.
-pub promises : (s : Survey) (marks records : List ℕ) (o : Outcome Checked) → Numbered s → o ≡ checking s marks records →
+pub promises : (s : Survey) (marks records : List ℕ) (o : Outcome Checked) → ByteGroups s → o ≡ checking s marks records →
     (o ≡ checking s marks records)
     × ((((c : Checked) → o ≡ answer c → Passing s marks records) × (Passing s marks records → o ≡ answer (checkedOf s marks records)))
     × ((c : Checked) → o ≡ answer c → Accurate s (c .terminals) (c .cost)))

@@ -18,9 +18,9 @@ use Rattle.base_limits.specs.Limits.{maxValue, memberBytes, recordBytes, maxDua
 use Rattle.base_limits.specs.declared.Verdict.the-variants.{Fine}
 use Rattle.base_limits.specs.Laws.Verdict.{before-fine, fine-left, fine-right, refuse-false, fine-refuse, lowest-none, none-lowest}
 use Rattle.theory_steiner.specs.Problem.{separates, terminals, cost, Bounded}
-use Rattle.theory_steiner.specs.Dual.{Dual, felt}
+use Rattle.theory_steiner.specs.Dual.{Dual, dualLoad}
 use Rattle.survey_core.specs.Survey.{Survey, vertexCount, edgeCount, problemOf}
-use Rattle.survey_core.specs.Sound.{Numbered}
+use Rattle.survey_core.specs.Sound.{ByteGroups}
 use Rattle.survey_core.specs.Laws.Refusal.{survey-fine, fine-survey}
 use Rattle.survey_core.specs.Laws.Group.{group-fine, joins-fine}
 use Rattle.check_rule.specs.Passing.{DualSound, Passing}
@@ -125,7 +125,7 @@ kept-bounded s marks long e k =
 
 -- ---- all of them
 
-module _ (s : Survey) (numbered : Numbered s) (marks records : List ℕ) where
+module _ (s : Survey) (numbered : ByteGroups s) (marks records : List ℕ) where
   -- Passed means all that.
   pub check-passing : checkRefusal s marks records ≡ Fine → Passing s marks records
   unfolding checkRefusal checkedOf
@@ -150,8 +150,8 @@ module _ (s : Survey) (numbered : Numbered s) (marks records : List ℕ) where
             not-false (separates (problemOf s) (dualAt records i .holds))
             (fine-refuse (not (separates (problemOf s) (dualAt records i .holds))) 12 i (none-lowest (length records / recordBytes) _ (fine-left _ _ h12) i b));
         not-overtight = λ e b.
-            ltb-false (2 * problemOf s .weight e) (felt (problemOf s) (dualsIn records) e)
-            (fine-refuse (ltb (2 * problemOf s .weight e) (felt (problemOf s) (dualsIn records) e)) 13 e (none-lowest (edgeCount s) _ (fine-left _ _ h13) e b));
+            ltb-false (2 * problemOf s .weight e) (dualLoad (problemOf s) (dualsIn records) e)
+            (fine-refuse (ltb (2 * problemOf s .weight e) (dualLoad (problemOf s) (dualsIn records) e)) 13 e (none-lowest (edgeCount s) _ (fine-left _ _ h13) e b));
         kept-joins = group-fine s 14 (keptBy marks) (kept-bounded s marks (shape .0)) numbered (fine-left _ _ h14);
         none-free = rule .0;
         rule = rule .1;
@@ -168,7 +168,7 @@ module _ (s : Survey) (numbered : Numbered s) (marks records : List ℕ) where
       ∙ before-fine (lowest-none (length records / recordBytes) _ (λ i b. refuse-false (rw (h .duals-separate i b)) 12 i)) _
       ∙ before-fine
       (lowest-none (edgeCount s) _
-      (λ e b. refuse-false (le-ltb (2 * problemOf s .weight e) (felt (problemOf s) (dualsIn records) e) (h .not-overtight e b)) 13 e)) _
+      (λ e b. refuse-false (le-ltb (2 * problemOf s .weight e) (dualLoad (problemOf s) (dualsIn records) e) (h .not-overtight e b)) 13 e)) _
       ∙ before-fine (joins-fine s 14 (keptBy marks) (kept-bounded s marks (h .marks-long)) (h .kept-joins)) _
       ∙ rule-fine _ (h .none-free) (h .rule)
 

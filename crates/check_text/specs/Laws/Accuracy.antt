@@ -18,7 +18,7 @@ use Rattle.format_survey.specs.Reading.{surveyOf, SurveyText}
 use Rattle.format_grammar.specs.Laws.Step.{then-value}
 use Rattle.format_survey_lines.specs.Laws.Tests.{group-below}
 use Rattle.survey_core.specs.Survey.{edgeCount}
-use Rattle.survey_core.specs.Sound.{Numbered}
+use Rattle.survey_core.specs.Sound.{ByteGroups}
 use Rattle.check_rule.specs.Check.{Checked, checking}
 use Rattle.check_rule.specs.Laws.Accuracy.{checking-accurate}
 use Rattle.format_plan.specs.Plan.{Claims, PrintedPlan, marksOf, dualRecords}
@@ -37,14 +37,14 @@ groups-below t (suc count) i at v = by-line (groupLine groupTest t i at) v refl 
     by-line (refused n p) v e ih = omega arith
 
 -- Groups that are read are group numbers.
-pub prefix-numbered : (a b c d : ℕ) (t : List ℕ) {s : SurveyText} {at : ℕ} → prefixAt (testsFor a b c d) t ≡ found s at → Numbered (surveyIn s)
+pub prefix-numbered : (a b c d : ℕ) (t : List ℕ) {s : SurveyText} {at : ℕ} → prefixAt (testsFor a b c d) t ≡ found s at → ByteGroups (surveyIn s)
 unfolding prefixAt surveyAt linesAt linesOf surveyOf groupLines
 prefix-numbered a b c d t {s} {at} e =
     let one = then-value (countsAt (testsFor a b c d) t) _ e in
     let two = then-value (linesAt t (one .0 .vertices) (one .0 .edges) (one .1) .end) _ (one .3) in
     let body = linesAt t (one .0 .vertices) (one .0 .edges) (one .1) in
     let same : surveyOf (one .0) (body .groups) (body .edges) ≡ s = cc (two .3) in
-    subst (λ x. Numbered (surveyIn x)) same (λ v. groups-below t (one .0 .vertices) 0 (one .1) v)
+    subst (λ x. ByteGroups (surveyIn x)) same (λ v. groups-below t (one .0 .vertices) 0 (one .1) v)
 
 judged-answer : (o : Outcome Checked) (k c b : ℕ) {x : Checked} → judged o k c b ≡ answer x → o ≡ answer x
 unfolding judged outcome

@@ -17,7 +17,7 @@ use Rattle.format_survey.specs.WellFormed.{WithinCounts, surveyOfText}
 use Rattle.format_survey.specs.Laws.WellFormed.{accepted-render}
 use Rattle.format_survey.specs.Laws.Longest.{longest-read}
 use Rattle.survey_core.specs.Survey.{Survey, edgeCount}
-use Rattle.survey_core.specs.Sound.{Numbered}
+use Rattle.survey_core.specs.Sound.{ByteGroups}
 use Rattle.check_rule.specs.Check.{Checked, dualAt, checkedOf, checking}
 use Rattle.check_core.specs.Stage.{DualsFit, CountsFit}
 use Rattle.check_rule.specs.Laws.Accuracy.{checking-passing}
@@ -40,7 +40,7 @@ claimsOf c rounds = record { terminals = c .terminals; cost = c .cost; bound = c
 abbrev pub printed : Checked → (rounds : ℕ) (marks records : List ℕ) → List ℕ
 printed c rounds marks records = planText (c .terminals) (c .cost) (c .bound) rounds marks records
 
-module _ (s : Survey) (numbered : Numbered s) (marks records : List ℕ) (c : Checked) (passed : checking s marks records ≡ answer c) where
+module _ (s : Survey) (numbered : ByteGroups s) (marks records : List ℕ) (c : Checked) (passed : checking s marks records ≡ answer c) where
   -- What passes fits the digits and the limits of a printed plan.
   passed-fits : (rounds : ℕ) → rounds < 10 ^ figureDigits → PrintFits (claimsOf c rounds) marks records
   unfolding checkedOf dualAt edgeCount
@@ -95,14 +95,14 @@ module _ (s : Survey) (numbered : Numbered s) (marks records : List ℕ) (c : Ch
       ∙ claim-fine (c .terminals) (c .cost) (c .bound) (drawn-passes s numbered marks records c bytes passed) refl refl refl
 
 -- The groups of a rendering are group numbers.
-render-numbered : (groups : List ℕ) (edges : List Edge) → WithinCounts groups edges → Numbered (surveyIn (surveyOfText groups edges))
+render-numbered : (groups : List ℕ) (edges : List Edge) → WithinCounts groups edges → ByteGroups (surveyIn (surveyOfText groups edges))
 render-numbered groups edges w = prefix-numbered maxVertices maxEdges maxEdges maxEdges (render groups edges ++ []) (prefix-render groups edges [] w)
 
 -- So are those of a text that is read.
-pub read-numbered : (t gb fb sb wb : List ℕ) (s : SurveyText) → reading t gb fb sb wb ≡ answer s → Numbered (surveyIn s)
+pub read-numbered : (t gb fb sb wb : List ℕ) (s : SurveyText) → reading t gb fb sb wb ≡ answer s → ByteGroups (surveyIn s)
 read-numbered t gb fb sb wb s e =
     let a = accepted-render gb fb sb wb t s e in
-    subst (λ (x : SurveyText). Numbered (surveyIn x)) (sym (a .says)) (render-numbered (a .groups) (a .edges) (a .within))
+    subst (λ (x : SurveyText). ByteGroups (surveyIn x)) (sym (a .says)) (render-numbered (a .groups) (a .edges) (a .within))
 
 -- Behind a rendering.
 render-passes : (groups : List ℕ) (edges : List Edge) → WithinCounts groups edges → (marks records : List ℕ) → Bytes records → (rounds : ℕ) → rounds < 10 ^ figureDigits → (c : Checked)

@@ -23,7 +23,7 @@ use Rattle.base_limits.specs.Verdict.{answer}
 use Rattle.theory_steiner.specs.Problem.{Joins, terminals, cost}
 use Rattle.theory_steiner.specs.Dual.{total}
 use Rattle.survey_core.specs.Survey.{Survey, edgeCount, problemOf}
-use Rattle.survey_core.specs.Sound.{Numbered}
+use Rattle.survey_core.specs.Sound.{ByteGroups}
 use Rattle.check_rule.specs.Check.{Checked, dualsIn, keptBy, checkedOf, checking}
 use Rattle.check_rule.specs.Passing.{Passing}
 use Rattle.check_rule.specs.Laws.Accuracy.{checking-passing}
@@ -152,7 +152,7 @@ marks-known m kept e h = subst (λ (x : ℕ). x ≤ 2) (sym (getD-tabulate m (λ
     by-in false = omega arith
 
 -- Other marks that keep the same tracks pass as well, with the same counts.
-marks-pass : (s : Survey) → Numbered s → (marks marks′ records : List ℕ) (c : Checked) → length marks′ ≡ edgeCount s → ((e : ℕ) → e < edgeCount s → getD marks′ e 0 ≤ 2) → keptBy marks′ ≡ keptBy marks
+marks-pass : (s : Survey) → ByteGroups s → (marks marks′ records : List ℕ) (c : Checked) → length marks′ ≡ edgeCount s → ((e : ℕ) → e < edgeCount s → getD marks′ e 0 ≤ 2) → keptBy marks′ ≡ keptBy marks
     → checking s marks records ≡ answer c → checking s marks′ records ≡ answer c
 unfolding checkedOf
 marks-pass s numbered marks marks′ records c long known same h =
@@ -177,7 +177,7 @@ marks-pass s numbered marks marks′ records c long known same h =
     ∙ h
 
 -- What is drawn for a printed plan passes if what was printed does, with the same counts.
-pub drawn-passes : (s : Survey) → Numbered s → (marks records : List ℕ) (c : Checked) → Bytes records → checking s marks records ≡ answer c
+pub drawn-passes : (s : Survey) → ByteGroups s → (marks records : List ℕ) (c : Checked) → Bytes records → checking s marks records ≡ answer c
     → checking s (marksOf (edgeCount s) (keptIn marks)) (dualRecords (printedDuals records)) ≡ answer c
 drawn-passes s numbered marks records c bytes h =
     let p = checking-passing s numbered marks records .0 c h in

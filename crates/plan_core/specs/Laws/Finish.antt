@@ -40,7 +40,7 @@ use Rattle.plan_core.specs.Laws.Passes.{marks-cost}
 use Rattle.plan_duals.specs.Drawing.{recordsOver}
 use Rattle.plan_core.specs.declared.Planned.the-variants.{Finished}
 use Rattle.plan_core.specs.Answer.{outcomeOf}
-use Rattle.plan_core.specs.Plan.{planOf, countsOf}
+use Rattle.plan_core.specs.Plan.{planOf, planCountsOf}
 
 -- A buffer whose first m places were made anew.
 pub remade-front : (f : ℕ → ℕ → ℕ) (m : ℕ) (l : List ℕ) → m ≤ length l → remade f m l ≡ tabulate m (λ k. f k (getD l k 0)) ++ drop m l
@@ -224,9 +224,9 @@ module _ {s : Survey} {marksLength recordsLength : ℕ} (ready : Ready s marksLe
       marked ≡ prunedMarks (unweighted (s .groups) (s .firsts) (s .seconds)) (pickedIn (g .picked)) (length (s .firsts)) marks →
       count ≡ length (traceDuals trace) → drawn ≡ recordsOver (traceDuals trace) records →
       k ≡ terminals (problemOf (groupsAlone (s .groups))) → c ≡ cost (problemOf (surveyFrom [] (s .firsts) [] (s .weights))) (keptBy marked) → rounds ≡ g .rounds → duals ≡ count →
-      (outcomeOf (Finished k c (g .bound) rounds duals) ≡ answer (countsOf (planOf P)))
+      (outcomeOf (Finished k c (g .bound) rounds duals) ≡ answer (planCountsOf (planOf P)))
       × ((marked ≡ planOf P .marks ++ drop (length (s .firsts)) marks) × (drawn ≡ recordsOver (planOf P .duals) records))
-  unfolding outcomeOf countsOf
+  unfolding outcomeOf planCountsOf
   finish-plan marks records {marked} {k = k} {c = c} {rounds = rounds} {duals = duals} long h-marks h-count h-drawn h-k h-c h-rounds h-duals =
       (rw (h-k ∙ plan-terminals s, c-is, bound-plan, h-rounds ∙ rounds-plan, h-duals ∙ h-count ∙ ap length duals-plan), (marks-are, h-drawn ∙ ap (λ d. recordsOver d records) duals-plan))
     where

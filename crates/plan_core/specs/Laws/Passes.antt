@@ -19,7 +19,7 @@ use Rattle.format_record.specs.Record.{valueIn, memberIn}
 use Rattle.format_record.specs.Laws.Record.{value-of-record, member-of-record}
 use Rattle.theory_steiner.specs.Problem.{Problem, Sound, Joins, separates, terminals, cost, allUsable}
 use Rattle.theory_steiner.specs.Growth.{numbers, grown}
-use Rattle.theory_steiner.specs.Dual.{Dual, weigh, total, felt, EachDual, none, more, dualsOf as grownDuals}
+use Rattle.theory_steiner.specs.Dual.{Dual, weigh, total, dualLoad, EachDual, none, more, dualsOf as grownDuals}
 use Rattle.theory_steiner.specs.Pruning.{picked, kept, markOf, mark, dualBound}
 use Rattle.theory_steiner.specs.Laws.Joined.{separates-cong}
 use Rattle.theory_steiner.specs.Laws.Partition.{members-below}
@@ -30,7 +30,7 @@ use Rattle.theory_steiner.specs.Laws.Dual.{weigh-tabulate, each-dual, value-sep
 use Rattle.theory_steiner.specs.Laws.Accuracy.{kept-accurate, no-terminal-free, grown-feasible}
 use Rattle.survey_core.specs.Survey.{Survey, vertexCount, edgeCount, problemOf}
 use Rattle.survey_core.specs.Accuracy.{Accurate}
-use Rattle.survey_core.specs.Sound.{SurveySound, Numbered}
+use Rattle.survey_core.specs.Sound.{SurveySound, ByteGroups}
 use Rattle.survey_core.specs.Laws.Refusal.{survey-sound}
 use Rattle.check_rule.specs.Check.{dualAt, dualsIn, keptBy, checkedOf, checking}
 use Rattle.check_rule.specs.Passing.{DualSound, Passing}
@@ -162,9 +162,9 @@ module _ (s : Survey) (sound : SurveySound s) (joinable : Joins (problemOf s) (a
       ap₂ counted (local (dualAt bytes i .holds) (getD ds i nothing .holds) (λ v bv. holds-read i b v (lt-of-lt-of-le bv vertices-few))) (value-read i b))
       ∙ sym (weigh-at ds t)
 
-  felt-read : (e : ℕ) → e < problemOf s .edges → felt (problemOf s) (dualsIn bytes) e ≡ felt (problemOf s) ds e
-  unfolding felt
-  felt-read e b =
+  load-read : (e : ℕ) → e < problemOf s .edges → dualLoad (problemOf s) (dualsIn bytes) e ≡ dualLoad (problemOf s) ds e
+  unfolding dualLoad
+  load-read e b =
       weigh-read (λ S. crosses (problemOf s .first) (problemOf s .second) S e)
       (λ S R k.
       crosses-cong (problemOf s .first) (problemOf s .second) S R e (k (problemOf s .first e) (ok .first-below e b)) (k (problemOf s .second e) (ok .second-below e b)))
@@ -227,14 +227,14 @@ module _ (s : Survey) (sound : SurveySound s) (joinable : Joins (problemOf s) (a
             subst (λ x. x ≤ 2) (sym (getD-tabulate (problemOf s .edges) (mark (problemOf s)) e 0 b)) (mark-le (picked (problemOf s) e) (kept (problemOf s) e));
         duals-sound = λ i b. sound-read i (subst (λ x. i < x) records-count b);
         duals-separate = λ i b. separating-read i (subst (λ x. i < x) records-count b);
-        not-overtight = λ e b. subst (λ x. x ≤ 2 * problemOf s .weight e) (sym (felt-read e b)) (grown-feasible (problemOf s) ok some joinable e b refl);
+        not-overtight = λ e b. subst (λ x. x ≤ 2 * problemOf s .weight e) (sym (load-read e b)) (grown-feasible (problemOf s) ok some joinable e b refl);
         kept-joins = λ u v bu bv r. linked-mono (λ e k. kept-of-marks e ∙ k) (kept-joins (problemOf s) ok some joinable u v bu bv r);
         none-free = λ z. cost-of-marks ∙ no-terminal-free (problemOf s) ok some joinable z;
         rule = rw (cost-of-marks, total-read) (kept-accurate (problemOf s) ok some joinable);
       }
 
   -- The checker on the plan's own marks and records gives the plan's own figures.
-  pub finished-passes : Numbered s →
+  pub finished-passes : ByteGroups s →
       checking s (planOf (problemOf s) .marks) (recordsOf (planOf (problemOf s) .duals))
       ≡ answer (record { terminals = planOf (problemOf s) .terminals; cost = planOf (problemOf s) .cost; bound = planOf (problemOf s) .bound })
   unfolding checking checkedOf outcome planOf marks bytes

@@ -24,14 +24,14 @@ use Rattle.theory_steiner.specs.Laws.Rounds.{grown-reached, picked-count}
 use Rattle.survey_core.specs.Survey.{Survey, vertexCount, edgeCount, problemOf, groupJoined, componentsOf}
 use Rattle.survey_core.specs.Refusal.{edgeRefusal, surveyRefusal, groupRefusal, LowestUnjoined}
 use Rattle.survey_core.specs.Laws.Refusal.{survey-fine, fine-survey, survey-sound}
-use Rattle.survey_core.specs.Sound.{Numbered}
+use Rattle.survey_core.specs.Sound.{ByteGroups}
 use Rattle.survey_core.specs.Laws.Group.{group-joined-elim, group-joined-intro, group-refused, unjoinable-iff}
 use Rattle.survey_core.specs.Laws.Member.{member-elim}
 use Rattle.theory_steiner.specs.Laws.Finish.{allUsable-edges}
 use Rattle.check_rule.specs.Laws.Accuracy.{answered}
 use Rattle.plan_duals.specs.Drawing.{recordsOf, recordsOver}
 use Rattle.plan_duals.specs.Laws.Drawing.{length-records}
-use Rattle.plan_core.specs.Plan.{planOf, planRefusal, Counts, countsOf, counting, marksAfter, recordsAfter}
+use Rattle.plan_core.specs.Plan.{planOf, planRefusal, PlanCounts, planCountsOf, counting, marksAfter, recordsAfter}
 use Rattle.plan_core.specs.Promise.{Ready, Unjoinable, FinishedPlan, Promises}
 use Rattle.plan_core.specs.Laws.Ready.{fine-ready, ready-fine, all-bounded, buffers-fit}
 use Rattle.plan_core.specs.Laws.Passes.{finished-passes, finished-accurate}
@@ -109,7 +109,7 @@ module _ (s : Survey) (marksLength recordsLength : ℕ) where
       }
 
   -- And whenever it is so, 8 is what comes.
-  pub unjoinable-eight : Numbered s → (g : ℕ) → Unjoinable s marksLength recordsLength g → planRefusal s marksLength recordsLength ≡ Refused 8 g
+  pub unjoinable-eight : ByteGroups s → (g : ℕ) → Unjoinable s marksLength recordsLength g → planRefusal s marksLength recordsLength ≡ Refused 8 g
   unfolding planRefusal groupRefusal
   unjoinable-eight numbered g u =
       before-fine (survey-fine s (u .survey)) _
@@ -141,7 +141,7 @@ rounds-of : (s : Survey) → Sound (problemOf s) → planOf (problemOf s) .round
 unfolding planOf picked problemOf
 rounds-of s ok = sym (picked-count (problemOf s) ok (grown-reached (problemOf s)))
 
-module _ (s : Survey) (numbered : Numbered s) (marks records : List ℕ) (fine : planRefusal s (length marks) (length records) ≡ Fine) where
+module _ (s : Survey) (numbered : ByteGroups s) (marks records : List ℕ) (fine : planRefusal s (length marks) (length records) ≡ Fine) where
   -- The marks and the records of a finished plan, cut from the buffers.
   pub cut-marks : take (edgeCount s) (marksAfter s marks records) ≡ planOf (problemOf s) .marks
   unfolding marksAfter written planOf problemOf
@@ -157,8 +157,8 @@ module _ (s : Survey) (numbered : Numbered s) (marks records : List ℕ) (fine :
       ap (λ v. take count (written v (new ++ drop count records) records)) fine
       ∙ take-at new (drop count records) count (length-records (planOf (problemOf s) .duals))
 
-  finished-counts : FinishedPlan s marks records (countsOf (planOf (problemOf s)))
-  unfolding countsOf
+  finished-counts : FinishedPlan s marks records (planCountsOf (planOf (problemOf s)))
+  unfolding planCountsOf
   finished-counts =
       let r : Ready s (length marks) (length records) = fine-ready s numbered (length marks) (length records) fine in
       record {
@@ -172,19 +172,19 @@ module _ (s : Survey) (numbered : Numbered s) (marks records : List ℕ) (fine :
       rounds-are r = rounds-of s (survey-sound s (r .survey))
 
 -- An answer with counts is a finished plan, and none of 1 to 8 applied.
-pub counting-finished : (s : Survey) → Numbered s → (marks records : List ℕ) (c : Counts) → counting s (length marks) (length records) ≡ answer c →
+pub counting-finished : (s : Survey) → ByteGroups s → (marks records : List ℕ) (c : PlanCounts) → counting s (length marks) (length records) ≡ answer c →
     FinishedPlan s marks records c
 unfolding counting
 counting-finished s numbered marks records c h =
-    let a = answered (planRefusal s (length marks) (length records)) (countsOf (planOf (problemOf s))) c h in
+    let a = answered (planRefusal s (length marks) (length records)) (planCountsOf (planOf (problemOf s))) c h in
     subst (FinishedPlan s marks records) (a .1) (finished-counts s numbered marks records (a .0))
 
 -- Where none applies, there is an answer with counts.
-pub ready-counting : (s : Survey) → Numbered s → (marksLength recordsLength : ℕ) → Ready s marksLength recordsLength →
-    counting s marksLength recordsLength ≡ answer (countsOf (planOf (problemOf s)))
+pub ready-counting : (s : Survey) → ByteGroups s → (marksLength recordsLength : ℕ) → Ready s marksLength recordsLength →
+    counting s marksLength recordsLength ≡ answer (planCountsOf (planOf (problemOf s)))
 unfolding counting outcome
 ready-counting s numbered marksLength recordsLength r =
-    ap (λ v. outcome v (countsOf (planOf (problemOf s)))) (ready-fine s numbered marksLength recordsLength r)
+    ap (λ v. outcome v (planCountsOf (planOf (problemOf s)))) (ready-fine s numbered marksLength recordsLength r)
 
 -- ---- the call
 
@@ -194,7 +194,7 @@ unfolding outcome
 refusal-verdict Fine a number place h = absurd (let z : _≡_ {A = ℕ} 0 1 = cc in omega arith)
 refusal-verdict (Refused x y) a number place h = cc
 
-pub planning-promises : (s : Survey) → Numbered s → (marks records : List ℕ) (o : Outcome Counts) → o ≡ counting s (length marks) (length records) →
+pub planning-promises : (s : Survey) → ByteGroups s → (marks records : List ℕ) (o : Outcome PlanCounts) → o ≡ counting s (length marks) (length records) →
     Promises s marks records o
 unfolding counting outcome
 planning-promises s numbered marks records o h =
@@ -203,18 +203,18 @@ planning-promises s numbered marks records o h =
       finishes = λ r. h ∙ ready-counting s numbered (length marks) (length records) r;
       unjoinable = λ g k.
           eight-unjoinable s (length marks) (length records) g
-          (refusal-verdict (planRefusal s (length marks) (length records)) (countsOf (planOf (problemOf s))) 8 g (sym h ∙ k));
+          (refusal-verdict (planRefusal s (length marks) (length records)) (planCountsOf (planOf (problemOf s))) 8 g (sym h ∙ k));
       unjoinable-refused = λ g u.
-          h ∙ ap (λ v. outcome v (countsOf (planOf (problemOf s)))) (unjoinable-eight s (length marks) (length records) numbered g u);
+          h ∙ ap (λ v. outcome v (planCountsOf (planOf (problemOf s)))) (unjoinable-eight s (length marks) (length records) numbered g u);
     }
 
 -- A refused call.
-pub refused-call : (s : Survey) → Numbered s → (marks records : List ℕ) (number place : ℕ) → planRefusal s (length marks) (length records) ≡ Refused number place →
+pub refused-call : (s : Survey) → ByteGroups s → (marks records : List ℕ) (number place : ℕ) → planRefusal s (length marks) (length records) ≡ Refused number place →
     (refusal number place ≡ counting s (length marks) (length records))
     × ((marks ≡ marksAfter s marks records) × ((records ≡ recordsAfter s marks records) × Promises s marks records (refusal number place)))
 unfolding counting outcome marksAfter recordsAfter written
 refused-call s numbered marks records number place h =
-    let e : refusal number place ≡ counting s (length marks) (length records) = sym (ap (λ v. outcome v (countsOf (planOf (problemOf s)))) h) in (
+    let e : refusal number place ≡ counting s (length marks) (length records) = sym (ap (λ v. outcome v (planCountsOf (planOf (problemOf s)))) h) in (
       e,
       (
         sym (ap (λ v. written v (planOf (problemOf s) .marks ++ drop (edgeCount s) marks) marks) h),
@@ -226,14 +226,14 @@ refused-call s numbered marks records number place h =
     )
 
 -- A finished one.
-pub finished-call : (s : Survey) → Numbered s → (marks records marked drawn : List ℕ) (o : Outcome Counts) → planRefusal s (length marks) (length records) ≡ Fine →
-    o ≡ answer (countsOf (planOf (problemOf s))) → marked ≡ planOf (problemOf s) .marks ++ drop (edgeCount s) marks →
+pub finished-call : (s : Survey) → ByteGroups s → (marks records marked drawn : List ℕ) (o : Outcome PlanCounts) → planRefusal s (length marks) (length records) ≡ Fine →
+    o ≡ answer (planCountsOf (planOf (problemOf s))) → marked ≡ planOf (problemOf s) .marks ++ drop (edgeCount s) marks →
     drawn ≡ recordsOver (planOf (problemOf s) .duals) records →
     (o ≡ counting s (length marks) (length records))
     × ((marked ≡ marksAfter s marks records) × ((drawn ≡ recordsAfter s marks records) × Promises s marks records o))
 unfolding counting outcome marksAfter recordsAfter written
 finished-call s numbered marks records marked drawn o h answered-by marks-are drawn-are =
-    let e : o ≡ counting s (length marks) (length records) = answered-by ∙ sym (ap (λ v. outcome v (countsOf (planOf (problemOf s)))) h) in (
+    let e : o ≡ counting s (length marks) (length records) = answered-by ∙ sym (ap (λ v. outcome v (planCountsOf (planOf (problemOf s)))) h) in (
       e,
       (
         marks-are ∙ sym (ap (λ v. written v (planOf (problemOf s) .marks ++ drop (edgeCount s) marks) marks) h),

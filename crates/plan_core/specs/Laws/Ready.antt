@@ -21,7 +21,7 @@ use Rattle.survey_components.specs.Labels.{chosenMark, chosen}
 use Rattle.survey_components.specs.declared.Chosen.the-variants.{All}
 use Rattle.survey_core.specs.Refusal.{surveyRefusal, groupRefusal}
 use Rattle.survey_core.specs.Laws.Refusal.{survey-fine, fine-survey}
-use Rattle.survey_core.specs.Sound.{Numbered}
+use Rattle.survey_core.specs.Sound.{ByteGroups}
 use Rattle.survey_core.specs.Laws.Group.{group-fine, joins-fine}
 use Rattle.plan_core.specs.Plan.{planRefusal}
 use Rattle.plan_core.specs.Promise.{Ready}
@@ -29,7 +29,7 @@ use Rattle.plan_core.specs.Promise.{Ready}
 pub all-bounded : (s : Survey) (e : ℕ) → allUsable (problemOf s) e ≡ true → e < problemOf s .edges
 all-bounded s e h = allUsable-edges (problemOf s) e h .0
 
-module _ (s : Survey) (numbered : Numbered s) (marksLength recordsLength : ℕ) where
+module _ (s : Survey) (numbered : ByteGroups s) (marksLength recordsLength : ℕ) where
   pub fine-ready : planRefusal s marksLength recordsLength ≡ Fine → Ready s marksLength recordsLength
   unfolding planRefusal
   fine-ready h =

@@ -17,7 +17,7 @@ use Rattle.theory_steiner.specs.Problem.{EdgeSet, Joins, allUsable, Bounded}
 use Rattle.theory_steiner.specs.Laws.Joined.{label-linked, linked-label}
 use Rattle.theory_steiner.specs.Laws.Finish.{allUsable-all, allUsable-edges}
 use Rattle.survey_core.specs.Survey.{Survey, member, sameGroup, problemOf, JoinsGroup, groupJoined, componentsOf}
-use Rattle.survey_core.specs.Sound.{Numbered}
+use Rattle.survey_core.specs.Sound.{ByteGroups}
 use Rattle.survey_core.specs.Refusal.{groupRefusal, LowestUnjoined}
 use Rattle.survey_core.specs.Laws.Member.{joined-elim, joined-intro}
 
@@ -39,7 +39,7 @@ pub joins-groups : (s : Survey) (F : ℕ → Bool) → Joins (problemOf s) F →
 unfolding problemOf
 joins-groups s F h g u v bu bv mu mv = h u v bu bv (members-same-group s g u v mu mv)
 
-pub groups-join : (s : Survey) (F : ℕ → Bool) → Numbered s → ((g : ℕ) → g < groupNumbers → JoinsGroup s F g) → Joins (problemOf s) F
+pub groups-join : (s : Survey) (F : ℕ → Bool) → ByteGroups s → ((g : ℕ) → g < groupNumbers → JoinsGroup s F g) → Joins (problemOf s) F
 unfolding problemOf sameGroup
 groups-join s F numbered h u v bu bv r = h (getD (s .groups) u 0) (numbered u) u v bu bv (same-group-member s u v r) r
 
@@ -58,7 +58,7 @@ group-joined-intro s F bounded g h =
 
 module _ (s : Survey) (number : ℕ) (F : ℕ → Bool) (bounded : Bounded (problemOf s) F) where
   -- No finding exactly if every required pair has a path.
-  pub group-fine : Numbered s → groupRefusal s number F ≡ Fine → Joins (problemOf s) F
+  pub group-fine : ByteGroups s → groupRefusal s number F ≡ Fine → Joins (problemOf s) F
   unfolding groupRefusal
   group-fine numbered h =
       groups-join s F numbered

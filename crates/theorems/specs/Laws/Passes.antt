@@ -11,13 +11,13 @@ use Rattle.format_write.specs.Text.{planText}
 use Rattle.format_survey.specs.Reading.{reading, SurveyText}
 use Rattle.theory_steiner.specs.Laws.Rounds.{rounds-lt, grown-reached}
 use Rattle.survey_core.specs.Survey.{Survey, vertexCount, problemOf}
-use Rattle.survey_core.specs.Sound.{SurveySound, Numbered}
+use Rattle.survey_core.specs.Sound.{SurveySound, ByteGroups}
 use Rattle.survey_core.specs.Laws.Refusal.{survey-sound}
 use Rattle.check_rule.specs.Check.{Checked}
 use Rattle.check_rule.specs.Laws.Accuracy.{answered}
 use Rattle.plan_duals.specs.Drawing.{recordsOf}
 use Rattle.plan_duals.specs.Laws.Drawing.{bytes-records}
-use Rattle.plan_core.specs.Plan.{planOf, planRefusal, Counts, countsOf, counting}
+use Rattle.plan_core.specs.Plan.{planOf, planRefusal, PlanCounts, planCountsOf, counting}
 use Rattle.plan_core.specs.Promise.{Ready}
 use Rattle.plan_core.specs.Laws.Ready.{fine-ready}
 use Rattle.plan_core.specs.Laws.Passes.{finished-passes}
@@ -43,7 +43,7 @@ passed-fits t c e = let l = verified-length t c e in omega arith
 
 -- A survey's text, read with any buffers.
 module _ (t gb fb sb wb : List ℕ) (s : SurveyText) (read : reading t gb fb sb wb ≡ answer s) where
-  numbered : Numbered (surveyIn s)
+  numbered : ByteGroups (surveyIn s)
   numbered = read-numbered t gb fb sb wb s read
 
   module _ (marksLength recordsLength : ℕ) (fine : planRefusal (surveyIn s) marksLength recordsLength ≡ Fine) where
@@ -66,26 +66,26 @@ module _ (t gb fb sb wb : List ℕ) (s : SurveyText) (read : reading t gb fb sb 
         (record { terminals = p .terminals; cost = p .cost; bound = p .bound }) (finished-passes (surveyIn s) (ready .survey) (ready .joinable) numbered) in
         omega arith
 
-  module _ (marks records : List ℕ) (c : Counts) (called : counting (surveyIn s) (length marks) (length records) ≡ answer c) where
-    finished : (planRefusal (surveyIn s) (length marks) (length records) ≡ Fine) × (countsOf (planFor s) ≡ c)
+  module _ (marks records : List ℕ) (c : PlanCounts) (called : counting (surveyIn s) (length marks) (length records) ≡ answer c) where
+    finished : (planRefusal (surveyIn s) (length marks) (length records) ≡ Fine) × (planCountsOf (planFor s) ≡ c)
     unfolding counting
-    finished = answered (planRefusal (surveyIn s) (length marks) (length records)) (countsOf (planFor s)) c called
+    finished = answered (planRefusal (surveyIn s) (length marks) (length records)) (planCountsOf (planFor s)) c called
 
-    same-text : printedCall (surveyIn s) marks records (countsOf (planFor s)) ≡ printedPlan (planFor s)
-    unfolding countsOf
+    same-text : printedCall (surveyIn s) marks records (planCountsOf (planFor s)) ≡ printedPlan (planFor s)
+    unfolding planCountsOf
     same-text =
         let p = planFor s in
         ap₂ (planText (p .terminals) (p .cost) (p .bound) (p .rounds)) (cut-marks (surveyIn s) numbered marks records (finished .0)) (cut-records (surveyIn s) numbered marks records (finished .0))
 
     -- Whatever a finished call leaves to print passes, with the counts that the call answered.
     pub call-passes : verifying (t ++ printedCall (surveyIn s) marks records c) ≡ answer (record { terminals = c .terminals; cost = c .cost; bound = c .bound })
-    unfolding countsOf
+    unfolding planCountsOf
     call-passes =
-        subst (λ (x : Counts). verifying (t ++ printedCall (surveyIn s) marks records x) ≡ answer (record { terminals = x .terminals; cost = x .cost; bound = x .bound })) (finished .1)
+        subst (λ (x : PlanCounts). verifying (t ++ printedCall (surveyIn s) marks records x) ≡ answer (record { terminals = x .terminals; cost = x .cost; bound = x .bound })) (finished .1)
         (ap (λ (w : List ℕ). verifying (t ++ w)) same-text ∙ plan-passes (length marks) (length records) (finished .0))
 
     -- The checking program reads both texts whole.
     pub call-fits : length (t ++ printedCall (surveyIn s) marks records c) ≤ verifyRoom
     call-fits =
-        subst (λ (x : Counts). length (t ++ printedCall (surveyIn s) marks records x) ≤ verifyRoom) (finished .1)
+        subst (λ (x : PlanCounts). length (t ++ printedCall (surveyIn s) marks records x) ≤ verifyRoom) (finished .1)
         (subst (λ (w : List ℕ). length (t ++ w) ≤ verifyRoom) (sym same-text) (plan-fits (length marks) (length records) (finished .0)))

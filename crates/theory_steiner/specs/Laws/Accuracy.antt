@@ -14,7 +14,7 @@ use Rattle.base_finite.specs.Laws.Below.{sum-le, sum-cong, sum-add, sum-zero, s
 use Rattle.theory_graph.specs.Path.{crosses}
 use Rattle.theory_steiner.specs.Problem.{Problem, Sound, EdgeSet, Joins, cost, terminal, terminals, allUsable}
 use Rattle.theory_steiner.specs.Growth.{State, start, active, numbers, slack, Winner, nobody, edge, winner, pick, stateAt, grown, Reached}
-use Rattle.theory_steiner.specs.Dual.{Dual, total, felt, dualsOf, Separating, EachDual}
+use Rattle.theory_steiner.specs.Dual.{Dual, total, dualLoad, dualsOf, Separating, EachDual}
 use Rattle.theory_steiner.specs.Pruning.{picked, kept, dualBound}
 use Rattle.theory_steiner.specs.Laws.Joined.{Split, separates-elim, terminal-intro}
 use Rattle.theory_steiner.specs.Laws.Round.{stateAt-reached}
@@ -158,7 +158,7 @@ ratio (suc j) D A d h l =
 
 -- What the checker's premises give: duals that weak duality bounds, and k times a cost within k - 1 times their sum.
 pub within-factor : (p : Problem) (F : ℕ → Bool) → EdgeSet p F → Joins p F → (ds : List Dual) → EachDual (Separating p) ds →
-    ((e : ℕ) → e < p .edges → p .usable e ≡ true → felt p ds e ≤ 2 * p .weight e) → (k c : ℕ) → k * c ≤ (k - 1) * total ds →
+    ((e : ℕ) → e < p .edges → p .usable e ≡ true → dualLoad p ds e ≤ 2 * p .weight e) → (k c : ℕ) → k * c ≤ (k - 1) * total ds →
     k * c ≤ (2 * k - 2) * cost p F
 within-factor p F set joins ds separating fits k c rule =
     let twice : 2 * k - 2 ≡ 2 * (k - 1) = omega arith in
@@ -232,7 +232,7 @@ module _ (p : Problem) (ok : Sound p) (some : 0 < p .vertices) (joinable : Joins
   pub grown-separating : EachDual (Separating p) (dualsOf p (grown p))
   grown-separating = each-dual p (grown p) (λ c pos. value-separates p ok (grown-reached p) c pos)
 
-  pub grown-feasible : (e : ℕ) → e < p .edges → p .usable e ≡ true → felt p (dualsOf p (grown p)) e ≤ 2 * p .weight e
+  pub grown-feasible : (e : ℕ) → e < p .edges → p .usable e ≡ true → dualLoad p (dualsOf p (grown p)) e ≤ 2 * p .weight e
   grown-feasible e b u = omega (arith, load-duals p (grown p) e, not-overtight p ok (grown-reached p) e b u)
 
   -- The accuracy rule of the kept edges (source 001, Theorem 22.9, with source 003's factor).

@@ -17,7 +17,7 @@ use Rattle.theory_graph.specs.Path.{crosses}
 use Rattle.theory_graph.specs.Laws.Linked.{Crossing, cut-crossed}
 use Rattle.theory_steiner.specs.Problem.{Problem, Sound, Joins, separates, allUsable}
 use Rattle.theory_steiner.specs.Growth.{State, start, active, numbers, edge, pick, Reached, first, next}
-use Rattle.theory_steiner.specs.Dual.{Dual, weigh, total, felt, EachDual, none, more, dualOf, dualsOf}
+use Rattle.theory_steiner.specs.Dual.{Dual, weigh, total, dualLoad, EachDual, none, more, dualOf, dualsOf}
 use Rattle.theory_steiner.specs.Pruning.{dualBound}
 use Rattle.theory_steiner.specs.Laws.Joined.{Split, separates-elim, separates-cong}
 use Rattle.theory_steiner.specs.Laws.Round.{pick-value, pick-holds-old}
@@ -67,8 +67,8 @@ pub total-duals : (p : Problem) (s : State) → total (dualsOf p s) ≡ dualBoun
 unfolding total
 total-duals p s = weigh-duals p s (λ S. true) ∙ sym (bound-weighed p s)
 
-pub load-duals : (p : Problem) (s : State) (e : ℕ) → felt p (dualsOf p s) e ≡ dualLoadAt p s e
-unfolding felt dualLoadAt
+pub load-duals : (p : Problem) (s : State) (e : ℕ) → dualLoad p (dualsOf p s) e ≡ dualLoadAt p s e
+unfolding dualLoad dualLoadAt
 load-duals p s e = weigh-duals p s _
 
 length-those : (n : ℕ) (t : ℕ → Bool) → length (thoseBelow n t) ≡ countBelow n t

@@ -27,14 +27,14 @@ mul-if1 c = search needs
 -- 13
 returns : tie.Need-returns
 returns c = let args = c .before .before .before .before .before .before .args in
-    let felt : c .before .before .load-between .result ≡ loadBetween (args .records .now) (args .first) (args .second) =
+    let dualLoad : c .before .before .load-between .result ≡ loadBetween (args .records .now) (args .first) (args .second) =
     c .before .before .load-between .ensures ∙ ap₂ (loadBetween (args .records .now)) (c .before .before .before .before .index32 .ensures) (c .before .before .before .index322 .ensures) in
     sym (refuse-true (lt-ltb (2 * args .weight) (loadBetween (args .records .now) (args .first) (args .second)) (omega arith)) 13 _)
 
 -- nothing wrong
 returns-2 : tie.Need-returns-2
 returns-2 c = let args = c .before .before .before .before .before .before .args in
-    let felt : c .before .before .load-between .result ≡ loadBetween (args .records .now) (args .first) (args .second) =
+    let dualLoad : c .before .before .load-between .result ≡ loadBetween (args .records .now) (args .first) (args .second) =
     c .before .before .load-between .ensures ∙ ap₂ (loadBetween (args .records .now)) (c .before .before .before .before .index32 .ensures) (c .before .before .before .index322 .ensures) in
     sym (refuse-false (le-ltb (2 * args .weight) (loadBetween (args .records .now) (args .first) (args .second)) (omega arith)) 13 _)
 

@@ -5,7 +5,7 @@ use mathlib.Core.List.{[]}
 use lib.Dec.{ltb}
 use lib.ListN.{length, getD}
 use Rattle.base_limits.specs.Verdict.{refuseIf}
-use Rattle.theory_steiner.specs.Dual.{felt}
+use Rattle.theory_steiner.specs.Dual.{dualLoad}
 use Rattle.survey_core.specs.Survey.{surveyFrom, problemOf}
 use Rattle.check_rule.specs.Check.{dualsIn}
 use Rattle.check_core.specs.Laws.Duals.{load-item}
@@ -15,7 +15,7 @@ use Rattle.check_core.proofs.duals.loads_refusal.Statement.{statement}
 use Rattle.check_core.proofs.duals.loads_refusal.Tie as tie
 
 abbrev Inv-loop : tie.InvT-loop
-Inv-loop firsts seconds weights records e₀ e = Scanned (length firsts) (λ e. refuseIf (ltb (2 * getD weights e 0) (felt (problemOf (surveyFrom [] firsts seconds weights)) (dualsIn records) e)) 13 e) e
+Inv-loop firsts seconds weights records e₀ e = Scanned (length firsts) (λ e. refuseIf (ltb (2 * getD weights e 0) (dualLoad (problemOf (surveyFrom [] firsts seconds weights)) (dualsIn records) e)) 13 e) e
 
 abbrev μ-loop : tie.MeasureT-loop
 μ-loop firsts seconds weights records e₀ e = length firsts - e
