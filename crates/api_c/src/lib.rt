@@ -1,4 +1,5 @@
-// The operations for programs in other languages: slices cross as a pointer and a length in items, and the answer is one number, 0 or the refusal's. Definitions in specs/.
+// Planning and checking for programs in other languages: slices cross as a pointer and a length in items, and the
+// answer is one number, 0 or the refusal's. Definitions in specs/.
 ghost use mathlib.Core.Path.{_≡_};
 ghost use Prim.Native.Nat.{_+_, _*_, _<_, _^_};
 ghost use mathlib.Core.List.{[], _∷_};
@@ -71,10 +72,18 @@ pub extern "C" fn foamsickle_plan(
     records: &mut [u8],
     counts: &mut [u64],
 ) -> u64
-    ensures code { λ r. ⌜ r ≡ codeOf (planCall (lentSurvey groups firsts seconds weights) (old marks) (old records) (old counts)) ⌝ }
-    ensures marks { λ _. ⌜ new marks ≡ planMarks (lentSurvey groups firsts seconds weights) (old marks) (old records) (old counts) ⌝ }
-    ensures records { λ _. ⌜ new records ≡ planRecords (lentSurvey groups firsts seconds weights) (old marks) (old records) (old counts) ⌝ }
-    ensures counts { λ _. ⌜ new counts ≡ planCounts (lentSurvey groups firsts seconds weights) (old marks) (old records) (old counts) ⌝ }
+    ensures code { λ r.
+        let s = lentSurvey groups firsts seconds weights in
+        ⌜ r ≡ codeOf (planCall s (old marks) (old records) (old counts)) ⌝ }
+    ensures marks { λ _.
+        let s = lentSurvey groups firsts seconds weights in
+        ⌜ new marks ≡ planMarks s (old marks) (old records) (old counts) ⌝ }
+    ensures records { λ _.
+        let s = lentSurvey groups firsts seconds weights in
+        ⌜ new records ≡ planRecords s (old marks) (old records) (old counts) ⌝ }
+    ensures counts { λ _.
+        let s = lentSurvey groups firsts seconds weights in
+        ⌜ new counts ≡ planCounts s (old marks) (old records) (old counts) ⌝ }
 {
     if counts.len() < PLAN_FIGURES {
         return short_counts(groups, firsts, seconds, weights);
@@ -106,8 +115,12 @@ pub extern "C" fn foamsickle_check(
     records: &[u8],
     counts: &mut [u64],
 ) -> u64
-    ensures code { λ r. ⌜ r ≡ codeOf (checkCall (lentSurvey groups firsts seconds weights) (old marks) (old records) (old counts)) ⌝ }
-    ensures counts { λ _. ⌜ new counts ≡ checkCounts (lentSurvey groups firsts seconds weights) (old marks) (old records) (old counts) ⌝ }
+    ensures code { λ r.
+        let s = lentSurvey groups firsts seconds weights in
+        ⌜ r ≡ codeOf (checkCall s (old marks) (old records) (old counts)) ⌝ }
+    ensures counts { λ _.
+        let s = lentSurvey groups firsts seconds weights in
+        ⌜ new counts ≡ checkCounts s (old marks) (old records) (old counts) ⌝ }
 {
     if counts.len() < CHECK_FIGURES {
         return short_counts(groups, firsts, seconds, weights);

@@ -34,7 +34,8 @@ pub const ENDPOINT_DIGITS: usize = 7;
 
 pub const WEIGHT_DIGITS: usize = 7;
 
-// Digits of a number in a printed plan, at most: a figure (sites, cost, bound, rounds), a kept edge, a dual's value, a member.
+// Digits of a number in a printed plan, at most: a figure (sites, cost, bound, rounds), a kept edge, a dual's value,
+// a member.
 pub const FIGURE_DIGITS: usize = 10;
 
 pub const KEPT_DIGITS: usize = 7;
@@ -55,7 +56,8 @@ pub enum Verdict {
 // Digits of a 64-bit number, at most.
 pub const WORD_DIGITS: usize = 20;
 
-// Bytes of all members with commas between, for 100 to 1,000 vertices; and of the longest dual line, which has 7 more and the value.
+// Bytes of all members with commas between, for 100 to 1,000 vertices; and of the longest dual line, which has 7 more
+// and the value.
 pub const LONGEST_MEMBERS: usize = 4 * MAX_VERTICES - 111;
 
 pub const LONGEST_DUAL: usize = 7 + WORD_DIGITS + LONGEST_MEMBERS;
@@ -67,7 +69,8 @@ pub const PLAN_ROOM: usize = 24 + 4 * (WORD_DIGITS + 1) + 10 * MAX_EDGES + LONGE
 
 pub const REFUSAL_ROOM: usize = 16 + 2 * WORD_DIGITS;
 
-// Bytes that the programs `plan` and `verify` read, at most: every survey's text, and every survey's text with a plan's behind it.
+// Bytes that the programs `plan` and `verify` read, at most: every survey's text, and every survey's text with a plan's
+// behind it.
 pub const SURVEY_ROOM: usize = 65536;
 
 pub const VERIFY_ROOM: usize = 1048576;

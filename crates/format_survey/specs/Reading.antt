@@ -17,7 +17,7 @@ bodyAt test t counts at =
 unfoldable pub bodyOf : List ℕ → (vertices edges at : ℕ) → SurveyLines
 bodyOf t vertices edges at = bodyAt groupTest t (record { vertices = vertices; edges = edges }) at
 
--- What a text says: n and m, and the first n groups and m ends and prices.
+-- What a text says: n and m, a group for each junction, two ends and a price for each track.
 pub record SurveyText : Type 0 where
   pub vertices : ℕ
   pub edges : ℕ

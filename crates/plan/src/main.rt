@@ -89,7 +89,7 @@ fn plan(groups: &[u8], firsts: &[u32], seconds: &[u32], weights: &[u32]) {
     }
 }
 
-// The first n groups and m ends and prices, if the buffers have them.
+// The parts of the buffers that were filled, if they are as long.
 fn plan_first(groups: &[u8], firsts: &[u32], seconds: &[u32], weights: &[u32], n: usize, m: usize) {
     if groups.len() < n {
         return;

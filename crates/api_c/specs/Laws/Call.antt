@@ -77,7 +77,7 @@ module _ (s : Survey) {found : Verdict} (looked : found ≡ surveyRefusal s) whe
 
 -- ---- the three ends of a call
 
--- PlanCounts that do not fit: a refusal, so that nothing is written.
+-- Counts that do not fit: a refusal, so that nothing is written.
 module _ {call : Verdict} (v : Verdict) (same : call ≡ (v before Refused 7 0)) where
   short-code : {r : ℕ} → r ≡ codeOf (v before Refused 7 0) → r ≡ codeOf call
   short-code h = h ∙ sym (ap codeOf same)

@@ -1,4 +1,4 @@
--- The place of refusal 16 is the first offset whose byte no well-formed plan has there (document 01, 'Survey text and printed plan').
+-- Where refusal 16 stands in a printed plan: at the first byte that fits no well-formed plan (document 01, 'Survey text and printed plan').
 use Prim.Native.Nat.{ℕ, _+_, _≤_, _<_}
 use Prim.Native.Char.{code}
 use native.Mathlib.Omega.{arith}
