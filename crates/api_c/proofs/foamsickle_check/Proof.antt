@@ -4,35 +4,17 @@ use Rattle.api_c.specs.Laws.Call.{check-short-code, check-short-counts, 
 use Rattle.api_c.proofs.foamsickle_check.Statement.{statement}
 use Rattle.api_c.proofs.foamsickle_check.Tie as tie
 
-short-counts-requires : tie.Need-short-counts-requires
-short-counts-requires c κs = search needs
-
 -- 1 to 6, or 7
 returns : tie.Need-returns
 returns c =
     let short = c .before .if1 .taken in
     (check-short-code _ _ _ _ short (c .short-counts .ensures), check-short-counts _ _ _ _ short)
 
-check-requires : tie.Need-check-requires
-check-requires c κs = search needs
-
-enum-known-answer : tie.Need-enum-known-answer
-enum-known-answer c = search needs
-
-store-three-requires : tie.Need-store-three-requires
-store-three-requires c κs = search needs
-
-enum-known-answer-2 : tie.Need-enum-known-answer-2
-enum-known-answer-2 c = search needs
-
 -- the refusal fits one number
 code-requires : tie.Need-code-requires
 code-requires c κs =
     let called = c .before .before .before in
     check-fits _ _ _ (called .check .ensures .0) _ _ (c .before .answer2 .given .1)
-
-same-length : tie.Need-same-length
-same-length c = search needs
 
 -- passed
 returns-2 : tie.Need-returns-2
@@ -55,4 +37,4 @@ returns-3 c =
 pub foamsickle-check-spec : {M : Type 1} → statement M
 foamsickle-check-spec =
     tie.close
-    (tie.spec short-counts-requires returns check-requires enum-known-answer store-three-requires enum-known-answer-2 code-requires same-length returns-2 returns-3)
+    (tie.spec (λ c κs. search needs) returns (λ c κs. search needs) (λ c. search needs) (λ c κs. search needs) (λ c. search needs) code-requires (λ c. search needs) returns-2 returns-3)

@@ -16,9 +16,6 @@ use Rattle.api_c.specs.Laws.Call.{
 use Rattle.api_c.proofs.foamsickle_plan.Statement.{statement}
 use Rattle.api_c.proofs.foamsickle_plan.Tie as tie
 
-short-counts-requires : tie.Need-short-counts-requires
-short-counts-requires c κs = search needs
-
 -- 1 to 6, or 7
 returns : tie.Need-returns
 returns c =
@@ -27,32 +24,11 @@ returns c =
       (plan-short-marks _ _ _ _ short, (plan-short-records _ _ _ _ short, plan-short-counts _ _ _ _ short)),
     )
 
-plan-requires : tie.Need-plan-requires
-plan-requires c κs = search needs
-
-enum-known-answer : tie.Need-enum-known-answer
-enum-known-answer c = search needs
-
-store-five-requires : tie.Need-store-five-requires
-store-five-requires c κs = search needs
-
-enum-known-answer-2 : tie.Need-enum-known-answer-2
-enum-known-answer-2 c = search needs
-
 -- the refusal fits one number
 code-requires : tie.Need-code-requires
 code-requires c κs =
     let called = c .before .before .before .before .before .before .before in
     plan-fits _ _ _ (called .plan .ensures .0) _ _ (c .before .answer2 .given .1)
-
-same-length : tie.Need-same-length
-same-length c = search needs
-
-same-length-2 : tie.Need-same-length-2
-same-length-2 c = search needs
-
-same-length-3 : tie.Need-same-length-3
-same-length-3 c = search needs
 
 -- finished
 returns-2 : tie.Need-returns-2
@@ -69,12 +45,6 @@ returns-2 c =
         ),
       ),
     )
-
-same-length-4 : tie.Need-same-length-4
-same-length-4 c = search needs
-
-same-length-5 : tie.Need-same-length-5
-same-length-5 c = search needs
 
 -- refused
 returns-3 : tie.Need-returns-3
@@ -93,17 +63,17 @@ pub foamsickle-plan-spec : {M : Type 1} → statement M
 foamsickle-plan-spec =
     tie.close
     (tie.spec
-    short-counts-requires
+    (λ c κs. search needs)
     returns
-    plan-requires
-    enum-known-answer
-    store-five-requires
-    enum-known-answer-2
+    (λ c κs. search needs)
+    (λ c. search needs)
+    (λ c κs. search needs)
+    (λ c. search needs)
     code-requires
-    same-length
-    same-length-2
-    same-length-3
+    (λ c. search needs)
+    (λ c. search needs)
+    (λ c. search needs)
     returns-2
-    same-length-4
-    same-length-5
+    (λ c. search needs)
+    (λ c. search needs)
     returns-3)

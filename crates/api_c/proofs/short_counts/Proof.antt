@@ -4,12 +4,6 @@ use Rattle.api_c.specs.Laws.Call.{short-fits, short-refused, short-seven
 use Rattle.api_c.proofs.short_counts.Statement.{statement}
 use Rattle.api_c.proofs.short_counts.Tie as tie
 
-survey-refusal-requires : tie.Need-survey-refusal-requires
-survey-refusal-requires c κs = search needs
-
-enum-known-found : tie.Need-enum-known-found
-enum-known-found c = search needs
-
 -- the refusal fits one number
 code-requires : tie.Need-code-requires
 code-requires c κs = short-fits _ (c .before .before .before .survey-refusal .ensures) _ _ (c .before .found .given .1)
@@ -26,4 +20,4 @@ returns-2 : tie.Need-returns-2
 returns-2 c = short-seven _ (c .before .before .survey-refusal .ensures) (c .enum-told .given .1)
 
 pub short-counts-spec : {M : Type 1} → statement M
-short-counts-spec = tie.close (tie.spec survey-refusal-requires enum-known-found code-requires enum-told returns returns-2)
+short-counts-spec = tie.close (tie.spec (λ c κs. search needs) (λ c. search needs) code-requires enum-told returns returns-2)

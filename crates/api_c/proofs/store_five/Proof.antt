@@ -5,18 +5,6 @@ use borrow.Author.Needs.{needs}
 use Rattle.api_c.proofs.store_five.Statement.{statement}
 use Rattle.api_c.proofs.store_five.Tie as tie
 
-store-three-requires : tie.Need-store-three-requires
-store-three-requires c κs = search needs
-
-put64-requires : tie.Need-put64-requires
-put64-requires c κs = search needs
-
-put64-requires-2 : tie.Need-put64-requires-2
-put64-requires-2 c κs = search needs
-
-same-length : tie.Need-same-length
-same-length c = search needs
-
 returns : tie.Need-returns
 returns c =
     let second = c .before .before .before .before .before .before in
@@ -26,4 +14,4 @@ returns c =
     ∙ ap (λ l. set l 4 (a .duals)) (second .put64 .ensures ∙ ap (λ l. set l 3 (a .rounds)) (first .store-three .ensures))
 
 pub store-five-spec : {M : Type 1} → statement M
-store-five-spec = tie.close (tie.spec store-three-requires put64-requires put64-requires-2 same-length returns)
+store-five-spec = tie.close (tie.spec (λ c κs. search needs) (λ c κs. search needs) (λ c κs. search needs) (λ c. search needs) returns)

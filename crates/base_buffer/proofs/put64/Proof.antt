@@ -5,20 +5,8 @@ use borrow.Author.Needs.{needs}
 use Rattle.base_buffer.proofs.put64.Statement.{statement}
 use Rattle.base_buffer.proofs.put64.Tie as tie
 
-mul-s : tie.Need-mul-s
-mul-s c = search needs
-
-slice-write-s : tie.Need-slice-write-s
-slice-write-s c = search needs
-
-same-length : tie.Need-same-length
-same-length c = search needs
-
-returns : tie.Need-returns
-returns c = search needs
-
 returns-2 : tie.Need-returns-2
 returns-2 c = sym (set-out (c .before .args .s .now) (c .before .args .i) (c .before .args .x) (c .if1 .left))
 
 pub put64-spec : {M : Type 1} → statement M
-put64-spec = tie.close (tie.spec mul-s slice-write-s same-length returns returns-2)
+put64-spec = tie.close (tie.spec (λ c. search needs) (λ c. search needs) (λ c. search needs) (λ c. search needs) returns-2)

@@ -5,17 +5,8 @@ use borrow.Author.Needs.{needs}
 use Rattle.base_buffer.proofs.put8.Statement.{statement}
 use Rattle.base_buffer.proofs.put8.Tie as tie
 
-slice-write-s : tie.Need-slice-write-s
-slice-write-s c = search needs
-
-same-length : tie.Need-same-length
-same-length c = search needs
-
-returns : tie.Need-returns
-returns c = search needs
-
 returns-2 : tie.Need-returns-2
 returns-2 c = sym (set-out (c .before .args .s .now) (c .before .args .i) (c .before .args .x) (c .if1 .left))
 
 pub put8-spec : {M : Type 1} → statement M
-put8-spec = tie.close (tie.spec slice-write-s same-length returns returns-2)
+put8-spec = tie.close (tie.spec (λ c. search needs) (λ c. search needs) (λ c. search needs) returns-2)

@@ -7,14 +7,8 @@ use Rattle.check_core.specs.Laws.Stage.{input-sound, input-few, group-fo
 use Rattle.check_core.proofs.all_but_rule.Statement.{statement}
 use Rattle.check_core.proofs.all_but_rule.Tie as tie
 
-input-refusal-requires : tie.Need-input-refusal-requires
-input-refusal-requires c κs = search needs
-
 enum-told : tie.Need-enum-told
 enum-told c = search needs
-
-enum-told-2 : tie.Need-enum-told-2
-enum-told-2 c = search needs
 
 -- 1 to 6, 9 or 10
 returns : tie.Need-returns
@@ -26,21 +20,12 @@ duals-refusal-requires c κs =
     let input = sym (c .before .before .input-refusal .ensures) ∙ c .enum-told .given .1 in
     (input-sound _ _ _ input .few, input-few _ _ _ input)
 
-enum-told-3 : tie.Need-enum-told-3
-enum-told-3 c = search needs
-
-enum-told-4 : tie.Need-enum-told-4
-enum-told-4 c = search needs
-
 -- 11, 12 or 13
 returns-2 : tie.Need-returns-2
 unfolding allButRule
 returns-2 c =
     let found = c .before .before .before in
     goes-on (found .before .before .input-refusal .ensures) (found .enum-told .given .1) (passed-on (c .before .before .duals-refusal .ensures) (c .enum-told4 .given .1) _)
-
-group-refusal-requires : tie.Need-group-refusal-requires
-group-refusal-requires c κs = search needs
 
 -- 14 or nothing
 returns-3 : tie.Need-returns-3
@@ -55,13 +40,13 @@ pub all-but-rule-spec : {M : Type 1} → statement M
 all-but-rule-spec =
     tie.close
     (tie.spec
-    input-refusal-requires
+    (λ c κs. search needs)
     enum-told
-    enum-told-2
+    (λ c. search needs)
     returns
     duals-refusal-requires
-    enum-told-3
-    enum-told-4
+    (λ c. search needs)
+    (λ c. search needs)
     returns-2
-    group-refusal-requires
+    (λ c κs. search needs)
     returns-3)

@@ -10,12 +10,6 @@ use Rattle.check_core.specs.Laws.Stage.{check-stops, rule-decides, plan-
 use Rattle.check_core.proofs.check.Statement.{statement}
 use Rattle.check_core.proofs.check.Tie as tie
 
-all-but-rule-requires : tie.Need-all-but-rule-requires
-all-but-rule-requires c κs = search needs
-
-enum-known-found : tie.Need-enum-known-found
-enum-known-found c = search needs
-
 -- a refusal before 15
 returns : tie.Need-returns
 unfolding outcomeOf
@@ -40,4 +34,4 @@ returns-2 c =
 pub check-spec : {M : Type 1} → statement M
 check-spec =
     tie.close
-    (tie.spec all-but-rule-requires enum-known-found returns enum-told judge-requires returns-2)
+    (tie.spec (λ c κs. search needs) (λ c. search needs) returns enum-told judge-requires returns-2)

@@ -11,14 +11,8 @@ use Rattle.check_core.specs.Laws.Duals.{duals-fit}
 use Rattle.check_core.proofs.duals_refusal.Statement.{statement}
 use Rattle.check_core.proofs.duals_refusal.Tie as tie
 
-values-refusal-requires : tie.Need-values-refusal-requires
-values-refusal-requires c κs = search needs
-
 enum-told : tie.Need-enum-told
 enum-told c = search needs
-
-enum-told-2 : tie.Need-enum-told-2
-enum-told-2 c = search needs
 
 -- 11
 returns : tie.Need-returns
@@ -27,12 +21,6 @@ returns c = passed-on (c .before .before .values-refusal .ensures) (c .enum-told
 
 cuts-refusal-requires : tie.Need-cuts-refusal-requires
 cuts-refusal-requires c κs = c .before .before .before .before .before .before .before .before .pre .0
-
-enum-told-3 : tie.Need-enum-told-3
-enum-told-3 c = search needs
-
-enum-told-4 : tie.Need-enum-told-4
-enum-told-4 c = search needs
 
 -- 12
 returns-2 : tie.Need-returns-2
@@ -59,13 +47,13 @@ pub duals-refusal-spec : {M : Type 1} → statement M
 duals-refusal-spec =
     tie.close
     (tie.spec
-    values-refusal-requires
+    (λ c κs. search needs)
     enum-told
-    enum-told-2
+    (λ c. search needs)
     returns
     cuts-refusal-requires
-    enum-told-3
-    enum-told-4
+    (λ c. search needs)
+    (λ c. search needs)
     returns-2
     loads-refusal-requires
     returns-3)

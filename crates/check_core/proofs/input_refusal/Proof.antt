@@ -7,28 +7,13 @@ use Rattle.check_core.specs.Stage.{inputRefusal}
 use Rattle.check_core.proofs.input_refusal.Statement.{statement}
 use Rattle.check_core.proofs.input_refusal.Tie as tie
 
-survey-refusal-requires : tie.Need-survey-refusal-requires
-survey-refusal-requires c κs = search needs
-
 enum-told : tie.Need-enum-told
 enum-told c = search needs
-
-enum-told-2 : tie.Need-enum-told-2
-enum-told-2 c = search needs
 
 -- 1 to 6
 returns : tie.Need-returns
 unfolding inputRefusal
 returns c = passed-on (c .before .before .survey-refusal .ensures) (c .enum-told2 .given .1) _
-
-shape-refusal-requires : tie.Need-shape-refusal-requires
-shape-refusal-requires c κs = search needs
-
-enum-told-3 : tie.Need-enum-told-3
-enum-told-3 c = search needs
-
-enum-told-4 : tie.Need-enum-told-4
-enum-told-4 c = search needs
 
 -- 9
 returns-2 : tie.Need-returns-2
@@ -36,9 +21,6 @@ unfolding inputRefusal shapeRefusal edgeCount
 returns-2 c =
     let found = c .before .before .before in
     goes-on (found .before .before .survey-refusal .ensures) (found .enum-told .given .1) (passed-on (c .before .before .shape-refusal .ensures) (c .enum-told4 .given .1) _)
-
-marks-refusal-requires : tie.Need-marks-refusal-requires
-marks-refusal-requires c κs = search needs
 
 -- 10 or nothing
 returns-3 : tie.Need-returns-3
@@ -52,13 +34,13 @@ pub input-refusal-spec : {M : Type 1} → statement M
 input-refusal-spec =
     tie.close
     (tie.spec
-    survey-refusal-requires
+    (λ c κs. search needs)
     enum-told
-    enum-told-2
+    (λ c. search needs)
     returns
-    shape-refusal-requires
-    enum-told-3
-    enum-told-4
+    (λ c κs. search needs)
+    (λ c. search needs)
+    (λ c. search needs)
     returns-2
-    marks-refusal-requires
+    (λ c κs. search needs)
     returns-3)

@@ -10,12 +10,6 @@ use Rattle.check_marks.specs.Cost.{kept-cost-all}
 use Rattle.check_core.proofs.judge.Statement.{statement}
 use Rattle.check_core.proofs.judge.Tie as tie
 
-terminals-requires : tie.Need-terminals-requires
-terminals-requires c κs = search needs
-
-kept-cost-requires : tie.Need-kept-cost-requires
-kept-cost-requires c κs = search needs
-
 bound-requires : tie.Need-bound-requires
 bound-requires c κs = c .before .before .before .before .before .before .before .pre .duals
 
@@ -24,9 +18,6 @@ rule-refusal-requires c κs = rw (c .before .before .terminals .ensures, kept-co
 
 enum-told : tie.Need-enum-told
 enum-told c = search needs
-
-enum-known-found : tie.Need-enum-known-found
-enum-known-found c = search needs
 
 -- passed
 returns : tie.Need-returns
@@ -46,11 +37,11 @@ pub judge-spec : {M : Type 1} → statement M
 judge-spec =
     tie.close
     (tie.spec
-    terminals-requires
-    kept-cost-requires
+    (λ c κs. search needs)
+    (λ c κs. search needs)
     bound-requires
     rule-refusal-requires
     enum-told
-    enum-known-found
+    (λ c. search needs)
     returns
     returns-2)

@@ -22,21 +22,9 @@ Inv-loop firsts weights marks m cost₀ e₀ cost e = (e ≤ m) × (cost ≡ sum
 abbrev μ-loop : tie.MeasureT-loop
 μ-loop firsts weights marks m cost₀ e₀ cost e = m - e
 
-edges-within-requires : tie.Need-edges-within-requires Inv-loop μ-loop
-edges-within-requires c κs = search needs
-
 loop-holds : tie.Need-loop-holds Inv-loop μ-loop
 unfolding sumBelow
 loop-holds c = (omega arith, refl)
-
-at8-requires : tie.Need-at8-requires Inv-loop μ-loop
-at8-requires c κs = search needs
-
-at32-requires : tie.Need-at32-requires Inv-loop μ-loop
-at32-requires c κs = search needs
-
-kept-weight-requires : tie.Need-kept-weight-requires Inv-loop μ-loop
-kept-weight-requires c κs = search needs
 
 add-cost : tie.Need-add-cost Inv-loop μ-loop
 add-cost c = let l = c .before .before .before .before .loop in
@@ -45,12 +33,6 @@ add-cost c = let l = c .before .before .before .before .loop in
     rw (l .inv .1) (sum-limit (l .e) 4294967295 (λ e. counted (keptBy (args .marks .now) e) (getD (args .weights .now) e 0)) (λ i b. omega (arith, counted-le (keptBy (args .marks .now) i) (getD (args .weights .now) i 0), c .before .before .before .before .before .before .before .shared-slice-known2 .given i))) in
     let few : c .before .before .before .before .before .edges-within .result ≤ maxEdges = rw (c .before .before .before .before .before .edges-within .ensures) (omega arith) in
     omega (arith, counted-le (eqb (c .before .before .at8 .result) 2) (c .before .at32 .result), c .kept-weight .ensures)
-
-add-e : tie.Need-add-e Inv-loop μ-loop
-add-e c = search needs
-
-loop-less : tie.Need-loop-less Inv-loop μ-loop
-loop-less c = search needs
 
 loop-again : tie.Need-loop-again Inv-loop μ-loop
 unfolding keptBy
@@ -71,13 +53,13 @@ kept-cost-spec =
     (tie.spec
     Inv-loop
     μ-loop
-    edges-within-requires
+    (λ c κs. search needs)
     loop-holds
-    at8-requires
-    at32-requires
-    kept-weight-requires
+    (λ c κs. search needs)
+    (λ c κs. search needs)
+    (λ c κs. search needs)
     add-cost
-    add-e
-    loop-less
+    (λ c. search needs)
+    (λ c. search needs)
     loop-again
     returns)

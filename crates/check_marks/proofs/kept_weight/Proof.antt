@@ -7,9 +7,6 @@ use Rattle.base_finite.specs.Laws.Below.{counted-true, counted-false}
 use Rattle.check_marks.proofs.kept_weight.Statement.{statement}
 use Rattle.check_marks.proofs.kept_weight.Tie as tie
 
-wide32-requires : tie.Need-wide32-requires
-wide32-requires c κs = search needs
-
 returns : tie.Need-returns
 returns c = sym (counted-false (ne-eqb (c .before .args .mark) 2 (λ e. omega arith)) _)
 
@@ -23,4 +20,4 @@ returns-4 : tie.Need-returns-4
 returns-4 c = sym (counted-false (ne-eqb (c .before .args .mark) 2 (λ e. omega (arith, c .match .rest))) _)
 
 pub kept-weight-spec : {M : Type 1} → statement M
-kept-weight-spec = tie.close (tie.spec wide32-requires returns returns-2 returns-3 returns-4)
+kept-weight-spec = tie.close (tie.spec (λ c κs. search needs) returns returns-2 returns-3 returns-4)

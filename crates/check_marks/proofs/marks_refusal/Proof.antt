@@ -18,17 +18,8 @@ abbrev μ-loop : tie.MeasureT-loop
 loop-holds : tie.Need-loop-holds Inv-loop μ-loop
 loop-holds c = scan-start _ _
 
-at8-requires : tie.Need-at8-requires Inv-loop μ-loop
-at8-requires c κs = search needs
-
-mark-refusal-requires : tie.Need-mark-refusal-requires Inv-loop μ-loop
-mark-refusal-requires c κs = search needs
-
 enum-told : tie.Need-enum-told Inv-loop μ-loop
 enum-told c = search needs
-
-enum-told-2 : tie.Need-enum-told-2 Inv-loop μ-loop
-enum-told-2 c = search needs
 
 -- a mark above 2
 returns : tie.Need-returns Inv-loop μ-loop
@@ -36,12 +27,6 @@ returns c =
     let at = c .before .before .before .before in
     let is = c .before .before .mark-refusal .ensures ∙ ap (λ x. refuseIf (ltb 2 x) 10 (at .before .loop .e)) (c .before .before .before .at8 .ensures) in
     scan-found (at .before .loop .inv) (at .loop-test .taken) is (c .enum-told2 .given .1)
-
-add-e : tie.Need-add-e Inv-loop μ-loop
-add-e c = search needs
-
-loop-less : tie.Need-loop-less Inv-loop μ-loop
-loop-less c = search needs
 
 loop-again : tie.Need-loop-again Inv-loop μ-loop
 loop-again c =
@@ -60,12 +45,12 @@ marks-refusal-spec =
     Inv-loop
     μ-loop
     loop-holds
-    at8-requires
-    mark-refusal-requires
+    (λ c κs. search needs)
+    (λ c κs. search needs)
     enum-told
-    enum-told-2
+    (λ c. search needs)
     returns
-    add-e
-    loop-less
+    (λ c. search needs)
+    (λ c. search needs)
     loop-again
     returns-2)

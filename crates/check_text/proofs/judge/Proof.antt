@@ -7,15 +7,6 @@ use Rattle.check_text.specs.Laws.Verify.{judged-refused, claim-terminals
 use Rattle.check_text.proofs.judge.Statement.{statement}
 use Rattle.check_text.proofs.judge.Tie as tie
 
-check-requires : tie.Need-check-requires
-check-requires c κs = search needs
-
-enum-known-number : tie.Need-enum-known-number
-enum-known-number c = search needs
-
-enum-known-k : tie.Need-enum-known-k
-enum-known-k c = search needs
-
 -- 25 0: another number of terminals
 returns : tie.Need-returns
 unfolding verifiedOutcome outcomeOf
@@ -55,9 +46,9 @@ pub judge-spec : {M : Type 1} → statement M
 judge-spec =
     tie.close
     (tie.spec
-    check-requires
-    enum-known-number
-    enum-known-k
+    (λ c κs. search needs)
+    (λ c. search needs)
+    (λ c. search needs)
     returns
     returns-2
     returns-3

@@ -7,15 +7,6 @@ use Rattle.check_text.specs.Laws.Verify.{verified-uncounted, verified-co
 use Rattle.check_text.proofs.verify.Statement.{statement}
 use Rattle.check_text.proofs.verify.Tie as tie
 
-counts-requires : tie.Need-counts-requires
-counts-requires c κs = search needs
-
-enum-known-number : tie.Need-enum-known-number
-enum-known-number c = search needs
-
-enum-known-vertices : tie.Need-enum-known-vertices
-enum-known-vertices c = search needs
-
 verify-lines-requires : tie.Need-verify-lines-requires
 unfolding countsStep
 verify-lines-requires c κs = counted-few (c .before .before .before .before .before .args .text .now) (c .before .before .before .counts .ensures) (ap countsStep (c .before .vertices .given .1))
@@ -34,9 +25,9 @@ pub verify-spec : {M : Type 1} → statement M
 verify-spec =
     tie.close
     (tie.spec
-    counts-requires
-    enum-known-number
-    enum-known-vertices
+    (λ c κs. search needs)
+    (λ c. search needs)
+    (λ c. search needs)
     verify-lines-requires
     returns
     returns-2)

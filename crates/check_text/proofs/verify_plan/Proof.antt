@@ -12,42 +12,12 @@ use Rattle.check_text.specs.Laws.Verify.{plan-refused, plan-judged, plan
 use Rattle.check_text.proofs.verify_plan.Statement.{statement}
 use Rattle.check_text.proofs.verify_plan.Tie as tie
 
-slice-aggregate-read-plan : tie.Need-slice-aggregate-read-plan
-slice-aggregate-read-plan c = search needs
-
-slice-aggregate-read-plan-2 : tie.Need-slice-aggregate-read-plan-2
-slice-aggregate-read-plan-2 c = search needs
-
-read-plan-requires : tie.Need-read-plan-requires
-read-plan-requires c κs = search needs
-
-enum-known-number : tie.Need-enum-known-number
-enum-known-number c = search needs
-
-enum-known-terminals : tie.Need-enum-known-terminals
-enum-known-terminals c = search needs
-
 mul-size : tie.Need-mul-size
 unfolding planOutcome planReading
 mul-size c =
     let a = c .before .before .before .before .before .before .before .before .before .before .before .before .before .args in
     let few = plan-room (a .text .now) (a .at) _ maxEdges recordsRoom (c .before .before .before .before .before .read-plan .ensures .answered) (ap planOutcome (c .before .terminals .given .1)) in
     omega (arith, few)
-
-sub-judge : tie.Need-sub-judge
-sub-judge c = search needs
-
-part-judge-start : tie.Need-part-judge-start
-part-judge-start c = search needs
-
-part-judge-end : tie.Need-part-judge-end
-part-judge-end c = search needs
-
-sub-judge-2 : tie.Need-sub-judge-2
-sub-judge-2 c = search needs
-
-part-judge-start-2 : tie.Need-part-judge-start-2
-part-judge-start-2 c = search needs
 
 part-judge-end-2 : tie.Need-part-judge-end-2
 unfolding planOutcome planReading
@@ -56,9 +26,6 @@ part-judge-end-2 c =
     let a = far .before .before .before .before .before .before .args in
     let few = plan-room (a .text .now) (a .at) _ maxEdges recordsRoom (c .before .before .before .before .before .before .before .before .read-plan .ensures .answered) (ap planOutcome (c .before .before .before .before .terminals .given .1)) in
     search (needs, few)
-
-judge-requires : tie.Need-judge-requires
-judge-requires c κs = search needs
 
 -- the plan is refused
 returns : tie.Need-returns
@@ -81,18 +48,18 @@ pub verify-plan-spec : {M : Type 1} → statement M
 verify-plan-spec =
     tie.close
     (tie.spec
-    slice-aggregate-read-plan
-    slice-aggregate-read-plan-2
-    read-plan-requires
-    enum-known-number
-    enum-known-terminals
+    (λ c. search needs)
+    (λ c. search needs)
+    (λ c κs. search needs)
+    (λ c. search needs)
+    (λ c. search needs)
     mul-size
-    sub-judge
-    part-judge-start
-    part-judge-end
-    sub-judge-2
-    part-judge-start-2
+    (λ c. search needs)
+    (λ c. search needs)
+    (λ c. search needs)
+    (λ c. search needs)
+    (λ c. search needs)
     part-judge-end-2
-    judge-requires
+    (λ c κs. search needs)
     returns
     returns-2)

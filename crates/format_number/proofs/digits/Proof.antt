@@ -9,18 +9,6 @@ use Rattle.format_number.specs.Laws.Number.{numeral-range, numeral-past}
 use Rattle.format_number.proofs.digits.Statement.{statement}
 use Rattle.format_number.proofs.digits.Tie as tie
 
-numeral-end-requires : tie.Need-numeral-end-requires
-numeral-end-requires c κs = search needs
-
-sub-result : tie.Need-sub-result
-sub-result c = search needs
-
-part-result-start : tie.Need-part-result-start
-part-result-start c = search needs
-
-part-result-end : tie.Need-part-result-end
-part-result-end c = search needs
-
 returns : tie.Need-returns
 returns c =
     let a = c .before .before .before .before .args in
@@ -32,9 +20,6 @@ sub-result-2 c = omega (arith, numeral-range (c .before .before .before .args .t
 part-result-start-2 : tie.Need-part-result-start-2
 part-result-start-2 c = omega (arith, numeral-range (c .before .before .before .args .text .now) (c .before .before .before .args .limit) (c .before .before .before .args .at) .from)
 
-part-result-end-2 : tie.Need-part-result-end-2
-part-result-end-2 c = search needs
-
 returns-2 : tie.Need-returns-2
 unfolding numeralAt
 returns-2 c =
@@ -45,12 +30,12 @@ pub digits-spec : {M : Type 1} → statement M
 digits-spec =
     tie.close
     (tie.spec
-    numeral-end-requires
-    sub-result
-    part-result-start
-    part-result-end
+    (λ c κs. search needs)
+    (λ c. search needs)
+    (λ c. search needs)
+    (λ c. search needs)
     returns
     sub-result-2
     part-result-start-2
-    part-result-end-2
+    (λ c. search needs)
     returns-2)

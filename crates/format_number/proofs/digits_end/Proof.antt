@@ -21,12 +21,6 @@ abbrev μ-loop : tie.MeasureT-loop
 loop-holds : tie.Need-loop-holds Inv-loop μ-loop
 loop-holds c = (search needs, ap (λ (k : ℕ). digitsEnd k (c .before .args .text .now) (c .before .args .at)) (sub-zero _))
 
-at8-requires : tie.Need-at8-requires Inv-loop μ-loop
-at8-requires c κs = search needs
-
-class-of-requires : tie.Need-class-of-requires Inv-loop μ-loop
-class-of-requires c κs = search needs
-
 enum-told : tie.Need-enum-told Inv-loop μ-loop
 enum-told c = search needs
 
@@ -47,12 +41,6 @@ add-end c =
       digit-inside t (c .before .before .before .before .before .loop .end)
           (ap classOf (sym (c .before .before .before .at8 .ensures)) ∙ sym (c .before .before .class-of .ensures) ∙ c .enum-told .given .1),
     )
-
-add-taken : tie.Need-add-taken Inv-loop μ-loop
-add-taken c = search needs
-
-loop-less : tie.Need-loop-less Inv-loop μ-loop
-loop-less c = search needs
 
 loop-again : tie.Need-loop-again Inv-loop μ-loop
 loop-again c =
@@ -77,12 +65,12 @@ digits-end-spec =
     Inv-loop
     μ-loop
     loop-holds
-    at8-requires
-    class-of-requires
+    (λ c κs. search needs)
+    (λ c κs. search needs)
     enum-told
     returns
     add-end
-    add-taken
-    loop-less
+    (λ c. search needs)
+    (λ c. search needs)
     loop-again
     returns-2)

@@ -12,12 +12,6 @@ use Rattle.format_number.specs.Laws.Number.{numeral-width}
 use Rattle.format_number.proofs.number_at.Statement.{statement}
 use Rattle.format_number.proofs.number_at.Tie as tie
 
-capped-requires : tie.Need-capped-requires
-capped-requires c κs = search needs
-
-digits-requires : tie.Need-digits-requires
-digits-requires c κs = search needs
-
 returns : tie.Need-returns
 unfolding numberStep numberAt
 returns c =
@@ -53,4 +47,4 @@ returns-2 c =
 pub number-at-spec : {M : Type 1} → statement M
 number-at-spec =
     tie.close
-    (tie.spec capped-requires digits-requires returns value-requires add-t7 returns-2)
+    (tie.spec (λ c κs. search needs) (λ c κs. search needs) returns value-requires add-t7 returns-2)

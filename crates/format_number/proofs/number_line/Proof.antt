@@ -6,21 +6,12 @@ use Rattle.format_number.specs.Laws.Step.{refusal-stays, value-goes}
 use Rattle.format_number.proofs.number_line.Statement.{statement}
 use Rattle.format_number.proofs.number_line.Tie as tie
 
-fixed-requires : tie.Need-fixed-requires
-fixed-requires c κs = search needs
-
-enum-known-step : tie.Need-enum-known-step
-enum-known-step c = search needs
-
 enum-told : tie.Need-enum-told
 enum-told c = search needs
 
 returns : tie.Need-returns
 unfolding numberLine
 returns c = refusal-stays _ (c .before .before .fixed .ensures) (c .enum-told .given .1)
-
-number-to-requires : tie.Need-number-to-requires
-number-to-requires c κs = search needs
 
 returns-2 : tie.Need-returns-2
 unfolding numberLine stopOf
@@ -29,4 +20,4 @@ returns-2 c = c .number-to .ensures ∙ sym (value-goes _ (c .before .before .be
 pub number-line-spec : {M : Type 1} → statement M
 number-line-spec =
     tie.close
-    (tie.spec fixed-requires enum-known-step enum-told returns number-to-requires returns-2)
+    (tie.spec (λ c κs. search needs) (λ c. search needs) enum-told returns (λ c κs. search needs) returns-2)

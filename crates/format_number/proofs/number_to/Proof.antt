@@ -9,21 +9,12 @@ use Rattle.format_number.specs.Laws.Step.{refusal-stays, value-goes}
 use Rattle.format_number.proofs.number_to.Statement.{statement}
 use Rattle.format_number.proofs.number_to.Tie as tie
 
-number-at-requires : tie.Need-number-at-requires
-number-at-requires c κs = search needs
-
-enum-known-step : tie.Need-enum-known-step
-enum-known-step c = search needs
-
 enum-told : tie.Need-enum-told
 enum-told c = search needs
 
 returns : tie.Need-returns
 unfolding numberTo
 returns c = refusal-stays _ (c .before .before .number-at .ensures) (c .enum-told .given .1)
-
-ends-requires : tie.Need-ends-requires
-ends-requires c κs = search needs
 
 add-t10 : tie.Need-add-t10
 add-t10 c =
@@ -51,11 +42,11 @@ pub number-to-spec : {M : Type 1} → statement M
 number-to-spec =
     tie.close
     (tie.spec
-    number-at-requires
-    enum-known-step
+    (λ c κs. search needs)
+    (λ c. search needs)
     enum-told
     returns
-    ends-requires
+    (λ c κs. search needs)
     add-t10
     returns-2
     returns-3)

@@ -8,9 +8,6 @@ use Rattle.format_grammar.specs.Laws.Bytes.{read-inside}
 use Rattle.format_number.proofs.numeral_end.Statement.{statement}
 use Rattle.format_number.proofs.numeral_end.Tie as tie
 
-at8-requires : tie.Need-at8-requires
-at8-requires c κs = search needs
-
 add-result : tie.Need-add-result
 add-result c = omega (arith, read-inside (c .before .before .before .args .text .now) (c .before .before .before .args .at) (omega arith))
 
@@ -18,13 +15,10 @@ returns : tie.Need-returns
 unfolding numeralEnd
 returns c = simp (eq-eqb _ 48 (sym (c .before .at8 .ensures) ∙ c .if1 .taken))
 
-digits-end-requires : tie.Need-digits-end-requires
-digits-end-requires c κs = search needs
-
 returns-2 : tie.Need-returns-2
 unfolding numeralEnd
 returns-2 c = c .digits-end .ensures ∙ sym (simp (ne-eqb _ 48 (λ e. c .before .if1 .left (c .before .before .at8 .ensures ∙ e))))
 
 pub numeral-end-spec : {M : Type 1} → statement M
 numeral-end-spec =
-    tie.close (tie.spec at8-requires add-result returns digits-end-requires returns-2)
+    tie.close (tie.spec (λ c κs. search needs) add-result returns (λ c κs. search needs) returns-2)

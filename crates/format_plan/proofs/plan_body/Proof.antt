@@ -6,17 +6,8 @@ use Rattle.format_plan.specs.Laws.Reading.{stores-stopped, stores-read}
 use Rattle.format_plan.proofs.plan_body.Statement.{statement}
 use Rattle.format_plan.proofs.plan_body.Tie as tie
 
-keep-lines-requires : tie.Need-keep-lines-requires
-keep-lines-requires c κs = search needs
-
-enum-known-kept : tie.Need-enum-known-kept
-enum-known-kept c = search needs
-
 enum-told : tie.Need-enum-told
 enum-told c = search needs
-
-same-length : tie.Need-same-length
-same-length c = search needs
 
 returns : tie.Need-returns
 unfolding numberStep
@@ -24,15 +15,6 @@ returns c =
     let a = c .before .before .before .before .before .before .before .before .before .args in
     rw (c .enum-told .given .1)
     (stores-stopped (a .text .now) (a .edges) (a .cursor .at) (sym (c .before .before .before .before .keep-lines .ensures .end) ∙ ap numberStep (c .enum-told .given .1)) (c .before .before .before .before .keep-lines .ensures .stored) refl)
-
-dual-lines-requires : tie.Need-dual-lines-requires
-dual-lines-requires c κs = search needs
-
-same-length-2 : tie.Need-same-length-2
-same-length-2 c = search needs
-
-same-length-3 : tie.Need-same-length-3
-same-length-3 c = search needs
 
 returns-2 : tie.Need-returns-2
 unfolding numberStep
@@ -45,12 +27,12 @@ pub plan-body-spec : {M : Type 1} → statement M
 plan-body-spec =
     tie.close
     (tie.spec
-    keep-lines-requires
-    enum-known-kept
+    (λ c κs. search needs)
+    (λ c. search needs)
     enum-told
-    same-length
+    (λ c. search needs)
     returns
-    dual-lines-requires
-    same-length-2
-    same-length-3
+    (λ c κs. search needs)
+    (λ c. search needs)
+    (λ c. search needs)
     returns-2)

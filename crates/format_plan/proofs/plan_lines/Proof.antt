@@ -6,38 +6,8 @@ use Rattle.format_plan.specs.Laws.Reading.{pass-stopped, pass-marks, pas
 use Rattle.format_plan.proofs.plan_lines.Statement.{statement}
 use Rattle.format_plan.proofs.plan_lines.Tie as tie
 
-sub-plan-body : tie.Need-sub-plan-body
-sub-plan-body c = search needs
-
-part-plan-body-start : tie.Need-part-plan-body-start
-part-plan-body-start c = search needs
-
-part-plan-body-end : tie.Need-part-plan-body-end
-part-plan-body-end c = search needs
-
-sub-plan-body-2 : tie.Need-sub-plan-body-2
-sub-plan-body-2 c = search needs
-
-part-plan-body-start-2 : tie.Need-part-plan-body-start-2
-part-plan-body-start-2 c = search needs
-
-part-plan-body-end-2 : tie.Need-part-plan-body-end-2
-part-plan-body-end-2 c = search needs
-
-plan-body-requires : tie.Need-plan-body-requires
-plan-body-requires c κs = search needs
-
-enum-known-found : tie.Need-enum-known-found
-enum-known-found c = search needs
-
 enum-told : tie.Need-enum-told
 enum-told c = search needs
-
-same-length : tie.Need-same-length
-same-length c = search needs
-
-same-length-2 : tie.Need-same-length-2
-same-length-2 c = search needs
 
 -- the first pass is refused
 returns : tie.Need-returns
@@ -47,12 +17,6 @@ returns c =
     rw (c .enum-told .given .1)
     (pass-stopped (a .text .now) (a .edges) (a .cursor .at) (a .marks .now) (a .records .now) (c .before .before .before .before .before .before .plan-body .ensures) (ap numberStep (c .enum-told .given .1)))
 
-same-length-3 : tie.Need-same-length-3
-same-length-3 c = search needs
-
-same-length-4 : tie.Need-same-length-4
-same-length-4 c = search needs
-
 -- 7: the mark buffer is short
 returns-2 : tie.Need-returns-2
 unfolding numberStep
@@ -60,30 +24,12 @@ returns-2 c =
     let a = c .before .before .before .before .before .before .before .before .before .before .before .before .before .before .args in
     pass-marks (a .text .now) (a .edges) (a .cursor .at) (a .marks .now) (a .records .now) (c .before .before .before .before .before .before .before .before .plan-body .ensures) (ap numberStep (c .before .before .found .given .1)) (c .if1 .taken)
 
-same-length-5 : tie.Need-same-length-5
-same-length-5 c = search needs
-
-same-length-6 : tie.Need-same-length-6
-same-length-6 c = search needs
-
 -- 7: the record buffer is short
 returns-3 : tie.Need-returns-3
 unfolding numberStep
 returns-3 c =
     let a = c .before .before .before .before .before .before .before .before .before .before .before .before .before .before .before .args in
     pass-records (a .text .now) (a .edges) (a .cursor .at) (a .marks .now) (a .records .now) (c .before .before .before .before .before .before .before .before .before .plan-body .ensures) (ap numberStep (c .before .before .before .found .given .1)) (c .before .if1 .left) (c .if2 .taken)
-
-clear-requires : tie.Need-clear-requires
-clear-requires c κs = search needs
-
-plan-body-requires-2 : tie.Need-plan-body-requires-2
-plan-body-requires-2 c κs = search needs
-
-same-length-7 : tie.Need-same-length-7
-same-length-7 c = search needs
-
-same-length-8 : tie.Need-same-length-8
-same-length-8 c = search needs
 
 -- both passes
 returns-4 : tie.Need-returns-4
@@ -97,26 +43,26 @@ pub plan-lines-spec : {M : Type 1} → statement M
 plan-lines-spec =
     tie.close
     (tie.spec
-    sub-plan-body
-    part-plan-body-start
-    part-plan-body-end
-    sub-plan-body-2
-    part-plan-body-start-2
-    part-plan-body-end-2
-    plan-body-requires
-    enum-known-found
+    (λ c. search needs)
+    (λ c. search needs)
+    (λ c. search needs)
+    (λ c. search needs)
+    (λ c. search needs)
+    (λ c. search needs)
+    (λ c κs. search needs)
+    (λ c. search needs)
     enum-told
-    same-length
-    same-length-2
+    (λ c. search needs)
+    (λ c. search needs)
     returns
-    same-length-3
-    same-length-4
+    (λ c. search needs)
+    (λ c. search needs)
     returns-2
-    same-length-5
-    same-length-6
+    (λ c. search needs)
+    (λ c. search needs)
     returns-3
-    clear-requires
-    plan-body-requires-2
-    same-length-7
-    same-length-8
+    (λ c κs. search needs)
+    (λ c κs. search needs)
+    (λ c. search needs)
+    (λ c. search needs)
     returns-4)

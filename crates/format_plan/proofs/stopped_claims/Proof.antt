@@ -8,12 +8,6 @@ use Rattle.format_plan.specs.Answer.{claimsStep}
 use Rattle.format_plan.proofs.stopped_claims.Statement.{statement}
 use Rattle.format_plan.proofs.stopped_claims.Tie as tie
 
-enum-known-step : tie.Need-enum-known-step
-enum-known-step c = search needs
-
-enum-known-step-2 : tie.Need-enum-known-step-2
-enum-known-step-2 c = search needs
-
 returns : tie.Need-returns
 unfolding claimsStep numberStep stopped
 returns c = sym (ap (λ x. stopped {B = Claims} (numberStep x)) (c .before .step .given .1))
@@ -23,4 +17,4 @@ unfolding claimsStep numberStep stopped
 returns-2 c = sym (ap (λ x. stopped {B = Claims} (numberStep x)) (c .before .step2 .given .1))
 
 pub stopped-claims-spec : {M : Type 1} → statement M
-stopped-claims-spec = tie.close (tie.spec enum-known-step enum-known-step-2 returns returns-2)
+stopped-claims-spec = tie.close (tie.spec (λ c. search needs) (λ c. search needs) returns returns-2)

@@ -10,12 +10,9 @@ use Rattle.format_plan_lines.proofs.byte_is.Tie as tie
 returns : tie.Need-returns
 returns c = sym (byte-short _ _ _ (c .if1 .taken))
 
-shared-slice-read-result : tie.Need-shared-slice-read-result
-shared-slice-read-result c = search needs
-
 returns-2 : tie.Need-returns-2
 unfolding byteIs
 returns-2 c = sym (simp (lt-ltb _ _ (c .before .if1 .left)))
 
 pub byte-is-spec : {M : Type 1} → statement M
-byte-is-spec = tie.close (tie.spec returns shared-slice-read-result returns-2)
+byte-is-spec = tie.close (tie.spec returns (λ c. search needs) returns-2)

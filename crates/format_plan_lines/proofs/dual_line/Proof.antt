@@ -11,12 +11,6 @@ use Rattle.format_plan_lines.specs.Laws.Lines.{members-below, members-en
 use Rattle.format_plan_lines.proofs.dual_line.Statement.{statement}
 use Rattle.format_plan_lines.proofs.dual_line.Tie as tie
 
-dual-head-requires : tie.Need-dual-head-requires
-dual-head-requires c κs = search needs
-
-enum-known-head : tie.Need-enum-known-head
-enum-known-head c = search needs
-
 enum-told : tie.Need-enum-told
 enum-told c = search needs
 
@@ -26,27 +20,6 @@ unfolding numberStep
 returns c =
     let a = c .before .before .before .before .before .args in
     rw (c .enum-told .given .1) (dual-stops (a .text .now) (a .i) (a .cursor .at) (sym (c .before .before .dual-head .ensures) ∙ ap numberStep (c .enum-told .given .1)) refl)
-
-sub-members : tie.Need-sub-members
-sub-members c = search needs
-
-part-members-start : tie.Need-part-members-start
-part-members-start c = search needs
-
-part-members-end : tie.Need-part-members-end
-part-members-end c = search needs
-
-members-requires : tie.Need-members-requires
-members-requires c κs = search needs
-
-enum-known-step : tie.Need-enum-known-step
-enum-known-step c = search needs
-
-enum-told-2 : tie.Need-enum-told-2
-enum-told-2 c = search needs
-
-same-length : tie.Need-same-length
-same-length c = search needs
 
 -- the members are refused
 returns-2 : tie.Need-returns-2
@@ -58,9 +31,6 @@ returns-2 c =
     (sym (c .before .before .before .before .members .ensures .end) ∙ ap numberStep (c .enum-told2 .given .1))
     (empty-pass putMember member-length (a .records .now) _ (c .before .before .before .before .members .ensures .stored)))
 
-same-length-2 : tie.Need-same-length-2
-same-length-2 c = search needs
-
 -- 27: the members do not rise
 returns-3 : tie.Need-returns-3
 unfolding numberStep
@@ -70,9 +40,6 @@ returns-3 c =
     (sym (c .before .before .before .before .before .before .members .ensures .end) ∙ ap numberStep (c .before .before .step .given .1))
     (dual-falls (a .i) _ (c .if1 .taken))
     (empty-pass putMember member-length (a .records .now) _ (c .before .before .before .before .before .before .members .ensures .stored))
-
-same-length-3 : tie.Need-same-length-3
-same-length-3 c = search needs
 
 -- 28: a dual too many
 returns-4 : tie.Need-returns-4
@@ -99,9 +66,6 @@ add-t13 c =
     let k = members-end (a .text .now) _ (sym (far .before .members .ensures .end) ∙ ap numberStep (c .before .before .before .before .before .before .before .step .given .1)) in
     omega (arith, k)
 
-same-length-4 : tie.Need-same-length-4
-same-length-4 c = search needs
-
 -- the line is read
 returns-5 : tie.Need-returns-5
 unfolding numberStep
@@ -117,23 +81,23 @@ pub dual-line-spec : {M : Type 1} → statement M
 dual-line-spec =
     tie.close
     (tie.spec
-    dual-head-requires
-    enum-known-head
+    (λ c κs. search needs)
+    (λ c. search needs)
     enum-told
     returns
-    sub-members
-    part-members-start
-    part-members-end
-    members-requires
-    enum-known-step
-    enum-told-2
-    same-length
+    (λ c. search needs)
+    (λ c. search needs)
+    (λ c. search needs)
+    (λ c κs. search needs)
+    (λ c. search needs)
+    (λ c. search needs)
+    (λ c. search needs)
     returns-2
-    same-length-2
+    (λ c. search needs)
     returns-3
-    same-length-3
+    (λ c. search needs)
     returns-4
     store-dual-requires
     add-t13
-    same-length-4
+    (λ c. search needs)
     returns-5)

@@ -24,9 +24,6 @@ loop-holds c =
     let a = c .before .before .args in
     left-start (dualReader (a .text .now)) putDual (length (a .text .now)) 0 (a .cursor .at) (a .records .now)
 
-wide-requires : tie.Need-wide-requires Inv-loop μ-loop
-wide-requires c κs = search needs
-
 same-length : tie.Need-same-length Inv-loop μ-loop
 same-length c = left-length putDual dual-length (c .before .before .before .loop .inv)
 
@@ -34,12 +31,6 @@ same-length c = left-length putDual dual-length (c .before .before .before .loop
 returns : tie.Need-returns Inv-loop μ-loop
 unfolding numberStep dualReader
 returns c = rw (c .wide .ensures) (left-stop _ _ _ _ _ _ _ _ _ (c .before .before .loop-test .taken) (le-leb _ _ (c .before .if1 .taken)) (c .before .before .before .loop .inv))
-
-dual-line-requires : tie.Need-dual-line-requires Inv-loop μ-loop
-dual-line-requires c κs = search needs
-
-enum-known-step : tie.Need-enum-known-step Inv-loop μ-loop
-enum-known-step c = search needs
 
 enum-told : tie.Need-enum-told Inv-loop μ-loop
 enum-told c = search needs
@@ -57,12 +48,6 @@ returns-2 c =
     let e = c .before .before .before .before .dual-line .ensures in
     rw (c .enum-told .given .1)
     (duals-refused _ _ _ _ _ _ _ (c .before .before .before .before .before .before .before .loop-test .taken) (c .before .before .before .before .before .before .if1 .left) (sym (ap numberStep (c .enum-told .given .1)) ∙ e .end) (e .stored) (c .before .before .before .before .before .before .before .before .loop .inv) .0)
-
-add-i : tie.Need-add-i Inv-loop μ-loop
-add-i c = search needs
-
-loop-less : tie.Need-loop-less Inv-loop μ-loop
-loop-less c = search needs
 
 loop-again : tie.Need-loop-again Inv-loop μ-loop
 unfolding numberStep
@@ -85,16 +70,16 @@ dual-lines-spec =
     Inv-loop
     μ-loop
     loop-holds
-    wide-requires
+    (λ c κs. search needs)
     same-length
     returns
-    dual-line-requires
-    enum-known-step
+    (λ c κs. search needs)
+    (λ c. search needs)
     enum-told
     same-length-2
     returns-2
-    add-i
-    loop-less
+    (λ c. search needs)
+    (λ c. search needs)
     loop-again
     same-length-3
     returns-3)

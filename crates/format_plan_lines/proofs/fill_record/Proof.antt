@@ -8,12 +8,6 @@ use Rattle.format_plan_lines.specs.Laws.Lines.{record-filled, length-dua
 use Rattle.format_plan_lines.proofs.fill_record.Statement.{statement}
 use Rattle.format_plan_lines.proofs.fill_record.Tie as tie
 
-start-record-requires : tie.Need-start-record-requires
-start-record-requires c κs = search needs
-
-members-requires : tie.Need-members-requires
-members-requires c κs = search needs
-
 same-length : tie.Need-same-length
 same-length c =
     let a = c .before .before .before .before .before .before .before .before .before .before .args in
@@ -27,4 +21,4 @@ returns c =
     c .before .before .members .ensures .stored ∙ ap (λ l. puts putMember l 0 vs) (c .before .before .before .before .before .before .start-record .ensures) ∙ record-filled (a .part .now) (a .amount) vs (c .before .before .before .before .before .before .before .before .before .before .pre .0) (c .before .before .before .before .before .before .before .before .before .before .pre .1)
 
 pub fill-record-spec : {M : Type 1} → statement M
-fill-record-spec = tie.close (tie.spec start-record-requires members-requires same-length returns)
+fill-record-spec = tie.close (tie.spec (λ c κs. search needs) (λ c κs. search needs) same-length returns)

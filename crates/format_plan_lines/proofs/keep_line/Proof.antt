@@ -8,15 +8,6 @@ use Rattle.format_plan_lines.specs.Laws.Tests.{kept-low, kept-high, kept
 use Rattle.format_plan_lines.proofs.keep_line.Statement.{statement}
 use Rattle.format_plan_lines.proofs.keep_line.Tie as tie
 
-slice-aggregate-number-line : tie.Need-slice-aggregate-number-line
-slice-aggregate-number-line c = search needs
-
-number-line-requires : tie.Need-number-line-requires
-number-line-requires c κs = search needs
-
-enum-known-step : tie.Need-enum-known-step
-enum-known-step c = search needs
-
 enum-told : tie.Need-enum-told
 enum-told c = search needs
 
@@ -52,9 +43,9 @@ pub keep-line-spec : {M : Type 1} → statement M
 keep-line-spec =
     tie.close
     (tie.spec
-    slice-aggregate-number-line
-    number-line-requires
-    enum-known-step
+    (λ c. search needs)
+    (λ c κs. search needs)
+    (λ c. search needs)
     enum-told
     returns
     returns-2

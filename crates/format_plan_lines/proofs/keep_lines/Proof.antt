@@ -25,9 +25,6 @@ loop-holds c =
     let a = c .before .before .args in
     left-start (keepReader (a .text .now) (a .edges)) putMark (length (a .text .now)) 0 (a .cursor .at) (a .marks .now)
 
-byte-is-requires : tie.Need-byte-is-requires Inv-loop μ-loop
-byte-is-requires c κs = search needs
-
 same-length : tie.Need-same-length Inv-loop μ-loop
 same-length c = left-length putMark mark-length (c .before .before .before .loop .inv)
 
@@ -35,12 +32,6 @@ same-length c = left-length putMark mark-length (c .before .before .before .loop
 returns : tie.Need-returns Inv-loop μ-loop
 unfolding numberStep keepReader
 returns c = left-stop _ _ _ _ _ _ _ _ _ (c .before .before .loop-test .taken) (ap not (sym (c .before .byte-is .ensures)) ∙ c .if1 .taken) (c .before .before .before .loop .inv)
-
-keep-line-requires : tie.Need-keep-line-requires Inv-loop μ-loop
-keep-line-requires c κs = search needs
-
-enum-known-step : tie.Need-enum-known-step Inv-loop μ-loop
-enum-known-step c = search needs
 
 enum-told : tie.Need-enum-told Inv-loop μ-loop
 enum-told c = search needs
@@ -55,9 +46,6 @@ returns-2 c =
     rw (c .enum-told .given .1)
     (left-refused _ _ _ _ _ _ _ _ _ (c .before .before .before .before .before .loop-test .taken) (ap not (sym (c .before .before .before .before .byte-is .ensures)) ∙ c .before .before .before .if1 .left) (sym (c .before .before .keep-line .ensures) ∙ ap numberStep (c .enum-told .given .1)) (c .before .before .before .before .before .before .loop .inv))
 
-put8-requires : tie.Need-put8-requires Inv-loop μ-loop
-put8-requires c κs = search needs
-
 add-low : tie.Need-add-low Inv-loop μ-loop
 unfolding numberStep
 add-low c =
@@ -65,12 +53,6 @@ add-low c =
     let l = c .before .before .before .before .before .before .before .before .before .before .before .loop in
     let k = keep-passed (a .text .now) (a .edges) (l .low) (l .i) (l .next .at) (sym (c .before .before .before .before .before .before .before .keep-line .ensures) ∙ ap numberStep (c .before .before .before .before .before .step .given .1)) in
     omega (arith, k .below)
-
-add-i : tie.Need-add-i Inv-loop μ-loop
-add-i c = search needs
-
-loop-less : tie.Need-loop-less Inv-loop μ-loop
-loop-less c = search needs
 
 loop-again : tie.Need-loop-again Inv-loop μ-loop
 unfolding numberStep keepReader
@@ -93,18 +75,18 @@ keep-lines-spec =
     Inv-loop
     μ-loop
     loop-holds
-    byte-is-requires
+    (λ c κs. search needs)
     same-length
     returns
-    keep-line-requires
-    enum-known-step
+    (λ c κs. search needs)
+    (λ c. search needs)
     enum-told
     same-length-2
     returns-2
-    put8-requires
+    (λ c κs. search needs)
     add-low
-    add-i
-    loop-less
+    (λ c. search needs)
+    (λ c. search needs)
     loop-again
     same-length-3
     returns-3)

@@ -9,21 +9,9 @@ use Rattle.format_plan_lines.specs.Laws.Tests.{separator-first, separato
 use Rattle.format_plan_lines.proofs.member_at.Statement.{statement}
 use Rattle.format_plan_lines.proofs.member_at.Tie as tie
 
-number-at-requires : tie.Need-number-at-requires
-number-at-requires c κs = search needs
-
 returns : tie.Need-returns
 unfolding memberAt fixedAt _then_
 returns c = rw (separator-first (c .before .if1 .taken)) (c .number-at .ensures)
-
-slice-aggregate-fixed : tie.Need-slice-aggregate-fixed
-slice-aggregate-fixed c = search needs
-
-fixed-requires : tie.Need-fixed-requires
-fixed-requires c κs = search needs
-
-enum-known-step : tie.Need-enum-known-step
-enum-known-step c = search needs
 
 enum-told : tie.Need-enum-told
 enum-told c = search needs
@@ -31,9 +19,6 @@ enum-told c = search needs
 returns-2 : tie.Need-returns-2
 unfolding memberAt
 returns-2 c = rw (separator-later _ (c .before .before .before .before .if1 .left)) (refusal-stays _ (c .before .before .fixed .ensures) (c .enum-told .given .1))
-
-number-at-requires-2 : tie.Need-number-at-requires-2
-number-at-requires-2 c κs = search needs
 
 returns-3 : tie.Need-returns-3
 unfolding memberAt
@@ -43,12 +28,12 @@ pub member-at-spec : {M : Type 1} → statement M
 member-at-spec =
     tie.close
     (tie.spec
-    number-at-requires
+    (λ c κs. search needs)
     returns
-    slice-aggregate-fixed
-    fixed-requires
-    enum-known-step
+    (λ c. search needs)
+    (λ c κs. search needs)
+    (λ c. search needs)
     enum-told
     returns-2
-    number-at-requires-2
+    (λ c κs. search needs)
     returns-3)

@@ -22,9 +22,6 @@ loop-holds c =
     let a = c .before .before .args in
     left-start (memberReader (a .text .now)) putMember (length (a .text .now)) 0 (a .cursor .at) (a .part .now)
 
-byte-is-requires : tie.Need-byte-is-requires Inv-loop μ-loop
-byte-is-requires c κs = search needs
-
 same-length : tie.Need-same-length Inv-loop μ-loop
 same-length c = left-length putMember member-length (c .before .before .before .loop .inv)
 
@@ -32,12 +29,6 @@ same-length c = left-length putMember member-length (c .before .before .before .
 returns : tie.Need-returns Inv-loop μ-loop
 unfolding numberStep memberReader
 returns c = left-stop _ _ _ _ _ _ _ _ _ (c .before .before .loop-test .taken) (sym (c .before .byte-is .ensures) ∙ c .if1 .taken) (c .before .before .before .loop .inv)
-
-member-at-requires : tie.Need-member-at-requires Inv-loop μ-loop
-member-at-requires c κs = search needs
-
-enum-known-step : tie.Need-enum-known-step Inv-loop μ-loop
-enum-known-step c = search needs
 
 enum-told : tie.Need-enum-told Inv-loop μ-loop
 enum-told c = search needs
@@ -51,18 +42,6 @@ unfolding numberStep memberReader
 returns-2 c =
     rw (c .enum-told .given .1)
     (left-refused _ _ _ _ _ _ _ _ _ (c .before .before .before .before .before .loop-test .taken) (sym (c .before .before .before .before .byte-is .ensures) ∙ c .before .before .before .if1 .left) (sym (c .before .before .member-at .ensures) ∙ ap numberStep (c .enum-told .given .1)) (c .before .before .before .before .before .before .loop .inv))
-
-add-member-requires : tie.Need-add-member-requires Inv-loop μ-loop
-add-member-requires c κs = search needs
-
-risen-after-requires : tie.Need-risen-after-requires Inv-loop μ-loop
-risen-after-requires c κs = search needs
-
-add-i : tie.Need-add-i Inv-loop μ-loop
-add-i c = search needs
-
-loop-less : tie.Need-loop-less Inv-loop μ-loop
-loop-less c = search needs
 
 loop-again : tie.Need-loop-again Inv-loop μ-loop
 unfolding numberStep memberReader
@@ -85,18 +64,18 @@ members-spec =
     Inv-loop
     μ-loop
     loop-holds
-    byte-is-requires
+    (λ c κs. search needs)
     same-length
     returns
-    member-at-requires
-    enum-known-step
+    (λ c κs. search needs)
+    (λ c. search needs)
     enum-told
     same-length-2
     returns-2
-    add-member-requires
-    risen-after-requires
-    add-i
-    loop-less
+    (λ c κs. search needs)
+    (λ c κs. search needs)
+    (λ c. search needs)
+    (λ c. search needs)
     loop-again
     same-length-3
     returns-3)

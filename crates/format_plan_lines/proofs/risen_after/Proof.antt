@@ -13,12 +13,9 @@ returns c = sym (risen-low _ _ (c .if1 .taken))
 returns-2 : tie.Need-returns-2
 returns-2 c = sym (risen-high _ _ (c .before .if1 .left) (c .if2 .taken))
 
-add-result : tie.Need-add-result
-add-result c = search needs
-
 -- the next one
 returns-3 : tie.Need-returns-3
 returns-3 c = sym (risen-next _ _ (c .before .if1 .left) (c .if2 .left))
 
 pub risen-after-spec : {M : Type 1} → statement M
-risen-after-spec = tie.close (tie.spec returns returns-2 add-result returns-3)
+risen-after-spec = tie.close (tie.spec returns returns-2 (λ c. search needs) returns-3)

@@ -8,28 +8,10 @@ use Rattle.format_plan_lines.specs.Laws.Lines.{dual-put-part, dual-left}
 use Rattle.format_plan_lines.proofs.store_dual.Statement.{statement}
 use Rattle.format_plan_lines.proofs.store_dual.Tie as tie
 
-mul-start : tie.Need-mul-start
-mul-start c = search needs
-
-add-end : tie.Need-add-end
-add-end c = search needs
-
-sub-fill-record : tie.Need-sub-fill-record
-sub-fill-record c = search needs
-
-part-fill-record-start : tie.Need-part-fill-record-start
-part-fill-record-start c = search needs
-
-part-fill-record-end : tie.Need-part-fill-record-end
-part-fill-record-end c = search needs
-
 fill-record-requires : tie.Need-fill-record-requires
 fill-record-requires c κs =
     let a = c .before .before .before .before .args in
     (simp (length-take, length-drop) (omega arith), c .before .before .before .before .pre)
-
-same-length : tie.Need-same-length
-same-length c = search needs
 
 returns : tie.Need-returns
 returns c =
@@ -45,12 +27,12 @@ pub store-dual-spec : {M : Type 1} → statement M
 store-dual-spec =
     tie.close
     (tie.spec
-    mul-start
-    add-end
-    sub-fill-record
-    part-fill-record-start
-    part-fill-record-end
+    (λ c. search needs)
+    (λ c. search needs)
+    (λ c. search needs)
+    (λ c. search needs)
+    (λ c. search needs)
     fill-record-requires
-    same-length
+    (λ c. search needs)
     returns
     returns-2)

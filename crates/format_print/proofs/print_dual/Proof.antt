@@ -16,21 +16,6 @@ returns c =
     let a = c .before .before .before .args in
     (dual-short-answer (a .part .now) (a .out .now) (c .if1 .taken), dual-short-out (a .part .now) (a .out .now) (c .if1 .taken))
 
-sub-put-dual : tie.Need-sub-put-dual
-sub-put-dual c = search needs
-
-part-put-dual-start : tie.Need-part-put-dual-start
-part-put-dual-start c = search needs
-
-part-put-dual-end : tie.Need-part-put-dual-end
-part-put-dual-end c = search needs
-
-put-dual-requires : tie.Need-put-dual-requires
-put-dual-requires c κs = search needs
-
-same-length : tie.Need-same-length
-same-length c = search needs
-
 -- 7: the buffer is short
 returns-2 : tie.Need-returns-2
 returns-2 c =
@@ -39,12 +24,6 @@ returns-2 c =
     let whole = c .before .before .before .before .before .if1 .left in
     let p = short-prints (dualLine (a .part .now)) (a .out .now) small (c .before .before .before .put-dual .ensures) (c .if2 .taken) in
     (p .answers ∙ dual-answer (a .part .now) (a .out .now) whole, p .leaves ∙ dual-out (a .part .now) (a .out .now) whole)
-
-put-dual-requires-2 : tie.Need-put-dual-requires-2
-put-dual-requires-2 c κs = search needs
-
-same-length-2 : tie.Need-same-length-2
-same-length-2 c = search needs
 
 -- printed
 returns-3 : tie.Need-returns-3
@@ -60,12 +39,12 @@ print-dual-spec =
     tie.close
     (tie.spec
     returns
-    sub-put-dual
-    part-put-dual-start
-    part-put-dual-end
-    put-dual-requires
-    same-length
+    (λ c. search needs)
+    (λ c. search needs)
+    (λ c. search needs)
+    (λ c κs. search needs)
+    (λ c. search needs)
     returns-2
-    put-dual-requires-2
-    same-length-2
+    (λ c κs. search needs)
+    (λ c. search needs)
     returns-3)

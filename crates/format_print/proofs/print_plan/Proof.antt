@@ -9,21 +9,6 @@ use borrow.Author.Needs.{needs}
 use Rattle.format_print.proofs.print_plan.Statement.{statement}
 use Rattle.format_print.proofs.print_plan.Tie as tie
 
-sub-put-plan : tie.Need-sub-put-plan
-sub-put-plan c = search needs
-
-part-put-plan-start : tie.Need-part-put-plan-start
-part-put-plan-start c = search needs
-
-part-put-plan-end : tie.Need-part-put-plan-end
-part-put-plan-end c = search needs
-
-put-plan-requires : tie.Need-put-plan-requires
-put-plan-requires c κs = search needs
-
-same-length : tie.Need-same-length
-same-length c = search needs
-
 -- 7: the buffer is short
 returns : tie.Need-returns
 returns c =
@@ -32,12 +17,6 @@ returns c =
     let small : length (a .out .now) < farthest = omega arith in
     let p = short-prints text (a .out .now) small (c .before .before .before .put-plan .ensures) (c .if1 .taken) in
     (p .answers, p .leaves)
-
-put-plan-requires-2 : tie.Need-put-plan-requires-2
-put-plan-requires-2 c κs = search needs
-
-same-length-2 : tie.Need-same-length-2
-same-length-2 c = search needs
 
 -- printed
 returns-2 : tie.Need-returns-2
@@ -52,12 +31,12 @@ pub print-plan-spec : {M : Type 1} → statement M
 print-plan-spec =
     tie.close
     (tie.spec
-    sub-put-plan
-    part-put-plan-start
-    part-put-plan-end
-    put-plan-requires
-    same-length
+    (λ c. search needs)
+    (λ c. search needs)
+    (λ c. search needs)
+    (λ c κs. search needs)
+    (λ c. search needs)
     returns
-    put-plan-requires-2
-    same-length-2
+    (λ c κs. search needs)
+    (λ c. search needs)
     returns-2)

@@ -9,21 +9,6 @@ use borrow.Author.Needs.{needs}
 use Rattle.format_print.proofs.print_refusal.Statement.{statement}
 use Rattle.format_print.proofs.print_refusal.Tie as tie
 
-sub-put-refusal : tie.Need-sub-put-refusal
-sub-put-refusal c = search needs
-
-part-put-refusal-start : tie.Need-part-put-refusal-start
-part-put-refusal-start c = search needs
-
-part-put-refusal-end : tie.Need-part-put-refusal-end
-part-put-refusal-end c = search needs
-
-put-refusal-requires : tie.Need-put-refusal-requires
-put-refusal-requires c κs = search needs
-
-same-length : tie.Need-same-length
-same-length c = search needs
-
 -- 7: the buffer is short
 returns : tie.Need-returns
 returns c =
@@ -31,12 +16,6 @@ returns c =
     let small : length (a .out .now) < farthest = omega arith in
     let p = short-prints (refusalText (a .number) (a .place)) (a .out .now) small (c .before .before .before .put-refusal .ensures) (c .if1 .taken) in
     (p .answers, p .leaves)
-
-put-refusal-requires-2 : tie.Need-put-refusal-requires-2
-put-refusal-requires-2 c κs = search needs
-
-same-length-2 : tie.Need-same-length-2
-same-length-2 c = search needs
 
 -- printed
 returns-2 : tie.Need-returns-2
@@ -51,12 +30,12 @@ pub print-refusal-spec : {M : Type 1} → statement M
 print-refusal-spec =
     tie.close
     (tie.spec
-    sub-put-refusal
-    part-put-refusal-start
-    part-put-refusal-end
-    put-refusal-requires
-    same-length
+    (λ c. search needs)
+    (λ c. search needs)
+    (λ c. search needs)
+    (λ c κs. search needs)
+    (λ c. search needs)
     returns
-    put-refusal-requires-2
-    same-length-2
+    (λ c κs. search needs)
+    (λ c. search needs)
     returns-2)

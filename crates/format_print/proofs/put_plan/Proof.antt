@@ -9,18 +9,6 @@ use borrow.Author.Needs.{needs}
 use Rattle.format_print.proofs.put_plan.Statement.{statement}
 use Rattle.format_print.proofs.put_plan.Tie as tie
 
-put-counts-requires : tie.Need-put-counts-requires
-put-counts-requires c κs = search needs
-
-put-marks-requires : tie.Need-put-marks-requires
-put-marks-requires c κs = search needs
-
-put-duals-requires : tie.Need-put-duals-requires
-put-duals-requires c κs = search needs
-
-same-length : tie.Need-same-length
-same-length c = search needs
-
 returns : tie.Need-returns
 unfolding planText
 returns c =
@@ -30,4 +18,4 @@ returns c =
 pub put-plan-spec : {M : Type 1} → statement M
 put-plan-spec =
     tie.close
-    (tie.spec put-counts-requires put-marks-requires put-duals-requires same-length returns)
+    (tie.spec (λ c κs. search needs) (λ c κs. search needs) (λ c κs. search needs) (λ c. search needs) returns)

@@ -10,21 +10,6 @@ use Rattle.format_record.specs.Laws.Record.{set-past}
 use Rattle.format_record.proofs.add_member.Statement.{statement}
 use Rattle.format_record.proofs.add_member.Tie as tie
 
-add-at : tie.Need-add-at
-add-at c = search needs
-
-at8-requires : tie.Need-at8-requires
-at8-requires c κs = search needs
-
-with-bit-requires : tie.Need-with-bit-requires
-with-bit-requires c κs = search needs
-
-put8-requires : tie.Need-put8-requires
-put8-requires c κs = search needs
-
-same-length : tie.Need-same-length
-same-length c = search needs
-
 returns : tie.Need-returns
 unfolding withMemberIn withMember
 returns c =
@@ -37,4 +22,4 @@ returns c =
     ∙ set-past 8 (a .v / 8) (withBit (getD (drop 8 r) (a .v / 8) 0) (a .v % 8)) r
 
 pub add-member-spec : {M : Type 1} → statement M
-add-member-spec = tie.close (tie.spec add-at at8-requires with-bit-requires put8-requires same-length returns)
+add-member-spec = tie.close (tie.spec (λ c. search needs) (λ c κs. search needs) (λ c κs. search needs) (λ c κs. search needs) (λ c. search needs) returns)

@@ -10,15 +10,9 @@ use Rattle.format_record.proofs.bit.Tie as tie
 returns : tie.Need-returns
 returns c = sym (bit-past (c .before .args .b) (c .before .args .k) (omega arith) (c .if1 .taken))
 
-cast-result : tie.Need-cast-result
-cast-result c = search needs
-
-shr-result : tie.Need-shr-result
-shr-result c = search needs
-
 returns-2 : tie.Need-returns-2
 unfolding bitAt
 returns-2 c = search needs
 
 pub bit-spec : {M : Type 1} → statement M
-bit-spec = tie.close (tie.spec returns cast-result shr-result returns-2)
+bit-spec = tie.close (tie.spec returns (λ c. search needs) (λ c. search needs) returns-2)

@@ -8,15 +8,6 @@ use Rattle.format_record.specs.Record.{memberIn}
 use Rattle.format_record.proofs.member.Statement.{statement}
 use Rattle.format_record.proofs.member.Tie as tie
 
-add-at8 : tie.Need-add-at8
-add-at8 c = search needs
-
-at8-requires : tie.Need-at8-requires
-at8-requires c κs = search needs
-
-bit-requires : tie.Need-bit-requires
-bit-requires c κs = search needs
-
 returns : tie.Need-returns
 unfolding memberIn memberAt
 returns c =
@@ -25,4 +16,4 @@ returns c =
     ∙ ap (λ b. bitAt b (a .v % 8)) (c .before .at8 .ensures ∙ sym (getD-drop 8 (a .part .now) (a .v / 8) 0))
 
 pub member-spec : {M : Type 1} → statement M
-member-spec = tie.close (tie.spec add-at8 at8-requires bit-requires returns)
+member-spec = tie.close (tie.spec (λ c. search needs) (λ c κs. search needs) (λ c κs. search needs) returns)

@@ -7,12 +7,6 @@ use Rattle.format_record.specs.Record.{overwritten, startedAs}
 use Rattle.format_record.proofs.start_record.Statement.{statement}
 use Rattle.format_record.proofs.start_record.Tie as tie
 
-write-low-requires : tie.Need-write-low-requires
-write-low-requires c κs = search needs
-
-same-length : tie.Need-same-length
-same-length c = search needs
-
 returns : tie.Need-returns
 unfolding startedAs
 returns c =
@@ -20,4 +14,4 @@ returns c =
     c .before .before .write-low .ensures ∙ ap (overwritten (a .part .now)) (sym (record-of-none (a .x) (omega arith)))
 
 pub start-record-spec : {M : Type 1} → statement M
-start-record-spec = tie.close (tie.spec write-low-requires same-length returns)
+start-record-spec = tie.close (tie.spec (λ c κs. search needs) (λ c. search needs) returns)

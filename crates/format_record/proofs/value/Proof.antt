@@ -22,15 +22,6 @@ loop-holds : tie.Need-loop-holds Inv-loop μ-loop
 unfolding numberOf
 loop-holds c = search needs
 
-sub-i : tie.Need-sub-i Inv-loop μ-loop
-sub-i c = search needs
-
-at8-requires : tie.Need-at8-requires Inv-loop μ-loop
-at8-requires c κs = search needs
-
-wide8-requires : tie.Need-wide8-requires Inv-loop μ-loop
-wide8-requires c κs = search needs
-
 -- At most seven bytes are read so far.
 small : (c : tie.After-wide8 Inv-loop μ-loop) → c .before .before .before .loop .x < 256 ^ 7
 small c =
@@ -47,9 +38,6 @@ mul-x c = let b = small c in omega arith
 
 add-x : tie.Need-add-x Inv-loop μ-loop
 add-x c = let b = small c in omega arith
-
-loop-less : tie.Need-loop-less Inv-loop μ-loop
-loop-less c = search needs
 
 loop-again : tie.Need-loop-again Inv-loop μ-loop
 loop-again c =
@@ -73,11 +61,11 @@ value-spec =
     Inv-loop
     μ-loop
     loop-holds
-    sub-i
-    at8-requires
-    wide8-requires
+    (λ c. search needs)
+    (λ c κs. search needs)
+    (λ c κs. search needs)
     mul-x
     add-x
-    loop-less
+    (λ c. search needs)
     loop-again
     returns)

@@ -8,17 +8,8 @@ use Rattle.format_record.specs.Laws.Bits.{with-bit-set, with-bit-clear, 
 use Rattle.format_record.proofs.with_bit.Statement.{statement}
 use Rattle.format_record.proofs.with_bit.Tie as tie
 
-bit-requires : tie.Need-bit-requires
-bit-requires c κs = search needs
-
 returns : tie.Need-returns
 returns c = sym (with-bit-set (c .before .before .args .b) (c .before .before .args .k % 8) (sym (c .before .bit .ensures) ∙ c .if1 .taken))
-
-cast-result : tie.Need-cast-result
-cast-result c = search needs
-
-shl-result : tie.Need-shl-result
-shl-result c = search needs
 
 -- The sum is what the definition has.
 sum-is : (c : tie.Else1) → c .before .before .args .b + 1 * 2 ^ (c .before .before .args .k % 8) % 2 ^ 8 ≡ withBit (c .before .before .args .b) (c .before .before .args .k % 8)
@@ -37,4 +28,4 @@ returns-2 : tie.Need-returns-2
 returns-2 c = sum-is c
 
 pub with-bit-spec : {M : Type 1} → statement M
-with-bit-spec = tie.close (tie.spec bit-requires returns cast-result shl-result add-result returns-2)
+with-bit-spec = tie.close (tie.spec (λ c κs. search needs) returns (λ c. search needs) (λ c. search needs) add-result returns-2)

@@ -21,18 +21,6 @@ abbrev μ-loop : tie.MeasureT-loop
 loop-holds : tie.Need-loop-holds Inv-loop μ-loop
 loop-holds c = (refl, rw (sub-zero (c .before .args .count)))
 
-cast-put8 : tie.Need-cast-put8 Inv-loop μ-loop
-cast-put8 c = search needs
-
-put8-requires : tie.Need-put8-requires Inv-loop μ-loop
-put8-requires c κs = search needs
-
-add-i : tie.Need-add-i Inv-loop μ-loop
-add-i c = search needs
-
-loop-less : tie.Need-loop-less Inv-loop μ-loop
-loop-less c = search needs
-
 loop-again : tie.Need-loop-again Inv-loop μ-loop
 loop-again c =
     let l = c .before .before .before .before .before .loop in
@@ -43,9 +31,6 @@ loop-again c =
           ∙ store-low (l .s) (l .i) count (l .rest) (c .before .before .before .before .loop-test .taken)
           ∙ l .inv .1,
     )
-
-same-length : tie.Need-same-length Inv-loop μ-loop
-same-length c = search needs
 
 returns : tie.Need-returns Inv-loop μ-loop
 unfolding overwritten lowBytes
@@ -62,10 +47,10 @@ write-low-spec =
     Inv-loop
     μ-loop
     loop-holds
-    cast-put8
-    put8-requires
-    add-i
-    loop-less
+    (λ c. search needs)
+    (λ c κs. search needs)
+    (λ c. search needs)
+    (λ c. search needs)
     loop-again
-    same-length
+    (λ c. search needs)
     returns)

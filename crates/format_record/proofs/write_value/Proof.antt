@@ -4,15 +4,9 @@ use Rattle.format_record.specs.Record.{withValue}
 use Rattle.format_record.proofs.write_value.Statement.{statement}
 use Rattle.format_record.proofs.write_value.Tie as tie
 
-write-low-requires : tie.Need-write-low-requires
-write-low-requires c κs = search needs
-
-same-length : tie.Need-same-length
-same-length c = search needs
-
 returns : tie.Need-returns
 unfolding withValue
 returns c = c .before .before .write-low .ensures
 
 pub write-value-spec : {M : Type 1} → statement M
-write-value-spec = tie.close (tie.spec write-low-requires same-length returns)
+write-value-spec = tie.close (tie.spec (λ c κs. search needs) (λ c. search needs) returns)

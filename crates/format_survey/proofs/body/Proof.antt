@@ -5,12 +5,6 @@ use Rattle.format_survey.specs.Laws.Body.{stores-refused, stores-long, s
 use Rattle.format_survey.proofs.body.Statement.{statement}
 use Rattle.format_survey.proofs.body.Tie as tie
 
-survey-lines-requires : tie.Need-survey-lines-requires
-survey-lines-requires c κs = search needs
-
-enum-known-lines : tie.Need-enum-known-lines
-enum-known-lines c = search needs
-
 enum-told : tie.Need-enum-told
 enum-told c = search needs
 
@@ -67,8 +61,8 @@ pub body-spec : {M : Type 1} → statement M
 body-spec =
     tie.close
     (tie.spec
-    survey-lines-requires
-    enum-known-lines
+    (λ c κs. search needs)
+    (λ c. search needs)
     enum-told
     same-length
     same-length-2

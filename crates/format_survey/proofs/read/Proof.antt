@@ -5,21 +5,6 @@ use Rattle.format_survey.specs.Laws.Reading.{reads-refused, reads-stoppe
 use Rattle.format_survey.proofs.read.Statement.{statement}
 use Rattle.format_survey.proofs.read.Tie as tie
 
-counts-requires : tie.Need-counts-requires
-counts-requires c κs = search needs
-
-enum-known-number : tie.Need-enum-known-number
-enum-known-number c = search needs
-
-enum-known-vertices : tie.Need-enum-known-vertices
-enum-known-vertices c = search needs
-
-read-body-requires : tie.Need-read-body-requires
-read-body-requires c κs = search needs
-
-enum-known-number-2 : tie.Need-enum-known-number-2
-enum-known-number-2 c = search needs
-
 enum-told : tie.Need-enum-told
 enum-told c = search needs
 
@@ -77,11 +62,11 @@ pub read-spec : {M : Type 1} → statement M
 read-spec =
     tie.close
     (tie.spec
-    counts-requires
-    enum-known-number
-    enum-known-vertices
-    read-body-requires
-    enum-known-number-2
+    (λ c κs. search needs)
+    (λ c. search needs)
+    (λ c. search needs)
+    (λ c κs. search needs)
+    (λ c. search needs)
     enum-told
     returns
     same-length

@@ -5,50 +5,8 @@ use Rattle.format_survey.specs.Laws.Body.{fills-refused, fills-found}
 use Rattle.format_survey.proofs.read_body.Statement.{statement}
 use Rattle.format_survey.proofs.read_body.Tie as tie
 
-sub-body : tie.Need-sub-body
-sub-body c = search needs
-
-part-body-start : tie.Need-part-body-start
-part-body-start c = search needs
-
-part-body-end : tie.Need-part-body-end
-part-body-end c = search needs
-
-sub-body-2 : tie.Need-sub-body-2
-sub-body-2 c = search needs
-
-part-body-start-2 : tie.Need-part-body-start-2
-part-body-start-2 c = search needs
-
-part-body-end-2 : tie.Need-part-body-end-2
-part-body-end-2 c = search needs
-
-sub-body-3 : tie.Need-sub-body-3
-sub-body-3 c = search needs
-
-part-body-start-3 : tie.Need-part-body-start-3
-part-body-start-3 c = search needs
-
-part-body-end-3 : tie.Need-part-body-end-3
-part-body-end-3 c = search needs
-
-sub-body-4 : tie.Need-sub-body-4
-sub-body-4 c = search needs
-
-part-body-start-4 : tie.Need-part-body-start-4
-part-body-start-4 c = search needs
-
-part-body-end-4 : tie.Need-part-body-end-4
-part-body-end-4 c = search needs
-
-body-requires : tie.Need-body-requires
-body-requires c κs = search needs
-
 enum-told : tie.Need-enum-told
 enum-told c = search needs
-
-enum-told-2 : tie.Need-enum-told-2
-enum-told-2 c = search needs
 
 same-length : tie.Need-same-length
 same-length c = c .before .before .before .before .before .before .before .before .before .groups .given .1
@@ -68,9 +26,6 @@ returns c =
     let p = c .before .before .before .before .before .before .before .before .before .before in
     let a = p .before .before .before .before .before .before .before .before .before .before .args in
     fills-refused (a .text .now) (a .vertices) (a .edges) (a .cursor .at) (a .groups .now) (a .firsts .now) (a .seconds .now) (a .weights .now) (p .body .ensures) (c .enum-told2 .given .1)
-
-body-requires-2 : tie.Need-body-requires-2
-body-requires-2 c κs = search needs
 
 same-length-5 : tie.Need-same-length-5
 same-length-5 c =
@@ -104,27 +59,27 @@ pub read-body-spec : {M : Type 1} → statement M
 read-body-spec =
     tie.close
     (tie.spec
-    sub-body
-    part-body-start
-    part-body-end
-    sub-body-2
-    part-body-start-2
-    part-body-end-2
-    sub-body-3
-    part-body-start-3
-    part-body-end-3
-    sub-body-4
-    part-body-start-4
-    part-body-end-4
-    body-requires
+    (λ c. search needs)
+    (λ c. search needs)
+    (λ c. search needs)
+    (λ c. search needs)
+    (λ c. search needs)
+    (λ c. search needs)
+    (λ c. search needs)
+    (λ c. search needs)
+    (λ c. search needs)
+    (λ c. search needs)
+    (λ c. search needs)
+    (λ c. search needs)
+    (λ c κs. search needs)
     enum-told
-    enum-told-2
+    (λ c. search needs)
     same-length
     same-length-2
     same-length-3
     same-length-4
     returns
-    body-requires-2
+    (λ c κs. search needs)
     same-length-5
     same-length-6
     same-length-7

@@ -7,33 +7,12 @@ use Rattle.format_number.specs.Laws.Step.{stopped-stays, value-goes}
 use Rattle.format_survey_lines.proofs.counts.Statement.{statement}
 use Rattle.format_survey_lines.proofs.counts.Tie as tie
 
-vertices-line-requires : tie.Need-vertices-line-requires
-vertices-line-requires c κs = search needs
-
-enum-known-one : tie.Need-enum-known-one
-enum-known-one c = search needs
-
 enum-told : tie.Need-enum-told
 enum-told c = search needs
-
-stopped-head-requires : tie.Need-stopped-head-requires
-stopped-head-requires c κs = search needs
 
 returns : tie.Need-returns
 unfolding countsAt testsFor
 returns c = c .stopped-head .ensures ∙ stopped-stays _ (c .before .before .before .vertices-line .ensures) (c .before .enum-told .given .1)
-
-edges-line-requires : tie.Need-edges-line-requires
-edges-line-requires c κs = search needs
-
-enum-known-two : tie.Need-enum-known-two
-enum-known-two c = search needs
-
-enum-told-2 : tie.Need-enum-told-2
-enum-told-2 c = search needs
-
-stopped-head-requires-2 : tie.Need-stopped-head-requires-2
-stopped-head-requires-2 c κs = search needs
 
 returns-2 : tie.Need-returns-2
 unfolding countsAt testsFor
@@ -52,14 +31,14 @@ pub counts-spec : {M : Type 1} → statement M
 counts-spec =
     tie.close
     (tie.spec
-    vertices-line-requires
-    enum-known-one
+    (λ c κs. search needs)
+    (λ c. search needs)
     enum-told
-    stopped-head-requires
+    (λ c κs. search needs)
     returns
-    edges-line-requires
-    enum-known-two
-    enum-told-2
-    stopped-head-requires-2
+    (λ c κs. search needs)
+    (λ c. search needs)
+    (λ c. search needs)
+    (λ c κs. search needs)
     returns-2
     returns-3)

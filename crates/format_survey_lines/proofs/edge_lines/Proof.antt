@@ -37,12 +37,6 @@ loop-holds c =
       three = stored-start line (a .count) (a .cursor .at) (λ e. e .weight) (a .weights .now);
     }
 
-edge-line-requires : tie.Need-edge-line-requires Inv-loop μ-loop
-edge-line-requires c κs = search needs
-
-enum-known-number : tie.Need-enum-known-number Inv-loop μ-loop
-enum-known-number c = search needs
-
 same-length : tie.Need-same-length Inv-loop μ-loop
 same-length c = stored-length (c .before .before .before .before .before .loop .inv .one)
 
@@ -65,9 +59,6 @@ returns c =
       stored-stop _ _ _ _ _ _ _ _ h e (l .inv .two),
       stored-stop _ _ _ _ _ _ _ _ h e (l .inv .three),
     )
-
-enum-known-first : tie.Need-enum-known-first Inv-loop μ-loop
-enum-known-first c = search needs
 
 store32-requires : tie.Need-store32-requires Inv-loop μ-loop
 unfolding edgeStep
@@ -92,12 +83,6 @@ store32-requires-3 c κs =
     let q = p .before .before in
     let l = q .before .before .loop in
     below-word weightDigits (omega arith) (edge-below (q .before .before .before .before .before .before .before .args .text .now) (l .edge) (l .next .at) (sym (q .edge-line .ensures) ∙ ap edgeStep (p .first .given .1)) .weight)
-
-add-edge : tie.Need-add-edge Inv-loop μ-loop
-add-edge c = search needs
-
-loop-less : tie.Need-loop-less Inv-loop μ-loop
-loop-less c = search needs
 
 loop-again : tie.Need-loop-again Inv-loop μ-loop
 unfolding edgeStep
@@ -145,18 +130,18 @@ edge-lines-spec =
     Inv-loop
     μ-loop
     loop-holds
-    edge-line-requires
-    enum-known-number
+    (λ c κs. search needs)
+    (λ c. search needs)
     same-length
     same-length-2
     same-length-3
     returns
-    enum-known-first
+    (λ c. search needs)
     store32-requires
     store32-requires-2
     store32-requires-3
-    add-edge
-    loop-less
+    (λ c. search needs)
+    (λ c. search needs)
     loop-again
     same-length-4
     same-length-5

@@ -7,15 +7,6 @@ use Rattle.format_survey_lines.specs.Laws.Tests.{edges-many, edges-first
 use Rattle.format_survey_lines.proofs.edges_line.Statement.{statement}
 use Rattle.format_survey_lines.proofs.edges_line.Tie as tie
 
-slice-aggregate-number-line : tie.Need-slice-aggregate-number-line
-slice-aggregate-number-line c = search needs
-
-number-line-requires : tie.Need-number-line-requires
-number-line-requires c κs = search needs
-
-enum-known-step : tie.Need-enum-known-step
-enum-known-step c = search needs
-
 enum-told : tie.Need-enum-told
 enum-told c = search needs
 
@@ -72,9 +63,9 @@ pub edges-line-spec : {M : Type 1} → statement M
 edges-line-spec =
     tie.close
     (tie.spec
-    slice-aggregate-number-line
-    number-line-requires
-    enum-known-step
+    (λ c. search needs)
+    (λ c κs. search needs)
+    (λ c. search needs)
     enum-told
     returns
     returns-2

@@ -26,12 +26,6 @@ loop-holds c =
     let line = groupLine groupTest (a .text .now) in
     (left-start line (a .count) (a .cursor .at), stored-start line (a .count) (a .cursor .at) (λ g. g) (a .groups .now))
 
-group-line-requires : tie.Need-group-line-requires Inv-loop μ-loop
-group-line-requires c κs = search needs
-
-enum-known-step : tie.Need-enum-known-step Inv-loop μ-loop
-enum-known-step c = search needs
-
 enum-told : tie.Need-enum-told Inv-loop μ-loop
 enum-told c = search needs
 
@@ -54,12 +48,6 @@ unfolding numberStep
 store8-requires c κs =
     let l = c .before .before .before .before .before .before .loop in
     group-below (c .before .before .before .before .before .before .before .before .before .args .text .now) (l .vertex) (l .next .at) (sym (c .before .before .before .before .group-line .ensures) ∙ ap numberStep (c .before .before .step .given .1))
-
-add-vertex : tie.Need-add-vertex Inv-loop μ-loop
-add-vertex c = search needs
-
-loop-less : tie.Need-loop-less Inv-loop μ-loop
-loop-less c = search needs
 
 loop-again : tie.Need-loop-again Inv-loop μ-loop
 unfolding numberStep
@@ -91,14 +79,14 @@ group-lines-spec =
     Inv-loop
     μ-loop
     loop-holds
-    group-line-requires
-    enum-known-step
+    (λ c κs. search needs)
+    (λ c. search needs)
     enum-told
     same-length
     returns
     store8-requires
-    add-vertex
-    loop-less
+    (λ c. search needs)
+    (λ c. search needs)
     loop-again
     same-length-2
     returns-2)

@@ -8,12 +8,6 @@ use Rattle.format_grammar.specs.Step.{stopped}
 use Rattle.format_survey_lines.proofs.stopped_edge.Statement.{statement}
 use Rattle.format_survey_lines.proofs.stopped_edge.Tie as tie
 
-enum-known-step : tie.Need-enum-known-step
-enum-known-step c = search needs
-
-enum-known-step-2 : tie.Need-enum-known-step-2
-enum-known-step-2 c = search needs
-
 returns : tie.Need-returns
 unfolding edgeStep numberStep stopped
 returns c = sym (ap (λ x. stopped {B = Edge} (numberStep x)) (c .before .step .given .1))
@@ -23,4 +17,4 @@ unfolding edgeStep numberStep stopped
 returns-2 c = sym (ap (λ x. stopped {B = Edge} (numberStep x)) (c .before .step2 .given .1))
 
 pub stopped-edge-spec : {M : Type 1} → statement M
-stopped-edge-spec = tie.close (tie.spec enum-known-step enum-known-step-2 returns returns-2)
+stopped-edge-spec = tie.close (tie.spec (λ c. search needs) (λ c. search needs) returns returns-2)

@@ -6,17 +6,8 @@ use Rattle.format_survey_lines.specs.Laws.Body.{lines-stopped, lines-rea
 use Rattle.format_survey_lines.proofs.survey_lines.Statement.{statement}
 use Rattle.format_survey_lines.proofs.survey_lines.Tie as tie
 
-group-lines-requires : tie.Need-group-lines-requires
-group-lines-requires c κs = search needs
-
-enum-known-heads : tie.Need-enum-known-heads
-enum-known-heads c = search needs
-
 enum-told : tie.Need-enum-told
 enum-told c = search needs
-
-same-length : tie.Need-same-length
-same-length c = search needs
 
 -- a group line is refused
 returns : tie.Need-returns
@@ -25,21 +16,6 @@ returns c =
     let a = c .before .before .before .before .before .before .before .before .before .before .before .args in
     rw (c .enum-told .given .1)
     (lines-stopped (a .text .now) (a .vertices) (a .edges) (a .cursor .at) (sym (c .before .before .before .before .group-lines .ensures .0) ∙ ap numberStep (c .enum-told .given .1)) (c .before .before .before .before .group-lines .ensures .1) refl refl refl)
-
-edge-lines-requires : tie.Need-edge-lines-requires
-edge-lines-requires c κs = search needs
-
-same-length-2 : tie.Need-same-length-2
-same-length-2 c = search needs
-
-same-length-3 : tie.Need-same-length-3
-same-length-3 c = search needs
-
-same-length-4 : tie.Need-same-length-4
-same-length-4 c = search needs
-
-same-length-5 : tie.Need-same-length-5
-same-length-5 c = search needs
 
 -- the edge lines follow
 returns-2 : tie.Need-returns-2
@@ -54,14 +30,14 @@ pub survey-lines-spec : {M : Type 1} → statement M
 survey-lines-spec =
     tie.close
     (tie.spec
-    group-lines-requires
-    enum-known-heads
+    (λ c κs. search needs)
+    (λ c. search needs)
     enum-told
-    same-length
+    (λ c. search needs)
     returns
-    edge-lines-requires
-    same-length-2
-    same-length-3
-    same-length-4
-    same-length-5
+    (λ c κs. search needs)
+    (λ c. search needs)
+    (λ c. search needs)
+    (λ c. search needs)
+    (λ c. search needs)
     returns-2)

@@ -7,12 +7,6 @@ use Rattle.format_survey_lines.specs.Laws.Tests.{vertices-none, vertices
 use Rattle.format_survey_lines.proofs.vertices_line.Statement.{statement}
 use Rattle.format_survey_lines.proofs.vertices_line.Tie as tie
 
-first-line-requires : tie.Need-first-line-requires
-first-line-requires c κs = search needs
-
-enum-known-step : tie.Need-enum-known-step
-enum-known-step c = search needs
-
 enum-told : tie.Need-enum-told
 enum-told c = search needs
 
@@ -60,8 +54,8 @@ pub vertices-line-spec : {M : Type 1} → statement M
 vertices-line-spec =
     tie.close
     (tie.spec
-    first-line-requires
-    enum-known-step
+    (λ c κs. search needs)
+    (λ c. search needs)
     enum-told
     returns
     returns-2

@@ -26,21 +26,6 @@ returns-2 c =
     let h = c .if2 .taken in
     (weights-answer (a .groups .now) (a .firsts .now) (a .seconds .now) (a .weights .now) (a .out .now) s h, weights-out (a .groups .now) (a .firsts .now) (a .seconds .now) (a .weights .now) (a .out .now) s h)
 
-sub-put-survey : tie.Need-sub-put-survey
-sub-put-survey c = search needs
-
-part-put-survey-start : tie.Need-part-put-survey-start
-part-put-survey-start c = search needs
-
-part-put-survey-end : tie.Need-part-put-survey-end
-part-put-survey-end c = search needs
-
-put-survey-requires : tie.Need-put-survey-requires
-put-survey-requires c κs = search needs
-
-same-length : tie.Need-same-length
-same-length c = search needs
-
 -- 7: the buffer is short
 returns-3 : tie.Need-returns-3
 returns-3 c =
@@ -50,12 +35,6 @@ returns-3 c =
     let s = c .before .before .before .before .before .before .if1 .left in
     let w = c .before .before .before .before .before .if2 .left in
     (p .answers ∙ whole-answer (a .groups .now) (a .firsts .now) (a .seconds .now) (a .weights .now) (a .out .now) s w, p .leaves ∙ whole-out (a .groups .now) (a .firsts .now) (a .seconds .now) (a .weights .now) (a .out .now) s w)
-
-put-survey-requires-2 : tie.Need-put-survey-requires-2
-put-survey-requires-2 c κs = search needs
-
-same-length-2 : tie.Need-same-length-2
-same-length-2 c = search needs
 
 -- printed
 returns-4 : tie.Need-returns-4
@@ -73,12 +52,12 @@ print-survey-spec =
     (tie.spec
     returns
     returns-2
-    sub-put-survey
-    part-put-survey-start
-    part-put-survey-end
-    put-survey-requires
-    same-length
+    (λ c. search needs)
+    (λ c. search needs)
+    (λ c. search needs)
+    (λ c κs. search needs)
+    (λ c. search needs)
     returns-3
-    put-survey-requires-2
-    same-length-2
+    (λ c κs. search needs)
+    (λ c. search needs)
     returns-4)

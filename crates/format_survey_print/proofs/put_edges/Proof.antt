@@ -25,21 +25,6 @@ abbrev μ-loop : tie.MeasureT-loop
 loop-holds : tie.Need-loop-holds Inv-loop μ-loop
 loop-holds c = let a = c .before .before .before .before .args in (search needs, wrote-as (wrote-none (a .out .now) (a .at)) (text-table-none edgeText _))
 
-wide-at-requires : tie.Need-wide-at-requires Inv-loop μ-loop
-wide-at-requires c κs = search needs
-
-wide-at-requires-2 : tie.Need-wide-at-requires-2 Inv-loop μ-loop
-wide-at-requires-2 c κs = search needs
-
-wide-at-requires-3 : tie.Need-wide-at-requires-3 Inv-loop μ-loop
-wide-at-requires-3 c κs = search needs
-
-put-edge-requires : tie.Need-put-edge-requires Inv-loop μ-loop
-put-edge-requires c κs = search needs
-
-add-e : tie.Need-add-e Inv-loop μ-loop
-add-e c = search needs
-
 loop-less : tie.Need-loop-less Inv-loop μ-loop
 loop-less c = omega arith
 
@@ -74,11 +59,11 @@ put-edges-spec =
     Inv-loop
     μ-loop
     loop-holds
-    wide-at-requires
-    wide-at-requires-2
-    wide-at-requires-3
-    put-edge-requires
-    add-e
+    (λ c κs. search needs)
+    (λ c κs. search needs)
+    (λ c κs. search needs)
+    (λ c κs. search needs)
+    (λ c. search needs)
     loop-less
     loop-again
     same-length

@@ -23,15 +23,6 @@ abbrev μ-loop : tie.MeasureT-loop
 loop-holds : tie.Need-loop-holds Inv-loop μ-loop
 loop-holds c = let a = c .before .before .args in wrote-as (wrote-none (a .out .now) (a .at)) (no-text (lineOf nodeKey))
 
-shared-slice-read-put-group : tie.Need-shared-slice-read-put-group Inv-loop μ-loop
-shared-slice-read-put-group c = search needs
-
-put-group-requires : tie.Need-put-group-requires Inv-loop μ-loop
-put-group-requires c κs = search needs
-
-add-v : tie.Need-add-v Inv-loop μ-loop
-add-v c = search needs
-
 loop-less : tie.Need-loop-less Inv-loop μ-loop
 loop-less c = omega arith
 
@@ -55,9 +46,9 @@ put-groups-spec =
     Inv-loop
     μ-loop
     loop-holds
-    shared-slice-read-put-group
-    put-group-requires
-    add-v
+    (λ c. search needs)
+    (λ c κs. search needs)
+    (λ c. search needs)
     loop-less
     loop-again
     same-length

@@ -14,33 +14,6 @@ use borrow.Author.Needs.{needs}
 use Rattle.format_survey_print.proofs.put_survey.Statement.{statement}
 use Rattle.format_survey_print.proofs.put_survey.Tie as tie
 
-slice-aggregate-put-line : tie.Need-slice-aggregate-put-line
-slice-aggregate-put-line c = search needs
-
-wide-requires : tie.Need-wide-requires
-wide-requires c κs = search needs
-
-put-line-requires : tie.Need-put-line-requires
-put-line-requires c κs = search needs
-
-slice-aggregate-put-line-2 : tie.Need-slice-aggregate-put-line-2
-slice-aggregate-put-line-2 c = search needs
-
-wide-requires-2 : tie.Need-wide-requires-2
-wide-requires-2 c κs = search needs
-
-put-line-requires-2 : tie.Need-put-line-requires-2
-put-line-requires-2 c κs = search needs
-
-put-groups-requires : tie.Need-put-groups-requires
-put-groups-requires c κs = search needs
-
-put-edges-requires : tie.Need-put-edges-requires
-put-edges-requires c κs = search needs
-
-same-length : tie.Need-same-length
-same-length c = search needs
-
 returns : tie.Need-returns
 unfolding surveyText render
 returns c =
@@ -60,13 +33,13 @@ pub put-survey-spec : {M : Type 1} → statement M
 put-survey-spec =
     tie.close
     (tie.spec
-    slice-aggregate-put-line
-    wide-requires
-    put-line-requires
-    slice-aggregate-put-line-2
-    wide-requires-2
-    put-line-requires-2
-    put-groups-requires
-    put-edges-requires
-    same-length
+    (λ c. search needs)
+    (λ c κs. search needs)
+    (λ c κs. search needs)
+    (λ c. search needs)
+    (λ c κs. search needs)
+    (λ c κs. search needs)
+    (λ c κs. search needs)
+    (λ c κs. search needs)
+    (λ c. search needs)
     returns)

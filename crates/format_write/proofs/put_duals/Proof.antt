@@ -26,15 +26,6 @@ loop-holds c =
     let a = c .before .before .args in
     (search needs, wrote-as (wrote-none (a .out .now) (a .at)) (sym (text-none _)))
 
-record-requires : tie.Need-record-requires Inv-loop μ-loop
-record-requires c κs = search needs
-
-put-dual-requires : tie.Need-put-dual-requires Inv-loop μ-loop
-put-dual-requires c κs = search needs
-
-add-i : tie.Need-add-i Inv-loop μ-loop
-add-i c = search needs
-
 loop-less : tie.Need-loop-less Inv-loop μ-loop
 loop-less c = omega arith
 
@@ -64,9 +55,9 @@ put-duals-spec =
     Inv-loop
     μ-loop
     loop-holds
-    record-requires
-    put-dual-requires
-    add-i
+    (λ c κs. search needs)
+    (λ c κs. search needs)
+    (λ c. search needs)
     loop-less
     loop-again
     same-length

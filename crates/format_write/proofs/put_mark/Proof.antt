@@ -9,23 +9,11 @@ use borrow.Author.Needs.{needs}
 use Rattle.format_write.proofs.put_mark.Statement.{statement}
 use Rattle.format_write.proofs.put_mark.Tie as tie
 
-slice-aggregate-put-line : tie.Need-slice-aggregate-put-line
-slice-aggregate-put-line c = search needs
-
-wide-requires : tie.Need-wide-requires
-wide-requires c κs = search needs
-
-put-line-requires : tie.Need-put-line-requires
-put-line-requires c κs = search needs
-
 returns : tie.Need-returns
 returns c = let a = c .before .before .args in wrote-as (wrote-none (a .out .now) (a .at)) (kept-line-none (a .mark) (a .e) (λ e. omega arith))
 
 returns-2 : tie.Need-returns-2
 returns-2 c = let a = c .before .before .args in wrote-as (wrote-none (a .out .now) (a .at)) (kept-line-none (a .mark) (a .e) (λ e. omega arith))
-
-same-length : tie.Need-same-length
-same-length c = search needs
 
 returns-3 : tie.Need-returns-3
 unfolding keptKey
@@ -40,11 +28,11 @@ pub put-mark-spec : {M : Type 1} → statement M
 put-mark-spec =
     tie.close
     (tie.spec
-    slice-aggregate-put-line
-    wide-requires
-    put-line-requires
+    (λ c. search needs)
+    (λ c κs. search needs)
+    (λ c κs. search needs)
     returns
     returns-2
-    same-length
+    (λ c. search needs)
     returns-3
     returns-4)

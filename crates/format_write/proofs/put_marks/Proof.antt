@@ -24,15 +24,6 @@ loop-holds c =
     let a = c .before .before .args in
     (search needs, wrote-as (wrote-none (a .out .now) (a .at)) (sym (text-none _)))
 
-shared-slice-read-put-mark : tie.Need-shared-slice-read-put-mark Inv-loop μ-loop
-shared-slice-read-put-mark c = search needs
-
-put-mark-requires : tie.Need-put-mark-requires Inv-loop μ-loop
-put-mark-requires c κs = search needs
-
-add-e : tie.Need-add-e Inv-loop μ-loop
-add-e c = search needs
-
 loop-less : tie.Need-loop-less Inv-loop μ-loop
 loop-less c = omega arith
 
@@ -63,9 +54,9 @@ put-marks-spec =
     Inv-loop
     μ-loop
     loop-holds
-    shared-slice-read-put-mark
-    put-mark-requires
-    add-e
+    (λ c. search needs)
+    (λ c κs. search needs)
+    (λ c. search needs)
     loop-less
     loop-again
     same-length

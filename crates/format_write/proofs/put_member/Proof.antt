@@ -9,20 +9,11 @@ use borrow.Author.Needs.{needs}
 use Rattle.format_write.proofs.put_member.Statement.{statement}
 use Rattle.format_write.proofs.put_member.Tie as tie
 
-member-requires : tie.Need-member-requires
-member-requires c κs = search needs
-
 returns : tie.Need-returns
 returns c =
     let a = c .before .before .before .before .args in
     let absent : memberIn (a .part .now) (a .v) ≡ false = sym (c .before .member .ensures) ∙ not-true (c .before .member .result) (c .if1 .taken) in
     (wrote-as (wrote-none (a .out .now) (a .list .at)) (member-not (a .list .first) (a .v) absent), and-not-false (a .list .first) absent)
-
-put-item-requires : tie.Need-put-item-requires
-put-item-requires c κs = search needs
-
-same-length : tie.Need-same-length
-same-length c = search needs
 
 returns-2 : tie.Need-returns-2
 returns-2 c =
@@ -32,4 +23,4 @@ returns-2 c =
 
 pub put-member-spec : {M : Type 1} → statement M
 put-member-spec =
-    tie.close (tie.spec member-requires returns put-item-requires same-length returns-2)
+    tie.close (tie.spec (λ c κs. search needs) returns (λ c κs. search needs) (λ c. search needs) returns-2)

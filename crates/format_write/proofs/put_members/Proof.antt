@@ -30,15 +30,6 @@ loop-holds c =
     let t = memberIn (a .part .now) in
     (search needs, wrote-as (wrote-none (a .out .now) (a .at)) (sym (members-none t)), sym (none-none t))
 
-mul-loop : tie.Need-mul-loop Inv-loop μ-loop
-mul-loop c = search needs
-
-put-member-requires : tie.Need-put-member-requires Inv-loop μ-loop
-put-member-requires c κs = search needs
-
-add-v : tie.Need-add-v Inv-loop μ-loop
-add-v c = search needs
-
 loop-less : tie.Need-loop-less Inv-loop μ-loop
 loop-less c = omega arith
 
@@ -71,9 +62,9 @@ put-members-spec =
     Inv-loop
     μ-loop
     loop-holds
-    mul-loop
-    put-member-requires
-    add-v
+    (λ c. search needs)
+    (λ c κs. search needs)
+    (λ c. search needs)
     loop-less
     loop-again
     same-length

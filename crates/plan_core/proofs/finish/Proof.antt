@@ -6,46 +6,16 @@ use borrow.Author.Needs.{needs}
 use Rattle.plan_core.proofs.finish.Statement.{statement}
 use Rattle.plan_core.proofs.finish.Tie as tie
 
-grow-requires : tie.Need-grow-requires
-grow-requires c κs = search needs
-
-slice-aggregate-prune : tie.Need-slice-aggregate-prune
-slice-aggregate-prune c = search needs
-
 prune-requires : tie.Need-prune-requires
 prune-requires c κs = prunable (c .before .before .before .before .before .before .before .before .before .before .before .before .pre) (c .before .before .before .before .before .grow .ensures)
-
-slice-aggregate-draw : tie.Need-slice-aggregate-draw
-slice-aggregate-draw c = search needs
-
-slice-aggregate-draw-2 : tie.Need-slice-aggregate-draw-2
-slice-aggregate-draw-2 c = search needs
 
 draw-requires : tie.Need-draw-requires
 draw-requires c κs =
     let entry = c .before .before .before .before .before .before .before .before .before .before .before .before .before .before .before .before .before .before in
     drawable (entry .pre) (c .before .before .before .before .before .before .before .before .before .before .before .grow .ensures) _ refl
 
-terminals-requires : tie.Need-terminals-requires
-terminals-requires c κs = search needs
-
-kept-cost-requires : tie.Need-kept-cost-requires
-kept-cost-requires c κs = search needs
-
-wide-requires : tie.Need-wide-requires
-wide-requires c κs = search needs
-
-wide-requires-2 : tie.Need-wide-requires-2
-wide-requires-2 c κs = search needs
-
 -- marks
-same-length : tie.Need-same-length
-same-length c = search needs
-
 -- records
-same-length-2 : tie.Need-same-length-2
-same-length-2 c = search needs
-
 returns : tie.Need-returns
 returns c =
     let growth = c .before .before .before .before .before .before .before .before .before .before .before .before .before .before .before .before .before .before .before in
@@ -57,16 +27,16 @@ pub finish-spec : {M : Type 1} → statement M
 finish-spec =
     tie.close
     (tie.spec
-    grow-requires
-    slice-aggregate-prune
+    (λ c κs. search needs)
+    (λ c. search needs)
     prune-requires
-    slice-aggregate-draw
-    slice-aggregate-draw-2
+    (λ c. search needs)
+    (λ c. search needs)
     draw-requires
-    terminals-requires
-    kept-cost-requires
-    wide-requires
-    wide-requires-2
-    same-length
-    same-length-2
+    (λ c κs. search needs)
+    (λ c κs. search needs)
+    (λ c κs. search needs)
+    (λ c κs. search needs)
+    (λ c. search needs)
+    (λ c. search needs)
     returns)

@@ -9,12 +9,6 @@ use borrow.Author.Needs.{needs}
 use Rattle.plan_core.proofs.plan.Statement.{statement}
 use Rattle.plan_core.proofs.plan.Tie as tie
 
-plan-refusal-requires : tie.Need-plan-refusal-requires
-plan-refusal-requires c κs = search needs
-
-enum-known-found : tie.Need-enum-known-found
-enum-known-found c = search needs
-
 -- refused
 returns : tie.Need-returns
 unfolding outcomeOf
@@ -29,13 +23,7 @@ finish-requires c κs =
     fine-ready _ (λ v. omega (arith, c .before .before .before .before .before .before .before .before .before .before .shared-slice-known .given v)) _ _ (sym (c .before .before .before .before .plan-refusal .ensures) ∙ c .before .before .enum-told .given .1)
 
 -- marks
-same-length : tie.Need-same-length
-same-length c = search needs
-
 -- records
-same-length-2 : tie.Need-same-length-2
-same-length-2 c = search needs
-
 -- finished
 returns-2 : tie.Need-returns-2
 unfolding edgeCount
@@ -48,11 +36,11 @@ pub plan-spec : {M : Type 1} → statement M
 plan-spec =
     tie.close
     (tie.spec
-    plan-refusal-requires
-    enum-known-found
+    (λ c κs. search needs)
+    (λ c. search needs)
     returns
     enum-told
     finish-requires
-    same-length
-    same-length-2
+    (λ c. search needs)
+    (λ c. search needs)
     returns-2)

@@ -7,14 +7,8 @@ use borrow.Author.Needs.{needs}
 use Rattle.plan_core.proofs.plan_refusal.Statement.{statement}
 use Rattle.plan_core.proofs.plan_refusal.Tie as tie
 
-survey-refusal-requires : tie.Need-survey-refusal-requires
-survey-refusal-requires c κs = search needs
-
 enum-told : tie.Need-enum-told
 enum-told c = search needs
-
-enum-told-2 : tie.Need-enum-told-2
-enum-told-2 c = search needs
 
 -- 1 to 6
 returns : tie.Need-returns
@@ -23,24 +17,12 @@ returns c = survey-stops _ _ _ (c .before .before .survey-refusal .ensures) (c .
 room-refusal-requires : tie.Need-room-refusal-requires
 room-refusal-requires c κs = fine-survey _ (sym (c .before .before .survey-refusal .ensures) ∙ c .enum-told .given .1) .few
 
-enum-told-3 : tie.Need-enum-told-3
-enum-told-3 c = search needs
-
-enum-told-4 : tie.Need-enum-told-4
-enum-told-4 c = search needs
-
 -- 7
 returns-2 : tie.Need-returns-2
 unfolding edgeCount vertexCount
 returns-2 c =
     let sound = c .before .before .before in
     room-stops _ _ _ (sound .before .before .survey-refusal .ensures) (sound .enum-told .given .1) (c .before .before .room-refusal .ensures) (c .enum-told4 .given .1)
-
-slice-aggregate-group-refusal : tie.Need-slice-aggregate-group-refusal
-slice-aggregate-group-refusal c = search needs
-
-group-refusal-requires : tie.Need-group-refusal-requires
-group-refusal-requires c κs = search needs
 
 -- 8
 returns-3 : tie.Need-returns-3
@@ -54,14 +36,14 @@ pub plan-refusal-spec : {M : Type 1} → statement M
 plan-refusal-spec =
     tie.close
     (tie.spec
-    survey-refusal-requires
+    (λ c κs. search needs)
     enum-told
-    enum-told-2
+    (λ c. search needs)
     returns
     room-refusal-requires
-    enum-told-3
-    enum-told-4
+    (λ c. search needs)
+    (λ c. search needs)
     returns-2
-    slice-aggregate-group-refusal
-    group-refusal-requires
+    (λ c. search needs)
+    (λ c κs. search needs)
     returns-3)

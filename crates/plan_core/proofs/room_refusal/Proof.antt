@@ -14,15 +14,6 @@ returns c = sym (marks-short (c .before .args .n) (c .before .args .m) (c .befor
 returns-2 : tie.Need-returns-2
 returns-2 c = sym (buffers-fit (c .before .before .args .n) (c .before .before .args .m) (c .before .before .args .marks) (c .before .before .args .records) (omega arith) (omega arith))
 
-mul-if3 : tie.Need-mul-if3
-mul-if3 c = search needs
-
-sub-if3 : tie.Need-sub-if3
-sub-if3 c = search needs
-
-mul-if3-2 : tie.Need-mul-if3-2
-mul-if3-2 c = search needs
-
 -- 7: the buffer for records is short
 returns-3 : tie.Need-returns-3
 returns-3 c = sym (records-short (c .before .before .before .args .n) (c .before .before .before .args .m) (c .before .before .before .args .marks) (c .before .before .before .args .records) (c .if3 .taken))
@@ -33,4 +24,4 @@ returns-4 c = sym (buffers-fit (c .before .before .before .args .n) (c .before .
 
 pub room-refusal-spec : {M : Type 1} → statement M
 room-refusal-spec =
-    tie.close (tie.spec returns returns-2 mul-if3 sub-if3 mul-if3-2 returns-3 returns-4)
+    tie.close (tie.spec returns returns-2 (λ c. search needs) (λ c. search needs) (λ c. search needs) returns-3 returns-4)

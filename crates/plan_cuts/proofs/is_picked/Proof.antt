@@ -5,9 +5,6 @@ use borrow.Author.Needs.{needs}
 use Rattle.plan_cuts.proofs.is_picked.Statement.{statement}
 use Rattle.plan_cuts.proofs.is_picked.Tie as tie
 
-at8-requires : tie.Need-at8-requires
-at8-requires c κs = search needs
-
 returns : tie.Need-returns
 returns c =
     sym (picked-not _ _ (sym (c .before .at8 .ensures) ∙ c .if1 .taken))
@@ -17,4 +14,4 @@ returns-2 c =
     sym (picked-is _ _ (λ e. c .if1 .left (c .before .at8 .ensures ∙ e)))
 
 pub is-picked-spec : {M : Type 1} → statement M
-is-picked-spec = tie.close (tie.spec at8-requires returns returns-2)
+is-picked-spec = tie.close (tie.spec (λ c κs. search needs) returns returns-2)

@@ -20,9 +20,6 @@ returns-2 : tie.Need-returns-2
 returns-2 c =
     sym (own-after _ _ (omega arith) (omega arith))
 
-shl-result : tie.Need-shl-result
-shl-result c = search needs
-
 -- in the batch
 returns-3 : tie.Need-returns-3
 returns-3 c =
@@ -31,4 +28,4 @@ returns-3 c =
     shl-exact 1 (i - b) 64 (lit< tt) (omega arith) ∙ one-mul (2 ^ (i - b)) ∙ sym (own-in b i (omega arith) (omega arith))
 
 pub own-word-spec : {M : Type 1} → statement M
-own-word-spec = tie.close (tie.spec returns returns-2 shl-result returns-3)
+own-word-spec = tie.close (tie.spec returns returns-2 (λ c. search needs) returns-3)

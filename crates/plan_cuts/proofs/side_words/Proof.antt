@@ -25,12 +25,6 @@ abbrev μ-loop : tie.MeasureT-loop
 μ-loop firsts seconds picked base labels₀ words₀ i₀ e₀ labels words i e =
     length firsts - e
 
-slice-aggregate-own-labels : tie.Need-slice-aggregate-own-labels Inv-loop μ-loop
-slice-aggregate-own-labels c = search needs
-
-own-labels-requires : tie.Need-own-labels-requires Inv-loop μ-loop
-own-labels-requires c κs = search needs
-
 loop-holds : tie.Need-loop-holds Inv-loop μ-loop
 loop-holds c =
     let none = taken-none maxVertices _ _ _ _ (c .before .own-labels .ensures ∙ remade-table (λ v x. v) maxVertices _ (λ v. v) (length-replicate {A = ℕ} maxVertices 0) (λ v b. refl)) (replicate-table maxVertices 0) in
@@ -45,12 +39,6 @@ slice-aggregate-take-edge-2 c = sym (words-long maxVertices _ _ _ _ _ (c .before
 take-edge-requires : tie.Need-take-edge-requires Inv-loop μ-loop
 take-edge-requires c κs =
     omega (arith, count-le (c .before .before .before .loop .e) (pickedIn (c .before .before .before .before .before .before .before .before .before .before .args .picked .now)))
-
-add-e : tie.Need-add-e Inv-loop μ-loop
-add-e c = search needs
-
-loop-less : tie.Need-loop-less Inv-loop μ-loop
-loop-less c = search needs
 
 loop-again : tie.Need-loop-again Inv-loop μ-loop
 loop-again c =
@@ -68,13 +56,13 @@ side-words-spec =
     (tie.spec
     Inv-loop
     μ-loop
-    slice-aggregate-own-labels
-    own-labels-requires
+    (λ c. search needs)
+    (λ c κs. search needs)
     loop-holds
     slice-aggregate-take-edge
     slice-aggregate-take-edge-2
     take-edge-requires
-    add-e
-    loop-less
+    (λ c. search needs)
+    (λ c. search needs)
     loop-again
     returns)

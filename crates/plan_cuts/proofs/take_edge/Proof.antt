@@ -5,30 +5,6 @@ use borrow.Author.Needs.{needs}
 use Rattle.plan_cuts.proofs.take_edge.Statement.{statement}
 use Rattle.plan_cuts.proofs.take_edge.Tie as tie
 
-is-picked-requires : tie.Need-is-picked-requires
-is-picked-requires c κs = search needs
-
-at32-requires : tie.Need-at32-requires
-at32-requires c κs = search needs
-
-at32-requires-2 : tie.Need-at32-requires-2
-at32-requires-2 c κs = search needs
-
-own-word-requires : tie.Need-own-word-requires
-own-word-requires c κs = search needs
-
-take-ends-requires : tie.Need-take-ends-requires
-take-ends-requires c κs = search needs
-
-add-result : tie.Need-add-result
-add-result c = search needs
-
-same-length : tie.Need-same-length
-same-length c = search needs
-
-same-length-2 : tie.Need-same-length-2
-same-length-2 c = search needs
-
 returns : tie.Need-returns
 returns c =
     let taken = c .before .before .before .before in
@@ -46,13 +22,13 @@ pub take-edge-spec : {M : Type 1} → statement M
 take-edge-spec =
     tie.close
     (tie.spec
-    is-picked-requires
-    at32-requires
-    at32-requires-2
-    own-word-requires
-    take-ends-requires
-    add-result
-    same-length
-    same-length-2
+    (λ c κs. search needs)
+    (λ c κs. search needs)
+    (λ c κs. search needs)
+    (λ c κs. search needs)
+    (λ c κs. search needs)
+    (λ c. search needs)
+    (λ c. search needs)
+    (λ c. search needs)
     returns
     returns-2)

@@ -6,36 +6,6 @@ use borrow.Author.Needs.{needs}
 use Rattle.plan_cuts.proofs.take_ends.Statement.{statement}
 use Rattle.plan_cuts.proofs.take_ends.Tie as tie
 
-index32-requires : tie.Need-index32-requires
-index32-requires c κs = search needs
-
-index32-requires-2 : tie.Need-index32-requires-2
-index32-requires-2 c κs = search needs
-
-at32-requires : tie.Need-at32-requires
-at32-requires c κs = search needs
-
-at32-requires-2 : tie.Need-at32-requires-2
-at32-requires-2 c κs = search needs
-
-at64-requires : tie.Need-at64-requires
-at64-requires c κs = search needs
-
-at64-requires-2 : tie.Need-at64-requires-2
-at64-requires-2 c κs = search needs
-
-turn-all-requires : tie.Need-turn-all-requires
-turn-all-requires c κs = search needs
-
-relabel-requires : tie.Need-relabel-requires
-relabel-requires c κs = search needs
-
-same-length : tie.Need-same-length
-same-length c = search needs
-
-same-length-2 : tie.Need-same-length-2
-same-length-2 c = search needs
-
 returns : tie.Need-returns
 returns c =
     let turned = c .before .before .before .before .before .before in
@@ -54,14 +24,14 @@ pub take-ends-spec : {M : Type 1} → statement M
 take-ends-spec =
     tie.close
     (tie.spec
-    index32-requires
-    index32-requires-2
-    at32-requires
-    at32-requires-2
-    at64-requires
-    at64-requires-2
-    turn-all-requires
-    relabel-requires
-    same-length
-    same-length-2
+    (λ c κs. search needs)
+    (λ c κs. search needs)
+    (λ c κs. search needs)
+    (λ c κs. search needs)
+    (λ c κs. search needs)
+    (λ c κs. search needs)
+    (λ c κs. search needs)
+    (λ c κs. search needs)
+    (λ c. search needs)
+    (λ c. search needs)
     returns)

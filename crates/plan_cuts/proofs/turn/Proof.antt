@@ -4,15 +4,9 @@ use borrow.Author.Needs.{needs}
 use Rattle.plan_cuts.proofs.turn.Statement.{statement}
 use Rattle.plan_cuts.proofs.turn.Tie as tie
 
-word-at-requires : tie.Need-word-at-requires
-word-at-requires c κs = search needs
-
-word-at-requires-2 : tie.Need-word-at-requires-2
-word-at-requires-2 c κs = search needs
-
 returns : tie.Need-returns
 unfolding turned
 returns c = rw (c .before .word-at .ensures, c .word-at2 .ensures)
 
 pub turn-spec : {M : Type 1} → statement M
-turn-spec = tie.close (tie.spec word-at-requires word-at-requires-2 returns)
+turn-spec = tie.close (tie.spec (λ c κs. search needs) (λ c κs. search needs) returns)

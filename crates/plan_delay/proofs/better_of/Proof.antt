@@ -6,9 +6,6 @@ use borrow.Author.Needs.{needs}
 use Rattle.plan_delay.proofs.better_of.Statement.{statement}
 use Rattle.plan_delay.proofs.better_of.Tie as tie
 
-enum-known-delay : tie.Need-enum-known-delay
-enum-known-delay c = search needs
-
 enum-told : tie.Need-enum-told
 enum-told c = search needs
 
@@ -16,12 +13,6 @@ enum-told c = search needs
 returns : tie.Need-returns
 unfolding better delayIn winnerIn
 returns c = rw (c .enum-told .given .1)
-
-enum-known-best : tie.Need-enum-known-best
-enum-known-best c = search needs
-
-enum-told-2 : tie.Need-enum-told-2
-enum-told-2 c = search needs
 
 -- the first candidate
 returns-2 : tie.Need-returns-2
@@ -42,11 +33,11 @@ pub better-of-spec : {M : Type 1} → statement M
 better-of-spec =
     tie.close
     (tie.spec
-    enum-known-delay
+    (λ c. search needs)
     enum-told
     returns
-    enum-known-best
-    enum-told-2
+    (λ c. search needs)
+    (λ c. search needs)
     returns-2
     returns-3
     returns-4)

@@ -23,22 +23,10 @@ loop-holds : tie.Need-loop-holds Inv-loop μ-loop
 loop-holds c =
     (omega arith, count-none _)
 
-dropped-mark-requires : tie.Need-dropped-mark-requires Inv-loop μ-loop
-dropped-mark-requires c κs = search needs
-
-index8-requires : tie.Need-index8-requires Inv-loop μ-loop
-index8-requires c κs = search needs
-
 add-count : tie.Need-add-count Inv-loop μ-loop
 add-count c =
     let few = c .before .before .before .before .before .pre in
     let b = count-bound _ _ (c .before .before .before .loop .inv .1) (c .index8 .ensures ∙ c .before .dropped-mark .ensures ∙ dropped-counts _) in omega arith
-
-add-e : tie.Need-add-e Inv-loop μ-loop
-add-e c = search needs
-
-loop-less : tie.Need-loop-less Inv-loop μ-loop
-loop-less c = search needs
 
 loop-again : tie.Need-loop-again Inv-loop μ-loop
 loop-again c =
@@ -55,10 +43,10 @@ count-picked-spec =
     Inv-loop
     μ-loop
     loop-holds
-    dropped-mark-requires
-    index8-requires
+    (λ c κs. search needs)
+    (λ c κs. search needs)
     add-count
-    add-e
-    loop-less
+    (λ c. search needs)
+    (λ c. search needs)
     loop-again
     returns)

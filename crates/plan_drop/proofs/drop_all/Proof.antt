@@ -26,18 +26,6 @@ unfolding remade
 loop-holds c =
     (omega arith, refl)
 
-dropped-mark-requires : tie.Need-dropped-mark-requires Inv-loop μ-loop
-dropped-mark-requires c κs = search needs
-
-put8-requires : tie.Need-put8-requires Inv-loop μ-loop
-put8-requires c κs = search needs
-
-add-e : tie.Need-add-e Inv-loop μ-loop
-add-e c = search needs
-
-loop-less : tie.Need-loop-less Inv-loop μ-loop
-loop-less c = search needs
-
 loop-again : tie.Need-loop-again Inv-loop μ-loop
 loop-again c =
     (omega arith, c .before .before .put8 .ensures ∙ remade-more _ _ _ _ _ (c .before .before .before .before .before .before .loop .inv .1) (c .before .before .before .dropped-mark .ensures))
@@ -58,10 +46,10 @@ drop-all-spec =
     Inv-loop
     μ-loop
     loop-holds
-    dropped-mark-requires
-    put8-requires
-    add-e
-    loop-less
+    (λ c κs. search needs)
+    (λ c κs. search needs)
+    (λ c. search needs)
+    (λ c. search needs)
     loop-again
     same-length
     returns)

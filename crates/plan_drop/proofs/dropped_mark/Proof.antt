@@ -5,9 +5,6 @@ use borrow.Author.Needs.{needs}
 use Rattle.plan_drop.proofs.dropped_mark.Statement.{statement}
 use Rattle.plan_drop.proofs.dropped_mark.Tie as tie
 
-is-picked-requires : tie.Need-is-picked-requires
-is-picked-requires c κs = search needs
-
 returns : tie.Need-returns
 returns c =
     sym (dropped-picked (sym (c .before .is-picked .ensures) ∙ c .if1 .taken))
@@ -17,4 +14,4 @@ returns-2 c =
     sym (dropped-other (sym (c .before .is-picked .ensures) ∙ c .if1 .left))
 
 pub dropped-mark-spec : {M : Type 1} → statement M
-dropped-mark-spec = tie.close (tie.spec is-picked-requires returns returns-2)
+dropped-mark-spec = tie.close (tie.spec (λ c κs. search needs) returns returns-2)

@@ -19,9 +19,6 @@ abbrev μ-loop : tie.MeasureT-loop
 μ-loop groups firsts seconds picked marks₀ count base₀ marks base =
     count - base
 
-drop-all-requires : tie.Need-drop-all-requires Inv-loop μ-loop
-drop-all-requires c κs = search needs
-
 count-picked-requires : tie.Need-count-picked-requires Inv-loop μ-loop
 count-picked-requires c κs =
     c .before .before .before .before .before .before .before .before .before .pre .edges-few
@@ -62,7 +59,7 @@ prune-spec =
     (tie.spec
     Inv-loop
     μ-loop
-    drop-all-requires
+    (λ c κs. search needs)
     count-picked-requires
     loop-holds
     prune-batch-requires

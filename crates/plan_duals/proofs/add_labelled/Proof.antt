@@ -4,12 +4,6 @@ use borrow.Author.Needs.{needs}
 use Rattle.plan_duals.proofs.add_labelled.Statement.{statement}
 use Rattle.plan_duals.proofs.add_labelled.Tie as tie
 
-add-member-requires : tie.Need-add-member-requires
-add-member-requires c κs = search needs
-
-same-length : tie.Need-same-length
-same-length c = search needs
-
 -- a member
 returns : tie.Need-returns
 returns c = rw (eq-eqb _ _ (c .before .before .before .before .if1 .taken)) (c .before .before .add-member .ensures)
@@ -19,4 +13,4 @@ returns-2 : tie.Need-returns-2
 returns-2 c = rw (ne-eqb (c .before .before .args .label) (c .before .before .args .c) (c .if1 .left))
 
 pub add-labelled-spec : {M : Type 1} → statement M
-add-labelled-spec = tie.close (tie.spec add-member-requires same-length returns returns-2)
+add-labelled-spec = tie.close (tie.spec (λ c κs. search needs) (λ c. search needs) returns returns-2)

@@ -10,24 +10,6 @@ returns : tie.Need-returns
 unfolding arisen
 returns c = rw (lt-ltb (c .before .before .before .before .args .c) (c .before .before .before .before .args .n) (c .if1 .taken))
 
-at32-requires : tie.Need-at32-requires
-at32-requires c κs = search needs
-
-index32-requires : tie.Need-index32-requires
-index32-requires c κs = search needs
-
-at32-requires-2 : tie.Need-at32-requires-2
-at32-requires-2 c κs = search needs
-
-at32-requires-3 : tie.Need-at32-requires-3
-at32-requires-3 c κs = search needs
-
-cast-merge : tie.Need-cast-merge
-cast-merge c = search needs
-
-merge-requires : tie.Need-merge-requires
-merge-requires c κs = search needs
-
 -- a merged component
 returns-2 : tie.Need-returns-2
 unfolding arisen endOf
@@ -38,10 +20,10 @@ arise-spec =
     tie.close
     (tie.spec
     returns
-    at32-requires
-    index32-requires
-    at32-requires-2
-    at32-requires-3
-    cast-merge
-    merge-requires
+    (λ c κs. search needs)
+    (λ c κs. search needs)
+    (λ c κs. search needs)
+    (λ c κs. search needs)
+    (λ c. search needs)
+    (λ c κs. search needs)
     returns-2)

@@ -19,12 +19,6 @@ abbrev μ-loop : tie.MeasureT-loop
 μ-loop n firsts seconds values order rounds records₀ labels₀ end count₀ c₀ records labels count c =
     end - c
 
-slice-aggregate-own-labels : tie.Need-slice-aggregate-own-labels Inv-loop μ-loop
-slice-aggregate-own-labels c = search needs
-
-own-labels-requires : tie.Need-own-labels-requires Inv-loop μ-loop
-own-labels-requires c κs = search needs
-
 add-end : tie.Need-add-end Inv-loop μ-loop
 add-end c = let pre = c .before .before .before .before .before .before .before .before .pre in omega arith
 
@@ -34,9 +28,6 @@ loop-holds c =
 
 arise-requires : tie.Need-arise-requires Inv-loop μ-loop
 arise-requires c κs = let pre = c .before .before .before .before .before .before .before .before .before .before .before .pre in omega arith
-
-at64-requires : tie.Need-at64-requires Inv-loop μ-loop
-at64-requires c κs = search needs
 
 cast-write-dual : tie.Need-cast-write-dual Inv-loop μ-loop
 cast-write-dual c =
@@ -49,12 +40,6 @@ write-dual-requires c κs =
     let a = entry .args in
     let pre = entry .pre in
     written-fits _ _ (a .n) (a .n + a .rounds) (c .before .before .before .before .before .before .loop .c) (pre .few) (pre .room) (c .before .before .before .before .before .loop-test .taken) (c .before .before .before .before .before .before .loop .inv .1 .duals-written)
-
-add-c : tie.Need-add-c Inv-loop μ-loop
-add-c c = search needs
-
-loop-less : tie.Need-loop-less Inv-loop μ-loop
-loop-less c = search needs
 
 loop-again : tie.Need-loop-again Inv-loop μ-loop
 loop-again c =
@@ -83,16 +68,16 @@ draw-spec =
     (tie.spec
     Inv-loop
     μ-loop
-    slice-aggregate-own-labels
-    own-labels-requires
+    (λ c. search needs)
+    (λ c κs. search needs)
     add-end
     loop-holds
     arise-requires
-    at64-requires
+    (λ c κs. search needs)
     cast-write-dual
     write-dual-requires
-    add-c
-    loop-less
+    (λ c. search needs)
+    (λ c. search needs)
     loop-again
     same-length
     returns)

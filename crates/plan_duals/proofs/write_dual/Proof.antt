@@ -14,30 +14,6 @@ returns c =
     let none = dual-none (a .x) (withLabel (a .labels .now) (a .n) (a .c)) (c .if1 .taken) in
     (rw none (omega arith), rw none (from-none (a .count) (a .records .now)))
 
-mul-at : tie.Need-mul-at
-mul-at c = search needs
-
-add-end : tie.Need-add-end
-add-end c = search needs
-
-sub-write-record : tie.Need-sub-write-record
-sub-write-record c = search needs
-
-part-write-record-start : tie.Need-part-write-record-start
-part-write-record-start c = search needs
-
-part-write-record-end : tie.Need-part-write-record-end
-part-write-record-end c = search needs
-
-write-record-requires : tie.Need-write-record-requires
-write-record-requires c κs = search needs
-
-add-result : tie.Need-add-result
-add-result c = search needs
-
-same-length : tie.Need-same-length
-same-length c = search needs
-
 -- one record more
 returns-2 : tie.Need-returns-2
 returns-2 c =
@@ -50,12 +26,12 @@ write-dual-spec =
     tie.close
     (tie.spec
     returns
-    mul-at
-    add-end
-    sub-write-record
-    part-write-record-start
-    part-write-record-end
-    write-record-requires
-    add-result
-    same-length
+    (λ c. search needs)
+    (λ c. search needs)
+    (λ c. search needs)
+    (λ c. search needs)
+    (λ c. search needs)
+    (λ c κs. search needs)
+    (λ c. search needs)
+    (λ c. search needs)
     returns-2)

@@ -19,17 +19,8 @@ Inv-loop part₀ x labels n c v₀ part v = (v ≤ n) × (part ≡ recordOf x (w
 abbrev μ-loop : tie.MeasureT-loop
 μ-loop part₀ x labels n c v₀ part v = n - v
 
-start-record-requires : tie.Need-start-record-requires Inv-loop μ-loop
-start-record-requires c κs = search needs
-
 loop-holds : tie.Need-loop-holds Inv-loop μ-loop
 loop-holds c = (omega arith, c .before .before .start-record .ensures ∙ started-none _ _ _ _ (c .before .before .before .before .before .pre .long))
-
-at32-requires : tie.Need-at32-requires Inv-loop μ-loop
-at32-requires c κs = search needs
-
-add-labelled-requires : tie.Need-add-labelled-requires Inv-loop μ-loop
-add-labelled-requires c κs = search needs
 
 add-v : tie.Need-add-v Inv-loop μ-loop
 add-v c = omega arith
@@ -62,10 +53,10 @@ write-record-spec =
     (tie.spec
     Inv-loop
     μ-loop
-    start-record-requires
+    (λ c κs. search needs)
     loop-holds
-    at32-requires
-    add-labelled-requires
+    (λ c κs. search needs)
+    (λ c κs. search needs)
     add-v
     loop-less
     loop-again

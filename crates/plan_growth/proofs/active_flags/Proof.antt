@@ -23,32 +23,11 @@ Inv-loop groups labels table flags₀ v₀ flags v =
 abbrev μ-loop : tie.MeasureT-loop
 μ-loop groups labels table flags₀ v₀ flags v = length groups - v
 
-spreads-requires : tie.Need-spreads-requires Inv-loop μ-loop
-spreads-requires c κs = search needs
-
 loop-holds : tie.Need-loop-holds Inv-loop μ-loop
 loop-holds c = (omega arith, replicate-table maxDuals 0 ∙ flags-none _ _)
 
 slice-aggregate-at64 : tie.Need-slice-aggregate-at64 Inv-loop μ-loop
 slice-aggregate-at64 c = sym (ap length (c .before .before .before .spreads .ensures) ∙ length-tabulate groupNumbers _)
-
-at8-requires : tie.Need-at8-requires Inv-loop μ-loop
-at8-requires c κs = search needs
-
-index8-requires : tie.Need-index8-requires Inv-loop μ-loop
-index8-requires c κs = search needs
-
-at64-requires : tie.Need-at64-requires Inv-loop μ-loop
-at64-requires c κs = search needs
-
-at32-requires : tie.Need-at32-requires Inv-loop μ-loop
-at32-requires c κs = search needs
-
-flag-label-requires : tie.Need-flag-label-requires Inv-loop μ-loop
-flag-label-requires c κs = search needs
-
-add-v : tie.Need-add-v Inv-loop μ-loop
-add-v c = search needs
 
 loop-less : tie.Need-loop-less Inv-loop μ-loop
 loop-less c = omega arith
@@ -82,15 +61,15 @@ active-flags-spec =
     (tie.spec
     Inv-loop
     μ-loop
-    spreads-requires
+    (λ c κs. search needs)
     loop-holds
     slice-aggregate-at64
-    at8-requires
-    index8-requires
-    at64-requires
-    at32-requires
-    flag-label-requires
-    add-v
+    (λ c κs. search needs)
+    (λ c κs. search needs)
+    (λ c κs. search needs)
+    (λ c κs. search needs)
+    (λ c κs. search needs)
+    (λ c. search needs)
     loop-less
     loop-again
     returns)

@@ -7,12 +7,9 @@ use Rattle.plan_growth.proofs.finished.Tie as tie
 add-sum-values : tie.Need-add-sum-values
 add-sum-values c = let few = c .before .pre .few in omega arith
 
-sum-values-requires : tie.Need-sum-values-requires
-sum-values-requires c κs = search needs
-
 returns : tie.Need-returns
 returns c = rw (c .sum-values .ensures)
 
 pub finished-spec : {M : Type 1} → statement M
 finished-spec =
-    tie.close (tie.spec add-sum-values sum-values-requires returns)
+    tie.close (tie.spec add-sum-values (λ c κs. search needs) returns)

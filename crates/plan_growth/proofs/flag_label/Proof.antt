@@ -7,12 +7,6 @@ use borrow.Author.Needs.{needs}
 use Rattle.plan_growth.proofs.flag_label.Statement.{statement}
 use Rattle.plan_growth.proofs.flag_label.Tie as tie
 
-index32-requires : tie.Need-index32-requires
-index32-requires c κs = search needs
-
-put8-requires : tie.Need-put8-requires
-put8-requires c κs = search needs
-
 -- split
 returns : tie.Need-returns
 unfolding flagged
@@ -29,7 +23,7 @@ pub flag-label-spec : {M : Type 1} → statement M
 flag-label-spec =
     tie.close
     (tie.spec
-    index32-requires
-    put8-requires
+    (λ c κs. search needs)
+    (λ c κs. search needs)
     returns
     returns-2)

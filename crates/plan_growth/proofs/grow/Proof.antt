@@ -6,17 +6,8 @@ use borrow.Author.Needs.{needs}
 use Rattle.plan_growth.proofs.grow.Statement.{statement}
 use Rattle.plan_growth.proofs.grow.Tie as tie
 
-survey-refusal-requires : tie.Need-survey-refusal-requires
-survey-refusal-requires c κs = search needs
-
 enum-told : tie.Need-enum-told
 enum-told c = search needs
-
-enum-told-2 : tie.Need-enum-told-2
-enum-told-2 c = search needs
-
-no-rounds-requires : tie.Need-no-rounds-requires
-no-rounds-requires c κs = search needs
 
 -- refused
 returns : tie.Need-returns
@@ -35,10 +26,10 @@ pub grow-spec : {M : Type 1} → statement M
 grow-spec =
     tie.close
     (tie.spec
-    survey-refusal-requires
+    (λ c κs. search needs)
     enum-told
-    enum-told-2
-    no-rounds-requires
+    (λ c. search needs)
+    (λ c κs. search needs)
     returns
     grow-rounds-requires
     returns-2)

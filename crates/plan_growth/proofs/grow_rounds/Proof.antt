@@ -19,20 +19,11 @@ abbrev μ-loop : tie.MeasureT-loop
 μ-loop groups firsts seconds weights labels₀ loads₀ values₀ picked₀ order₀ keys₀ floors₀ time₀ r₀ labels loads values picked order keys floors time r =
     length groups - r
 
-slice-aggregate-own-labels : tie.Need-slice-aggregate-own-labels Inv-loop μ-loop
-slice-aggregate-own-labels c = search needs
-
-own-labels-requires : tie.Need-own-labels-requires Inv-loop μ-loop
-own-labels-requires c κs = search needs
-
 loop-holds : tie.Need-loop-holds Inv-loop μ-loop
 loop-holds c = represents-start (c .before .before .before .before .before .before .before .pre) (c .before .own-labels .ensures)
 
 round-requires : tie.Need-round-requires Inv-loop μ-loop
 round-requires c κs = c .before .before .before .before .before .before .before .before .loop .inv
-
-enum-known-wait : tie.Need-enum-known-wait Inv-loop μ-loop
-enum-known-wait c = search needs
 
 enum-told : tie.Need-enum-told Inv-loop μ-loop
 enum-told c = search needs
@@ -59,9 +50,6 @@ add-time c =
     let after = rw (c .before .wait .given .1) at (call .round .ensures .1) in
     record { fits = time-fits after }
 
-add-r : tie.Need-add-r Inv-loop μ-loop
-add-r c = search needs
-
 loop-less : tie.Need-loop-less Inv-loop μ-loop
 loop-less c = omega arith
 
@@ -86,16 +74,16 @@ grow-rounds-spec =
     (tie.spec
     Inv-loop
     μ-loop
-    slice-aggregate-own-labels
-    own-labels-requires
+    (λ c. search needs)
+    (λ c κs. search needs)
     loop-holds
     round-requires
-    enum-known-wait
+    (λ c. search needs)
     enum-told
     finished-requires
     returns
     add-time
-    add-r
+    (λ c. search needs)
     loop-less
     loop-again
     finished-requires-2

@@ -4,12 +4,6 @@ use borrow.Author.Needs.{needs}
 use Rattle.plan_growth.proofs.no_rounds.Statement.{statement}
 use Rattle.plan_growth.proofs.no_rounds.Tie as tie
 
-slice-aggregate-own-labels : tie.Need-slice-aggregate-own-labels
-slice-aggregate-own-labels c = search needs
-
-own-labels-requires : tie.Need-own-labels-requires
-own-labels-requires c κs = search needs
-
 returns : tie.Need-returns
 returns c = λ p. grown-start p (c .before .own-labels .ensures)
 
@@ -17,6 +11,6 @@ pub no-rounds-spec : {M : Type 1} → statement M
 no-rounds-spec =
     tie.close
     (tie.spec
-    slice-aggregate-own-labels
-    own-labels-requires
+    (λ c. search needs)
+    (λ c κs. search needs)
     returns)

@@ -23,26 +23,8 @@ loop-holds : tie.Need-loop-holds Inv-loop μ-loop
 unfolding remade
 loop-holds c = (omega arith, refl)
 
-at32-requires : tie.Need-at32-requires Inv-loop μ-loop
-at32-requires c κs = search needs
-
-index32-requires : tie.Need-index32-requires Inv-loop μ-loop
-index32-requires c κs = search needs
-
-at8-requires : tie.Need-at8-requires Inv-loop μ-loop
-at8-requires c κs = search needs
-
-at64-requires : tie.Need-at64-requires Inv-loop μ-loop
-at64-requires c κs = search needs
-
 raised-requires : tie.Need-raised-requires Inv-loop μ-loop
 raised-requires c κs = raise-fits _ _ (c .before .before .before .before .before .before .before .before .before .before .pre) (c .before .before .before .before .before .before .before .before .before .loop .inv .1) (c .at64 .ensures)
-
-put64-requires : tie.Need-put64-requires Inv-loop μ-loop
-put64-requires c κs = search needs
-
-add-v : tie.Need-add-v Inv-loop μ-loop
-add-v c = search needs
 
 loop-less : tie.Need-loop-less Inv-loop μ-loop
 loop-less c = omega arith
@@ -63,13 +45,13 @@ raise-loads-spec =
     Inv-loop
     μ-loop
     loop-holds
-    at32-requires
-    index32-requires
-    at8-requires
-    at64-requires
+    (λ c κs. search needs)
+    (λ c κs. search needs)
+    (λ c κs. search needs)
+    (λ c κs. search needs)
     raised-requires
-    put64-requires
-    add-v
+    (λ c κs. search needs)
+    (λ c. search needs)
     loop-less
     loop-again
     returns)

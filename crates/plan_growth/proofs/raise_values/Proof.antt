@@ -24,20 +24,8 @@ loop-holds : tie.Need-loop-holds Inv-loop μ-loop
 unfolding remade
 loop-holds c = (omega arith, refl)
 
-at64-requires : tie.Need-at64-requires Inv-loop μ-loop
-at64-requires c κs = search needs
-
-at8-requires : tie.Need-at8-requires Inv-loop μ-loop
-at8-requires c κs = search needs
-
 raised-requires : tie.Need-raised-requires Inv-loop μ-loop
 raised-requires c κs = raise-fits _ _ (c .before .before .before .before .before .before .before .pre) (c .before .before .before .before .before .before .loop .inv .1) (c .before .before .at64 .ensures)
-
-put64-requires : tie.Need-put64-requires Inv-loop μ-loop
-put64-requires c κs = search needs
-
-add-c : tie.Need-add-c Inv-loop μ-loop
-add-c c = search needs
 
 loop-less : tie.Need-loop-less Inv-loop μ-loop
 loop-less c = omega arith
@@ -58,11 +46,11 @@ raise-values-spec =
     Inv-loop
     μ-loop
     loop-holds
-    at64-requires
-    at8-requires
+    (λ c κs. search needs)
+    (λ c κs. search needs)
     raised-requires
-    put64-requires
-    add-c
+    (λ c κs. search needs)
+    (λ c. search needs)
     loop-less
     loop-again
     returns)

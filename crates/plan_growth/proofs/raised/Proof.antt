@@ -8,9 +8,6 @@ use borrow.Author.Needs.{needs}
 use Rattle.plan_growth.proofs.raised.Statement.{statement}
 use Rattle.plan_growth.proofs.raised.Tie as tie
 
-add-result : tie.Need-add-result
-add-result c = search needs
-
 -- active
 returns : tie.Need-returns
 returns c = sym (ap (λ t. c .before .args .x + t) (counted-true (eq-eqb (c .before .args .flag) 1 (c .if1 .taken)) _))
@@ -20,4 +17,4 @@ returns-2 : tie.Need-returns-2
 returns-2 c = let e = counted-false (ne-eqb (c .before .args .flag) 1 (c .if1 .left)) (c .before .args .d) in omega arith
 
 pub raised-spec : {M : Type 1} → statement M
-raised-spec = tie.close (tie.spec add-result returns returns-2)
+raised-spec = tie.close (tie.spec (λ c. search needs) returns returns-2)

@@ -4,18 +4,6 @@ use borrow.Author.Needs.{needs}
 use Rattle.plan_growth.proofs.round.Statement.{statement}
 use Rattle.plan_growth.proofs.round.Tie as tie
 
-active-flags-requires : tie.Need-active-flags-requires
-active-flags-requires c κs = search needs
-
-slice-aggregate-find-winner : tie.Need-slice-aggregate-find-winner
-slice-aggregate-find-winner c = search needs
-
-find-winner-requires : tie.Need-find-winner-requires
-find-winner-requires c κs = search needs
-
-enum-known-found : tie.Need-enum-known-found
-enum-known-found c = search needs
-
 enum-told : tie.Need-enum-told
 enum-told c = search needs
 
@@ -46,15 +34,6 @@ add-z c = let entry = c .before .before .before .before .before .before .before 
 
 cast-z : tie.Need-cast-z
 cast-z c = let entry = c .before .before .before .before .before .before .before .before .before .before .before .before .before .before .before .before .before .before .before .before .before .before .before .before in record { fits = merged-small (entry .pre) .1 }
-
-at32-requires : tie.Need-at32-requires
-at32-requires c κs = search needs
-
-at32-requires-2 : tie.Need-at32-requires-2
-at32-requires-2 c κs = search needs
-
-merge-requires : tie.Need-merge-requires
-merge-requires c κs = search needs
 
 note-pick-requires : tie.Need-note-pick-requires
 note-pick-requires c κs =
@@ -87,18 +66,18 @@ pub round-spec : {M : Type 1} → statement M
 round-spec =
     tie.close
     (tie.spec
-    active-flags-requires
-    slice-aggregate-find-winner
-    find-winner-requires
-    enum-known-found
+    (λ c κs. search needs)
+    (λ c. search needs)
+    (λ c κs. search needs)
+    (λ c. search needs)
     enum-told
     returns
     raise-values-requires
     raise-loads-requires
     add-z
     cast-z
-    at32-requires
-    at32-requires-2
-    merge-requires
+    (λ c κs. search needs)
+    (λ c κs. search needs)
+    (λ c κs. search needs)
     note-pick-requires
     returns-2)

@@ -20,9 +20,6 @@ loop-holds : tie.Need-loop-holds Inv-loop μ-loop
 unfolding sumBelow
 loop-holds c = (omega arith, refl)
 
-at64-requires : tie.Need-at64-requires Inv-loop μ-loop
-at64-requires c κs = search needs
-
 add-sum : tie.Need-add-sum Inv-loop μ-loop
 add-sum c =
     let turn = c .before .before .before in
@@ -33,9 +30,6 @@ add-sum c =
     let e = turn .loop .inv .1 in
     let g = c .at64 .ensures in
     omega arith
-
-add-c : tie.Need-add-c Inv-loop μ-loop
-add-c c = search needs
 
 loop-less : tie.Need-loop-less Inv-loop μ-loop
 loop-less c = omega arith
@@ -53,9 +47,9 @@ sum-values-spec =
     Inv-loop
     μ-loop
     loop-holds
-    at64-requires
+    (λ c κs. search needs)
     add-sum
-    add-c
+    (λ c. search needs)
     loop-less
     loop-again
     returns)

@@ -5,12 +5,6 @@ use borrow.Author.Needs.{needs}
 use Rattle.plan_winner.proofs.block_size.Statement.{statement}
 use Rattle.plan_winner.proofs.block_size.Tie as tie
 
-mul-left : tie.Need-mul-left
-mul-left c = search needs
-
-sub-left : tie.Need-sub-left
-sub-left c = search needs
-
 -- the last block
 returns : tie.Need-returns
 unfolding blockSize
@@ -22,4 +16,4 @@ unfolding blockSize
 returns-2 c = rw (le-ltb _ _ (c .if1 .left))
 
 pub block-size-spec : {M : Type 1} → statement M
-block-size-spec = tie.close (tie.spec mul-left sub-left returns returns-2)
+block-size-spec = tie.close (tie.spec (λ c. search needs) (λ c. search needs) returns returns-2)

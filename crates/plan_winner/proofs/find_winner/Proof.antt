@@ -20,27 +20,15 @@ abbrev μ-loop : tie.MeasureT-loop
 μ-loop firsts seconds weights labels loads flags time keys₀ floors₀ capped best₀ limit₀ blocks b₀ keys floors best limit b =
     blocks - b
 
-capped-time-requires : tie.Need-capped-time-requires Inv-loop μ-loop
-capped-time-requires c κs = search needs
-
-add-blocks : tie.Need-add-blocks Inv-loop μ-loop
-add-blocks c = search needs
-
 loop-holds : tie.Need-loop-holds Inv-loop μ-loop
 unfolding winnerIn
 loop-holds c = passing-start _ _ _ _ _
-
-at64-requires : tie.Need-at64-requires Inv-loop μ-loop
-at64-requires c κs = search needs
 
 pass-block-requires : tie.Need-pass-block-requires Inv-loop μ-loop
 pass-block-requires c κs = (capped-small _ (c .before .before .before .before .before .before .before .capped-time .ensures), block-starts _ _ (c .before .before .before .before .before .loop-test .taken))
 
 limit-of-requires : tie.Need-limit-of-requires Inv-loop μ-loop
 limit-of-requires c κs = capped-small _ (c .before .before .before .before .before .before .before .before .before .before .before .before .capped-time .ensures)
-
-add-b : tie.Need-add-b Inv-loop μ-loop
-add-b c = search needs
 
 loop-less : tie.Need-loop-less Inv-loop μ-loop
 loop-less c = omega arith
@@ -70,13 +58,13 @@ find-winner-spec =
     (tie.spec
     Inv-loop
     μ-loop
-    capped-time-requires
-    add-blocks
+    (λ c κs. search needs)
+    (λ c. search needs)
     loop-holds
-    at64-requires
+    (λ c κs. search needs)
     pass-block-requires
     limit-of-requires
-    add-b
+    (λ c. search needs)
     loop-less
     loop-again
     same-length

@@ -6,9 +6,6 @@ use borrow.Author.Needs.{needs}
 use Rattle.plan_winner.proofs.limit_of.Statement.{statement}
 use Rattle.plan_winner.proofs.limit_of.Tie as tie
 
-enum-known-best : tie.Need-enum-known-best
-enum-known-best c = search needs
-
 enum-told : tie.Need-enum-told
 enum-told c = search needs
 
@@ -16,12 +13,6 @@ enum-told c = search needs
 returns : tie.Need-returns
 unfolding limitOf winnerIn
 returns c = rw (c .enum-told .given .1)
-
-add-result : tie.Need-add-result
-add-result c = search needs
-
-mul-result : tie.Need-mul-result
-mul-result c = search needs
 
 -- the sum fits
 returns-2 : tie.Need-returns-2
@@ -36,4 +27,4 @@ returns-3 c = rw (c .before .before .best .given .1, le-ltb _ _ (c .if1 .left))
 pub limit-of-spec : {M : Type 1} → statement M
 limit-of-spec =
     tie.close
-    (tie.spec enum-known-best enum-told returns add-result mul-result returns-2 returns-3)
+    (tie.spec (λ c. search needs) enum-told returns (λ c. search needs) (λ c. search needs) returns-2 returns-3)

@@ -6,33 +6,6 @@ use borrow.Author.Needs.{needs}
 use Rattle.plan_winner.proofs.look.Statement.{statement}
 use Rattle.plan_winner.proofs.look.Tie as tie
 
-at32-requires : tie.Need-at32-requires
-at32-requires c κs = search needs
-
-index32-requires : tie.Need-index32-requires
-index32-requires c κs = search needs
-
-at32-requires-2 : tie.Need-at32-requires-2
-at32-requires-2 c κs = search needs
-
-index32-requires-2 : tie.Need-index32-requires-2
-index32-requires-2 c κs = search needs
-
-at32-requires-3 : tie.Need-at32-requires-3
-at32-requires-3 c κs = search needs
-
-key-between-requires : tie.Need-key-between-requires
-key-between-requires c κs = search needs
-
-put64-requires : tie.Need-put64-requires
-put64-requires c κs = search needs
-
-delay-between-requires : tie.Need-delay-between-requires
-delay-between-requires c κs = search needs
-
-better-of-requires : tie.Need-better-of-requires
-better-of-requires c κs = search needs
-
 same-length : tie.Need-same-length
 same-length c = c .before .before .before .keys .given
 
@@ -48,14 +21,14 @@ pub look-spec : {M : Type 1} → statement M
 look-spec =
     tie.close
     (tie.spec
-    at32-requires
-    index32-requires
-    at32-requires-2
-    index32-requires-2
-    at32-requires-3
-    key-between-requires
-    put64-requires
-    delay-between-requires
-    better-of-requires
+    (λ c κs. search needs)
+    (λ c κs. search needs)
+    (λ c κs. search needs)
+    (λ c κs. search needs)
+    (λ c κs. search needs)
+    (λ c κs. search needs)
+    (λ c κs. search needs)
+    (λ c κs. search needs)
+    (λ c κs. search needs)
     same-length
     returns)

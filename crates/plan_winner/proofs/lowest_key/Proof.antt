@@ -18,12 +18,6 @@ abbrev μ-loop : tie.MeasureT-loop
 loop-holds : tie.Need-loop-holds Inv-loop μ-loop
 loop-holds c = (omega arith, omega arith, lowest-key-none _ _)
 
-at64-requires : tie.Need-at64-requires Inv-loop μ-loop
-at64-requires c κs = search needs
-
-add-e : tie.Need-add-e Inv-loop μ-loop
-add-e c = search needs
-
 loop-less : tie.Need-loop-less Inv-loop μ-loop
 loop-less c = omega arith
 
@@ -40,4 +34,4 @@ returns c = lowest-key-end _ _ _ _ (c .before .loop .inv .0) (c .before .loop .i
 pub lowest-key-spec : {M : Type 1} → statement M
 lowest-key-spec =
     tie.close
-    (tie.spec Inv-loop μ-loop loop-holds at64-requires add-e loop-less loop-again returns)
+    (tie.spec Inv-loop μ-loop loop-holds (λ c κs. search needs) (λ c. search needs) loop-less loop-again returns)

@@ -8,26 +8,11 @@ use borrow.Author.Needs.{needs}
 use Rattle.plan_winner.proofs.pass_block.Statement.{statement}
 use Rattle.plan_winner.proofs.pass_block.Tie as tie
 
-mul-from : tie.Need-mul-from
-mul-from c = search needs
-
-block-size-requires : tie.Need-block-size-requires
-block-size-requires c κs = search needs
-
 add-to : tie.Need-add-to
 add-to c =
     let f = size-fits (length (c .before .before .before .before .before .before .before .before .before .args .firsts .now)) (c .before .before .before .before .before .before .before .before .before .args .b) (c .before .before .before .before .before .before .before .before .before .pre .1) in
     let e = c .block-size .ensures in
     omega arith
-
-scan-block-requires : tie.Need-scan-block-requires
-scan-block-requires c κs = search needs
-
-lowest-key-requires : tie.Need-lowest-key-requires
-lowest-key-requires c κs = search needs
-
-put64-requires : tie.Need-put64-requires
-put64-requires c κs = search needs
 
 -- keys
 same-length : tie.Need-same-length
@@ -51,12 +36,12 @@ pub pass-block-spec : {M : Type 1} → statement M
 pass-block-spec =
     tie.close
     (tie.spec
-    mul-from
-    block-size-requires
+    (λ c. search needs)
+    (λ c κs. search needs)
     add-to
-    scan-block-requires
-    lowest-key-requires
-    put64-requires
+    (λ c κs. search needs)
+    (λ c κs. search needs)
+    (λ c κs. search needs)
     same-length
     same-length-2
     returns)

@@ -18,23 +18,8 @@ abbrev μ-loop : tie.MeasureT-loop
 μ-loop firsts seconds weights labels loads flags time keys₀ from to winner₀ limit₀ e₀ keys winner limit e =
     to - e
 
-limit-of-requires : tie.Need-limit-of-requires Inv-loop μ-loop
-limit-of-requires c κs = search needs
-
 loop-holds : tie.Need-loop-holds Inv-loop μ-loop
 loop-holds c = scanning-start _ _ _ _ _ _ (c .limit-of .ensures)
-
-at64-requires : tie.Need-at64-requires Inv-loop μ-loop
-at64-requires c κs = search needs
-
-look-requires : tie.Need-look-requires Inv-loop μ-loop
-look-requires c κs = search needs
-
-limit-of-requires-2 : tie.Need-limit-of-requires-2 Inv-loop μ-loop
-limit-of-requires-2 c κs = search needs
-
-add-e : tie.Need-add-e Inv-loop μ-loop
-add-e c = search needs
 
 loop-less : tie.Need-loop-less Inv-loop μ-loop
 loop-less c = omega arith
@@ -58,12 +43,12 @@ scan-block-spec =
     (tie.spec
     Inv-loop
     μ-loop
-    limit-of-requires
+    (λ c κs. search needs)
     loop-holds
-    at64-requires
-    look-requires
-    limit-of-requires-2
-    add-e
+    (λ c κs. search needs)
+    (λ c κs. search needs)
+    (λ c κs. search needs)
+    (λ c. search needs)
     loop-less
     loop-again
     same-length

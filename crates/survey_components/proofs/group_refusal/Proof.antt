@@ -12,21 +12,12 @@ use borrow.Author.Needs.{needs}
 use Rattle.survey_components.proofs.group_refusal.Statement.{statement}
 use Rattle.survey_components.proofs.group_refusal.Tie as tie
 
-survey-refusal-requires : tie.Need-survey-refusal-requires
-survey-refusal-requires c κs = search needs
-
 enum-told : tie.Need-enum-told
 enum-told c = search needs
-
-enum-told-2 : tie.Need-enum-told-2
-enum-told-2 c = search needs
 
 -- 1 to 6
 returns : tie.Need-returns
 returns c = passed-on (c .before .before .survey-refusal .ensures) (c .enum-told2 .given .1) _
-
-slice-aggregate-label-components : tie.Need-slice-aggregate-label-components
-slice-aggregate-label-components c = search needs
 
 label-components-requires : tie.Need-label-components-requires
 label-components-requires c κs =
@@ -41,9 +32,6 @@ label-components-requires c κs =
 slice-aggregate-split-refusal : tie.Need-slice-aggregate-split-refusal
 slice-aggregate-split-refusal c = sym (ap length (c .before .before .label-components .ensures) ∙ length-tabulate maxVertices _)
 
-split-refusal-requires : tie.Need-split-refusal-requires
-split-refusal-requires c κs = search needs
-
 -- a group, or nothing
 returns-2 : tie.Need-returns-2
 returns-2 c =
@@ -57,12 +45,12 @@ pub group-refusal-spec : {M : Type 1} → statement M
 group-refusal-spec =
     tie.close
     (tie.spec
-    survey-refusal-requires
+    (λ c κs. search needs)
     enum-told
-    enum-told-2
+    (λ c. search needs)
     returns
-    slice-aggregate-label-components
+    (λ c. search needs)
     label-components-requires
     slice-aggregate-split-refusal
-    split-refusal-requires
+    (λ c κs. search needs)
     returns-2)

@@ -7,12 +7,6 @@ use Rattle.survey_components.proofs.is_chosen.Tie as tie
 enum-told : tie.Need-enum-told
 enum-told c = search needs
 
-enum-told-2 : tie.Need-enum-told-2
-enum-told-2 c = search needs
-
-is-kept-requires : tie.Need-is-kept-requires
-is-kept-requires c κs = search needs
-
 returns : tie.Need-returns
 unfolding chosenMark
 returns c = rw (c .enum-told .given .1)
@@ -22,4 +16,4 @@ unfolding chosenMark
 returns-2 c = rw (c .before .enum-told2 .given .1) (c .is-kept .ensures)
 
 pub is-chosen-spec : {M : Type 1} → statement M
-is-chosen-spec = tie.close (tie.spec enum-told enum-told-2 is-kept-requires returns returns-2)
+is-chosen-spec = tie.close (tie.spec enum-told (λ c. search needs) (λ c κs. search needs) returns returns-2)

@@ -5,29 +5,8 @@ use borrow.Author.Needs.{needs}
 use Rattle.survey_components.proofs.join_ends.Statement.{statement}
 use Rattle.survey_components.proofs.join_ends.Tie as tie
 
-index32-requires : tie.Need-index32-requires
-index32-requires c κs = search needs
-
-at32-requires : tie.Need-at32-requires
-at32-requires c κs = search needs
-
-index32-requires-2 : tie.Need-index32-requires-2
-index32-requires-2 c κs = search needs
-
-at32-requires-2 : tie.Need-at32-requires-2
-at32-requires-2 c κs = search needs
-
-same-length : tie.Need-same-length
-same-length c = search needs
-
 returns : tie.Need-returns
 returns c = joined-already (c .before .before .before .before .before .before .before .before .args .first) (c .before .before .before .before .before .before .before .before .args .second) (c .before .before .before .before .before .before .before .before .args .labels .now) (rw (← c .before .before .before .before .before .index32 .ensures, ← c .before .before .index322 .ensures, ← c .before .before .before .before .at32 .ensures, ← c .before .at322 .ensures) (c .if1 .taken))
-
-relabel-requires : tie.Need-relabel-requires
-relabel-requires c κs = search needs
-
-same-length-2 : tie.Need-same-length-2
-same-length-2 c = search needs
 
 returns-2 : tie.Need-returns-2
 unfolding endsJoined
@@ -37,12 +16,12 @@ pub join-ends-spec : {M : Type 1} → statement M
 join-ends-spec =
     tie.close
     (tie.spec
-    index32-requires
-    at32-requires
-    index32-requires-2
-    at32-requires-2
-    same-length
+    (λ c κs. search needs)
+    (λ c κs. search needs)
+    (λ c κs. search needs)
+    (λ c κs. search needs)
+    (λ c. search needs)
     returns
-    relabel-requires
-    same-length-2
+    (λ c κs. search needs)
+    (λ c. search needs)
     returns-2)

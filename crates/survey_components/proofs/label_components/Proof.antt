@@ -21,18 +21,9 @@ Inv-loop set firsts seconds marks labels₀ e₀ labels e =
 abbrev μ-loop : tie.MeasureT-loop
 μ-loop set firsts seconds marks labels₀ e₀ labels e = length firsts - e
 
-own-labels-requires : tie.Need-own-labels-requires Inv-loop μ-loop
-own-labels-requires c κs = search needs
-
 loop-holds : tie.Need-loop-holds Inv-loop μ-loop
 loop-holds c =
     (omega arith, c .before .before .own-labels .ensures ∙ remade-table (λ v x. v) maxVertices _ (λ v. v) (c .before .before .before .before .before .before .before .before .pre .long) (λ v b. refl) ∙ components-none _ _ _ _ maxVertices)
-
-join-edge-requires : tie.Need-join-edge-requires Inv-loop μ-loop
-join-edge-requires c κs = search needs
-
-add-e : tie.Need-add-e Inv-loop μ-loop
-add-e c = search needs
 
 loop-less : tie.Need-loop-less Inv-loop μ-loop
 loop-less c = omega arith
@@ -55,10 +46,10 @@ label-components-spec =
     (tie.spec
     Inv-loop
     μ-loop
-    own-labels-requires
+    (λ c κs. search needs)
     loop-holds
-    join-edge-requires
-    add-e
+    (λ c κs. search needs)
+    (λ c. search needs)
     loop-less
     loop-again
     same-length

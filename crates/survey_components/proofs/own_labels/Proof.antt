@@ -23,9 +23,6 @@ loop-holds c = (omega arith, refl)
 cast-put32 : tie.Need-cast-put32 Inv-loop μ-loop
 cast-put32 c = omega arith
 
-put32-requires : tie.Need-put32-requires Inv-loop μ-loop
-put32-requires c κs = search needs
-
 add-v : tie.Need-add-v Inv-loop μ-loop
 add-v c = omega arith
 
@@ -49,7 +46,7 @@ own-labels-spec =
     μ-loop
     loop-holds
     cast-put32
-    put32-requires
+    (λ c κs. search needs)
     add-v
     loop-less
     loop-again

@@ -22,15 +22,6 @@ loop-holds : tie.Need-loop-holds Inv-loop μ-loop
 unfolding remade
 loop-holds c = (omega arith, refl, refl)
 
-at32-requires : tie.Need-at32-requires Inv-loop μ-loop
-at32-requires c κs = search needs
-
-merged-label-requires : tie.Need-merged-label-requires Inv-loop μ-loop
-merged-label-requires c κs = search needs
-
-put32-requires : tie.Need-put32-requires Inv-loop μ-loop
-put32-requires c κs = search needs
-
 add-v : tie.Need-add-v Inv-loop μ-loop
 add-v c = omega arith
 
@@ -55,9 +46,9 @@ relabel-spec =
     Inv-loop
     μ-loop
     loop-holds
-    at32-requires
-    merged-label-requires
-    put32-requires
+    (λ c κs. search needs)
+    (λ c κs. search needs)
+    (λ c κs. search needs)
     add-v
     loop-less
     loop-again

@@ -6,21 +6,9 @@ use Rattle.survey_core.specs.Laws.Refusal.{edge-first-out, edge-second-o
 use Rattle.survey_core.proofs.edge_refusal.Statement.{statement}
 use Rattle.survey_core.proofs.edge_refusal.Tie as tie
 
-at32-requires : tie.Need-at32-requires
-at32-requires c κs = search needs
-
-at32-requires-2 : tie.Need-at32-requires-2
-at32-requires-2 c κs = search needs
-
-index32-requires : tie.Need-index32-requires
-index32-requires c κs = search needs
-
 -- 4: the first end
 returns : tie.Need-returns
 returns c = sym (edge-first-out _ _ (omega arith))
-
-index32-requires-2 : tie.Need-index32-requires-2
-index32-requires-2 c κs = search needs
 
 -- 4: the second end
 returns-2 : tie.Need-returns-2
@@ -29,9 +17,6 @@ returns-2 c = sym (edge-second-out _ _ (omega arith) (omega arith))
 -- 5
 returns-3 : tie.Need-returns-3
 returns-3 c = sym (edge-loop _ _ (omega arith) (omega arith))
-
-at32-requires-3 : tie.Need-at32-requires-3
-at32-requires-3 c κs = search needs
 
 -- 6
 returns-4 : tie.Need-returns-4
@@ -45,13 +30,13 @@ pub edge-refusal-spec : {M : Type 1} → statement M
 edge-refusal-spec =
     tie.close
     (tie.spec
-    at32-requires
-    at32-requires-2
-    index32-requires
+    (λ c κs. search needs)
+    (λ c κs. search needs)
+    (λ c κs. search needs)
     returns
-    index32-requires-2
+    (λ c κs. search needs)
     returns-2
     returns-3
-    at32-requires-3
+    (λ c κs. search needs)
     returns-4
     returns-5)

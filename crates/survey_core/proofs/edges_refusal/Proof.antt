@@ -17,14 +17,8 @@ abbrev μ-loop : tie.MeasureT-loop
 loop-holds : tie.Need-loop-holds Inv-loop μ-loop
 loop-holds c = scan-start _ _
 
-edge-refusal-requires : tie.Need-edge-refusal-requires Inv-loop μ-loop
-edge-refusal-requires c κs = search needs
-
 enum-told : tie.Need-enum-told Inv-loop μ-loop
 enum-told c = search needs
-
-enum-told-2 : tie.Need-enum-told-2 Inv-loop μ-loop
-enum-told-2 c = search needs
 
 -- 4, 5 or 6
 returns : tie.Need-returns Inv-loop μ-loop
@@ -32,12 +26,6 @@ unfolding edgeCount
 returns c =
     let at = c .before .before .before in
     scan-found (at .before .loop .inv) (at .loop-test .taken) (c .before .before .edge-refusal .ensures) (c .enum-told2 .given .1)
-
-add-e : tie.Need-add-e Inv-loop μ-loop
-add-e c = search needs
-
-loop-less : tie.Need-loop-less Inv-loop μ-loop
-loop-less c = search needs
 
 loop-again : tie.Need-loop-again Inv-loop μ-loop
 loop-again c =
@@ -56,11 +44,11 @@ edges-refusal-spec =
     Inv-loop
     μ-loop
     loop-holds
-    edge-refusal-requires
+    (λ c κs. search needs)
     enum-told
-    enum-told-2
+    (λ c. search needs)
     returns
-    add-e
-    loop-less
+    (λ c. search needs)
+    (λ c. search needs)
     loop-again
     returns-2)

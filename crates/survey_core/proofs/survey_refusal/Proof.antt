@@ -26,9 +26,6 @@ returns-4 c = sym (survey-uneven _ (omega (arith, c .before .before .before .if1
 returns-5 : tie.Need-returns-5
 returns-5 c = sym (survey-many _ (omega (arith, c .before .before .before .before .if1 .left)) (omega arith) (omega arith) (omega arith) (omega arith))
 
-edges-refusal-requires : tie.Need-edges-refusal-requires
-edges-refusal-requires c κs = search needs
-
 -- 4 to 6 or nothing
 returns-6 : tie.Need-returns-6
 returns-6 c =
@@ -38,4 +35,4 @@ returns-6 c =
 pub survey-refusal-spec : {M : Type 1} → statement M
 survey-refusal-spec =
     tie.close
-    (tie.spec returns returns-2 returns-3 returns-4 returns-5 edges-refusal-requires returns-6)
+    (tie.spec returns returns-2 returns-3 returns-4 returns-5 (λ c κs. search needs) returns-6)

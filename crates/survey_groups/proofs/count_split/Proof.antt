@@ -20,27 +20,12 @@ loop-holds : tie.Need-loop-holds Inv-loop μ-loop
 unfolding countBelow Rattle.base_finite.specs.Below.sumBelow
 loop-holds c = (omega arith, refl)
 
-at8-requires : tie.Need-at8-requires Inv-loop μ-loop
-at8-requires c κs = search needs
-
-index8-requires : tie.Need-index8-requires Inv-loop μ-loop
-index8-requires c κs = search needs
-
-at64-requires : tie.Need-at64-requires Inv-loop μ-loop
-at64-requires c κs = search needs
-
-one-if-split-requires : tie.Need-one-if-split-requires Inv-loop μ-loop
-one-if-split-requires c κs = search needs
-
 step : (c : tie.After-one-if-split Inv-loop μ-loop)
     → c .one-if-split .result ≡ counted (eqb (getD (c .before .before .before .before .before .before .before .before .args .table .now) (getD (c .before .before .before .before .before .before .before .before .args .groups .now) (c .before .before .before .before .before .loop .v) 0) 0) 1) 1
 step c = rw (← c .before .before .before .at8 .ensures, ← c .before .before .index8 .ensures, ← c .before .at64 .ensures) (c .one-if-split .ensures)
 
 add-count : tie.Need-add-count Inv-loop μ-loop
 add-count c = let b = count-bound _ _ (c .before .before .before .before .before .loop .inv .1) (step c) in omega arith
-
-add-v : tie.Need-add-v Inv-loop μ-loop
-add-v c = search needs
 
 loop-less : tie.Need-loop-less Inv-loop μ-loop
 loop-less c = omega arith
@@ -58,12 +43,12 @@ count-split-spec =
     Inv-loop
     μ-loop
     loop-holds
-    at8-requires
-    index8-requires
-    at64-requires
-    one-if-split-requires
+    (λ c κs. search needs)
+    (λ c κs. search needs)
+    (λ c κs. search needs)
+    (λ c κs. search needs)
     add-count
-    add-v
+    (λ c. search needs)
     loop-less
     loop-again
     returns)

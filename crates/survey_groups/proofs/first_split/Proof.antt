@@ -20,21 +20,12 @@ abbrev μ-loop : tie.MeasureT-loop
 loop-holds : tie.Need-loop-holds Inv-loop μ-loop
 loop-holds c = scan-start _ _
 
-at64-requires : tie.Need-at64-requires Inv-loop μ-loop
-at64-requires c κs = search needs
-
 -- a split group
 returns : tie.Need-returns Inv-loop μ-loop
 returns c =
     let at = c .before .before in
     let split = refuse-true (eq-eqb _ 1 (sym (c .before .at64 .ensures) ∙ c .if1 .taken)) _ _ in
     scan-found (at .before .loop .inv) (at .loop-test .taken) (sym split) refl
-
-add-g : tie.Need-add-g Inv-loop μ-loop
-add-g c = search needs
-
-loop-less : tie.Need-loop-less Inv-loop μ-loop
-loop-less c = search needs
 
 loop-again : tie.Need-loop-again Inv-loop μ-loop
 loop-again c =
@@ -53,9 +44,9 @@ first-split-spec =
     Inv-loop
     μ-loop
     loop-holds
-    at64-requires
+    (λ c κs. search needs)
     returns
-    add-g
-    loop-less
+    (λ c. search needs)
+    (λ c. search needs)
     loop-again
     returns-2)

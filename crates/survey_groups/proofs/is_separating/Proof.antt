@@ -7,14 +7,8 @@ use Rattle.survey_groups.specs.Laws.Cut.{whole-separates-none, parted-se
 use Rattle.survey_groups.proofs.is_separating.Statement.{statement}
 use Rattle.survey_groups.proofs.is_separating.Tie as tie
 
-split-refusal-requires : tie.Need-split-refusal-requires
-split-refusal-requires c κs = search needs
-
 enum-told : tie.Need-enum-told
 enum-told c = search needs
-
-enum-told-2 : tie.Need-enum-told-2
-enum-told-2 c = search needs
 
 -- no group is split
 returns : tie.Need-returns
@@ -32,4 +26,4 @@ returns-2 c S sides =
     (sym (c .before .before .split-refusal .ensures) ∙ c .enum-told2 .given .1))
 
 pub is-separating-spec : {M : Type 1} → statement M
-is-separating-spec = tie.close (tie.spec split-refusal-requires enum-told enum-told-2 returns returns-2)
+is-separating-spec = tie.close (tie.spec (λ c κs. search needs) enum-told (λ c. search needs) returns returns-2)

@@ -9,18 +9,6 @@ returns : tie.Need-returns
 unfolding notedIn
 returns c = rw (eq-eqb (c .before .before .args .group) 0 (c .if1 .taken))
 
-index8-requires : tie.Need-index8-requires
-index8-requires c κs = search needs
-
-at64-requires : tie.Need-at64-requires
-at64-requires c κs = search needs
-
-noted-label-requires : tie.Need-noted-label-requires
-noted-label-requires c κs = search needs
-
-put64-requires : tie.Need-put64-requires
-put64-requires c κs = search needs
-
 same-length : tie.Need-same-length
 same-length c = c .before .before .put64 .kept .0
 
@@ -33,9 +21,9 @@ note-spec =
     tie.close
     (tie.spec
     returns
-    index8-requires
-    at64-requires
-    noted-label-requires
-    put64-requires
+    (λ c κs. search needs)
+    (λ c κs. search needs)
+    (λ c κs. search needs)
+    (λ c κs. search needs)
     same-length
     returns-2)

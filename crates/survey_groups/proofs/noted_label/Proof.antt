@@ -6,19 +6,10 @@ use borrow.Author.Needs.{needs}
 use Rattle.survey_groups.proofs.noted_label.Statement.{statement}
 use Rattle.survey_groups.proofs.noted_label.Tie as tie
 
-add-result : tie.Need-add-result
-add-result c = search needs
-
 -- the first member
 returns : tie.Need-returns
 unfolding noted
 returns c = rw (eq-eqb (c .before .args .summary) 0 (c .if1 .taken))
-
-add-if2 : tie.Need-add-if2
-add-if2 c = search needs
-
-add-result-2 : tie.Need-add-result-2
-add-result-2 c = search needs
 
 -- the same label again
 returns-2 : tie.Need-returns-2
@@ -31,4 +22,4 @@ unfolding noted
 returns-3 c = rw (ne-eqb (c .before .before .args .summary) 0 (c .before .if1 .left), ne-eqb (c .before .before .args .summary) _ (c .if2 .left))
 
 pub noted-label-spec : {M : Type 1} → statement M
-noted-label-spec = tie.close (tie.spec add-result returns add-if2 add-result-2 returns-2 returns-3)
+noted-label-spec = tie.close (tie.spec (λ c. search needs) returns (λ c. search needs) (λ c. search needs) returns-2 returns-3)

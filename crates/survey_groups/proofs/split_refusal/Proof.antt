@@ -9,14 +9,8 @@ use borrow.Author.Needs.{needs}
 use Rattle.survey_groups.proofs.split_refusal.Statement.{statement}
 use Rattle.survey_groups.proofs.split_refusal.Tie as tie
 
-spreads-requires : tie.Need-spreads-requires
-spreads-requires c κs = search needs
-
 slice-aggregate-first-split : tie.Need-slice-aggregate-first-split
 slice-aggregate-first-split c = sym (ap length (c .before .spreads .ensures) ∙ length-tabulate groupNumbers _)
-
-first-split-requires : tie.Need-first-split-requires
-first-split-requires c κs = search needs
 
 returns : tie.Need-returns
 unfolding vertexCount
@@ -24,4 +18,4 @@ returns c = c .first-split .ensures ∙ split-lowest _ _ (c .before .before .spr
 
 pub split-refusal-spec : {M : Type 1} → statement M
 split-refusal-spec =
-    tie.close (tie.spec spreads-requires slice-aggregate-first-split first-split-requires returns)
+    tie.close (tie.spec (λ c κs. search needs) slice-aggregate-first-split (λ c κs. search needs) returns)

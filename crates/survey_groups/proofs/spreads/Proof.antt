@@ -27,20 +27,8 @@ loop-holds c = (omega arith, replicate-table groupNumbers 0 ∙ spread-none _ _)
 slice-aggregate-note : tie.Need-slice-aggregate-note Inv-loop μ-loop
 slice-aggregate-note c = sym (ap length (c .before .before .loop .inv .1) ∙ length-tabulate groupNumbers _)
 
-at8-requires : tie.Need-at8-requires Inv-loop μ-loop
-at8-requires c κs = search needs
-
-at32-requires : tie.Need-at32-requires Inv-loop μ-loop
-at32-requires c κs = search needs
-
-wide32-requires : tie.Need-wide32-requires Inv-loop μ-loop
-wide32-requires c κs = search needs
-
 note-requires : tie.Need-note-requires Inv-loop μ-loop
 note-requires c κs = omega arith
-
-add-v : tie.Need-add-v Inv-loop μ-loop
-add-v c = search needs
 
 loop-less : tie.Need-loop-less Inv-loop μ-loop
 loop-less c = omega arith
@@ -60,11 +48,11 @@ spreads-spec =
     μ-loop
     loop-holds
     slice-aggregate-note
-    at8-requires
-    at32-requires
-    wide32-requires
+    (λ c κs. search needs)
+    (λ c κs. search needs)
+    (λ c κs. search needs)
     note-requires
-    add-v
+    (λ c. search needs)
     loop-less
     loop-again
     returns)

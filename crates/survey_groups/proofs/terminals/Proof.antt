@@ -10,14 +10,8 @@ use borrow.Author.Needs.{needs}
 use Rattle.survey_groups.proofs.terminals.Statement.{statement}
 use Rattle.survey_groups.proofs.terminals.Tie as tie
 
-own-spreads-requires : tie.Need-own-spreads-requires
-own-spreads-requires c κs = search needs
-
 slice-aggregate-count-split : tie.Need-slice-aggregate-count-split
 slice-aggregate-count-split c = sym (ap length (c .before .own-spreads .ensures) ∙ length-tabulate groupNumbers _)
-
-count-split-requires : tie.Need-count-split-requires
-count-split-requires c κs = search needs
 
 returns : tie.Need-returns
 unfolding vertexCount
@@ -27,4 +21,4 @@ returns c =
 pub terminals-spec : {M : Type 1} → statement M
 terminals-spec =
     tie.close
-    (tie.spec own-spreads-requires slice-aggregate-count-split count-split-requires returns)
+    (tie.spec (λ c κs. search needs) slice-aggregate-count-split (λ c κs. search needs) returns)

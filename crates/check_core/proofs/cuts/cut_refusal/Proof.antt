@@ -9,15 +9,6 @@ use Rattle.survey_groups.specs.Laws.Cut.{sides-table}
 use Rattle.check_core.proofs.cuts.cut_refusal.Statement.{statement}
 use Rattle.check_core.proofs.cuts.cut_refusal.Tie as tie
 
-sides-requires : tie.Need-sides-requires
-sides-requires c κs = search needs
-
-slice-aggregate-is-separating : tie.Need-slice-aggregate-is-separating
-slice-aggregate-is-separating c = search needs
-
-is-separating-requires : tie.Need-is-separating-requires
-is-separating-requires c κs = search needs
-
 -- some group has members on both sides
 returns : tie.Need-returns
 returns c =
@@ -37,4 +28,4 @@ returns-2 c =
 pub cut-refusal-spec : {M : Type 1} → statement M
 cut-refusal-spec =
     tie.close
-    (tie.spec sides-requires slice-aggregate-is-separating is-separating-requires returns returns-2)
+    (tie.spec (λ c κs. search needs) (λ c. search needs) (λ c κs. search needs) returns returns-2)

@@ -23,17 +23,11 @@ abbrev μ-loop : tie.MeasureT-loop
 loop-holds : tie.Need-loop-holds Inv-loop μ-loop
 loop-holds c = scan-start _ _
 
-record-requires : tie.Need-record-requires Inv-loop μ-loop
-record-requires c κs = search needs
-
 cut-refusal-requires : tie.Need-cut-refusal-requires Inv-loop μ-loop
 cut-refusal-requires c κs = c .before .before .before .before .before .pre
 
 enum-told : tie.Need-enum-told Inv-loop μ-loop
 enum-told c = search needs
-
-enum-told-2 : tie.Need-enum-told-2 Inv-loop μ-loop
-enum-told-2 c = search needs
 
 -- 12
 returns : tie.Need-returns Inv-loop μ-loop
@@ -43,12 +37,6 @@ returns c =
     let p = problemOf (groupsAlone (at .before .before .before .before .args .groups .now)) in
     let is = c .before .before .cut-refusal .ensures ∙ ap (λ part. refuseIf (not (separates p (memberIn part))) 12 (at .before .loop .i)) (c .before .before .before .«record» .ensures) in
     scan-found (at .before .loop .inv) (at .loop-test .taken) is (c .enum-told2 .given .1)
-
-add-i : tie.Need-add-i Inv-loop μ-loop
-add-i c = search needs
-
-loop-less : tie.Need-loop-less Inv-loop μ-loop
-loop-less c = search needs
 
 loop-again : tie.Need-loop-again Inv-loop μ-loop
 unfolding dualAt
@@ -69,12 +57,12 @@ cuts-refusal-spec =
     Inv-loop
     μ-loop
     loop-holds
-    record-requires
+    (λ c κs. search needs)
     cut-refusal-requires
     enum-told
-    enum-told-2
+    (λ c. search needs)
     returns
-    add-i
-    loop-less
+    (λ c. search needs)
+    (λ c. search needs)
     loop-again
     returns-2)

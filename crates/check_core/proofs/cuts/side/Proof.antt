@@ -5,9 +5,6 @@ use Rattle.base_finite.specs.Laws.Below.{counted-true, counted-false}
 use Rattle.check_core.proofs.cuts.side.Statement.{statement}
 use Rattle.check_core.proofs.cuts.side.Tie as tie
 
-member-requires : tie.Need-member-requires
-member-requires c κs = search needs
-
 -- inside
 returns : tie.Need-returns
 returns c = sym (counted-true (sym (c .before .member .ensures) ∙ c .if1 .taken) 1)
@@ -17,4 +14,4 @@ returns-2 : tie.Need-returns-2
 returns-2 c = sym (counted-false (sym (c .before .member .ensures) ∙ c .if1 .left) 1)
 
 pub side-spec : {M : Type 1} → statement M
-side-spec = tie.close (tie.spec member-requires returns returns-2)
+side-spec = tie.close (tie.spec (λ c κs. search needs) returns returns-2)

@@ -22,21 +22,6 @@ loop-holds : tie.Need-loop-holds Inv-loop μ-loop
 unfolding remade
 loop-holds c = (omega arith, refl)
 
-side-requires : tie.Need-side-requires Inv-loop μ-loop
-side-requires c κs = search needs
-
-mul-labels : tie.Need-mul-labels Inv-loop μ-loop
-mul-labels c = search needs
-
-array-write-labels : tie.Need-array-write-labels Inv-loop μ-loop
-array-write-labels c = search needs
-
-add-v : tie.Need-add-v Inv-loop μ-loop
-add-v c = search needs
-
-loop-less : tie.Need-loop-less Inv-loop μ-loop
-loop-less c = search needs
-
 loop-again : tie.Need-loop-again Inv-loop μ-loop
 loop-again c = (omega arith, remade-more _ _ _ _ _ (c .before .before .loop .inv .1) (c .side .ensures))
 
@@ -50,10 +35,10 @@ sides-spec =
     Inv-loop
     μ-loop
     loop-holds
-    side-requires
-    mul-labels
-    array-write-labels
-    add-v
-    loop-less
+    (λ c κs. search needs)
+    (λ c. search needs)
+    (λ c. search needs)
+    (λ c. search needs)
+    (λ c. search needs)
     loop-again
     returns)

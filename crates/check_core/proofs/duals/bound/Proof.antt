@@ -24,21 +24,9 @@ loop-holds : tie.Need-loop-holds Inv-loop μ-loop
 unfolding sumBelow
 loop-holds c = (omega arith, refl)
 
-record-requires : tie.Need-record-requires Inv-loop μ-loop
-record-requires c κs = search needs
-
-value-requires : tie.Need-value-requires Inv-loop μ-loop
-value-requires c κs = search needs
-
 add-sum : tie.Need-add-sum Inv-loop μ-loop
 unfolding counted
 add-sum c = omega (arith, weighed-fits (c .before .before .before .before .before .args .records .now) (c .before .before .before .before .before .pre) (λ S. true) (c .before .before .before .loop .i) (omega arith) (c .before .before .before .loop .inv .1) (c .value .ensures ∙ ap valueIn (c .before .«record» .ensures)))
-
-add-i : tie.Need-add-i Inv-loop μ-loop
-add-i c = search needs
-
-loop-less : tie.Need-loop-less Inv-loop μ-loop
-loop-less c = search needs
 
 loop-again : tie.Need-loop-again Inv-loop μ-loop
 unfolding counted
@@ -55,10 +43,10 @@ bound-spec =
     Inv-loop
     μ-loop
     loop-holds
-    record-requires
-    value-requires
+    (λ c κs. search needs)
+    (λ c κs. search needs)
     add-sum
-    add-i
-    loop-less
+    (λ c. search needs)
+    (λ c. search needs)
     loop-again
     returns)

@@ -6,15 +6,6 @@ use Rattle.base_finite.specs.Laws.Below.{counted-true, counted-false}
 use Rattle.check_core.proofs.duals.crossing_value.Statement.{statement}
 use Rattle.check_core.proofs.duals.crossing_value.Tie as tie
 
-member-requires : tie.Need-member-requires
-member-requires c κs = search needs
-
-member-requires-2 : tie.Need-member-requires-2
-member-requires-2 c κs = search needs
-
-value-requires : tie.Need-value-requires
-value-requires c κs = search needs
-
 returns : tie.Need-returns
 unfolding xor
 returns c = c .value .ensures ∙ sym (counted-true (sym (ap₂ xor (c .before .before .before .member .ensures) (c .before .before .member2 .ensures)) ∙ c .before .if1 .taken) _)
@@ -25,4 +16,4 @@ returns-2 c = sym (counted-false (sym (ap₂ xor (c .before .before .member .ens
 
 pub crossing-value-spec : {M : Type 1} → statement M
 crossing-value-spec =
-    tie.close (tie.spec member-requires member-requires-2 value-requires returns returns-2)
+    tie.close (tie.spec (λ c κs. search needs) (λ c κs. search needs) (λ c κs. search needs) returns returns-2)

@@ -6,9 +6,6 @@ use Rattle.check_rule.specs.Laws.Refusal.{dual-zero, dual-large, dual-stray, du
 use Rattle.check_core.proofs.duals.dual_refusal.Statement.{statement}
 use Rattle.check_core.proofs.duals.dual_refusal.Tie as tie
 
-value-requires : tie.Need-value-requires
-value-requires c κs = search needs
-
 -- 11: value 0
 returns : tie.Need-returns
 returns c = sym (dual-zero _ _ _ (sym (c .before .value .ensures) ∙ c .if1 .taken))
@@ -16,9 +13,6 @@ returns c = sym (dual-zero _ _ _ (sym (c .before .value .ensures) ∙ c .if1 .ta
 -- 11: too large a value
 returns-2 : tie.Need-returns-2
 returns-2 c = sym (dual-large _ _ _ (omega (arith, c .before .before .value .ensures)))
-
-has-stray-requires : tie.Need-has-stray-requires
-has-stray-requires c κs = search needs
 
 -- 11: a member that is no vertex
 returns-3 : tie.Need-returns-3
@@ -30,4 +24,4 @@ returns-4 c = sym (dual-fine _ _ _ (λ e. c .before .before .before .if1 .left (
 
 pub dual-refusal-spec : {M : Type 1} → statement M
 dual-refusal-spec =
-    tie.close (tie.spec value-requires returns returns-2 has-stray-requires returns-3 returns-4)
+    tie.close (tie.spec (λ c κs. search needs) returns returns-2 (λ c κs. search needs) returns-3 returns-4)

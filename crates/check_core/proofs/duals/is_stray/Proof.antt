@@ -7,11 +7,8 @@ use Rattle.check_core.proofs.duals.is_stray.Tie as tie
 returns : tie.Need-returns
 returns c = rw (lt-leb _ _ (c .if1 .taken))
 
-member-requires : tie.Need-member-requires
-member-requires c κs = search needs
-
 returns-2 : tie.Need-returns-2
 returns-2 c = rw (le-leb _ _ (c .before .if1 .left)) (c .member .ensures)
 
 pub is-stray-spec : {M : Type 1} → statement M
-is-stray-spec = tie.close (tie.spec returns member-requires returns-2)
+is-stray-spec = tie.close (tie.spec returns (λ c κs. search needs) returns-2)

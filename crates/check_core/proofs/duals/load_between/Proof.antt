@@ -24,21 +24,9 @@ loop-holds : tie.Need-loop-holds Inv-loop μ-loop
 unfolding sumBelow
 loop-holds c = (omega arith, refl)
 
-record-requires : tie.Need-record-requires Inv-loop μ-loop
-record-requires c κs = search needs
-
-crossing-value-requires : tie.Need-crossing-value-requires Inv-loop μ-loop
-crossing-value-requires c κs = search needs
-
 add-sum : tie.Need-add-sum Inv-loop μ-loop
 add-sum c = let args = c .before .before .before .before .before .args in
     omega (arith, weighed-fits (args .records .now) (c .before .before .before .before .before .pre) (λ S. xor (S (args .u)) (S (args .v))) (c .before .before .before .loop .i) (omega arith) (c .before .before .before .loop .inv .1) (c .crossing-value .ensures ∙ ap (λ part. counted (xor (memberIn part (c .before .before .before .before .before .args .u)) (memberIn part (c .before .before .before .before .before .args .v))) (valueIn part)) (c .before .«record» .ensures)))
-
-add-i : tie.Need-add-i Inv-loop μ-loop
-add-i c = search needs
-
-loop-less : tie.Need-loop-less Inv-loop μ-loop
-loop-less c = search needs
 
 loop-again : tie.Need-loop-again Inv-loop μ-loop
 loop-again c = (omega arith, sum-more _ _ (c .before .before .before .loop .inv .1) (c .crossing-value .ensures ∙ ap (λ part. counted (xor (memberIn part (c .before .before .before .before .before .args .u)) (memberIn part (c .before .before .before .before .before .args .v))) (valueIn part)) (c .before .«record» .ensures)))
@@ -54,10 +42,10 @@ load-between-spec =
     Inv-loop
     μ-loop
     loop-holds
-    record-requires
-    crossing-value-requires
+    (λ c κs. search needs)
+    (λ c κs. search needs)
     add-sum
-    add-i
-    loop-less
+    (λ c. search needs)
+    (λ c. search needs)
     loop-again
     returns)

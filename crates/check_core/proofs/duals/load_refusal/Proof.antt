@@ -9,20 +9,8 @@ use Rattle.check_core.specs.Stage.{loadBetween}
 use Rattle.check_core.proofs.duals.load_refusal.Statement.{statement}
 use Rattle.check_core.proofs.duals.load_refusal.Tie as tie
 
-index32-requires : tie.Need-index32-requires
-index32-requires c κs = search needs
-
-index32-requires-2 : tie.Need-index32-requires-2
-index32-requires-2 c κs = search needs
-
 load-between-requires : tie.Need-load-between-requires
 load-between-requires c κs = c .before .before .before .pre
-
-wide32-requires : tie.Need-wide32-requires
-wide32-requires c κs = search needs
-
-mul-if1 : tie.Need-mul-if1
-mul-if1 c = search needs
 
 -- 13
 returns : tie.Need-returns
@@ -42,10 +30,10 @@ pub load-refusal-spec : {M : Type 1} → statement M
 load-refusal-spec =
     tie.close
     (tie.spec
-    index32-requires
-    index32-requires-2
+    (λ c κs. search needs)
+    (λ c κs. search needs)
     load-between-requires
-    wide32-requires
-    mul-if1
+    (λ c κs. search needs)
+    (λ c. search needs)
     returns
     returns-2)

@@ -23,23 +23,11 @@ abbrev μ-loop : tie.MeasureT-loop
 loop-holds : tie.Need-loop-holds Inv-loop μ-loop
 loop-holds c = scan-start _ _
 
-at32-requires : tie.Need-at32-requires Inv-loop μ-loop
-at32-requires c κs = search needs
-
-at32-requires-2 : tie.Need-at32-requires-2 Inv-loop μ-loop
-at32-requires-2 c κs = search needs
-
-at32-requires-3 : tie.Need-at32-requires-3 Inv-loop μ-loop
-at32-requires-3 c κs = search needs
-
 load-refusal-requires : tie.Need-load-refusal-requires Inv-loop μ-loop
 load-refusal-requires c κs = c .before .before .before .before .before .before .before .before .before .pre
 
 enum-told : tie.Need-enum-told Inv-loop μ-loop
 enum-told c = search needs
-
-enum-told-2 : tie.Need-enum-told-2 Inv-loop μ-loop
-enum-told-2 c = search needs
 
 -- 13
 returns : tie.Need-returns Inv-loop μ-loop
@@ -53,12 +41,6 @@ returns c =
     (load-item s _ (at .before .loop .e) (read .before .before .at32 .ensures) (read .before .at322 .ensures) (read .at323 .ensures)
     (c .before .before .load-refusal .ensures)) in
     scan-found (at .before .loop .inv) (at .loop-test .taken) is (c .enum-told2 .given .1)
-
-add-e : tie.Need-add-e Inv-loop μ-loop
-add-e c = search needs
-
-loop-less : tie.Need-loop-less Inv-loop μ-loop
-loop-less c = search needs
 
 loop-again : tie.Need-loop-again Inv-loop μ-loop
 loop-again c =
@@ -83,14 +65,14 @@ loads-refusal-spec =
     Inv-loop
     μ-loop
     loop-holds
-    at32-requires
-    at32-requires-2
-    at32-requires-3
+    (λ c κs. search needs)
+    (λ c κs. search needs)
+    (λ c κs. search needs)
     load-refusal-requires
     enum-told
-    enum-told-2
+    (λ c. search needs)
     returns
-    add-e
-    loop-less
+    (λ c. search needs)
+    (λ c. search needs)
     loop-again
     returns-2)

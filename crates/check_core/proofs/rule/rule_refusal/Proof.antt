@@ -15,9 +15,6 @@ returns c = sym (rule-none _ (c .before .if1 .taken) (c .if2 .taken))
 returns-2 : tie.Need-returns-2
 returns-2 c = sym (rule-cost _ (c .before .if1 .taken) (c .if2 .left))
 
-sub-if3 : tie.Need-sub-if3
-sub-if3 c = search needs
-
 mul-if3 : tie.Need-mul-if3
 mul-if3 c = record { fits = product-fits (omega arith) (omega arith) }
 
@@ -34,4 +31,4 @@ returns-4 c = sym (rule-met _ (c .before .if1 .left) (c .if3 .left))
 
 pub rule-refusal-spec : {M : Type 1} → statement M
 rule-refusal-spec =
-    tie.close (tie.spec returns returns-2 sub-if3 mul-if3 mul-if3-2 returns-3 returns-4)
+    tie.close (tie.spec returns returns-2 (λ c. search needs) mul-if3 mul-if3-2 returns-3 returns-4)

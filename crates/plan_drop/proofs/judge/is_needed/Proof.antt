@@ -16,13 +16,10 @@ returns-2 : tie.Need-returns-2
 returns-2 c =
     sym (judged-after _ _ _ _ (omega arith) (omega arith))
 
-parts-group-requires : tie.Need-parts-group-requires
-parts-group-requires c κs = search needs
-
 -- in the batch
 returns-3 : tie.Need-returns-3
 returns-3 c =
     c .parts-group .ensures ∙ sym (judged-in _ _ _ _ (omega arith) (omega arith))
 
 pub is-needed-spec : {M : Type 1} → statement M
-is-needed-spec = tie.close (tie.spec returns returns-2 parts-group-requires returns-3)
+is-needed-spec = tie.close (tie.spec returns returns-2 (λ c κs. search needs) returns-3)

@@ -32,12 +32,6 @@ judge-edge-requires : tie.Need-judge-edge-requires Inv-loop μ-loop
 judge-edge-requires c κs =
     let few = c .before .before .before .before .before .before .before .pre in (c .before .before .before .before .before .before .before .pre .0, omega (arith, count-le (c .before .before .loop .e) (pickedIn (c .before .before .before .before .before .before .before .args .picked .now))))
 
-add-e : tie.Need-add-e Inv-loop μ-loop
-add-e c = search needs
-
-loop-less : tie.Need-loop-less Inv-loop μ-loop
-loop-less c = search needs
-
 loop-again : tie.Need-loop-again Inv-loop μ-loop
 loop-again c =
     let args = c .before .before .before .before .before .before .before .before .before .before .args in
@@ -64,8 +58,8 @@ judge-edges-spec =
     μ-loop
     loop-holds
     judge-edge-requires
-    add-e
-    loop-less
+    (λ c. search needs)
+    (λ c. search needs)
     loop-again
     same-length
     returns)

@@ -6,15 +6,6 @@ use Rattle.survey_groups.specs.Laws.Cut.{sides-table}
 use Rattle.plan_drop.proofs.judge.parts_group.Statement.{statement}
 use Rattle.plan_drop.proofs.judge.parts_group.Tie as tie
 
-sides-requires : tie.Need-sides-requires
-sides-requires c κs = search needs
-
-slice-aggregate-is-separating : tie.Need-slice-aggregate-is-separating
-slice-aggregate-is-separating c = search needs
-
-is-separating-requires : tie.Need-is-separating-requires
-is-separating-requires c κs = search needs
-
 returns : tie.Need-returns
 returns c =
     let start = c .before .before .before .before .before in
@@ -24,4 +15,4 @@ returns c =
 pub parts-group-spec : {M : Type 1} → statement M
 parts-group-spec =
     tie.close
-    (tie.spec sides-requires slice-aggregate-is-separating is-separating-requires returns)
+    (tie.spec (λ c κs. search needs) (λ c. search needs) (λ c κs. search needs) returns)

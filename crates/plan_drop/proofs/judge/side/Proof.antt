@@ -7,9 +7,6 @@ use borrow.Author.Needs.{needs}
 use Rattle.plan_drop.proofs.judge.side.Statement.{statement}
 use Rattle.plan_drop.proofs.judge.side.Tie as tie
 
-shr-if1 : tie.Need-shr-if1
-shr-if1 c = search needs
-
 -- inside
 returns : tie.Need-returns
 unfolding bitAt
@@ -23,4 +20,4 @@ returns-2 c =
     sym (counted-false (ne-eqb _ 1 (c .if1 .left)) 1)
 
 pub side-spec : {M : Type 1} → statement M
-side-spec = tie.close (tie.spec shr-if1 returns returns-2)
+side-spec = tie.close (tie.spec (λ c. search needs) returns returns-2)

@@ -26,24 +26,6 @@ unfolding remade
 loop-holds c =
     (omega arith, refl)
 
-at64-requires : tie.Need-at64-requires Inv-loop μ-loop
-at64-requires c κs = search needs
-
-side-requires : tie.Need-side-requires Inv-loop μ-loop
-side-requires c κs = search needs
-
-mul-labels : tie.Need-mul-labels Inv-loop μ-loop
-mul-labels c = search needs
-
-array-write-labels : tie.Need-array-write-labels Inv-loop μ-loop
-array-write-labels c = search needs
-
-add-v : tie.Need-add-v Inv-loop μ-loop
-add-v c = search needs
-
-loop-less : tie.Need-loop-less Inv-loop μ-loop
-loop-less c = search needs
-
 loop-again : tie.Need-loop-again Inv-loop μ-loop
 unfolding sideIn
 loop-again c = (
@@ -63,11 +45,11 @@ sides-spec =
     Inv-loop
     μ-loop
     loop-holds
-    at64-requires
-    side-requires
-    mul-labels
-    array-write-labels
-    add-v
-    loop-less
+    (λ c κs. search needs)
+    (λ c κs. search needs)
+    (λ c. search needs)
+    (λ c. search needs)
+    (λ c. search needs)
+    (λ c. search needs)
     loop-again
     returns)
