@@ -16,7 +16,7 @@ maxWeight = 1000000
 
 -- a moat's amount, at most, in half units
 abbrev pub maxValue : ℕ
-maxValue = 2000000
+maxValue = 2 * maxWeight
 
 -- group numbers lie below this; 0 means no group
 abbrev pub groupNumbers : ℕ
@@ -33,11 +33,11 @@ abbrev pub recordBytes : ℕ
 recordBytes = valueBytes + memberBytes
 
 -- moats that a survey of n junctions can have, and moats, at most
-abbrev pub dualsOf : ℕ → ℕ
-dualsOf n = 2 * n - 1
+abbrev pub dualsFor : ℕ → ℕ
+dualsFor n = 2 * n - 1
 
 abbrev pub maxDuals : ℕ
-maxDuals = dualsOf maxVertices
+maxDuals = dualsFor maxVertices
 
 -- the bytes of so many records
 abbrev pub recordsRoom : ℕ

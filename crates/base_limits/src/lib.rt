@@ -8,7 +8,7 @@ pub const MAX_EDGES: usize = 2048;
 
 pub const MAX_WEIGHT: u32 = 1000000;
 
-pub const MAX_VALUE: u64 = 2000000;
+pub const MAX_VALUE: u64 = 2 * (MAX_WEIGHT as u64);
 
 // Group numbers lie below this.
 pub const GROUP_NUMBERS: usize = 256;
@@ -47,12 +47,6 @@ pub const MEMBER_DIGITS: usize = 7;
 // No number of a text has more digits.
 pub const MAX_DIGITS: usize = FIGURE_DIGITS;
 
-// A refusal is its number and its place; `Fine` where none applies.
-pub enum Verdict {
-    Fine,
-    Refused { number: u64, place: usize },
-}
-
 // Digits of a 64-bit number, at most.
 pub const WORD_DIGITS: usize = 20;
 
@@ -74,3 +68,9 @@ pub const REFUSAL_ROOM: usize = 16 + 2 * WORD_DIGITS;
 pub const SURVEY_ROOM: usize = 65536;
 
 pub const VERIFY_ROOM: usize = 1048576;
+
+// A refusal is its number and its place; `Fine` where none applies.
+pub enum Verdict {
+    Fine,
+    Refused { number: u64, place: usize },
+}

@@ -18,8 +18,8 @@ use Rattle.check_core.specs.declared.Checking.{Checking}
 use Rattle.check_core.specs.declared.Checking.the-variants.{Passed, Refused}
 
 -- The dual that the bytes of one record draw.
-abbrev pub dualOf : List ℕ → Dual
-dualOf part = record { value = valueIn part; holds = memberIn part }
+abbrev pub dualOfRecord : List ℕ → Dual
+dualOfRecord part = record { value = valueIn part; holds = memberIn part }
 
 -- The dual load of an edge between u and v.
 unfoldable pub loadBetween : List ℕ → (u v : ℕ) → ℕ
@@ -68,6 +68,6 @@ pub record PlanFits (groups firsts weights marks records : List ℕ) : Type 0 wh
       (total (dualsIn records))
 
 -- What an answer of the call says: document 01's refusal, or k, kept cost and bound.
-unfoldable pub outcomeOf : Checking → Outcome Checked
-outcomeOf (Passed terminals cost bound) = answer (checkedAs terminals cost bound)
-outcomeOf (Refused number place) = refusal number place
+unfoldable pub checkedOutcome : Checking → Outcome Checked
+checkedOutcome (Passed terminals cost bound) = answer (checkedAs terminals cost bound)
+checkedOutcome (Refused number place) = refusal number place

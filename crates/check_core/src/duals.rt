@@ -13,7 +13,7 @@ ghost use Rattle.format_record.specs.Record.{valueIn, memberIn};
 ghost use Rattle.theory_steiner.specs.Dual.{total, dualLoad};
 ghost use Rattle.survey_core.specs.Survey.{surveyFrom, groupsAlone, problemOf};
 ghost use Rattle.check_rule.specs.Check.{dualAt, dualsIn, dualRefusal};
-ghost use Rattle.check_core.specs.Stage.{dualOf, loadBetween, DualsFit};
+ghost use Rattle.check_core.specs.Stage.{dualOfRecord, loadBetween, DualsFit};
 use base_limits::MAX_VALUE;
 use base_limits::MEMBER_BYTES;
 use base_limits::RECORD_BYTES;
@@ -45,7 +45,7 @@ fn has_stray(part: &[u8], n: usize) -> bool
 
 // 11: a value of 0 or too large, or a member that is no vertex.
 fn dual_refusal(groups: &[u8], part: &[u8], i: usize) -> Verdict
-    ensures { λ r. ⌜ r ≡ dualRefusal (groupsAlone (old groups)) (dualOf (old part)) i ⌝ }
+    ensures { λ r. ⌜ r ≡ dualRefusal (groupsAlone (old groups)) (dualOfRecord (old part)) i ⌝ }
 {
     let value = format_record::value(part);
     if value == 0 {

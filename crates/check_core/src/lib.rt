@@ -10,7 +10,7 @@ ghost use Rattle.survey_core.specs.Survey.{surveyFrom, lentSurvey};
 ghost use Rattle.survey_core.specs.Accuracy.{Accurate};
 ghost use Rattle.check_rule.specs.Passing.{Passing};
 ghost use Rattle.check_rule.specs.Check.{Checked, ruleRefusal, checkedOf, checking};
-ghost use Rattle.check_core.specs.Stage.{inputRefusal, dualsRefusal, allButRule, PlanFits, outcomeOf};
+ghost use Rattle.check_core.specs.Stage.{inputRefusal, dualsRefusal, allButRule, PlanFits, checkedOutcome};
 use base_limits::Verdict;
 use survey_components::Chosen;
 
@@ -102,7 +102,7 @@ fn judge(groups: &[u8], firsts: &[u32], weights: &[u32], marks: &[u8], records: 
     requires { ⌜ PlanFits (now groups) (now firsts) (now weights) (now marks) (now records) ⌝ }
     ensures { λ r. let s = surveyFrom (old groups) (old firsts) [] (old weights) in
         let counts = checkedOf s (old marks) (old records) in
-        ⌜ outcomeOf r ≡ outcome (ruleRefusal counts) counts ⌝ }
+        ⌜ checkedOutcome r ≡ outcome (ruleRefusal counts) counts ⌝ }
 {
     let terminals = survey_groups::terminals(groups);
     let cost = check_marks::kept_cost(firsts, weights, marks);
@@ -129,12 +129,12 @@ pub fn check(
     records: &[u8],
 ) -> Checking
     ensures { λ r. let s = lentSurvey groups firsts seconds weights in
-        ⌜ outcomeOf r ≡ checking s (old marks) (old records) ⌝ }
+        ⌜ checkedOutcome r ≡ checking s (old marks) (old records) ⌝ }
     ensures passed { λ r. let s = lentSurvey groups firsts seconds weights in
-        ⌜ ((c : Checked) → outcomeOf r ≡ answer c → Passing s (old marks) (old records))
-        × (Passing s (old marks) (old records) → outcomeOf r ≡ answer (checkedOf s (old marks) (old records))) ⌝ }
+        ⌜ ((c : Checked) → checkedOutcome r ≡ answer c → Passing s (old marks) (old records))
+        × (Passing s (old marks) (old records) → checkedOutcome r ≡ answer (checkedOf s (old marks) (old records))) ⌝ }
     ensures accurate { λ r. let s = lentSurvey groups firsts seconds weights in
-        ⌜ ((c : Checked) → outcomeOf r ≡ answer c → Accurate s (c .terminals) (c .cost)) ⌝ }
+        ⌜ ((c : Checked) → checkedOutcome r ≡ answer c → Accurate s (c .terminals) (c .cost)) ⌝ }
 {
     let found = all_but_rule(groups, firsts, seconds, weights, marks, records);
     if let Verdict::Refused { number, place } = found {

@@ -1,4 +1,4 @@
-// Checks a survey text with a printed plan behind it: the survey is read, then the plan, then the checker looks at
+// Checks a survey text with a printedWith plan behind it: the survey is read, then the plan, then the checker looks at
 // both, and at last the claimed counts are held against what it finds. Definitions in specs/.
 ghost use Rattle.base_buffer.specs.Lent.{old, new};
 ghost use mathlib.Core.Path.{_≡_};
@@ -7,7 +7,7 @@ ghost use lib.ListN.{length};
 ghost use Rattle.base_limits.specs.Limits.{maxVertices, maxEdges};
 ghost use Rattle.survey_core.specs.Survey.{lentSurvey};
 ghost use Rattle.check_rule.specs.Check.{checking};
-ghost use Rattle.check_text.specs.Verify.{surveyAt, judged, planVerified, planFrom, verifiedFrom, verifying};
+ghost use Rattle.check_text.specs.Verify.{surveyLinesAt, claimsJudged, planVerified, planFrom, verifiedFrom, verifying};
 ghost use Rattle.check_text.specs.Answer.{verifiedOutcome};
 use base_limits::MAX_EDGES;
 use base_limits::MAX_VERTICES;
@@ -46,7 +46,7 @@ fn judge(
 ) -> Verified
     ensures { λ r.
         let s = lentSurvey groups firsts seconds weights in
-        ⌜ verifiedOutcome r ≡ judged (checking s (old marks) (old records)) terminals cost bound ⌝ }
+        ⌜ verifiedOutcome r ≡ claimsJudged (checking s (old marks) (old records)) terminals cost bound ⌝ }
 {
     match check_core::check(groups, firsts, seconds, weights, marks, records) {
         Checking::Refused { number, place } => Verified::Refused { number, place },
@@ -82,7 +82,7 @@ fn judge(
     }
 }
 
-// The printed plan from an offset on, against a survey.
+// The printedWith plan from an offset on, against a survey.
 fn verify_plan(
     text: &[u8],
     at: usize,
@@ -124,11 +124,11 @@ fn verify_plan(
     }
 }
 
-// The lines of a survey after its counts, and the printed plan behind them.
+// The lines of a survey after its counts, and the printedWith plan behind them.
 fn verify_lines(text: &[u8], cursor: Cursor, vertices: usize, edges: usize) -> Verified
     requires { ⌜ (vertices ≤ maxVertices) × (edges ≤ maxEdges) ⌝ }
     ensures { λ r.
-        let survey = surveyAt (old text) (record { vertices = vertices; edges = edges }) (cursor .at) in
+        let survey = surveyLinesAt (old text) (record { vertices = vertices; edges = edges }) (cursor .at) in
         ⌜ verifiedOutcome r ≡ verifiedFrom (old text) survey ⌝ }
 {
     let mut groups = [0u8; MAX_VERTICES];
@@ -161,7 +161,7 @@ fn verify_lines(text: &[u8], cursor: Cursor, vertices: usize, edges: usize) -> V
     }
 }
 
-// Checks a survey text with a printed plan behind it.
+// Checks a survey text with a printedWith plan behind it.
 pub fn verify(text: &[u8]) -> Verified
     ensures { λ r. ⌜ verifiedOutcome r ≡ verifying (old text) ⌝ }
 {

@@ -8,7 +8,7 @@ use Rattle.base_limits.specs.Verdict.{Outcome, refusal, answer}
 use Rattle.format_grammar.specs.Step.{Step, found, refused, _then_, checked, storedIf}
 use Rattle.format_grammar.specs.Items.{puts}
 use Rattle.format_plan_lines.specs.Lines.{putMark, putDual}
-use Rattle.format_plan.specs.Plan.{Claims, PrintedPlan, PlanLines, marksOf, dualRecords, roomTest, marksAfter, recordsAfter}
+use Rattle.format_plan.specs.Plan.{Claims, PrintedPlan, PlanLines, marksOf, dualRecords, roomTest, marksRead, recordsRead}
 use Rattle.format_plan.specs.declared.PlanText.{PlanText}
 use Rattle.format_plan.specs.declared.PlanText.the-variants.{Plan as PlanFound, Refused as PlanRefused}
 use Rattle.format_plan.specs.declared.Claims.{Claims as ClaimsLines}
@@ -50,5 +50,5 @@ readOf (answer p) = answer (record { claims = p .claims; duals = length (p .dual
 -- What reading a plan answers, and what each lent buffer, with its primed content at the end, then holds.
 pub record PlanRead (o : Outcome PrintedPlan) (m : ℕ) (read : Outcome Read) (marks marks′ records records′ : List ℕ) : Type 0 where
   pub answered : read ≡ readOf o
-  pub intoMarks : marks′ ≡ marksAfter o m marks
-  pub intoRecords : records′ ≡ recordsAfter o records
+  pub intoMarks : marks′ ≡ marksRead o m marks
+  pub intoRecords : records′ ≡ recordsRead o records

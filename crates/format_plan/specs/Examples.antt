@@ -14,7 +14,7 @@ use Rattle.format_write.specs.Decimal.{spelledAfter}
 use Rattle.format_number.specs.Number.{classOf, isDigit, digitsEnd, numeralEnd, numeralAt, numberAt, numberTo, numberLine}
 use Rattle.format_grammar.specs.Bytes.{byteIs, fixedAt}
 use Rattle.format_grammar.specs.Items.{itemsFrom}
-use Rattle.format_plan_lines.specs.Lines.{keptTest, keepLine, keepReader, keptAt, separator, memberAt, risen, memberReader, membersAt, dualTest, dualHead, dualLineAt, dualReader, dualsAt}
+use Rattle.format_plan_lines.specs.Lines.{keptTest, keepLine, keepReader, keptAt, separator, memberStep, risen, memberReader, membersAt, dualTest, dualHead, dualLineAt, dualReader, dualsAt}
 use Rattle.format_plan.specs.Plan.{PrintedPlan, claimsAt, planLinesAt, planAt}
 
 -- What P3's plan says.
@@ -28,7 +28,7 @@ p3 =
 
 p3-said : planAt (ascii "sites=2\ncost=7\nbound=14\nrounds=2\nkeep=0\nkeep=1\nmoat=6:0\nmoat=7:2\nmoat=1:0,1\n") 2 0 ≡ found p3 76
 unfolding refuseIf _before_ terminalsKey costKey boundKey roundsKey keptKey dualKey _then_ checked linesAfter classOf isDigit byteIs fixedAt digitsEnd
-    numeralEnd numeralAt spelledAfter numberAt numberTo following itemsFrom numberLine claimsAt keptTest keepLine keepReader keptAt separator memberAt risen
+    numeralEnd numeralAt spelledAfter numberAt numberTo following itemsFrom numberLine claimsAt keptTest keepLine keepReader keptAt separator memberStep risen
     memberReader membersAt dualTest dualHead dualLineAt dualReader dualsAt planLinesAt planAt p3
 p3-said = refl
 

@@ -77,13 +77,13 @@ unfoldable pub planReading : (t : List ℕ) (from m : ℕ) (marks records : List
 planReading t from m marks records = withRoom (planAt t m from) m (length marks) (length records)
 
 -- What the lent buffers hold at the end: a refusal writes nothing, and bytes behind what is written keep their values.
-unfoldable pub marksAfter : Outcome PrintedPlan → (m : ℕ) (marks : List ℕ) → List ℕ
-marksAfter (refusal number place) m marks = marks
-marksAfter (answer plan) m marks = marksOf m (plan .kept) ++ drop m marks
+unfoldable pub marksRead : Outcome PrintedPlan → (m : ℕ) (marks : List ℕ) → List ℕ
+marksRead (refusal number place) m marks = marks
+marksRead (answer plan) m marks = marksOf m (plan .kept) ++ drop m marks
 
-unfoldable pub recordsAfter : Outcome PrintedPlan → (records : List ℕ) → List ℕ
-recordsAfter (refusal number place) records = records
-recordsAfter (answer plan) records = dualRecords (plan .duals) ++ drop (recordBytes * length (plan .duals)) records
+unfoldable pub recordsRead : Outcome PrintedPlan → (records : List ℕ) → List ℕ
+recordsRead (refusal number place) records = records
+recordsRead (answer plan) records = dualRecords (plan .duals) ++ drop (recordBytes * length (plan .duals)) records
 
 -- The first m marks set to 0, one after another.
 unfoldable pub cleared : (m : ℕ) → List ℕ → List ℕ

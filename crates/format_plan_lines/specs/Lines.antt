@@ -42,8 +42,8 @@ unfoldable pub separator : (i : ℕ) → List ℕ
 separator zero = []
 separator (suc i) = comma ∷ []
 
-unfoldable pub memberAt : List ℕ → (low i at : ℕ) → Step ℕ
-memberAt t low i at = fixedAt (separator i) t at then λ z p. numberAt memberDigits t p
+unfoldable pub memberStep : List ℕ → (low i at : ℕ) → Step ℕ
+memberStep t low i at = fixedAt (separator i) t at then λ z p. numberAt memberDigits t p
 
 -- The lowest member that may follow v, where low was the lowest that might stand here; past all members once one is none or does not rise.
 unfoldable pub risen : (low v : ℕ) → ℕ
@@ -51,7 +51,7 @@ risen low v = cond (leb low v && ltb v memberNumbers) (v + 1) (memberNumbers + 1
 
 -- Members end where their line does.
 unfoldable pub memberReader : List ℕ → ItemReader ℕ ℕ
-memberReader t = record { stop = λ at. byteIs t at newline; item = memberAt t; after = risen }
+memberReader t = record { stop = λ at. byteIs t at newline; item = memberStep t; after = risen }
 
 unfoldable pub membersAt : List ℕ → (at : ℕ) → Lines ℕ ℕ
 membersAt t at = itemsFrom (memberReader t) (length t) 0 0 at

@@ -6,7 +6,7 @@ ghost use lib.ListN.{length};
 ghost use Rattle.base_limits.specs.Limits.{recordBytes};
 ghost use Rattle.format_grammar.specs.Bytes.{byteIs};
 ghost use Rattle.format_number.specs.Answer.{numberStep};
-ghost use Rattle.format_plan_lines.specs.Lines.{keepLine, keptAt, putMark, memberAt, risen, membersAt};
+ghost use Rattle.format_plan_lines.specs.Lines.{keepLine, keptAt, putMark, memberStep, risen, membersAt};
 ghost use Rattle.format_plan_lines.specs.Lines.{putMember, putDual, dualHead, listedDual, dualRecord};
 ghost use Rattle.format_plan_lines.specs.Lines.{dualLineAt, dualsAt};
 ghost use Rattle.format_plan_lines.specs.Answer.{Members, DualRead};
@@ -85,7 +85,7 @@ pub fn keep_lines(text: &[u8], cursor: Cursor, edges: usize, marks: &mut [u8]) -
 
 // Member i of a dual, with the comma before it unless it is the first.
 fn member_at(text: &[u8], cursor: Cursor, low: u64, i: usize) -> Number
-    ensures { λ r. ⌜ numberStep r ≡ memberAt (old text) low i (cursor .at) ⌝ }
+    ensures { λ r. ⌜ numberStep r ≡ memberStep (old text) low i (cursor .at) ⌝ }
 {
     if i == 0 {
         return format_number::number_at(text, cursor, MEMBER_DIGITS);

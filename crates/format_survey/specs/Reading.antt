@@ -43,14 +43,14 @@ surveyAt tests t =
     let body = bodyAt (tests .group) t counts p in
     body .end then λ z q. found (surveyOf counts (body .groups) (body .edges)) q
 
-unfoldable pub outcomeOf : {A : Type 0} → Step A → Outcome A
-outcomeOf (found a next) = answer a
-outcomeOf (refused number place) = refusal number place
+unfoldable pub stepOutcome : {A : Type 0} → Step A → Outcome A
+stepOutcome (found a next) = answer a
+stepOutcome (refused number place) = refusal number place
 
 -- The four lists are what the lent buffers hold; only their lengths matter.
 unfoldable pub reading : (t groups firsts seconds weights : List ℕ) → Outcome SurveyText
 reading t groups firsts seconds weights =
-    outcomeOf (surveyAt (testsFor (length groups) (length firsts) (length seconds) (length weights)) t)
+    stepOutcome (surveyAt (testsFor (length groups) (length firsts) (length seconds) (length weights)) t)
 
 -- What a lent buffer holds at the end: the values read and, behind them, what it held; a refusal writes nothing.
 unfoldable pub filled : Outcome SurveyText → (SurveyText → List ℕ) → (old : List ℕ) → List ℕ

@@ -4,7 +4,7 @@ use Rattle.plan_core.specs.declared.Planned.{Planned}
 use Rattle.plan_core.specs.declared.Planned.the-variants.{Finished, Refused}
 use Rattle.plan_core.specs.Plan.{PlanCounts}
 
-unfoldable pub outcomeOf : Planned → Outcome PlanCounts
-outcomeOf (Finished terminals cost bound rounds duals) =
+unfoldable pub plannedOutcome : Planned → Outcome PlanCounts
+plannedOutcome (Finished terminals cost bound rounds duals) =
     answer (record { terminals = terminals; cost = cost; bound = bound; rounds = rounds; duals = duals })
-outcomeOf (Refused number place) = refusal number place
+plannedOutcome (Refused number place) = refusal number place

@@ -5,7 +5,7 @@ use mathlib.Core.List.{List, [], _∷_, map}
 use Rattle.base_finite.specs.Below.{counted, sumBelow, countBelow, anyBelow, allBelow, thoseBelow, tabulate, lookup, memo}
 use Rattle.theory_graph.specs.Path.{without}
 use Rattle.theory_graph.specs.Component.{merged, components}
-use Rattle.base_limits.specs.Limits.{recordBytes, dualsOf}
+use Rattle.base_limits.specs.Limits.{recordBytes, dualsFor}
 use Rattle.base_limits.specs.Verdict.{refuseIf, _before_, lowestBelow, Outcome, refusal, answer, outcome}
 use Rattle.theory_steiner.specs.Problem.{allUsable, joined, cost, separates, terminal, terminals}
 use Rattle.theory_steiner.specs.Growth.{start, active, numbers, load, slack, delayOf, delay, better, winnerBelow, winner, pick, advance, stateAt, grown}
@@ -48,7 +48,7 @@ figures n (answer p) =
 
 -- Planning with buffers just long enough.
 unfoldable pub planned : Survey → Outcome Figures
-planned s = figures (vertexCount s) (planning s (edgeCount s) (recordBytes * dualsOf (vertexCount s)))
+planned s = figures (vertexCount s) (planning s (edgeCount s) (recordBytes * dualsFor (vertexCount s)))
 
 -- One track, which document 01 writes u-v:price.
 pub record ExampleEdge : Type 0 where

@@ -5,7 +5,7 @@ use mathlib.Core.List.{List, _++_}
 use lib.ListN.{length, drop}
 use lib.Dec.{ltb}
 use Rattle.base_finite.specs.Below.{tabulate}
-use Rattle.base_limits.specs.Limits.{recordBytes, dualsOf}
+use Rattle.base_limits.specs.Limits.{recordBytes, dualsFor}
 use Rattle.base_limits.specs.Verdict.{refuseIf, _before_, Outcome, outcome, written}
 use Rattle.base_limits.specs.declared.Verdict.{Verdict}
 use Rattle.theory_steiner.specs.Problem.{Problem, allUsable, terminals, cost}
@@ -42,7 +42,7 @@ planOf p =
 unfoldable pub planRefusal : Survey → (marksLength recordsLength : ℕ) → Verdict
 planRefusal s marksLength recordsLength =
     surveyRefusal s
-    before refuseIf (ltb marksLength (edgeCount s) || ltb recordsLength (recordBytes * dualsOf (vertexCount s))) 7 0
+    before refuseIf (ltb marksLength (edgeCount s) || ltb recordsLength (recordBytes * dualsFor (vertexCount s))) 7 0
     before groupRefusal s 8 (allUsable (problemOf s))
 
 unfoldable pub planning : Survey → (marksLength recordsLength : ℕ) → Outcome Plan

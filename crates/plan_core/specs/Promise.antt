@@ -6,7 +6,7 @@ use mathlib.Core.Bool.{Bool}
 use mathlib.Core.List.{List}
 use lib.ListN.{length, take}
 use Rattle.base_finite.specs.Below.{countBelow}
-use Rattle.base_limits.specs.Limits.{recordBytes, dualsOf}
+use Rattle.base_limits.specs.Limits.{recordBytes, dualsFor}
 use Rattle.base_limits.specs.Verdict.{Outcome, refusal, answer}
 use Rattle.theory_steiner.specs.Problem.{Joins, EdgeSet, allUsable}
 use Rattle.theory_steiner.specs.Pruning.{picked}
@@ -20,14 +20,14 @@ use Rattle.plan_core.specs.Plan.{PlanCounts, planCountsOf, planOf, marks
 pub record Ready (s : Survey) (marksLength recordsLength : ℕ) : Type 0 where
   pub survey : SurveySound s
   pub marks-fit : edgeCount s ≤ marksLength
-  pub records-fit : recordBytes * dualsOf (vertexCount s) ≤ recordsLength
+  pub records-fit : recordBytes * dualsFor (vertexCount s) ≤ recordsLength
   pub joinable : Joins (problemOf s) (allUsable (problemOf s))
 
 -- 8 applies with place g: none of 1 to 7 does, and g is the lowest group that no set of tracks joins.
 pub record Unjoinable (s : Survey) (marksLength recordsLength g : ℕ) : Type 0 where
   pub survey : SurveySound s
   pub marks-fit : edgeCount s ≤ marksLength
-  pub records-fit : recordBytes * dualsOf (vertexCount s) ≤ recordsLength
+  pub records-fit : recordBytes * dualsFor (vertexCount s) ≤ recordsLength
   pub none-joins : (F : ℕ → Bool) → EdgeSet (problemOf s) F → JoinsGroup s F g → ⊥
   pub lower-joined : (i : ℕ) → i < g → JoinsGroup s (allUsable (problemOf s)) i
 

@@ -6,12 +6,12 @@ ghost use Prim.Native.Nat.{_≤_, _*_};
 ghost use mathlib.Core.List.{_++_};
 ghost use lib.ListN.{length, drop};
 ghost use lib.Dec.{ltb};
-ghost use Rattle.base_limits.specs.Limits.{maxVertices, recordBytes, dualsOf};
+ghost use Rattle.base_limits.specs.Limits.{maxVertices, recordBytes, dualsFor};
 ghost use Rattle.base_limits.specs.Verdict.{refuseIf, answer};
 ghost use Rattle.survey_core.specs.Survey.{surveyFrom, lentSurvey, problemOf};
 ghost use Rattle.plan_duals.specs.Drawing.{recordsOver};
 ghost use Rattle.plan_core.specs.Plan.{planRefusal, planOf, planCountsOf, counting, marksAfter, recordsAfter};
-ghost use Rattle.plan_core.specs.Answer.{outcomeOf};
+ghost use Rattle.plan_core.specs.Answer.{plannedOutcome};
 ghost use Rattle.plan_core.specs.Promise.{Ready, Promises};
 use base_limits::RECORD_BYTES;
 use base_limits::Verdict;
@@ -35,7 +35,7 @@ pub enum Planned {
 // 7: a lent buffer is too short for m marks, or for the records of n junctions.
 fn room_refusal(n: usize, m: usize, marks: usize, records: usize) -> Verdict
     requires { ⌜ n ≤ maxVertices ⌝ }
-    ensures { λ r. ⌜ r ≡ refuseIf (ltb marks m || ltb records (recordBytes * dualsOf n)) 7 0 ⌝ }
+    ensures { λ r. ⌜ r ≡ refuseIf (ltb marks m || ltb records (recordBytes * dualsFor n)) 7 0 ⌝ }
 {
     if marks < m {
         return Verdict::Refused {
@@ -90,7 +90,7 @@ fn finish(
         (length (now marks)) (length (now records)) ⌝ }
     ensures { λ r.
         let p = planOf (problemOf (lentSurvey groups firsts seconds weights)) in
-        ⌜ outcomeOf r ≡ answer (planCountsOf p) ⌝ }
+        ⌜ plannedOutcome r ≡ answer (planCountsOf p) ⌝ }
     ensures { λ _.
         let p = planOf (problemOf (lentSurvey groups firsts seconds weights)) in
         ⌜ new marks ≡ p .marks ++ drop (length (old firsts)) (old marks) ⌝ }
@@ -138,12 +138,12 @@ pub fn plan(
 ) -> Planned
     ensures { λ r.
         let s = lentSurvey groups firsts seconds weights in
-        ⌜ outcomeOf r ≡ counting s (length (old marks)) (length (old records)) ⌝ }
+        ⌜ plannedOutcome r ≡ counting s (length (old marks)) (length (old records)) ⌝ }
     ensures { λ _. ⌜ new marks ≡ marksAfter (lentSurvey groups firsts seconds weights) (old marks) (old records) ⌝ }
     ensures { λ _. ⌜ new records ≡ recordsAfter (lentSurvey groups firsts seconds weights) (old marks) (old records) ⌝ }
     ensures promises { λ r.
         let s = lentSurvey groups firsts seconds weights in
-        ⌜ Promises s (old marks) (old records) (outcomeOf r) ⌝ }
+        ⌜ Promises s (old marks) (old records) (plannedOutcome r) ⌝ }
 {
     let found = plan_refusal(groups, firsts, seconds, weights, marks.len(), records.len());
     if let Verdict::Refused { number, place } = found {

@@ -10,16 +10,16 @@ use borrow.Author.Tests.{lt-ltb, le-ltb}
 use Rattle.base_limits.specs.Verdict.{refuseIf, _before_, written, Outcome, refusal, answer, outcome}
 use Rattle.base_limits.specs.declared.Verdict.{Verdict}
 use Rattle.base_limits.specs.declared.Verdict.the-variants.{Fine, Refused}
-use Rattle.base_limits.specs.Laws.Verdict.{before-fine, before-refused}
+use Rattle.base_limits.specs.Laws.Verdict.{before-fine, before-refused, answer-fine, refusal-found}
 use Rattle.survey_core.specs.Survey.{Survey, edgeCount, problemOf}
 use Rattle.plan_duals.specs.Drawing.{recordsOver}
 use Rattle.survey_core.specs.Refusal.{surveyRefusal}
 use Rattle.plan_core.specs.Plan.{planRefusal, planOf, counting, marksAfter, recordsAfter}
-use Rattle.plan_core.specs.Answer.{outcomeOf as planOutcome}
+use Rattle.plan_core.specs.Answer.{plannedOutcome as planOutcome}
 use Rattle.plan_core.specs.declared.Planned.{Planned}
 use Rattle.plan_core.specs.declared.Planned.the-variants.{Finished, Refused as PlanRefused}
 use Rattle.check_rule.specs.Check.{checkRefusal, checking}
-use Rattle.check_core.specs.Stage.{outcomeOf as checkOutcome}
+use Rattle.check_core.specs.Stage.{checkedOutcome as checkOutcome}
 use Rattle.check_core.specs.declared.Checking.{Checking}
 use Rattle.check_core.specs.declared.Checking.the-variants.{Passed, Refused as CheckRefused}
 use Rattle.api_c.specs.Code.{placeUnit, planFigures, checkFigures, codeOf, withCounts, countsAfter, planFiguresOf, checkFiguresOf}
@@ -91,34 +91,24 @@ module _ {call : Verdict} (v : Verdict) (same : call ≡ (v before Refused 7 0))
       by (Refused number place) e = sym (ap (λ y. written y new old) e)
 
 -- The library's answer, finished or refused.
-fine-of : {A : Type 0} (a : A) (x : Verdict) {b : A} → outcome x a ≡ answer b → (x ≡ Fine) × (a ≡ b)
-unfolding outcome
-fine-of a Fine h = (refl, cc)
-fine-of a (Refused number place) h = absurd (let z : _≡_ {A = ℕ} 0 1 = cc in omega arith)
-
-refused-of : {A : Type 0} (a : A) (x : Verdict) {number place : ℕ} → outcome x a ≡ refusal number place → x ≡ Refused number place
-unfolding outcome
-refused-of a Fine h = absurd (let z : _≡_ {A = ℕ} 0 1 = cc in omega arith)
-refused-of a (Refused x y) h = cc
-
 module _ {A : Type 0} {call w : Verdict} (same : call ≡ w) (a : A) where
   finished-code : {b : A} → outcome w a ≡ answer b → 0 ≡ codeOf call
   unfolding codeOf
-  finished-code h = sym (ap codeOf (same ∙ fine-of a w h .0))
+  finished-code h = sym (ap codeOf (same ∙ answer-fine w a _ h .0))
 
   finished-counts : {b : A} → outcome w a ≡ answer b → (f : A → List ℕ) (counts : List ℕ) {stored : List ℕ} → stored ≡ sets counts 0 (f b)
       → stored ≡ countsAfter call (f a) counts
   unfolding countsAfter written
   finished-counts h f counts k =
-      k ∙ ap (λ x. sets counts 0 (f x)) (sym (fine-of a w h .1)) ∙ sym (ap (λ y. written y (sets counts 0 (f a)) counts) (same ∙ fine-of a w h .0))
+      k ∙ ap (λ x. sets counts 0 (f x)) (sym (answer-fine w a _ h .1)) ∙ sym (ap (λ y. written y (sets counts 0 (f a)) counts) (same ∙ answer-fine w a _ h .0))
 
   refused-code : (number place : ℕ) → outcome w a ≡ refusal number place → {r : ℕ} → r ≡ number + placeUnit * place → r ≡ codeOf call
   unfolding codeOf
-  refused-code number place h k = k ∙ sym (ap codeOf (same ∙ refused-of a w h))
+  refused-code number place h k = k ∙ sym (ap codeOf (same ∙ refusal-found w a h))
 
   refused-counts : (number place : ℕ) → outcome w a ≡ refusal number place → (figures counts : List ℕ) → counts ≡ countsAfter call figures counts
   unfolding countsAfter written
-  refused-counts number place h figures counts = sym (ap (λ y. written y (sets counts 0 figures) counts) (same ∙ refused-of a w h))
+  refused-counts number place h figures counts = sym (ap (λ y. written y (sets counts 0 figures) counts) (same ∙ refusal-found w a h))
 
 -- ---- the library's refusals fit one number
 
@@ -126,14 +116,14 @@ pub plan-fits : (s : Survey) (marks records : ℕ) {r : Planned} → planOutcome
     → number + placeUnit * place < 2 ^ 64
 unfolding counting planOutcome
 plan-fits s marks records answered number place h =
-    small-fits (planRefusal s marks records) (plan-small s marks records) number place (refused-of _ (planRefusal s marks records) (sym answered ∙ ap planOutcome h))
+    small-fits (planRefusal s marks records) (plan-small s marks records) number place (refusal-found (planRefusal s marks records) _ (sym answered ∙ ap planOutcome h))
 
 pub check-fits : (s : Survey) (marks records : List ℕ) {r : Checking} → checkOutcome r ≡ checking s marks records → (number place : ℕ) → r ≡ CheckRefused number place
     → number + placeUnit * place < 2 ^ 64
 unfolding checking checkOutcome
 check-fits s marks records answered number place h =
     small-fits (checkRefusal s marks records) (check-small s marks records) number place
-    (refused-of _ (checkRefusal s marks records) (sym answered ∙ ap checkOutcome h))
+    (refusal-found (checkRefusal s marks records) _ (sym answered ∙ ap checkOutcome h))
 
 -- ---- planning
 

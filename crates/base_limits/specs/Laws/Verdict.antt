@@ -6,7 +6,7 @@ use mathlib.Core.Path.{_≡_, refl, ap, sym, _∙_}
 use mathlib.Core.Logic.{⊎-elim}
 use mathlib.Core.Bool.{Bool, true, false}
 use Rattle.base_finite.specs.Laws.Below.{below-suc}
-use Rattle.base_limits.specs.Verdict.{refuseIf, _before_, lowestBelow}
+use Rattle.base_limits.specs.Verdict.{refuseIf, _before_, lowestBelow, Outcome, refusal, answer, outcome}
 use Rattle.base_limits.specs.declared.Verdict.{Verdict}
 use Rattle.base_limits.specs.declared.Verdict.the-variants.{Fine, Refused}
 
@@ -132,3 +132,17 @@ pub refused-refuse : (t : Bool) (number place a b : ℕ) → refuseIf t number p
 unfolding refuseIf
 refused-refuse true number place a b h = (refl, ((cc), (cc)))
 refused-refuse false number place a b h = absurd (let z : _≡_ {A = ℕ} 0 1 = cc in omega arith)
+
+-- ---- outcomes
+
+-- An answer comes of no refusal, and is what was to be answered.
+pub answer-fine : {A : Type 0} (v : Verdict) (a b : A) → outcome v a ≡ answer b → (v ≡ Fine) × (a ≡ b)
+unfolding outcome
+answer-fine Fine a b h = (refl, (cc))
+answer-fine (Refused number place) a b h = absurd (let z : _≡_ {A = ℕ} 0 1 = cc in omega arith)
+
+-- A refusal is the finding.
+pub refusal-found : {A : Type 0} (v : Verdict) (a : A) {number place : ℕ} → outcome v a ≡ refusal number place → v ≡ Refused number place
+unfolding outcome
+refusal-found Fine a h = absurd (let z : _≡_ {A = ℕ} 0 1 = cc in omega arith)
+refusal-found (Refused x y) a h = cc

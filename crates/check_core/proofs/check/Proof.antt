@@ -4,7 +4,7 @@ use native.Mathlib.Omega.{arith}
 use borrow.Author.Needs.{needs}
 use Rattle.check_rule.specs.Laws.Accuracy.{promises}
 use Rattle.base_limits.specs.Verdict.{outcome}
-use Rattle.check_core.specs.Stage.{outcomeOf}
+use Rattle.check_core.specs.Stage.{checkedOutcome}
 use Rattle.check_rule.specs.Check.{ruleRefusal}
 use Rattle.check_core.specs.Laws.Stage.{check-stops, rule-decides, plan-fits, checked-seconds}
 use Rattle.check_core.proofs.check.Statement.{statement}
@@ -12,7 +12,7 @@ use Rattle.check_core.proofs.check.Tie as tie
 
 -- a refusal before 15
 returns : tie.Need-returns
-unfolding outcomeOf
+unfolding checkedOutcome
 returns c =
     promises _ _ _ _ (λ v. omega (arith, c .before .before .before .before .before .before .before .before .before .shared-slice-known .given v))
     (sym (check-stops _ _ _ (sym (c .before .before .before .all-but-rule .ensures) ∙ c .before .found .given .1)))

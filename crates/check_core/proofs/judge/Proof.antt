@@ -3,7 +3,7 @@ use mathlib.Core.List.{[]}
 use borrow.Author.Needs.{needs}
 use Rattle.theory_steiner.specs.Problem.{terminal, terminals, cost}
 use Rattle.survey_core.specs.Survey.{surveyFrom, vertexCount, edgeCount, member, sameGroup, problemOf}
-use Rattle.check_core.specs.Stage.{outcomeOf}
+use Rattle.check_core.specs.Stage.{checkedOutcome}
 use Rattle.check_rule.specs.Check.{checkedOf}
 use Rattle.check_core.specs.Laws.Stage.{judged-passed, judged-refused}
 use Rattle.check_marks.specs.Cost.{kept-cost-all}
@@ -21,14 +21,14 @@ enum-told c = search needs
 
 -- passed
 returns : tie.Need-returns
-unfolding outcomeOf checkedOf terminals terminal cost problemOf vertexCount edgeCount sameGroup member
+unfolding checkedOutcome checkedOf terminals terminal cost problemOf vertexCount edgeCount sameGroup member
 returns c = let args = c .before .before .before .before .before .before .before .before .before .before .before .args in
     let counts = checkedOf (surveyFrom (args .groups .now) (args .firsts .now) [] (args .weights .now)) (args .marks .now) (args .records .now) in
     judged-passed counts (c .before .before .before .before .before .terminals .ensures) (kept-cost-all _ _ _ (c .before .before .before .before .before .before .before .before .before .before .before .pre .edges-few) (c .before .before .before .before .kept-cost .ensures)) (c .before .before .before .bound .ensures) (c .before .before .rule-refusal .ensures) (c .enum-told .given .1)
 
 -- 15
 returns-2 : tie.Need-returns-2
-unfolding outcomeOf checkedOf terminals terminal cost problemOf vertexCount edgeCount sameGroup member
+unfolding checkedOutcome checkedOf terminals terminal cost problemOf vertexCount edgeCount sameGroup member
 returns-2 c = let args = c .before .before .before .before .before .before .before .before .before .before .before .before .args in
     let counts = checkedOf (surveyFrom (args .groups .now) (args .firsts .now) [] (args .weights .now)) (args .marks .now) (args .records .now) in
     judged-refused counts (c .before .before .before .before .before .before .terminals .ensures) (kept-cost-all _ _ _ (c .before .before .before .before .before .before .before .before .before .before .before .before .pre .edges-few) (c .before .before .before .before .before .kept-cost .ensures)) (c .before .before .before .before .bound .ensures) (c .before .before .before .rule-refusal .ensures) (c .before .found .given .1)

@@ -8,6 +8,7 @@ use lib.ListN.{length}
 use Rattle.base_finite.specs.Below.{tabulate}
 use Rattle.base_limits.specs.Limits.{recordBytes}
 use Rattle.base_limits.specs.Verdict.{Outcome, answer, outcome}
+use Rattle.base_limits.specs.Laws.Verdict.{answer-fine}
 use Rattle.base_limits.specs.declared.Verdict.{Verdict}
 use Rattle.base_limits.specs.declared.Verdict.the-variants.{Fine, Refused}
 use Rattle.theory_steiner.specs.Problem.{terminals, cost}
@@ -39,17 +40,12 @@ passing-accurate s marks records h =
       free = h .none-free;
     }
 
-pub answered : {A : Type 0} (v : Verdict) (a b : A) → outcome v a ≡ answer b → (v ≡ Fine) × (a ≡ b)
-unfolding outcome
-answered Fine a b h = (refl, (cc))
-answered (Refused number place) a b h = absurd (let z : _≡_ {A = ℕ} 0 1 = cc in omega arith)
-
 -- Whatever passes is accurate, for the k and the cost reported.
 pub checking-accurate : (s : Survey) → ByteGroups s → (marks records : List ℕ) (c : Checked) → checking s marks records ≡ answer c →
     Accurate s (c .terminals) (c .cost)
 unfolding checking checkedOf
 checking-accurate s numbered marks records c h =
-    let v = answered (checkRefusal s marks records) (checkedOf s marks records) c h in
+    let v = answer-fine (checkRefusal s marks records) (checkedOf s marks records) c h in
     subst (λ x. Accurate s (x .terminals) (x .cost)) (v .1) (passing-accurate s marks records (check-passing s numbered marks records (v .0)))
 
 -- Passed exactly if it means what `Passing` says.
@@ -58,7 +54,7 @@ pub checking-passing : (s : Survey) → ByteGroups s → (marks records : List �
     × (Passing s marks records → checking s marks records ≡ answer (checkedOf s marks records))
 unfolding checking outcome
 checking-passing s numbered marks records = (
-  λ c h. check-passing s numbered marks records (answered (checkRefusal s marks records) (checkedOf s marks records) c h .0),
+  λ c h. check-passing s numbered marks records (answer-fine (checkRefusal s marks records) (checkedOf s marks records) c h .0),
   λ h. ap (λ v. outcome v (checkedOf s marks records)) (passing-check s numbered marks records h),
 )
 

@@ -1,4 +1,4 @@
--- `check_text::verify_plan` meets its contract: a refused plan stays, and what was read is judged.
+-- `check_text::verify_plan` meets its contract: a refused plan stays, and what was read is claimsJudged.
 use native.Mathlib.Omega.{arith}
 use borrow.Author.Needs.{needs}
 use mathlib.Core.Path.{ap, _∙_}
@@ -8,7 +8,7 @@ use Rattle.format_plan.specs.Plan.{planReading}
 use Rattle.check_text.specs.Verify.{planFrom}
 use Rattle.format_plan.specs.Answer.{planOutcome}
 use Rattle.check_text.specs.Answer.{verifiedOutcome}
-use Rattle.check_text.specs.Laws.Verify.{plan-refused, plan-judged, plan-room}
+use Rattle.check_text.specs.Laws.Verify.{plan-refused, plan-judged, plan-read-room}
 use Rattle.check_text.proofs.verify_plan.Statement.{statement}
 use Rattle.check_text.proofs.verify_plan.Tie as tie
 
@@ -16,7 +16,7 @@ mul-size : tie.Need-mul-size
 unfolding planOutcome planReading
 mul-size c =
     let a = c .before .before .before .before .before .before .before .before .before .before .before .before .before .args in
-    let few = plan-room (a .text .now) (a .at) _ maxEdges recordsRoom (c .before .before .before .before .before .read-plan .ensures .answered) (ap planOutcome (c .before .terminals .given .1)) in
+    let few = plan-read-room (a .text .now) (a .at) _ maxEdges recordsRoom (c .before .before .before .before .before .read-plan .ensures .answered) (ap planOutcome (c .before .terminals .given .1)) in
     omega (arith, few)
 
 part-judge-end-2 : tie.Need-part-judge-end-2
@@ -24,7 +24,7 @@ unfolding planOutcome planReading
 part-judge-end-2 c =
     let far = c .before .before .before .before .before .before .before .before .before .before in
     let a = far .before .before .before .before .before .before .args in
-    let few = plan-room (a .text .now) (a .at) _ maxEdges recordsRoom (c .before .before .before .before .before .before .before .before .read-plan .ensures .answered) (ap planOutcome (c .before .before .before .before .terminals .given .1)) in
+    let few = plan-read-room (a .text .now) (a .at) _ maxEdges recordsRoom (c .before .before .before .before .before .before .before .before .read-plan .ensures .answered) (ap planOutcome (c .before .before .before .before .terminals .given .1)) in
     search (needs, few)
 
 -- the plan is refused
@@ -35,7 +35,7 @@ returns c =
     let s = surveyFrom (a .groups .now) (a .firsts .now) (a .seconds .now) (a .weights .now) in
     plan-refused s (planFrom (a .text .now) s (a .at)) (c .before .before .before .before .before .read-plan .ensures .answered) (ap planOutcome (c .before .number .given .1))
 
--- the plan is judged
+-- the plan is claimsJudged
 returns-2 : tie.Need-returns-2
 unfolding planOutcome planReading planFrom edgeCount
 returns-2 c =

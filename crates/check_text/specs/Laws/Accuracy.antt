@@ -22,7 +22,7 @@ use Rattle.survey_core.specs.Sound.{ByteGroups}
 use Rattle.check_rule.specs.Check.{Checked, checking}
 use Rattle.check_rule.specs.Laws.Accuracy.{checking-accurate}
 use Rattle.format_plan.specs.Plan.{Claims, PrintedPlan, marksOf, dualRecords}
-use Rattle.check_text.specs.Verify.{surveyAt, prefixAt, claimTest, judged, planVerified, planFrom, verifiedFrom, verifying}
+use Rattle.check_text.specs.Verify.{surveyLinesAt, prefixAt, claimTest, claimsJudged, planVerified, planFrom, verifiedFrom, verifying}
 use Rattle.check_text.specs.Pair.{surveyIn, Claimed, Worth}
 
 groups-below : (t : List ℕ) (count i at v : ℕ) → getD (linesFrom (groupLine groupTest t) count i at .values) v 0 < groupNumbers
@@ -38,7 +38,7 @@ groups-below t (suc count) i at v = by-line (groupLine groupTest t i at) v refl 
 
 -- Groups that are read are group numbers.
 pub prefix-numbered : (a b c d : ℕ) (t : List ℕ) {s : SurveyText} {at : ℕ} → prefixAt (testsFor a b c d) t ≡ found s at → ByteGroups (surveyIn s)
-unfolding prefixAt surveyAt linesAt linesOf surveyOf groupLines
+unfolding prefixAt surveyLinesAt linesAt linesOf surveyOf groupLines
 prefix-numbered a b c d t {s} {at} e =
     let one = then-value (countsAt (testsFor a b c d) t) _ e in
     let two = then-value (linesAt t (one .0 .vertices) (one .0 .edges) (one .1) .end) _ (one .3) in
@@ -46,8 +46,8 @@ prefix-numbered a b c d t {s} {at} e =
     let same : surveyOf (one .0) (body .groups) (body .edges) ≡ s = cc (two .3) in
     subst (λ x. ByteGroups (surveyIn x)) same (λ v. groups-below t (one .0 .vertices) 0 (one .1) v)
 
-judged-answer : (o : Outcome Checked) (k c b : ℕ) {x : Checked} → judged o k c b ≡ answer x → o ≡ answer x
-unfolding judged outcome
+judged-answer : (o : Outcome Checked) (k c b : ℕ) {x : Checked} → claimsJudged o k c b ≡ answer x → o ≡ answer x
+unfolding claimsJudged outcome
 judged-answer (refusal n p) k c b e = let z : _≡_ {A = ℕ} 0 1 = cc in absurd (omega arith)
 judged-answer (answer y) k c b {x} e = by-test (claimTest y k c b) e
   where
@@ -55,8 +55,8 @@ judged-answer (answer y) k c b {x} e = by-test (claimTest y k c b) e
     by-test Fine e = e
     by-test (Refused n p) e = let z : _≡_ {A = ℕ} 0 1 = cc in absurd (omega arith)
 
-judged-claims : (o : Outcome Checked) (x : Claims) {c : Checked} → judged o (x .terminals) (x .cost) (x .bound) ≡ answer c → Claimed x c
-unfolding judged claimTest refuseIf _before_ outcome
+judged-claims : (o : Outcome Checked) (x : Claims) {c : Checked} → claimsJudged o (x .terminals) (x .cost) (x .bound) ≡ answer c → Claimed x c
+unfolding claimsJudged claimTest refuseIf _before_ outcome
 judged-claims (refusal n p) x e = let z : _≡_ {A = ℕ} 0 1 = cc in absurd (omega arith)
 judged-claims (answer y) x {c} e = by-tests (eqb (y .terminals) (x .terminals)) (eqb (y .cost) (x .cost)) (eqb (y .bound) (x .bound)) refl refl refl e
   where

@@ -35,7 +35,7 @@ use Rattle.check_text.specs.Laws.Accuracy.{verified-parts}
 use Rattle.check_text.specs.Laws.Prefix.{prefix-content}
 use Rattle.format_plan.specs.Laws.Room.{room-answer}
 use Rattle.format_plan.specs.WellFormed.{Rising, ended, rising, dualText, claimsText, planWords, Printed, Printable}
-use Rattle.format_plan.specs.Laws.RoundTrip.{followers, memberText, listed-text}
+use Rattle.format_plan.specs.Laws.RoundTrip.{followers, memberWords, listed-text}
 use Rattle.format_plan.specs.Laws.Accepted.{found-rendering}
 
 -- ---- moat lines
@@ -66,7 +66,7 @@ followers-most {n} {low} h (rising {e = v} {es = vs} a b r) =
 
 -- Printed members take at most 913 bytes.
 listed-most : (vs : List ℕ) → Rising memberNumbers 0 vs → length (listed vs) ≤ 913
-unfolding listed memberText separator followers
+unfolding listed memberWords separator followers
 listed-most [] r = omega arith
 listed-most (v ∷ vs) r =
     let e : length (listed (v ∷ vs)) ≡ length (decimal v ++ followers vs) = ap length (listed-text (v ∷ vs)) in

@@ -1,4 +1,4 @@
--- Every plan that the checker passes, printed behind the text of its survey, passes the check of both with the same counts.
+-- Every plan that the checker passes, printedWith behind the text of its survey, passes the check of both with the same counts.
 use Prim.Native.Nat.{ℕ, _+_, _^_, _≤_, _<_}
 use native.Mathlib.Omega.{arith}
 use mathlib.Core.Path.{_≡_, refl, ap, sym, _∙_, subst}
@@ -11,7 +11,7 @@ use Rattle.format_write.specs.Text.{planText}
 use Rattle.format_print.specs.Laws.Room.{plan-text-le}
 use Rattle.format_grammar.specs.Step.{found}
 use Rattle.format_survey_lines.specs.Line.{Edge}
-use Rattle.format_survey.specs.Reading.{outcomeOf, reading, SurveyText}
+use Rattle.format_survey.specs.Reading.{stepOutcome, reading, SurveyText}
 use Rattle.format_survey.specs.Render.{render, longestText}
 use Rattle.format_survey.specs.WellFormed.{WithinCounts, surveyOfText}
 use Rattle.format_survey.specs.Laws.WellFormed.{accepted-render}
@@ -37,11 +37,11 @@ abbrev claimsOf : Checked → (rounds : ℕ) → Claims
 claimsOf c rounds = record { terminals = c .terminals; cost = c .cost; bound = c .bound; rounds = rounds }
 
 -- The text of a plan with these figures, marks and records.
-abbrev pub printed : Checked → (rounds : ℕ) (marks records : List ℕ) → List ℕ
-printed c rounds marks records = planText (c .terminals) (c .cost) (c .bound) rounds marks records
+abbrev pub printedWith : Checked → (rounds : ℕ) (marks records : List ℕ) → List ℕ
+printedWith c rounds marks records = planText (c .terminals) (c .cost) (c .bound) rounds marks records
 
 module _ (s : Survey) (numbered : ByteGroups s) (marks records : List ℕ) (c : Checked) (passed : checking s marks records ≡ answer c) where
-  -- What passes fits the digits and the limits of a printed plan.
+  -- What passes fits the digits and the limits of a printedWith plan.
   passed-fits : (rounds : ℕ) → rounds < 10 ^ figureDigits → PrintFits (claimsOf c rounds) marks records
   unfolding checkedOf dualAt edgeCount
   passed-fits rounds h =
@@ -63,7 +63,7 @@ module _ (s : Survey) (numbered : ByteGroups s) (marks records : List ℕ) (c : 
       }
 
   -- The text of what passes is no longer than any plan's.
-  passed-length : Bytes records → (rounds : ℕ) → rounds < 10 ^ figureDigits → length (printed c rounds marks records) ≤ planRoom
+  passed-length : Bytes records → (rounds : ℕ) → rounds < 10 ^ figureDigits → length (printedWith c rounds marks records) ≤ planRoom
   passed-length bytes rounds h =
       let f = passed-fits rounds h in
       let k = f .few .terminals in
@@ -83,15 +83,15 @@ module _ (s : Survey) (numbered : ByteGroups s) (marks records : List ℕ) (c : 
       }
 
   -- The plan behind any text is read back and passes.
-  plan-passes : Bytes records → (u : List ℕ) (rounds : ℕ) → rounds < 10 ^ figureDigits → planVerified s (planFrom (u ++ printed c rounds marks records) s (length u)) ≡ answer c
-  unfolding planVerified planIn outcomeOf edgeCount
+  plan-passes : Bytes records → (u : List ℕ) (rounds : ℕ) → rounds < 10 ^ figureDigits → planVerified s (planFrom (u ++ printedWith c rounds marks records) s (length u)) ≡ answer c
+  unfolding planVerified planIn stepOutcome edgeCount
   plan-passes bytes u rounds h =
-      let t = u ++ printed c rounds marks records in
+      let t = u ++ printedWith c rounds marks records in
       let p = checking-passing s numbered marks records .0 c passed in
       let plan = planIn (claimsOf c rounds) marks records in
       let read : planAt t (edgeCount s) (length u) ≡ found plan (length t) =
       ap (λ (m : ℕ). planAt t m (length u)) (sym (p .marks-long)) ∙ read-back u (c .terminals) (c .cost) (c .bound) rounds marks records (passed-fits rounds h) in
-      ap (planVerified s) (room-suffices t s (length u) (p .survey .edges-few) ∙ ap outcomeOf read)
+      ap (planVerified s) (room-suffices t s (length u) (p .survey .edges-few) ∙ ap stepOutcome read)
       ∙ claim-fine (c .terminals) (c .cost) (c .bound) (drawn-passes s numbered marks records c bytes passed) refl refl refl
 
 -- The groups of a rendering are group numbers.
@@ -106,26 +106,26 @@ read-numbered t gb fb sb wb s e =
 
 -- Behind a rendering.
 render-passes : (groups : List ℕ) (edges : List Edge) → WithinCounts groups edges → (marks records : List ℕ) → Bytes records → (rounds : ℕ) → rounds < 10 ^ figureDigits → (c : Checked)
-    → checking (surveyIn (surveyOfText groups edges)) marks records ≡ answer c → verifying (render groups edges ++ printed c rounds marks records) ≡ answer c
+    → checking (surveyIn (surveyOfText groups edges)) marks records ≡ answer c → verifying (render groups edges ++ printedWith c rounds marks records) ≡ answer c
 unfolding verifying verifiedFrom
 render-passes groups edges w marks records bytes rounds h c passed =
-    let t = render groups edges ++ printed c rounds marks records in
-    let read = prefix-render groups edges (printed c rounds marks records) w in
+    let t = render groups edges ++ printedWith c rounds marks records in
+    let read = prefix-render groups edges (printedWith c rounds marks records) w in
     ap (verifiedFrom t) read
     ∙ plan-passes (surveyIn (surveyOfText groups edges)) (render-numbered groups edges w) marks records c passed bytes (render groups edges) rounds h
 
 module _ (t gb fb sb wb : List ℕ) (s : SurveyText) (read : reading t gb fb sb wb ≡ answer s) (marks records : List ℕ) (bytes : Bytes records) (rounds : ℕ) (few : rounds < 10 ^ figureDigits) where
-  -- A plan that the checker passes for the survey of a text, printed behind this text, passes with the same counts.
-  pub printed-passes : (c : Checked) → checking (surveyIn s) marks records ≡ answer c → verifying (t ++ printed c rounds marks records) ≡ answer c
+  -- A plan that the checker passes for the survey of a text, printedWith behind this text, passes with the same counts.
+  pub printed-passes : (c : Checked) → checking (surveyIn s) marks records ≡ answer c → verifying (t ++ printedWith c rounds marks records) ≡ answer c
   printed-passes c passed =
       let a = accepted-render gb fb sb wb t s read in
-      ap (λ (u : List ℕ). verifying (u ++ printed c rounds marks records)) (a .word)
+      ap (λ (u : List ℕ). verifying (u ++ printedWith c rounds marks records)) (a .word)
       ∙ render-passes (a .groups) (a .edges) (a .within) marks records bytes rounds few c (subst (λ (x : SurveyText). checking (surveyIn x) marks records ≡ answer c) (a .says) passed)
 
   -- Both texts together have at most 563,669 bytes.
-  pub printed-length : (c : Checked) → checking (surveyIn s) marks records ≡ answer c → length (t ++ printed c rounds marks records) ≤ longestText + planRoom
+  pub printed-length : (c : Checked) → checking (surveyIn s) marks records ≡ answer c → length (t ++ printedWith c rounds marks records) ≤ longestText + planRoom
   printed-length c passed =
-      let l = length-append t (printed c rounds marks records) in
+      let l = length-append t (printedWith c rounds marks records) in
       let a = longest-read t gb fb sb wb s read in
       let b = passed-length (surveyIn s) (read-numbered t gb fb sb wb s read) marks records c passed bytes rounds few in
       omega arith

@@ -14,11 +14,11 @@ use Rattle.format_grammar.specs.Laws.Stands.{stands-first, stands-whole}
 use Rattle.format_survey.specs.Laws.Content.{contentAt, reads-content, content-then}
 use Rattle.format_survey.specs.WellFormed.{WithinCounts, surveyOfText}
 use Rattle.format_survey.specs.Laws.WellFormed.{contentFrom, never-malformed, within-accepted}
-use Rattle.check_text.specs.Verify.{surveyAt, prefixAt}
+use Rattle.check_text.specs.Verify.{surveyLinesAt, prefixAt}
 
 -- The survey at the start of a text is what the lines there say.
 pub prefix-content : (a b c d : ℕ) (t : List ℕ) → prefixAt (testsFor a b c d) t ≡ (contentAt (testsFor a b c d) t 0 then λ x p. found (surveyOf (x .counts) (x .groups) (x .edges)) p)
-unfolding prefixAt surveyAt linesAt linesOf testsFor
+unfolding prefixAt surveyLinesAt linesAt linesOf testsFor
 prefix-content a b c d t = content-then (testsFor a b c d) t (λ x p. found (surveyOf (x .counts) (x .groups) (x .edges)) p)
 
 -- A rendering is read back from the start of a text, and the offset behind it is its length.

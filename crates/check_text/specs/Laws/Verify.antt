@@ -13,40 +13,40 @@ use Rattle.base_finite.specs.Laws.Below.{length-tabulate}
 use Rattle.base_limits.specs.Limits.{recordBytes, maxEdges, maxVertices}
 use Rattle.base_limits.specs.Verdict.{refuseIf, Outcome, refusal, answer, outcome, _before_}
 use Rattle.format_grammar.specs.Step.{Step, found, refused, _then_}
-use Rattle.format_survey.specs.Reading.{surveyOf, outcomeOf}
+use Rattle.format_survey.specs.Reading.{surveyOf, stepOutcome}
 use Rattle.format_survey_lines.specs.Line.{SurveyCounts, testsFor, countsAt, firstsOf, secondsOf, weightsOf, SurveyLines, linesAt}
 use Rattle.format_survey_lines.specs.Laws.Tests.{counts-passed}
 use Rattle.format_survey.specs.Laws.Reading.{sets-filled}
 use Rattle.survey_core.specs.Survey.{Survey, surveyFrom, edgeCount}
 use Rattle.check_rule.specs.Check.{Checked, checking}
 use Rattle.format_plan_lines.specs.Lines.{PrintedDual, dualRecord}
-use Rattle.format_plan.specs.Plan.{Claims, PrintedPlan, planAt, withRoom, marksOf, dualRecords, marksAfter, recordsAfter}
-use Rattle.check_text.specs.Verify.{surveyAt, prefixAt, claimTest, judged, planVerified, planFrom, verifiedFrom, verifying}
+use Rattle.format_plan.specs.Plan.{Claims, PrintedPlan, planAt, withRoom, marksOf, dualRecords, marksRead, recordsRead}
+use Rattle.check_text.specs.Verify.{surveyLinesAt, prefixAt, claimTest, claimsJudged, planVerified, planFrom, verifiedFrom, verifying}
 use Rattle.format_plan.specs.Answer.{Read, readOf, PlanRead}
 use Rattle.format_plan_lines.specs.Laws.Lines.{length-dual-record}
 use Rattle.format_plan.specs.Laws.Room.{room-answer, room-enough}
 
 -- ---- claims
 
-pub judged-refused : {o : Outcome Checked} {n p : ℕ} (terminals cost bound : ℕ) → o ≡ refusal n p → judged o terminals cost bound ≡ refusal n p
-unfolding judged
+pub judged-refused : {o : Outcome Checked} {n p : ℕ} (terminals cost bound : ℕ) → o ≡ refusal n p → claimsJudged o terminals cost bound ≡ refusal n p
+unfolding claimsJudged
 judged-refused terminals cost bound e = rw e
 
 module _ {o : Outcome Checked} {k c b : ℕ} (terminals cost bound : ℕ) (found′ : o ≡ answer (record { terminals = k; cost = c; bound = b })) where
-  pub claim-terminals : (k ≡ terminals → ⊥) → judged o terminals cost bound ≡ refusal 25 0
-  unfolding judged claimTest refuseIf _before_ outcome
+  pub claim-terminals : (k ≡ terminals → ⊥) → claimsJudged o terminals cost bound ≡ refusal 25 0
+  unfolding claimsJudged claimTest refuseIf _before_ outcome
   claim-terminals n = rw (found′, ne-eqb k terminals n)
 
-  pub claim-cost : k ≡ terminals → (c ≡ cost → ⊥) → judged o terminals cost bound ≡ refusal 25 1
-  unfolding judged claimTest refuseIf _before_ outcome
+  pub claim-cost : k ≡ terminals → (c ≡ cost → ⊥) → claimsJudged o terminals cost bound ≡ refusal 25 1
+  unfolding claimsJudged claimTest refuseIf _before_ outcome
   claim-cost e n = rw (found′, eq-eqb k terminals e, ne-eqb c cost n)
 
-  pub claim-bound : k ≡ terminals → c ≡ cost → (b ≡ bound → ⊥) → judged o terminals cost bound ≡ refusal 25 2
-  unfolding judged claimTest refuseIf _before_ outcome
+  pub claim-bound : k ≡ terminals → c ≡ cost → (b ≡ bound → ⊥) → claimsJudged o terminals cost bound ≡ refusal 25 2
+  unfolding claimsJudged claimTest refuseIf _before_ outcome
   claim-bound e f n = rw (found′, eq-eqb k terminals e, eq-eqb c cost f, ne-eqb b bound n)
 
-  pub claim-fine : k ≡ terminals → c ≡ cost → b ≡ bound → judged o terminals cost bound ≡ answer (record { terminals = k; cost = c; bound = b })
-  unfolding judged claimTest refuseIf _before_ outcome
+  pub claim-fine : k ≡ terminals → c ≡ cost → b ≡ bound → claimsJudged o terminals cost bound ≡ answer (record { terminals = k; cost = c; bound = b })
+  unfolding claimsJudged claimTest refuseIf _before_ outcome
   claim-fine e f g = rw (found′, eq-eqb k terminals e, eq-eqb c cost f, eq-eqb b bound g)
 
 -- ---- the plan
@@ -67,12 +67,12 @@ length-records (d ∷ ds) = omega (arith, length-append (dualRecord d) (dualReco
 
 plan-read : (s : Survey) (o : Outcome PrintedPlan) {claims : Claims} {duals : ℕ} {marks marks′ records records′ : List ℕ}
     → PlanRead o (edgeCount s) (answer (record { claims = claims; duals = duals })) marks marks′ records records′
-    → planVerified s o ≡ judged (checking s (take (edgeCount s) marks′) (take (recordBytes * duals) records′)) (claims .terminals) (claims .cost) (claims .bound)
-unfolding readOf marksAfter recordsAfter planVerified
+    → planVerified s o ≡ claimsJudged (checking s (take (edgeCount s) marks′) (take (recordBytes * duals) records′)) (claims .terminals) (claims .cost) (claims .bound)
+unfolding readOf marksRead recordsRead planVerified
 plan-read s o {claims} {duals} {marks} {marks′} {records} {records′} r = by-outcome o (r .answered) (r .intoMarks) (r .intoRecords)
   where
-    by-outcome : (x : Outcome PrintedPlan) → answer (record { claims = claims; duals = duals }) ≡ readOf x → marks′ ≡ marksAfter x (edgeCount s) marks → records′ ≡ recordsAfter x records
-        → planVerified s x ≡ judged (checking s (take (edgeCount s) marks′) (take (recordBytes * duals) records′)) (claims .terminals) (claims .cost) (claims .bound)
+    by-outcome : (x : Outcome PrintedPlan) → answer (record { claims = claims; duals = duals }) ≡ readOf x → marks′ ≡ marksRead x (edgeCount s) marks → records′ ≡ recordsRead x records
+        → planVerified s x ≡ claimsJudged (checking s (take (edgeCount s) marks′) (take (recordBytes * duals) records′)) (claims .terminals) (claims .cost) (claims .bound)
     by-outcome (refusal n p) a b c = let z : _≡_ {A = ℕ} 0 1 = cc in absurd (omega arith)
     by-outcome (answer p) a b c =
         let read : _≡_ {A = Read} (record { claims = claims; duals = duals }) (record { claims = p .claims; duals = length (p .duals) }) = cc in
@@ -85,15 +85,15 @@ plan-read s o {claims} {duals} {marks} {marks′} {records} {records′} r = by-
 -- The same of the parts that are lent.
 pub plan-judged : (s : Survey) (o : Outcome PrintedPlan) {read : Outcome Read} {claims : Claims} {duals : ℕ} {marks marks′ records records′ : List ℕ}
     → PlanRead o (edgeCount s) read marks marks′ records records′ → read ≡ answer (record { claims = claims; duals = duals })
-    → judged (checking s (take (edgeCount s - 0) marks′) (take (recordBytes * duals - 0) records′)) (claims .terminals) (claims .cost) (claims .bound) ≡ planVerified s o
+    → claimsJudged (checking s (take (edgeCount s - 0) marks′) (take (recordBytes * duals - 0) records′)) (claims .terminals) (claims .cost) (claims .bound) ≡ planVerified s o
 plan-judged s o {claims = claims} {duals = duals} {marks = marks} {marks′ = marks′} {records = records} {records′ = records′} r e =
     rw (sub-zero (edgeCount s), sub-zero (recordBytes * duals)) (sym (plan-read s o (subst (λ (x : Outcome Read). PlanRead o (edgeCount s) x marks marks′ records records′) e r)))
 
 -- No more moats are read than there is room for.
-pub plan-room : (t : List ℕ) (at m marks records : ℕ) {read : Outcome Read} {claims : Claims} {duals : ℕ} → read ≡ readOf (withRoom (planAt t m at) m marks records) → read ≡ answer (record { claims = claims; duals = duals })
+pub plan-read-room : (t : List ℕ) (at m marks records : ℕ) {read : Outcome Read} {claims : Claims} {duals : ℕ} → read ≡ readOf (withRoom (planAt t m at) m marks records) → read ≡ answer (record { claims = claims; duals = duals })
     → recordBytes * duals ≤ records
 unfolding readOf
-plan-room t at m marks records {read} {claims} {duals} a e = by-outcome (withRoom (planAt t m at) m marks records) refl (sym e ∙ a)
+plan-read-room t at m marks records {read} {claims} {duals} a e = by-outcome (withRoom (planAt t m at) m marks records) refl (sym e ∙ a)
   where
     by-outcome : (o : Outcome PrintedPlan) → withRoom (planAt t m at) m marks records ≡ o → answer (record { claims = claims; duals = duals }) ≡ readOf o → recordBytes * duals ≤ records
     by-outcome (refusal n q) r e = let z : _≡_ {A = ℕ} 0 1 = cc in absurd (omega arith)
@@ -102,7 +102,7 @@ plan-room t at m marks records {read} {claims} {duals} a e = by-outcome (withRoo
         subst (λ (n : ℕ). recordBytes * n ≤ records) (sym (ap (λ (r : Read). r .duals) same)) (room-answer (planAt t m at) m marks records r .3)
 
 -- 7 cannot come: the check answers what the text says.
-pub room-suffices : (t : List ℕ) (s : Survey) (at : ℕ) → edgeCount s ≤ maxEdges → planFrom t s at ≡ outcomeOf (planAt t (edgeCount s) at)
+pub room-suffices : (t : List ℕ) (s : Survey) (at : ℕ) → edgeCount s ≤ maxEdges → planFrom t s at ≡ stepOutcome (planAt t (edgeCount s) at)
 unfolding planFrom
 room-suffices t s at h = room-enough t (edgeCount s) at h
 
@@ -133,15 +133,15 @@ survey-parts t n m at {groups = groups} {firsts = firsts} {seconds = seconds} {w
 
 -- The lines of a survey and the plan behind them: a refusal stays, and the plan is held against what was read.
 module _ (t : List ℕ) (n m at : ℕ) {step : Step ℕ} where
-  pub lines-refused : {x y : ℕ} → step ≡ linesAt t n m at .end → step ≡ refused x y → refusal x y ≡ verifiedFrom t (surveyAt t (record { vertices = n; edges = m }) at)
-  unfolding verifiedFrom surveyAt _then_
+  pub lines-refused : {x y : ℕ} → step ≡ linesAt t n m at .end → step ≡ refused x y → refusal x y ≡ verifiedFrom t (surveyLinesAt t (record { vertices = n; edges = m }) at)
+  unfolding verifiedFrom surveyLinesAt _then_
   lines-refused s e = rw (sym s ∙ e)
 
   pub lines-verified : {z q : ℕ} {groups groups′ firsts firsts′ seconds seconds′ weights weights′ : List ℕ} → n ≤ length groups → m ≤ length firsts → m ≤ length seconds → m ≤ length weights
       → LinesStored (linesAt t n m at) step groups groups′ firsts firsts′ seconds seconds′ weights weights′ → step ≡ found z q
       → planVerified (surveyFrom (take (n - 0) groups′) (take (m - 0) firsts′) (take (m - 0) seconds′) (take (m - 0) weights′)) (planFrom t (surveyFrom (take (n - 0) groups′) (take (m - 0) firsts′) (take (m - 0) seconds′) (take (m - 0) weights′)) q)
-      ≡ verifiedFrom t (surveyAt t (record { vertices = n; edges = m }) at)
-  unfolding verifiedFrom surveyAt _then_ surveyOf
+      ≡ verifiedFrom t (surveyLinesAt t (record { vertices = n; edges = m }) at)
+  unfolding verifiedFrom surveyLinesAt _then_ surveyOf
   lines-verified hg hf hs hw s e =
       let p = survey-parts t n m at s e hg hf hs hw in
       rw (sub-zero n, sub-zero m, sym (s .end) ∙ e, p .groupsPart, p .firstsPart, p .secondsPart, p .weightsPart) refl
@@ -154,7 +154,7 @@ module _ (t : List ℕ) {step : Step SurveyCounts} (read : step ≡ countsAt (te
   verified-uncounted e = rw (sym read ∙ e)
 
   module _ {n m at : ℕ} (counted : step ≡ found (record { vertices = n; edges = m }) at) where
-    pub verified-counted : verifiedFrom t (surveyAt t (record { vertices = n; edges = m }) at) ≡ verifying t
+    pub verified-counted : verifiedFrom t (surveyLinesAt t (record { vertices = n; edges = m }) at) ≡ verifying t
     unfolding verifying prefixAt _then_
     verified-counted = rw (sym read ∙ counted) refl
 

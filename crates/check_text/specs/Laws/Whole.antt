@@ -9,7 +9,7 @@ use Rattle.base_limits.specs.Limits.{recordBytes, maxVertices, maxEdges, maxDua
 use Rattle.base_limits.specs.Verdict.{answer}
 use Rattle.format_grammar.specs.Step.{found}
 use Rattle.format_survey_lines.specs.Line.{Edge, testsFor, firstsOf}
-use Rattle.format_survey.specs.Reading.{surveyOf, outcomeOf, SurveyText}
+use Rattle.format_survey.specs.Reading.{surveyOf, stepOutcome, SurveyText}
 use Rattle.format_survey.specs.Render.{render}
 use Rattle.format_grammar.specs.Laws.Step.{then-value}
 use Rattle.format_grammar.specs.Laws.Stands.{stands-end}
@@ -83,7 +83,7 @@ verified-pair t c e =
 
 -- Such a pair passes.
 pub pair-verified : (t : List ℕ) (c : Checked) → Pair t c → verifying t ≡ answer c
-unfolding verifying verifiedFrom planVerified outcomeOf
+unfolding verifying verifiedFrom planVerified stepOutcome
 pair-verified t c x =
     let u = render (x .groups) (x .edges) in
     let w = planWords (x .plan) in
@@ -96,7 +96,7 @@ pair-verified t c x =
     let passed : checking s (marksOf (edgeCount s) (x .plan .kept)) (dualRecords (x .plan .duals)) ≡ answer c = rw n (x .passes) in
     ap verifying (x .word)
     ∙ ap (verifiedFrom (u ++ w)) (prefix-render (x .groups) (x .edges) w (x .within))
-    ∙ ap (planVerified s) (room-suffices (u ++ w) s (length u) (omega (arith, n, few)) ∙ ap outcomeOf read)
+    ∙ ap (planVerified s) (room-suffices (u ++ w) s (length u) (omega (arith, n, few)) ∙ ap stepOutcome read)
     ∙ claim-fine (x .plan .claims .terminals) (x .plan .claims .cost) (x .plan .claims .bound) passed (x .claims .terminals) (x .claims .cost) (x .claims .bound)
 
 pub verified-iff : (t : List ℕ) (c : Checked) → (verifying t ≡ answer c) ↔ Pair t c

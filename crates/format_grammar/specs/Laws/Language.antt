@@ -211,8 +211,8 @@ reads-as {A} {f} {g} {W} {G} {X} {H} e wx xw gh hg r =
       well = λ a w m. gh a w (r .well a w (xw a w m));
     }
 
-pub joined : (a b c d : List ℕ) → a ++ (b ++ (c ++ (d ++ []))) ≡ a ++ b ++ c ++ d
-joined a b c d = simp (append-assoc, append-nil)
+pub append-four : (a b c d : List ℕ) → a ++ (b ++ (c ++ (d ++ []))) ≡ a ++ b ++ c ++ d
+append-four a b c d = simp (append-assoc, append-nil)
 
 -- Where the text of a value stands, and where it ends.
 pub text-stands : {A : Type 0} {P : A → Type 0} {f : A → List ℕ} {t : List ℕ} {at : ℕ} {a : A} {p : ℕ} → Word (Text P f) t at a p → Stands t at (f a) × (p ≡ at + length (f a))

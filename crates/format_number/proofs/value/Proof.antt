@@ -6,7 +6,7 @@ use mathlib.Core.Path.{_≡_, _∙_, sym, ap, refl}
 use mathlib.Core.List.{List}
 use lib.ListN.{length, getD, drop, drop-of-length-le}
 use Rattle.format_write.specs.Decimal.{spelledAfter}
-use Rattle.format_number.specs.Laws.Number.{value-step, value-fits, decimal-more}
+use Rattle.format_number.specs.Laws.Number.{value-step, spelled-fits, spelled-more}
 use Rattle.format_number.proofs.value.Statement.{statement}
 use Rattle.format_number.proofs.value.Tie as tie
 
@@ -27,13 +27,13 @@ loop-holds c = record { upto = omega arith; room = omega arith; rest = refl }
 mul-n : tie.Need-mul-n Inv-loop μ-loop
 mul-n c =
     let l = c .before .loop in
-    omega (arith, value-fits (l .n) (l .i) (l .inv .room) (omega arith))
+    omega (arith, spelled-fits (l .n) (l .i) (l .inv .room) (omega arith))
 
 add-n : tie.Need-add-n Inv-loop μ-loop
 add-n c =
     let l = c .before .before .before .loop in
     let d = c .before .shared-slice-known2 .given (l .i) in
-    omega (arith, c .digit .ensures, value-fits (l .n) (l .i) (l .inv .room) (omega arith))
+    omega (arith, c .digit .ensures, spelled-fits (l .n) (l .i) (l .inv .room) (omega arith))
 
 loop-again : tie.Need-loop-again Inv-loop μ-loop
 loop-again c =
@@ -43,7 +43,7 @@ loop-again c =
     record {
       upto = omega arith;
       room = rw (c .digit .ensures) (value-step (l .n) (getD s (l .i) 0) (l .i) (l .inv .room) (omega arith));
-      rest = rw (c .digit .ensures) (sym (decimal-more (l .n) (l .i) s (omega arith)) ∙ l .inv .rest);
+      rest = rw (c .digit .ensures) (sym (spelled-more (l .n) (l .i) s (omega arith)) ∙ l .inv .rest);
     }
 
 returns : tie.Need-returns Inv-loop μ-loop

@@ -26,23 +26,23 @@ pub data Digits : List ℕ → Type 0 where
   one : {d : ℕ} {ds : List ℕ} → 48 ≤ d → d ≤ 57 → Digits ds → Digits (d ∷ ds)
 
 -- The bytes of t from offset at up to end.
-unfoldable pub between : List ℕ → (at end : ℕ) → List ℕ
-between t at end = take (end - at) (drop at t)
+unfoldable pub bytesBetween : List ℕ → (at end : ℕ) → List ℕ
+bytesBetween t at end = take (end - at) (drop at t)
 
-pub between-none : (t : List ℕ) (at : ℕ) → between t at at ≡ []
-unfolding between
+pub between-none : (t : List ℕ) (at : ℕ) → bytesBetween t at at ≡ []
+unfolding bytesBetween
 between-none t at = let z : at - at ≡ 0 = omega arith in rw z
 
-pub between-more : (t : List ℕ) (at end : ℕ) → at < length t → at < end → between t at end ≡ getD t at 0 ∷ between t (at + 1) end
-unfolding between
+pub between-more : (t : List ℕ) (at end : ℕ) → at < length t → at < end → bytesBetween t at end ≡ getD t at 0 ∷ bytesBetween t (at + 1) end
+unfolding bytesBetween
 between-more t at end h k = let z : end - at ≡ suc (end - (at + 1)) = omega arith in rw (z, drop-cons t at 0 h, add-one)
 
-pub run-digits : (t : List ℕ) (limit at : ℕ) → Digits (between t at (digitsEnd limit t at))
+pub run-digits : (t : List ℕ) (limit at : ℕ) → Digits (bytesBetween t at (digitsEnd limit t at))
 unfolding digitsEnd isDigit
 run-digits t zero at = rw (between-none t at) none
 run-digits t (suc limit) at = by-class (classOf (getD t at 0)) refl (run-digits t limit (at + 1))
   where
-    by-class : (k : Class) → classOf (getD t at 0) ≡ k → Digits (between t (at + 1) (digitsEnd limit t (at + 1))) → Digits (between t at (cond (isDigit k) (digitsEnd limit t (at + 1)) at))
+    by-class : (k : Class) → classOf (getD t at 0) ≡ k → Digits (bytesBetween t (at + 1) (digitsEnd limit t (at + 1))) → Digits (bytesBetween t at (cond (isDigit k) (digitsEnd limit t (at + 1)) at))
     by-class Digit e r =
         let f = class-facts (getD t at 0) .digit e in
         let h = digit-inside t at e in
@@ -54,10 +54,10 @@ run-digits t (suc limit) at = by-class (classOf (getD t at 0)) refl (run-digits 
     by-class Other e r = rw (between-none t at) none
 
 pub numeral-digits : (t : List ℕ) (limit at : ℕ) → Digits (numeralAt limit t at)
-unfolding numeralAt numeralEnd between
+unfolding numeralAt numeralEnd bytesBetween
 numeral-digits t limit at = by-zero (eqb (getD t at 0) 48) refl
   where
-    by-zero : (z : Bool) → eqb (getD t at 0) 48 ≡ z → Digits (between t at (cond z (at + 1) (digitsEnd limit t at)))
+    by-zero : (z : Bool) → eqb (getD t at 0) 48 ≡ z → Digits (bytesBetween t at (cond z (at + 1) (digitsEnd limit t at)))
     by-zero true e =
         let b : getD t at 0 ≡ 48 = eqb-true (getD t at 0) 48 e in
         let h : at < length t = read-inside t at (omega arith) in

@@ -87,12 +87,12 @@ numeral-past t limit at h = by-start (leb at (length t)) refl
 pub value-step : (n d i : ℕ) → n + 23 ≤ 23 * 10 ^ i → d < 256 → n * 10 + (d - 48) + 23 ≤ 23 * 10 ^ (i + 1)
 value-step n d i h k = rw (add-one, pow-suc) (omega arith)
 
-pub value-fits : (n i : ℕ) → n + 23 ≤ 23 * 10 ^ i → i < 10 → n ≤ 23000000000
-value-fits n i h k = let p : 10 ^ i ≤ 10 ^ 9 = pow-le-pow-right {n = 10} (omega arith) {i = i} {j = 9} (omega arith) in omega arith
+pub spelled-fits : (n i : ℕ) → n + 23 ≤ 23 * 10 ^ i → i < 10 → n ≤ 23000000000
+spelled-fits n i h k = let p : 10 ^ i ≤ 10 ^ 9 = pow-le-pow-right {n = 10} (omega arith) {i = i} {j = 9} (omega arith) in omega arith
 
-pub decimal-more : (n i : ℕ) (s : List ℕ) → i < length s → spelledAfter n (drop i s) ≡ spelledAfter (n * 10 + (getD s i 0 - 48)) (drop (i + 1) s)
+pub spelled-more : (n i : ℕ) (s : List ℕ) → i < length s → spelledAfter n (drop i s) ≡ spelledAfter (n * 10 + (getD s i 0 - 48)) (drop (i + 1) s)
 unfolding spelledAfter
-decimal-more n i s h = rw (add-one, drop-cons s i 0 h)
+spelled-more n i s h = rw (add-one, drop-cons s i 0 h)
 
 pub record Width (t : List ℕ) (limit at width : ℕ) : Type 0 where
   pub most : width ≤ max 1 limit

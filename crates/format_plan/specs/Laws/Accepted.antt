@@ -21,7 +21,7 @@ use Rattle.format_grammar.specs.Laws.Bytes.{fixed-short}
 use Rattle.format_grammar.specs.Stands.{Stands}
 use Rattle.format_grammar.specs.Laws.Stands.{stands-append}
 use Rattle.format_grammar.specs.Language.{Reads, Word, Seq, Empty, Text, Each, none, more}
-use Rattle.format_grammar.specs.Laws.Language.{bound, reads-then, reads-as, reads-value, joined, text-stands}
+use Rattle.format_grammar.specs.Laws.Language.{bound, reads-then, reads-as, reads-value, append-four, text-stands}
 use Rattle.format_number.specs.Laws.Keyed.{reads-line}
 use Rattle.format_grammar.specs.Items.{ItemReader, Standing, stop, item, Lists}
 use Rattle.format_plan_lines.specs.Lines.{keepReader, keptAt, memberReader, membersAt, memberNumbers, PrintedDual, dualLineAt, dualReader, dualsAt}
@@ -68,7 +68,7 @@ reads-claims =
               (a .whole ∙ ap (λ (z : List ℕ). z ++ a .right) (a .first .word) ∙ ap (λ (z : List ℕ). lineOf costKey (a .value) ++ z)
               (b .whole ∙ ap (λ (z : List ℕ). z ++ b .right) (b .first .word) ∙ ap (λ (z : List ℕ). lineOf boundKey (b .value) ++ z)
               (c .whole ∙ ap (λ (z : List ℕ). z ++ c .right) (c .first .word) ∙ ap (λ (z : List ℕ). lineOf roundsKey (c .value) ++ z) (d .word))))
-              ∙ joined (lineOf terminalsKey (m .value)) (lineOf costKey (a .value)) (lineOf boundKey (b .value)) (lineOf roundsKey (c .value))
+              ∙ append-four (lineOf terminalsKey (m .value)) (lineOf costKey (a .value)) (lineOf boundKey (b .value)) (lineOf roundsKey (c .value))
               ∙ ap claimsText e;
         }
 
@@ -79,7 +79,7 @@ reads-claims =
           left = lineOf terminalsKey (x .terminals);
           right = lineOf costKey (x .cost) ++ (lineOf boundKey (x .bound) ++ (lineOf roundsKey (x .rounds) ++ []));
           first = record { holds = m .holds .terminals; word = refl };
-          whole = m .word ∙ sym (joined (lineOf terminalsKey (x .terminals)) (lineOf costKey (x .cost)) (lineOf boundKey (x .bound)) (lineOf roundsKey (x .rounds)));
+          whole = m .word ∙ sym (append-four (lineOf terminalsKey (x .terminals)) (lineOf costKey (x .cost)) (lineOf boundKey (x .bound)) (lineOf roundsKey (x .rounds)));
           second = record {
             value = x .cost;
             left = lineOf costKey (x .cost);

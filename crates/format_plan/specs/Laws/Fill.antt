@@ -53,9 +53,9 @@ items-count t (suc fuel) low i at {n} {p} e = by-stop (dualReader t .stop at) (d
     by-stop false (found d next) ih e = omega (arith, ih (low + 1) next e)
     by-stop false (refused x y) ih e = let z : _≡_ {A = ℕ} 0 1 = cc in absurd (omega arith)
 
-pub duals-count : (t : List ℕ) (at : ℕ) {n p : ℕ} → dualsAt t at .end ≡ found n p → n ≡ length (dualsAt t at .values)
+pub duals-counted : (t : List ℕ) (at : ℕ) {n p : ℕ} → dualsAt t at .end ≡ found n p → n ≡ length (dualsAt t at .values)
 unfolding dualsAt
-duals-count t at e = omega (arith, items-count t (length t) 0 0 at e)
+duals-counted t at e = omega (arith, items-count t (length t) 0 0 at e)
 
 -- ---- marks
 

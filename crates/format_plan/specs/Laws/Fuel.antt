@@ -7,7 +7,7 @@ use lib.ListN.{length}
 use Rattle.format_key.specs.Key.{newline, colon, keptKey, dualKey}
 use Rattle.base_limits.specs.Limits.{keptDigits, memberDigits, valueDigits}
 use Rattle.format_number.specs.Number.{numberAt, numberTo, numberLine}
-use Rattle.format_plan_lines.specs.Lines.{keepLine, keepReader, separator, memberAt, memberReader, membersAt, PrintedDual, dualHead, dualLineAt, dualReader}
+use Rattle.format_plan_lines.specs.Lines.{keepLine, keepReader, separator, memberStep, memberReader, membersAt, PrintedDual, dualHead, dualLineAt, dualReader}
 use Rattle.format_plan_lines.specs.Laws.Lines.{members-end}
 use Rattle.format_grammar.specs.Bytes.{fixedAt}
 use Rattle.format_grammar.specs.Items.{itemsFrom, Goes}
@@ -35,8 +35,8 @@ keep-goes t m low i at {e} {p} h q =
     let same : line .1 ≡ p = checked-next _ _ _ (line .3) in
     record { on = omega arith; inside = omega arith }
 
-member-goes : (t : List ℕ) (low i at : ℕ) {v p : ℕ} → at ≤ length t → memberAt t low i at ≡ found v p → Goes t at p
-unfolding memberAt
+member-goes : (t : List ℕ) (low i at : ℕ) {v p : ℕ} → at ≤ length t → memberStep t low i at ≡ found v p → Goes t at p
+unfolding memberStep
 member-goes t low i at h q =
     let sep = then-value (fixedAt (separator i) t at) _ q in
     let a = fixed-goes (separator i) t at (sep .2) .on in

@@ -29,10 +29,10 @@ use Rattle.format_number.specs.Laws.NumberWord.{NumberOrNone, absent, present, 
 use Rattle.format_number.specs.Laws.Keyed.{Passes, reads-keyed, reads-tested}
 use Rattle.format_survey.specs.Laws.WellFormed.{one-not-malformed, two-not-malformed}
 use Rattle.format_grammar.specs.Items.{Broken, Lists, textFrom}
-use Rattle.format_plan_lines.specs.Lines.{keptTest, keepLine, keepReader, separator, memberAt, memberReader, membersAt, PrintedDual, dualTest, dualHead, listedDual, dualLineAt, dualReader}
+use Rattle.format_plan_lines.specs.Lines.{keptTest, keepLine, keepReader, separator, memberStep, memberReader, membersAt, PrintedDual, dualTest, dualHead, listedDual, dualLineAt, dualReader}
 use Rattle.format_grammar.specs.Laws.Items.{items-stop}
 use Rattle.format_plan.specs.WellFormed.{DualDigits, dualText}
-use Rattle.format_plan.specs.Laws.RoundTrip.{dual-some, line-some, colon-ends, memberText, later-text, listed-text}
+use Rattle.format_plan.specs.Laws.RoundTrip.{dual-some, line-some, colon-ends, memberWords, later-text, listed-text}
 use Rattle.format_grammar.specs.Laws.Listing.{standing-words, standing-long, items-standing, items-broken, item-goes, broken-place, broken-extends, items-again, items-broken-again}
 
 -- ---- bytes and ends that texts have in common
@@ -157,8 +157,8 @@ module _ (t : List ℕ) (low i at : ℕ) (h : at ≤ length t) where
   after-separator {z} {p} e = reads-fixed (separator i) .sound t at z p h e
 
   -- A member that is read stands there.
-  member-sound : (v p : ℕ) → memberAt t low i at ≡ found v p → Word (Text (OfDigits memberDigits) (memberPart i)) t at v p
-  unfolding memberAt memberPart
+  member-sound : (v p : ℕ) → memberStep t low i at ≡ found v p → Word (Text (OfDigits memberDigits) (memberPart i)) t at v p
+  unfolding memberStep memberPart
   member-sound v p e =
       let s = then-value (fixedAt (separator i) t at) _ e in
       let x = after-separator (s .2) in
@@ -174,8 +174,8 @@ module _ (t : List ℕ) (low i at : ℕ) (h : at ≤ length t) where
       }
 
   -- A member is refused from its place on, inside the text.
-  member-place : (p : ℕ) → memberAt t low i at ≡ refused 16 p → (at ≤ p) × (p ≤ length t)
-  unfolding memberAt
+  member-place : (p : ℕ) → memberStep t low i at ≡ refused 16 p → (at ≤ p) × (p ≤ length t)
+  unfolding memberStep
   member-place p e = by-place (then-stops (fixedAt (separator i) t at) _ e)
     where
       by-place : Stops (fixedAt (separator i) t at) (λ z q. numberAt memberDigits t q) 16 p → (at ≤ p) × (p ≤ length t)
@@ -188,8 +188,8 @@ module _ (t : List ℕ) (low i at : ℕ) (h : at ≤ length t) where
           (omega arith, omega arith)
 
   -- The bytes before the refusal of a member go on to a member.
-  member-extends : (p : ℕ) → memberAt t low i at ≡ refused 16 p → Extends (Text (OfDigits memberDigits) (memberPart i)) t at p
-  unfolding memberAt memberPart
+  member-extends : (p : ℕ) → memberStep t low i at ≡ refused 16 p → Extends (Text (OfDigits memberDigits) (memberPart i)) t at p
+  unfolding memberStep memberPart
   member-extends p e = by-place (then-stops (fixedAt (separator i) t at) _ e)
     where
       by-place : Stops (fixedAt (separator i) t at) (λ z q. numberAt memberDigits t q) 16 p → Extends (Text (OfDigits memberDigits) (memberPart i)) t at p
@@ -214,16 +214,16 @@ module _ (t : List ℕ) (low i at : ℕ) (h : at ≤ length t) where
           }
 
   -- A member is read again from a text with the same bytes up to the one behind it.
-  member-again : (u : List ℕ) (v p q : ℕ) → p ≤ q → take (q + 1) t ≡ take (q + 1) u → memberAt t low i at ≡ found v p → memberAt u low i at ≡ found v p
-  unfolding memberAt
+  member-again : (u : List ℕ) (v p q : ℕ) → p ≤ q → take (q + 1) t ≡ take (q + 1) u → memberStep t low i at ≡ found v p → memberStep u low i at ≡ found v p
+  unfolding memberStep
   member-again u v p q l k e =
       let s = then-value (fixedAt (separator i) t at) _ e in
       let b = bound (number-sound memberDigits (omega arith) t (s .1) v p (s .3)) .0 in
       then-found _ (read-again (reads-fixed (separator i)) t u at (s .0) (s .1) (q + 1) h (omega arith) k (s .2)) ∙ number-again memberDigits (omega arith) t u (s .1) v p q l k (s .3)
 
   -- A member is refused again.
-  member-same : (u : List ℕ) (p : ℕ) → memberAt t low i at ≡ refused 16 p → take (p + 1) t ≡ take (p + 1) u → memberAt u low i at ≡ refused 16 p
-  unfolding memberAt
+  member-same : (u : List ℕ) (p : ℕ) → memberStep t low i at ≡ refused 16 p → take (p + 1) t ≡ take (p + 1) u → memberStep u low i at ≡ refused 16 p
+  unfolding memberStep
   member-same u p e k = by-place (then-stops (fixedAt (separator i) t at) _ e)
     where
       by-place : Stops (fixedAt (separator i) t at) (λ z q. numberAt memberDigits t q) 16 p → (fixedAt (separator i) u at then λ z q. numberAt memberDigits u q) ≡ refused 16 p
@@ -248,8 +248,8 @@ lists-members =
     }
 
 -- Members from the i-th on are their parts one after another.
-members-from : (i : ℕ) (vs : List ℕ) → memberText i vs ≡ textFrom memberPart i vs
-unfolding memberText textFrom memberPart
+members-from : (i : ℕ) (vs : List ℕ) → memberWords i vs ≡ textFrom memberPart i vs
+unfolding memberWords textFrom memberPart
 members-from i [] = refl
 members-from i (v ∷ vs) = ap (λ (w : List ℕ). separator i ++ decimal v ++ w) (sym (later-text i vs) ∙ members-from (i + 1) vs)
 

@@ -16,9 +16,9 @@ use Rattle.format_grammar.specs.Language.{Each}
 use Rattle.format_plan_lines.specs.Lines.{keptAt, dualsAt, putMark, putDual}
 use Rattle.format_plan_lines.specs.Laws.Puts.{mark-length, dual-length}
 use Rattle.format_grammar.specs.Laws.Items.{empty-pass}
-use Rattle.format_plan.specs.Plan.{Claims, PrintedPlan, PlanLines, claimsAt, planLinesAt, planAt, marksOf, dualRecords, cleared, roomTest, withRoom, planReading, marksAfter, recordsAfter}
+use Rattle.format_plan.specs.Plan.{Claims, PrintedPlan, PlanLines, claimsAt, planLinesAt, planAt, marksOf, dualRecords, cleared, roomTest, withRoom, planReading, marksRead, recordsRead}
 use Rattle.format_plan.specs.Answer.{roomed, readOf, PlanStored, PlanFilled, PlanRead}
-use Rattle.format_plan.specs.Laws.Fill.{kept-below, duals-count, marks-filled, records-filled}
+use Rattle.format_plan.specs.Laws.Fill.{kept-below, duals-counted, marks-filled, records-filled}
 
 -- ---- one pass
 
@@ -43,7 +43,7 @@ unfolding planLinesAt linesAfter
 body-whole t m at {count} {p} e = by-kept (keptAt t m at .end) e
   where
     by-kept : (s : Step ℕ) → linesAfter s (dualsAt t) .end ≡ found count p → Whole (record { kept = keptAt t m at .values; duals = linesAfter s (dualsAt t) .values; end = linesAfter s (dualsAt t) .end }) m count
-    by-kept (found z q) e = record { below = kept-below t m at; many = duals-count t q e }
+    by-kept (found z q) e = record { below = kept-below t m at; many = duals-counted t q e }
     by-kept (refused n q) e =
         let f : _≡_ {A = Step ℕ} (refused n q) (found count p) = e in
         let z : _≡_ {A = ℕ} 0 1 = cc in absurd (omega arith)
@@ -126,7 +126,7 @@ module _ (t : List ℕ) (m at : ℕ) (marks records : List ℕ) {step : Step ℕ
 
 module _ (t : List ℕ) (from m : ℕ) (marks records : List ℕ) where
   pub reads-refused : {n p : ℕ} → claimsAt t from ≡ refused n p → PlanRead (planReading t from m marks records) m (refusal n p) marks marks records records
-  unfolding planReading planAt withRoom _then_ readOf marksAfter recordsAfter
+  unfolding planReading planAt withRoom _then_ readOf marksRead recordsRead
   reads-refused e = rw e record { answered = refl; intoMarks = refl; intoRecords = refl }
 
   module _ {claims : Claims} {p : ℕ} (head : claimsAt t from ≡ found claims p) where
@@ -162,7 +162,7 @@ module _ (t : List ℕ) (from m : ℕ) (marks records : List ℕ) where
 
     pub reads-stopped : {n q : ℕ} {step : Step ℕ} {marks′ records′ : List ℕ} → PlanFilled (planLinesAt t m p) m step marks marks′ records records′ → step ≡ refused n q
         → PlanRead (planReading t from m marks records) m (refusal n q) marks marks′ records records′
-    unfolding readOf marksAfter recordsAfter storedIf
+    unfolding readOf marksRead recordsRead storedIf
     reads-stopped f s =
         rw (outcome-refused (sym (f .end) ∙ s))
         record {
@@ -173,7 +173,7 @@ module _ (t : List ℕ) (from m : ℕ) (marks records : List ℕ) where
 
     pub reads-found : {v q : ℕ} {step : Step ℕ} {marks′ records′ : List ℕ} → PlanFilled (planLinesAt t m p) m step marks marks′ records records′ → step ≡ found v q
         → PlanRead (planReading t from m marks records) m (answer (record { claims = claims; duals = v })) marks marks′ records records′
-    unfolding readOf marksAfter recordsAfter storedIf plan
+    unfolding readOf marksRead recordsRead storedIf plan
     reads-found {v} {q} f s =
         let o = outcome-found (sym (f .end) ∙ s) in
         rw (o .0)

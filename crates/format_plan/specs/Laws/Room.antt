@@ -10,19 +10,17 @@ use borrow.Author.Tests.{ltb-true, ltb-false, leb-true, leb-false}
 use Rattle.base_limits.specs.Limits.{recordBytes, maxDuals, maxEdges}
 use Rattle.base_limits.specs.Verdict.{refuseIf, refusal, answer, outcome}
 use Rattle.base_limits.specs.declared.Verdict.{Verdict}
+use Rattle.base_limits.specs.Laws.Verdict.{no-refusal}
 use Rattle.base_limits.specs.declared.Verdict.the-variants.{Fine, Refused}
 use Rattle.format_grammar.specs.Step.{Step, found, refused}
 use Rattle.format_grammar.specs.Lines.{linesAfter, following}
-use Rattle.format_survey.specs.Reading.{outcomeOf}
+use Rattle.format_survey.specs.Reading.{stepOutcome}
 use Rattle.format_grammar.specs.Laws.Step.{then-value, checked-fine}
 use Rattle.format_grammar.specs.Items.{itemsFrom}
 use Rattle.format_plan_lines.specs.Lines.{PrintedDual, dualHead, membersAt, dualTest, dualLineAt, dualReader, dualsAt, keptAt, memberNumbers}
 use Rattle.format_plan.specs.Plan.{PrintedPlan, planLinesAt, claimsAt, planAt, roomTest, withRoom}
 use Rattle.format_plan_lines.specs.Laws.Tests.{dual-falls, dual-many}
 use Rattle.format_plan.specs.Laws.Reading.{room-marks, room-records, room-fine}
-
-no-refusal : {n p : ℕ} {w : Verdict} → w ≡ Refused n p → w ≡ Fine → ⊥
-no-refusal e f = let z : _≡_ {A = ℕ} 0 1 = cc in omega arith
 
 -- What the test of room says that passes.
 pub room-passed : (m count marks records : ℕ) → roomTest m count marks records ≡ Fine → (m ≤ marks) × (recordBytes * count ≤ records)
@@ -106,10 +104,10 @@ plan-few t m at {p} {q} e =
     subst (λ (x : PrintedPlan). length (x .duals) ≤ maxDuals) same (body-few t m (one .1))
 
 -- Where there is room for every plan within the limits 7 cannot come: what is answered is what the text says.
-pub room-enough : (t : List ℕ) (m at : ℕ) → m ≤ maxEdges → withRoom (planAt t m at) m maxEdges (recordBytes * maxDuals) ≡ outcomeOf (planAt t m at)
-unfolding withRoom outcomeOf outcome
+pub room-enough : (t : List ℕ) (m at : ℕ) → m ≤ maxEdges → withRoom (planAt t m at) m maxEdges (recordBytes * maxDuals) ≡ stepOutcome (planAt t m at)
+unfolding withRoom stepOutcome outcome
 room-enough t m at h = by-plan (planAt t m at) refl
   where
-    by-plan : (x : Step PrintedPlan) → planAt t m at ≡ x → withRoom x m maxEdges (recordBytes * maxDuals) ≡ outcomeOf x
+    by-plan : (x : Step PrintedPlan) → planAt t m at ≡ x → withRoom x m maxEdges (recordBytes * maxDuals) ≡ stepOutcome x
     by-plan (found p q) e = let f = plan-few t m at e in rw (room-fine m (length (p .duals)) maxEdges (recordBytes * maxDuals) h f) refl
     by-plan (refused n q) e = refl

@@ -18,7 +18,7 @@ use Rattle.format_number.specs.Laws.Digits.{Digits, one}
 use Rattle.format_number.specs.Laws.Decimal.{decimal-numeral}
 use Rattle.format_number.specs.Laws.Keyed.{newline-no-digit, comma-no-digit, keyed-reads-back, number-reads-back}
 use Rattle.format_plan_lines.specs.Laws.Tests.{kept-fine, risen-next, dual-fine}
-use Rattle.format_plan_lines.specs.Lines.{keptTest, keepLine, keepReader, separator, memberNumbers, memberAt, risen, memberReader, membersAt, PrintedDual, dualTest, dualHead, listedDual, dualLineAt, dualReader, dualsAt, keptAt}
+use Rattle.format_plan_lines.specs.Lines.{keptTest, keepLine, keepReader, separator, memberNumbers, memberStep, risen, memberReader, membersAt, PrintedDual, dualTest, dualHead, listedDual, dualLineAt, dualReader, dualsAt, keptAt}
 use Rattle.format_plan.specs.Plan.{Claims, claimsAt, planLinesAt, PrintedPlan, planAt}
 use Rattle.format_grammar.specs.Bytes.{byteIs}
 use Rattle.format_grammar.specs.Items.{Standing, stop, item}
@@ -71,17 +71,17 @@ followers [] = []
 followers (v ∷ vs) = (comma ∷ []) ++ decimal v ++ followers vs
 
 -- Members of which the first is member i of its moat.
-unfoldable pub memberText : (i : ℕ) → List ℕ → List ℕ
-memberText i [] = []
-memberText i (v ∷ vs) = separator i ++ decimal v ++ followers vs
+unfoldable pub memberWords : (i : ℕ) → List ℕ → List ℕ
+memberWords i [] = []
+memberWords i (v ∷ vs) = separator i ++ decimal v ++ followers vs
 
-pub later-text : (i : ℕ) (vs : List ℕ) → memberText (i + 1) vs ≡ followers vs
-unfolding memberText followers separator
+pub later-text : (i : ℕ) (vs : List ℕ) → memberWords (i + 1) vs ≡ followers vs
+unfolding memberWords followers separator
 later-text i [] = refl
 later-text i (v ∷ vs) = rw (add-one i)
 
-pub listed-text : (vs : List ℕ) → listed vs ≡ memberText 0 vs
-unfolding listed memberText separator followers
+pub listed-text : (vs : List ℕ) → listed vs ≡ memberWords 0 vs
+unfolding listed memberWords separator followers
 listed-text [] = refl
 listed-text (v ∷ []) = sym (append-nil (decimal v))
 listed-text (v ∷ w ∷ vs) =
@@ -103,8 +103,8 @@ followers-long (v ∷ vs) =
     let l = followers-long vs in
     omega arith
 
-members-long : (i : ℕ) (vs : List ℕ) → length vs ≤ length (memberText i vs)
-unfolding memberText
+members-long : (i : ℕ) (vs : List ℕ) → length vs ≤ length (memberWords i vs)
+unfolding memberWords
 members-long i [] = omega arith
 members-long i (v ∷ vs) =
     let s = decimal-numeral v .some in
@@ -124,9 +124,9 @@ no-end zero t at v s = by-digits (decimal v) s (decimal-numeral v .digits) (deci
 no-end (suc i) t at v s = other-byte t at comma newline (stands-head s) (λ q. omega arith)
 
 -- Members, where their line ends behind them.
-pub members-reads-back : (t : List ℕ) {vs : List ℕ} → Each (OfDigits memberDigits) vs → (low i at end : ℕ) → Stands t at (memberText i vs ++ (newline ∷ []))
-    → end ≡ at + length (memberText i vs) → (last : ℕ) × Standing (memberReader t) low i at vs last end
-unfolding memberReader memberAt memberText numberText
+pub members-reads-back : (t : List ℕ) {vs : List ℕ} → Each (OfDigits memberDigits) vs → (low i at end : ℕ) → Stands t at (memberWords i vs ++ (newline ∷ []))
+    → end ≡ at + length (memberWords i vs) → (last : ℕ) × Standing (memberReader t) low i at vs last end
+unfolding memberReader memberStep memberWords numberText
 members-reads-back t none low i at end s q =
     let same : at ≡ end = omega arith in
     let f = s .fits in
@@ -149,8 +149,8 @@ members-reads-back t (more {a = v} {l = vs} h r) low i at end s q =
     let f = reads-fixed (separator i) .complete t at 0 (separator i) (record { value = refl; word = refl }) z in
     let w = length-append (separator i ++ decimal v) (followers vs) in
     let m = later-text i vs in
-    let lm : length (memberText (i + 1) vs) ≡ length (followers vs) = ap length m in
-    let text : Stands t (p + length (decimal v)) (memberText (i + 1) vs ++ (newline ∷ [])) =
+    let lm : length (memberWords (i + 1) vs) ≡ length (followers vs) = ap length m in
+    let text : Stands t (p + length (decimal v)) (memberWords (i + 1) vs ++ (newline ∷ [])) =
     subst (λ (g : List ℕ). Stands t (p + length (decimal v)) (g ++ (newline ∷ []))) (sym m) (subst (λ (g : ℕ). Stands t g R) l₁ rest) in
     let tail = members-reads-back t r (risen low v) (i + 1) (p + length (decimal v)) end text (omega arith) in
     (tail .0, item (no-end i t at v a) (then-found (λ z q. numberAt memberDigits t q) f ∙ x) (tail .1))
@@ -188,7 +188,7 @@ pub dual-line-reads-back : (t : List ℕ) (i at : ℕ) (d : PrintedDual) → Dua
 unfolding dualText dualLineAt membersAt _then_
 dual-line-reads-back t i at d p s =
     let H = dualKey ++ decimal (d .value) ++ (colon ∷ []) in
-    let M = memberText 0 (d .members) in
+    let M = memberWords 0 (d .members) in
     let x = listed-text (d .members) in
     let e : H ++ listed (d .members) ++ (newline ∷ []) ≡ H ++ (M ++ (newline ∷ [])) = ap (λ (w : List ℕ). H ++ w ++ (newline ∷ [])) x ∙ append-assoc H M (newline ∷ []) in
     let s′ : Stands t at (H ++ (M ++ (newline ∷ []))) = subst (Stands t at) e s in

@@ -7,7 +7,7 @@ use Rattle.format_plan_lines.specs.Lines.{putMember, putDual, listedDual
 use Rattle.format_plan_lines.specs.Laws.Tests.{dual-falls, dual-many, dual-fine}
 use Rattle.format_plan_lines.specs.Laws.Puts.{member-length}
 use Rattle.format_grammar.specs.Laws.Items.{empty-pass}
-use Rattle.format_plan_lines.specs.Laws.Lines.{members-below, members-end, dual-stops, dual-unlisted, dual-refused, dual-read}
+use Rattle.format_plan_lines.specs.Laws.Lines.{listed-below, members-end, dual-stops, dual-unlisted, dual-refused, dual-read}
 use Rattle.format_plan_lines.proofs.dual_line.Statement.{statement}
 use Rattle.format_plan_lines.proofs.dual_line.Tie as tie
 
@@ -56,7 +56,7 @@ unfolding numberStep
 store-dual-requires c κs =
     let far = c .before .before .before .before .before .before .before .before .before .before in
     let a = far .before .before .before .before .before .before .args in
-    members-below (a .text .now) _ (sym (c .before .before .before .before .before .before .before .before .members .ensures .end) ∙ ap numberStep (c .before .before .before .before .step .given .1)) (c .before .before .if1 .left)
+    listed-below (a .text .now) _ (sym (c .before .before .before .before .before .before .before .before .members .ensures .end) ∙ ap numberStep (c .before .before .before .before .step .given .1)) (c .before .before .if1 .left)
 
 add-t13 : tie.Need-add-t13
 unfolding numberStep

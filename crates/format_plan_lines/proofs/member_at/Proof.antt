@@ -4,24 +4,24 @@ use mathlib.Core.Path.{sym, _∙_}
 use Rattle.format_grammar.specs.Step.{_then_}
 use Rattle.format_grammar.specs.Bytes.{fixedAt}
 use Rattle.format_number.specs.Laws.Step.{refusal-stays, value-goes}
-use Rattle.format_plan_lines.specs.Lines.{memberAt}
+use Rattle.format_plan_lines.specs.Lines.{memberStep}
 use Rattle.format_plan_lines.specs.Laws.Tests.{separator-first, separator-later}
 use Rattle.format_plan_lines.proofs.member_at.Statement.{statement}
 use Rattle.format_plan_lines.proofs.member_at.Tie as tie
 
 returns : tie.Need-returns
-unfolding memberAt fixedAt _then_
+unfolding memberStep fixedAt _then_
 returns c = rw (separator-first (c .before .if1 .taken)) (c .number-at .ensures)
 
 enum-told : tie.Need-enum-told
 enum-told c = search needs
 
 returns-2 : tie.Need-returns-2
-unfolding memberAt
+unfolding memberStep
 returns-2 c = rw (separator-later _ (c .before .before .before .before .if1 .left)) (refusal-stays _ (c .before .before .fixed .ensures) (c .enum-told .given .1))
 
 returns-3 : tie.Need-returns-3
-unfolding memberAt
+unfolding memberStep
 returns-3 c = rw (separator-later _ (c .before .before .before .before .before .before .if1 .left)) (c .number-at2 .ensures ∙ sym (value-goes _ (c .before .before .before .before .fixed .ensures) (c .before .before .step .given .1)))
 
 pub member-at-spec : {M : Type 1} → statement M

@@ -10,6 +10,7 @@ use lib.Dec.{eqb, ltb, leb}
 use borrow.Author.Tests.{lt-leb, ltb-true, ltb-false, leb-true, leb-false, lt-ltb, le-ltb}
 use Rattle.base_limits.specs.Limits.{valueBytes, memberBytes, recordBytes}
 use Rattle.base_limits.specs.declared.Verdict.{Verdict}
+use Rattle.base_limits.specs.Laws.Verdict.{no-refusal}
 use Rattle.base_limits.specs.declared.Verdict.the-variants.{Fine, Refused}
 use Rattle.format_record.specs.Bits.{lowBytes}
 use Rattle.format_record.specs.Laws.Bits.{bytes-cong}
@@ -27,9 +28,6 @@ use Rattle.format_grammar.specs.Laws.Bytes.{byte-inside}
 use Rattle.format_grammar.specs.Laws.Items.{left-length, ItemsLeft, left-more, left-refused, items-stop}
 use Rattle.format_grammar.specs.Laws.Step.{then-value, checked-fine, checked-value}
 use Rattle.format_grammar.specs.Step.{Step, found, refused, checked, _then_}
-
-no-refusal : {n p : ℕ} {w : Verdict} → w ≡ Refused n p → w ≡ Fine → ⊥
-no-refusal e f = let z : _≡_ {A = ℕ} 0 1 = cc in omega arith
 
 -- A kept track that passes its test.
 pub record Kept (m low e : ℕ) : Type 0 where
@@ -80,9 +78,9 @@ items-risen t (suc fuel) low i at {n} {p} e h = by-stop (memberReader t .stop at
         record { start = omega arith; all = more k1 (r .all) }
     by-stop false (refused x y) ih e = let z : _≡_ {A = ℕ} 0 1 = cc in absurd (omega arith)
 
-pub members-below : (t : List ℕ) (at : ℕ) {low p : ℕ} → membersAt t at .end ≡ found low p → low ≤ memberNumbers → Members (membersAt t at .values)
+pub listed-below : (t : List ℕ) (at : ℕ) {low p : ℕ} → membersAt t at .end ≡ found low p → low ≤ memberNumbers → Members (membersAt t at .values)
 unfolding membersAt
-members-below t at e h = items-risen t (length t) 0 0 at e h .all
+listed-below t at e h = items-risen t (length t) 0 0 at e h .all
 
 -- ---- records
 

@@ -18,7 +18,7 @@ use Rattle.format_survey_lines.specs.Render.{edgeText}
 use Rattle.format_survey.specs.Render.{render}
 use Rattle.format_grammar.specs.Laws.Step.{then-then}
 use Rattle.format_grammar.specs.Language.{Reads, Seq, Empty, Text, EachFrom, Texts}
-use Rattle.format_grammar.specs.Laws.Language.{reads-then, reads-as, reads-value, joined}
+use Rattle.format_grammar.specs.Laws.Language.{reads-then, reads-as, reads-value, append-four}
 use Rattle.format_number.specs.Laws.Keyed.{Passes, reads-tested}
 use Rattle.format_survey_lines.specs.Laws.Content.{reads-edge}
 use Rattle.format_grammar.specs.Laws.Lines.{reads-lines}
@@ -76,7 +76,7 @@ module _ (N M : ℕ → Type 0) (P : ℕ → ℕ → Type 0) where
             (a .whole ∙ ap (λ (z : List ℕ). z ++ a .right) (a .first .word ∙ ap (lineOf linksKey) (sym es)) ∙ ap (λ (z : List ℕ). lineOf linksKey (length (c .value)) ++ z)
             (b .whole ∙ ap (λ (z : List ℕ). z ++ b .right) (b .first .word) ∙ ap (λ (z : List ℕ). textOf (lineOf nodeKey) (b .value) ++ z)
             (c .whole ∙ ap (λ (z : List ℕ). z ++ c .right) (c .first .word) ∙ ap (λ (z : List ℕ). textOf edgeText (c .value) ++ z) (d .word))))
-            ∙ joined (lineOf nodesKey (length (b .value))) (lineOf linksKey (length (c .value))) (textOf (lineOf nodeKey) (b .value)) (textOf edgeText (c .value));
+            ∙ append-four (lineOf nodesKey (length (b .value))) (lineOf linksKey (length (c .value))) (textOf (lineOf nodeKey) (b .value)) (textOf edgeText (c .value));
       }
 
   from : (x : SurveyContent) (w : List ℕ) → Rendered N M P x w → Parts x w
@@ -90,7 +90,7 @@ module _ (N M : ℕ → Type 0) (P : ℕ → ℕ → Type 0) where
         left = lineOf nodesKey (length g);
         right = lineOf linksKey (length h) ++ (textOf (lineOf nodeKey) g ++ (textOf edgeText h ++ []));
         first = record { holds = k .someVertices; word = refl };
-        whole = k .word ∙ sym (joined (lineOf nodesKey (length g)) (lineOf linksKey (length h)) (textOf (lineOf nodeKey) g) (textOf edgeText h));
+        whole = k .word ∙ sym (append-four (lineOf nodesKey (length g)) (lineOf linksKey (length h)) (textOf (lineOf nodeKey) g) (textOf edgeText h));
         second = record {
           value = length h;
           left = lineOf linksKey (length h);

@@ -11,7 +11,7 @@ use Rattle.format_survey.specs.Render.{edgeBytes}
 use Rattle.base_limits.specs.Limits.{maxVertices, maxEdges, countDigits, groupDigits, endpointDigits, weightDigits}
 use Rattle.format_key.specs.Key.{comma, newline, nodesKey, linksKey, nodeKey, linkKey}
 use Rattle.format_survey_lines.specs.Line.{Tests, testsFor, verticesTest, edgesTest, groupTest, countLine, groupLine, groupLines, edgeLine, edgeLines}
-use Rattle.format_survey.specs.Reading.{surveyOf, surveyAt, outcomeOf, reading}
+use Rattle.format_survey.specs.Reading.{surveyOf, surveyAt, stepOutcome, reading}
 use Rattle.format_survey_lines.specs.Laws.Tests.{vertices-passed, edges-passed}
 use Rattle.format_survey.specs.Laws.Content.{contentAt, content-survey}
 use Rattle.format_grammar.specs.Bytes.{endAt}
@@ -32,8 +32,8 @@ local-edge e =
     local-value (record { first = u; second = v; weight = w }))
 
 -- How many bytes are looked at.
-abbrev pub farthest : ℕ
-farthest = lineBytes nodesKey countDigits + (lineBytes linksKey countDigits + (maxVertices * lineBytes nodeKey groupDigits + (maxEdges * edgeBytes + 1)))
+abbrev pub farthestLook : ℕ
+farthestLook = lineBytes nodesKey countDigits + (lineBytes linksKey countDigits + (maxVertices * lineBytes nodeKey groupDigits + (maxEdges * edgeBytes + 1)))
 
 module _ (a b c d : ℕ) where
   abbrev tests : Tests
@@ -54,19 +54,19 @@ module _ (a b c d : ℕ) where
       few-edges : (m : ℕ) → m ≤ maxEdges → LooksWithin (λ t at. whole (linesFrom (edgeLine t) m 0 at)) (maxEdges * edgeBytes) Any
       few-edges m h = local-as (λ t at. refl) (omega arith) (λ a x. tt) (local-lines edgeLine edgeBytes local-edge m 0)
 
-  survey-same : (t u : List ℕ) → take farthest t ≡ take farthest u → surveyAt tests t ≡ surveyAt tests u
+  survey-same : (t u : List ℕ) → take farthestLook t ≡ take farthestLook u → surveyAt tests t ≡ surveyAt tests u
   survey-same t u e = content-survey tests t ∙ whole-survey .same t u 0 e ∙ sym (content-survey tests u)
     where
-      whole-survey : LooksWithin (λ t at. contentAt tests t at then λ x p. endAt t p then λ z q. found (surveyOf (x .counts) (x .groups) (x .edges)) q) farthest Any
+      whole-survey : LooksWithin (λ t at. contentAt tests t at then λ x p. endAt t p then λ z q. found (surveyOf (x .counts) (x .groups) (x .edges)) q) farthestLook Any
       whole-survey =
           local-as (λ t at. refl) (omega arith) (λ a x. tt)
           (local-then {Q = Any} local-content λ x y. local-then {Q = Any} local-end λ z y. local-value (surveyOf (x .counts) (x .groups) (x .edges)))
 
 -- Bytes beyond the first k change nothing.
-pub reading-cut : (k : ℕ) (t groups firsts seconds weights : List ℕ) → farthest ≤ k → reading (take k t) groups firsts seconds weights ≡ reading t groups firsts seconds weights
+pub reading-cut : (k : ℕ) (t groups firsts seconds weights : List ℕ) → farthestLook ≤ k → reading (take k t) groups firsts seconds weights ≡ reading t groups firsts seconds weights
 unfolding reading
 reading-cut k t groups firsts seconds weights h =
-    ap outcomeOf (survey-same (length groups) (length firsts) (length seconds) (length weights) (take k t) t (take-take farthest k t h))
+    ap stepOutcome (survey-same (length groups) (length firsts) (length seconds) (length weights) (take k t) t (take-take farthestLook k t h))
 
 -- A program that reads at most 65,536 bytes gives the answer of its whole input.
 pub reading-first-bytes : (t groups firsts seconds weights : List ℕ) → reading (take 65536 t) groups firsts seconds weights ≡ reading t groups firsts seconds weights

@@ -18,7 +18,7 @@ use Rattle.format_number.specs.declared.Number.the-variants.{Value, Refused}
 use Rattle.format_survey_lines.specs.Answer.{countsStep}
 use Rattle.format_survey_lines.specs.declared.Head.{Head}
 use Rattle.format_survey_lines.specs.declared.Head.the-variants.{Counts as CountsRead, Refused as HeadRefused}
-use Rattle.format_survey.specs.Reading.{bodyAt, bodyOf, SurveyText, surveyOf, surveyAt, outcomeOf, reading, filled}
+use Rattle.format_survey.specs.Reading.{bodyAt, bodyOf, SurveyText, surveyOf, surveyAt, stepOutcome, reading, filled}
 use Rattle.format_grammar.specs.Bytes.{endAt}
 use Rattle.format_survey.specs.Answer.{countsOf, LinesFilled}
 use Rattle.format_grammar.specs.Laws.Step.{then-value, stored-found, stored-refused}
@@ -56,15 +56,15 @@ module _ (t groups firsts seconds weights : List ℕ) where
   tests = testsFor (length groups) (length firsts) (length seconds) (length weights)
 
   pub reading-refused : {n p : ℕ} → countsAt tests t ≡ refused n p → reading t groups firsts seconds weights ≡ refusal n p
-  unfolding reading surveyAt outcomeOf _then_
+  unfolding reading surveyAt stepOutcome _then_
   reading-refused e = rw e
 
   pub reading-stopped : {n m at number place : ℕ} → countsAt tests t ≡ found (record { vertices = n; edges = m }) at → bodyOf t n m at .end ≡ refused number place → reading t groups firsts seconds weights ≡ refusal number place
-  unfolding reading surveyAt outcomeOf _then_ testsFor bodyOf
+  unfolding reading surveyAt stepOutcome _then_ testsFor bodyOf
   reading-stopped e f = rw (e, f)
 
   pub reading-found : {n m at z p : ℕ} → countsAt tests t ≡ found (record { vertices = n; edges = m }) at → bodyOf t n m at .end ≡ found z p → reading t groups firsts seconds weights ≡ answer (surveyOf (record { vertices = n; edges = m }) (bodyOf t n m at .groups) (bodyOf t n m at .edges))
-  unfolding reading surveyAt outcomeOf _then_ testsFor bodyOf
+  unfolding reading surveyAt stepOutcome _then_ testsFor bodyOf
   reading-found e f = rw (e, f)
 
   -- What the code has then read, by its answers.

@@ -12,7 +12,7 @@ use borrow.Author.Tests.{leb-true, leb-false}
 use Rattle.base_limits.specs.Verdict.{refusal, answer, refuseIf, _before_}
 use Rattle.base_limits.specs.declared.Verdict.the-variants.{Refused}
 use Rattle.format_survey_lines.specs.Line.{Tests, testsFor, verticesTest, edgesTest, groupTest, Edge}
-use Rattle.format_survey.specs.Reading.{SurveyText, surveyOf, surveyAt, outcomeOf, reading}
+use Rattle.format_survey.specs.Reading.{SurveyText, surveyOf, surveyAt, stepOutcome, reading}
 use Rattle.format_survey.specs.Render.{render}
 use Rattle.format_survey_lines.specs.Laws.Tests.{vertices-fine, edges-fine, group-fine, vertices-passed, edges-passed, group-passed}
 use Rattle.format_survey.specs.Laws.Content.{SurveyContent, contentAt, NeverMalformed, Accepted, Formed, reads-content, content-survey}
@@ -46,13 +46,13 @@ never-malformed a b c d =
       group = λ v x n p. one-not-malformed _ 17 v n p (λ z. omega arith);
     }
 
-outcome-found : {A : Type 0} (s : Step A) {a : A} → outcomeOf s ≡ answer a → (p : ℕ) × (s ≡ found a p)
-unfolding outcomeOf
+outcome-found : {A : Type 0} (s : Step A) {a : A} → stepOutcome s ≡ answer a → (p : ℕ) × (s ≡ found a p)
+unfolding stepOutcome
 outcome-found (found b p) e = (p, cc)
 outcome-found (refused n p) e = let z : _≡_ {A = ℕ} 0 1 = cc in absurd (omega arith)
 
-outcome-refused : {A : Type 0} (s : Step A) {n p : ℕ} → outcomeOf s ≡ refusal n p → s ≡ refused n p
-unfolding outcomeOf
+outcome-refused : {A : Type 0} (s : Step A) {n p : ℕ} → stepOutcome s ≡ refusal n p → s ≡ refused n p
+unfolding stepOutcome
 outcome-refused (found b q) e = let z : _≡_ {A = ℕ} 0 1 = cc in absurd (omega arith)
 outcome-refused (refused i q) {n} {p} e = let a : i ≡ n = cc in let b : q ≡ p = cc in cc
 
@@ -113,13 +113,13 @@ module _ (gb fb sb wb : List ℕ) where
 
   -- A rendering is read back.
   pub read-render : (groups : List ℕ) (edges : List Edge) → WithinCounts groups edges → SurveyRoom gb fb sb wb groups edges → reading (render groups edges) gb fb sb wb ≡ answer (surveyOfText groups edges)
-  unfolding reading surveyOfText outcomeOf
+  unfolding reading surveyOfText stepOutcome
   read-render groups edges w r =
       let t = render groups edges in
       let x = contentFrom groups edges in
       let a = within-accepted (length gb) (length fb) (length sb) (length wb) groups edges w (r .forGroups) (r .forFirsts) (r .forSeconds) (r .forWeights) in
       let c : contentAt tests t 0 ≡ found x (0 + length t) = reads-content tests (never-malformed _ _ _ _) .complete t 0 x t a (stands-whole t) in
-      ap outcomeOf (content-survey tests t ∙ then-found _ c ∙ then-found _ (end-here t (0 + length t) (omega arith)))
+      ap stepOutcome (content-survey tests t ∙ then-found _ c ∙ then-found _ (end-here t (0 + length t) (omega arith)))
 
   pub accepted-render : (t : List ℕ) (s : SurveyText) → reading t gb fb sb wb ≡ answer s → Accepting gb fb sb wb t s
   unfolding reading surveyOfText testsFor

@@ -12,7 +12,7 @@ use Rattle.format_number.specs.Laws.NumberWord.{NumberWord, reads-number}
 use Rattle.format_number.specs.Laws.Keyed.{newline-no-digit, comma-no-digit}
 use Rattle.format_grammar.specs.Language.{Reads, Seq, Empty, Fixed, Text}
 use Rattle.format_grammar.specs.Laws.Bytes.{reads-fixed}
-use Rattle.format_grammar.specs.Laws.Language.{reads-then, reads-as, reads-value, joined}
+use Rattle.format_grammar.specs.Laws.Language.{reads-then, reads-as, reads-value, append-four}
 use Rattle.format_grammar.specs.Lines.{whole}
 
 EdgeParts : Edge → List ℕ → Type 0
@@ -44,7 +44,7 @@ reads-edge e =
               (a .whole ∙ ap (λ (z : List ℕ). z ++ a .right) (a .first .word) ∙ ap (λ (z : List ℕ). numberText comma (a .value) ++ z)
               (b .whole ∙ ap (λ (z : List ℕ). z ++ b .right) (b .first .word) ∙ ap (λ (z : List ℕ). numberText comma (b .value) ++ z)
               (c .whole ∙ ap (λ (z : List ℕ). z ++ c .right) (c .first .word) ∙ ap (λ (z : List ℕ). numberText newline (c .value) ++ z) (d .word))))
-              ∙ joined linkKey (numberText comma (a .value)) (numberText comma (b .value)) (numberText newline (c .value))
+              ∙ append-four linkKey (numberText comma (a .value)) (numberText comma (b .value)) (numberText newline (c .value))
               ∙ ap edgeText e;
         }
 
@@ -55,7 +55,7 @@ reads-edge e =
           left = linkKey;
           right = numberText comma (x .first) ++ (numberText comma (x .second) ++ (numberText newline (x .weight) ++ []));
           first = record { value = refl; word = refl };
-          whole = m .word ∙ sym (joined linkKey (numberText comma (x .first)) (numberText comma (x .second)) (numberText newline (x .weight)));
+          whole = m .word ∙ sym (append-four linkKey (numberText comma (x .first)) (numberText comma (x .second)) (numberText newline (x .weight)));
           second = record {
             value = x .first;
             left = numberText comma (x .first);

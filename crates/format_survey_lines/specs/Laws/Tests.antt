@@ -10,6 +10,7 @@ use borrow.Author.Tests.{ltb-true, ltb-false, eqb-true, eqb-false, eq-eqb, ne-eq
 use Rattle.base_limits.specs.Limits.{maxVertices, maxEdges, groupNumbers, countDigits, groupDigits, endpointDigits, weightDigits}
 use Rattle.base_limits.specs.Verdict.{refuseIf, _before_}
 use Rattle.base_limits.specs.declared.Verdict.{Verdict}
+use Rattle.base_limits.specs.Laws.Verdict.{no-refusal}
 use Rattle.base_limits.specs.declared.Verdict.the-variants.{Fine, Refused}
 use Rattle.format_key.specs.Key.{comma, newline, nodeKey, linkKey, nodesKey, linksKey}
 use Rattle.format_grammar.specs.Step.{found, checked}
@@ -67,9 +68,6 @@ group-high v g h = rw (le-leb groupNumbers g h)
 pub group-fine : (v g : ℕ) → g < groupNumbers → groupTest v g ≡ Fine
 unfolding groupTest refuseIf
 group-fine v g h = rw (lt-leb groupNumbers g h)
-
-no-refusal : {n p : ℕ} {w : Verdict} → w ≡ Refused n p → w ≡ Fine → ⊥
-no-refusal e f = let z : _≡_ {A = ℕ} 0 1 = cc in omega arith
 
 -- What a count that passes its test is.
 pub record VerticesPass (lent n : ℕ) : Type 0 where

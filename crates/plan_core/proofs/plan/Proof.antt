@@ -1,7 +1,7 @@
 -- `plan` meets its contract: a refusal stops it with nothing written (`refused-call`), and otherwise it is finished (`finished-call`).
 use mathlib.Core.Path.{sym, _∙_}
 use Rattle.survey_core.specs.Survey.{edgeCount}
-use Rattle.plan_core.specs.Answer.{outcomeOf}
+use Rattle.plan_core.specs.Answer.{plannedOutcome}
 use Rattle.plan_core.specs.Laws.Ready.{fine-ready}
 use Rattle.plan_core.specs.Laws.Promise.{refused-call, finished-call}
 use native.Mathlib.Omega.{arith}
@@ -11,7 +11,7 @@ use Rattle.plan_core.proofs.plan.Tie as tie
 
 -- refused
 returns : tie.Need-returns
-unfolding outcomeOf
+unfolding plannedOutcome
 returns c =
     refused-call _ (λ v. omega (arith, c .before .before .before .before .before .before .before .before .before .shared-slice-known .given v)) _ _ _ _ (sym (c .before .before .before .plan-refusal .ensures) ∙ c .before .found .given .1)
 

@@ -12,7 +12,7 @@ use borrow.Author.Tests.{lt-ltb}
 use Rattle.base_finite.specs.Below.{counted, tabulate}
 use Rattle.base_finite.specs.Laws.Test.{not-true-false}
 use Rattle.base_finite.specs.Laws.Below.{sum-cong, length-tabulate, getD-tabulate, lt-or-ge, counted-true}
-use Rattle.base_limits.specs.Limits.{maxVertices, maxEdges, recordBytes, dualsOf}
+use Rattle.base_limits.specs.Limits.{maxVertices, maxEdges, recordBytes, dualsFor}
 use Rattle.base_limits.specs.Verdict.{answer, written}
 use Rattle.theory_graph.specs.Path.{Forest}
 use Rattle.theory_steiner.specs.Problem.{Problem, Sound, Joins, joined, terminal, terminals, cost, Bounded}
@@ -39,7 +39,7 @@ use Rattle.plan_core.specs.Promise.{Ready}
 use Rattle.plan_core.specs.Laws.Passes.{marks-cost}
 use Rattle.plan_duals.specs.Drawing.{recordsOver}
 use Rattle.plan_core.specs.declared.Planned.the-variants.{Finished}
-use Rattle.plan_core.specs.Answer.{outcomeOf}
+use Rattle.plan_core.specs.Answer.{plannedOutcome}
 use Rattle.plan_core.specs.Plan.{planOf, planCountsOf}
 
 -- A buffer whose first m places were made anew.
@@ -205,7 +205,7 @@ module _ {s : Survey} {marksLength recordsLength : ℕ} (ready : Ready s marksLe
   pub drawable : (records : List ℕ) → length records ≡ recordsLength → Drawable trace records
   unfolding problemOf vertexCount
   drawable records long =
-      trace-drawable (problemOf s) ok trace traces records some few (subst (λ x. recordBytes * dualsOf (length (s .groups)) ≤ x) (sym long) (ready .records-fit))
+      trace-drawable (problemOf s) ok trace traces records some few (subst (λ x. recordBytes * dualsFor (length (s .groups)) ≤ x) (sym long) (ready .records-fit))
 
   rounds-plan : g .rounds ≡ planOf P .rounds
   unfolding grown planOf
@@ -224,9 +224,9 @@ module _ {s : Survey} {marksLength recordsLength : ℕ} (ready : Ready s marksLe
       marked ≡ prunedMarks (unweighted (s .groups) (s .firsts) (s .seconds)) (pickedIn (g .picked)) (length (s .firsts)) marks →
       count ≡ length (traceDuals trace) → drawn ≡ recordsOver (traceDuals trace) records →
       k ≡ terminals (problemOf (groupsAlone (s .groups))) → c ≡ cost (problemOf (surveyFrom [] (s .firsts) [] (s .weights))) (keptBy marked) → rounds ≡ g .rounds → duals ≡ count →
-      (outcomeOf (Finished k c (g .bound) rounds duals) ≡ answer (planCountsOf (planOf P)))
+      (plannedOutcome (Finished k c (g .bound) rounds duals) ≡ answer (planCountsOf (planOf P)))
       × ((marked ≡ planOf P .marks ++ drop (length (s .firsts)) marks) × (drawn ≡ recordsOver (planOf P .duals) records))
-  unfolding outcomeOf planCountsOf
+  unfolding plannedOutcome planCountsOf
   finish-plan marks records {marked} {k = k} {c = c} {rounds = rounds} {duals = duals} long h-marks h-count h-drawn h-k h-c h-rounds h-duals =
       (rw (h-k ∙ plan-terminals s, c-is, bound-plan, h-rounds ∙ rounds-plan, h-duals ∙ h-count ∙ ap length duals-plan), (marks-are, h-drawn ∙ ap (λ d. recordsOver d records) duals-plan))
     where

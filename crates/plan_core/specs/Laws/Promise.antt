@@ -13,11 +13,11 @@ use borrow.Author.Tests.{ltb-false}
 use Rattle.base_finite.specs.Laws.Test.{or-false-left, or-false-right, not-of-false, not-true-false}
 use Rattle.base_finite.specs.Below.{countBelow}
 use Rattle.base_finite.specs.Laws.Below.{length-tabulate, lt-or-ge}
-use Rattle.base_limits.specs.Limits.{recordBytes, dualsOf, groupNumbers}
+use Rattle.base_limits.specs.Limits.{recordBytes, dualsFor, groupNumbers}
 use Rattle.base_limits.specs.Verdict.{Outcome, refusal, refuseIf, _before_, lowestBelow, answer, outcome, written}
 use Rattle.base_limits.specs.declared.Verdict.{Verdict}
 use Rattle.base_limits.specs.declared.Verdict.the-variants.{Fine, Refused}
-use Rattle.base_limits.specs.Laws.Verdict.{before-fine, refuse-true, refuse-false, lowest-none, lowest-found, lowest-elim, Lowest, refused-refuse, fine-refuse}
+use Rattle.base_limits.specs.Laws.Verdict.{before-fine, refuse-true, refuse-false, lowest-none, lowest-found, lowest-elim, Lowest, refused-refuse, fine-refuse, answer-fine}
 use Rattle.theory_steiner.specs.Problem.{Sound, allUsable}
 use Rattle.theory_steiner.specs.Pruning.{picked}
 use Rattle.theory_steiner.specs.Laws.Rounds.{grown-reached, picked-count}
@@ -28,7 +28,6 @@ use Rattle.survey_core.specs.Sound.{ByteGroups}
 use Rattle.survey_core.specs.Laws.Group.{group-joined-elim, group-joined-intro, group-refused, unjoinable-iff}
 use Rattle.survey_core.specs.Laws.Member.{member-elim}
 use Rattle.theory_steiner.specs.Laws.Finish.{allUsable-edges}
-use Rattle.check_rule.specs.Laws.Accuracy.{answered}
 use Rattle.plan_duals.specs.Drawing.{recordsOf, recordsOver}
 use Rattle.plan_duals.specs.Laws.Drawing.{length-records}
 use Rattle.plan_core.specs.Plan.{planOf, planRefusal, PlanCounts, planCountsOf, counting, marksAfter, recordsAfter}
@@ -73,7 +72,7 @@ survey-at-most s =
 
 module _ (s : Survey) (marksLength recordsLength : ℕ) where
   short : Bool
-  short = ltb marksLength (edgeCount s) || ltb recordsLength (recordBytes * dualsOf (vertexCount s))
+  short = ltb marksLength (edgeCount s) || ltb recordsLength (recordBytes * dualsFor (vertexCount s))
 
   -- 8 comes of the groups alone, after 1 to 7.
   eight-stage : (g : ℕ) → planRefusal s marksLength recordsLength ≡ Refused 8 g →
@@ -103,7 +102,7 @@ module _ (s : Survey) (marksLength recordsLength : ℕ) where
       record {
         survey = fine-survey s (e .0);
         marks-fit = ltb-false marksLength (edgeCount s) (or-false-left (ltb marksLength (edgeCount s)) _ no-short);
-        records-fit = ltb-false recordsLength (recordBytes * dualsOf (vertexCount s)) (or-false-right (ltb marksLength (edgeCount s)) _ no-short);
+        records-fit = ltb-false recordsLength (recordBytes * dualsFor (vertexCount s)) (or-false-right (ltb marksLength (edgeCount s)) _ no-short);
         none-joins = unjoinable-iff s g .0 (l .unjoined);
         lower-joined = l .lower;
       }
@@ -176,7 +175,7 @@ pub counting-finished : (s : Survey) → ByteGroups s → (marks records : List 
     FinishedPlan s marks records c
 unfolding counting
 counting-finished s numbered marks records c h =
-    let a = answered (planRefusal s (length marks) (length records)) (planCountsOf (planOf (problemOf s))) c h in
+    let a = answer-fine (planRefusal s (length marks) (length records)) (planCountsOf (planOf (problemOf s))) c h in
     subst (FinishedPlan s marks records) (a .1) (finished-counts s numbered marks records (a .0))
 
 -- Where none applies, there is an answer with counts.

@@ -8,7 +8,7 @@ use mathlib.Core.Bool.{not, true, false, _||_}
 use lib.Dec.{ltb}
 use borrow.Author.Tests.{lt-ltb, ltb-false, le-ltb}
 use Rattle.base_finite.specs.Laws.Test.{or-left, or-right, or-false-left, or-false-right}
-use Rattle.base_limits.specs.Limits.{recordBytes, dualsOf, groupNumbers}
+use Rattle.base_limits.specs.Limits.{recordBytes, dualsFor, groupNumbers}
 use Rattle.base_limits.specs.Verdict.{refuseIf, _before_, lowestBelow}
 use Rattle.base_limits.specs.declared.Verdict.{Verdict}
 use Rattle.base_limits.specs.declared.Verdict.the-variants.{Fine, Refused}
@@ -34,13 +34,13 @@ module _ (s : Survey) (numbered : ByteGroups s) (marksLength recordsLength : ℕ
   unfolding planRefusal
   fine-ready h =
       let h7 = fine-right _ _ h in
-      let short : (ltb marksLength (edgeCount s) || ltb recordsLength (recordBytes * dualsOf (vertexCount s))) ≡ false = fine-refuse _ 7 0 (fine-left _ _ h7) in
+      let short : (ltb marksLength (edgeCount s) || ltb recordsLength (recordBytes * dualsFor (vertexCount s))) ≡ false = fine-refuse _ 7 0 (fine-left _ _ h7) in
       record {
         survey = fine-survey s (fine-left _ _ h);
         marks-fit = ltb-false marksLength (edgeCount s) (or-false-left (ltb marksLength (edgeCount s)) _ short);
         records-fit =
-            ltb-false recordsLength (recordBytes * dualsOf (vertexCount s))
-            (or-false-right (ltb marksLength (edgeCount s)) (ltb recordsLength (recordBytes * dualsOf (vertexCount s))) short);
+            ltb-false recordsLength (recordBytes * dualsFor (vertexCount s))
+            (or-false-right (ltb marksLength (edgeCount s)) (ltb recordsLength (recordBytes * dualsFor (vertexCount s))) short);
         joinable = group-fine s 8 (allUsable (problemOf s)) (all-bounded s) numbered (fine-right _ _ h7);
       }
 
@@ -50,7 +50,7 @@ module _ (s : Survey) (numbered : ByteGroups s) (marksLength recordsLength : ℕ
       before-fine (survey-fine s (h .survey)) _
       ∙ before-fine
       (refuse-false
-      (rw (le-ltb marksLength (edgeCount s) (h .marks-fit), le-ltb recordsLength (recordBytes * dualsOf (vertexCount s)) (h .records-fit))) 7 0) _
+      (rw (le-ltb marksLength (edgeCount s) (h .marks-fit), le-ltb recordsLength (recordBytes * dualsFor (vertexCount s)) (h .records-fit))) 7 0) _
       ∙ joins-fine s 8 (allUsable (problemOf s)) (all-bounded s) (h .joinable)
 
   -- Finished exactly if none of 1 to 8 applies.
@@ -60,14 +60,14 @@ module _ (s : Survey) (numbered : ByteGroups s) (marksLength recordsLength : ℕ
 -- ---- 7
 
 module _ (n m marks records : ℕ) where
-  pub marks-short : marks < m → refuseIf (ltb marks m || ltb records (recordBytes * dualsOf n)) 7 0 ≡ Refused 7 0
-  marks-short h = refuse-true (or-left (ltb marks m) (ltb records (recordBytes * dualsOf n)) (lt-ltb marks m h)) 7 0
+  pub marks-short : marks < m → refuseIf (ltb marks m || ltb records (recordBytes * dualsFor n)) 7 0 ≡ Refused 7 0
+  marks-short h = refuse-true (or-left (ltb marks m) (ltb records (recordBytes * dualsFor n)) (lt-ltb marks m h)) 7 0
 
-  pub records-short : records < recordBytes * dualsOf n → refuseIf (ltb marks m || ltb records (recordBytes * dualsOf n)) 7 0 ≡ Refused 7 0
-  records-short h = refuse-true (or-right (ltb marks m) (ltb records (recordBytes * dualsOf n)) (lt-ltb records (recordBytes * dualsOf n) h)) 7 0
+  pub records-short : records < recordBytes * dualsFor n → refuseIf (ltb marks m || ltb records (recordBytes * dualsFor n)) 7 0 ≡ Refused 7 0
+  records-short h = refuse-true (or-right (ltb marks m) (ltb records (recordBytes * dualsFor n)) (lt-ltb records (recordBytes * dualsFor n) h)) 7 0
 
-  pub buffers-fit : m ≤ marks → recordBytes * dualsOf n ≤ records → refuseIf (ltb marks m || ltb records (recordBytes * dualsOf n)) 7 0 ≡ Fine
-  buffers-fit h k = refuse-false (rw (le-ltb marks m h, le-ltb records (recordBytes * dualsOf n) k)) 7 0
+  pub buffers-fit : m ≤ marks → recordBytes * dualsFor n ≤ records → refuseIf (ltb marks m || ltb records (recordBytes * dualsFor n)) 7 0 ≡ Fine
+  buffers-fit h k = refuse-false (rw (le-ltb marks m h, le-ltb records (recordBytes * dualsFor n) k)) 7 0
 
 -- All tracks are all usable ones, as far as components go.
 groups-of-all : (s : Survey) (number : ℕ) (marks : List ℕ) → groupRefusal s number (allUsable (problemOf s)) ≡ groupRefusal s number (chosen All marks)
@@ -85,7 +85,7 @@ module _ (s : Survey) (marksLength recordsLength : ℕ) {v : Verdict} (v-is : v 
   survey-stops h = h ∙ sym (before-refused (sym v-is ∙ h) _)
 
   module _ {w : Verdict} (h : v ≡ Fine)
-      (w-is : w ≡ refuseIf (ltb marksLength (edgeCount s) || ltb recordsLength (recordBytes * dualsOf (vertexCount s))) 7 0) where
+      (w-is : w ≡ refuseIf (ltb marksLength (edgeCount s) || ltb recordsLength (recordBytes * dualsFor (vertexCount s))) 7 0) where
     pub room-stops : {number place : ℕ} → w ≡ Refused number place → w ≡ planRefusal s marksLength recordsLength
     unfolding planRefusal
     room-stops k = k ∙ sym (before-fine (sym v-is ∙ h) _ ∙ before-refused (sym w-is ∙ k) _)

@@ -9,7 +9,7 @@ use Rattle.base_limits.specs.Limits.{maxVertices}
 use Rattle.base_buffer.specs.Laws.Store.{remade-table, replicate-table}
 use Rattle.plan_cuts.specs.Word.{pickedIn}
 use Rattle.plan_cuts.specs.Taken.{takenBelow}
-use Rattle.plan_cuts.specs.Laws.Word.{count-none, next-index}
+use Rattle.plan_cuts.specs.Laws.Word.{count-start, next-index}
 use Rattle.plan_cuts.specs.Laws.Taken.{taken-none, taken-more, labels-long, words-long, taken-end}
 use borrow.Author.Needs.{needs}
 use Rattle.plan_cuts.proofs.side_words.Statement.{statement}
@@ -28,7 +28,7 @@ abbrev μ-loop : tie.MeasureT-loop
 loop-holds : tie.Need-loop-holds Inv-loop μ-loop
 loop-holds c =
     let none = taken-none maxVertices _ _ _ _ (c .before .own-labels .ensures ∙ remade-table (λ v x. v) maxVertices _ (λ v. v) (length-replicate {A = ℕ} maxVertices 0) (λ v b. refl)) (replicate-table maxVertices 0) in
-    (omega arith, count-none _, none .0, none .1)
+    (omega arith, count-start _, none .0, none .1)
 
 slice-aggregate-take-edge : tie.Need-slice-aggregate-take-edge Inv-loop μ-loop
 slice-aggregate-take-edge c = sym (labels-long maxVertices _ _ _ _ _ (c .before .before .loop .inv .2))

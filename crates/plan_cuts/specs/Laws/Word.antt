@@ -285,9 +285,9 @@ module _ (n : ℕ) (a b : ℕ → ℕ) (F : ℕ → Bool) (base : ℕ) where
 
 -- ---- what calls leave
 
-pub count-none : (F : ℕ → Bool) → 0 ≡ countBelow 0 F
+pub count-start : (F : ℕ → Bool) → 0 ≡ countBelow 0 F
 unfolding countBelow sumBelow
-count-none F = refl
+count-start F = refl
 
 pub next-index : (e : ℕ) (F : ℕ → Bool) {i next : ℕ} → i ≡ countBelow e F → next ≡ i + counted (F e) 1 → next ≡ countBelow (e + 1) F
 next-index e F h k = k ∙ rw (h, add-one e) (sym (count-suc e F))

@@ -1,6 +1,6 @@
 -- `count_picked` meets its contract: it counts upwards.
 use Rattle.plan_drop.specs.Laws.Judge.{dropped-counts}
-use Rattle.plan_cuts.specs.Laws.Word.{count-none}
+use Rattle.plan_cuts.specs.Laws.Word.{count-start}
 use Rattle.plan_cuts.specs.Word.{pickedIn}
 use Rattle.base_finite.specs.Laws.Count.{count-more, count-end, count-bound}
 use Rattle.base_finite.specs.Below.{countBelow}
@@ -21,7 +21,7 @@ abbrev μ-loop : tie.MeasureT-loop
 
 loop-holds : tie.Need-loop-holds Inv-loop μ-loop
 loop-holds c =
-    (omega arith, count-none _)
+    (omega arith, count-start _)
 
 add-count : tie.Need-add-count Inv-loop μ-loop
 add-count c =

@@ -14,7 +14,7 @@ use Rattle.base_finite.specs.Below.{thoseBelow, tabulate}
 use Rattle.base_finite.specs.Laws.Test.{not-true-false}
 use Rattle.base_finite.specs.Laws.Below.{lt-or-ge, getD-tabulate}
 use Rattle.theory_graph.specs.Component.{merged}
-use Rattle.base_limits.specs.Limits.{maxVertices, maxDuals, recordBytes, dualsOf as maxDualsOf}
+use Rattle.base_limits.specs.Limits.{maxVertices, maxDuals, recordBytes, dualsFor as maxDualsOf}
 use Rattle.theory_steiner.specs.Problem.{Problem, Sound}
 use Rattle.theory_steiner.specs.Growth.{State, start, numbers, Winner, nobody, edge, winner, pick, stateAt, grown}
 use Rattle.theory_steiner.specs.Dual.{Dual, dualsOf, dualOf}

@@ -19,7 +19,7 @@ use Rattle.theory_steiner.specs.Laws.Finish.{allUsable-all, allUsable-edges}
 use Rattle.survey_core.specs.Survey.{Survey, member, sameGroup, problemOf, JoinsGroup, groupJoined, componentsOf}
 use Rattle.survey_core.specs.Sound.{ByteGroups}
 use Rattle.survey_core.specs.Refusal.{groupRefusal, LowestUnjoined}
-use Rattle.survey_core.specs.Laws.Member.{joined-elim, joined-intro}
+use Rattle.survey_core.specs.Laws.Member.{labels-joined-elim, labels-joined-intro}
 
 -- Two vertices share a group exactly if they are members of one.
 pub same-group-member : (s : Survey) (u v : ℕ) → sameGroup s u v ≡ true → member s (getD (s .groups) u 0) u ≡ true
@@ -47,12 +47,12 @@ groups-join s F numbered h u v bu bv r = h (getD (s .groups) u 0) (numbered u) u
 
 pub group-joined-elim : (s : Survey) (F : ℕ → Bool) (g : ℕ) → groupJoined s (componentsOf s F) g ≡ true → JoinsGroup s F g
 unfolding componentsOf problemOf
-group-joined-elim s F g h u v bu bv mu mv = label-linked (problemOf s) F u v (joined-elim s (componentsOf s F) g h u v bu bv mu mv)
+group-joined-elim s F g h u v bu bv mu mv = label-linked (problemOf s) F u v (labels-joined-elim s (componentsOf s F) g h u v bu bv mu mv)
 
 pub group-joined-intro : (s : Survey) (F : ℕ → Bool) → Bounded (problemOf s) F → (g : ℕ) → JoinsGroup s F g → groupJoined s (componentsOf s F) g ≡ true
 unfolding componentsOf problemOf
 group-joined-intro s F bounded g h =
-    joined-intro s (componentsOf s F) g (λ u v bu bv mu mv. linked-label (problemOf s) F bounded u v (h u v bu bv mu mv))
+    labels-joined-intro s (componentsOf s F) g (λ u v bu bv mu mv. linked-label (problemOf s) F bounded u v (h u v bu bv mu mv))
 
 -- ---- the lowest group that is not joined
 

@@ -33,19 +33,19 @@ abbrev test : Survey → (label : ℕ → ℕ) → (g u v : ℕ) → Bool
 test s label g u v = not (member s g u && member s g v) || eqb (label u) (label v)
 
 -- A group is joined exactly if any two members have the same label.
-pub joined-elim : (s : Survey) (label : ℕ → ℕ) (g : ℕ) → groupJoined s label g ≡ true → (u v : ℕ) → u < vertexCount s → v < vertexCount s
+pub labels-joined-elim : (s : Survey) (label : ℕ → ℕ) (g : ℕ) → groupJoined s label g ≡ true → (u v : ℕ) → u < vertexCount s → v < vertexCount s
     → member s g u ≡ true → member s g v ≡ true → label u ≡ label v
 unfolding groupJoined
-joined-elim s label g h u v bu bv mu mv =
+labels-joined-elim s label g h u v bu bv mu mv =
     let t : test s label g u v ≡ true =
     all-elim (vertexCount s) (test s label g u) (all-elim (vertexCount s) (λ u. allBelow (vertexCount s) (test s label g u)) h u bu) v bv in
     let m : (member s g u && member s g v) ≡ true = and-both (member s g u) (member s g v) mu mv in
     eqb-true (label u) (label v) (rw m at t)
 
-pub joined-intro : (s : Survey) (label : ℕ → ℕ) (g : ℕ)
+pub labels-joined-intro : (s : Survey) (label : ℕ → ℕ) (g : ℕ)
     → ((u v : ℕ) → u < vertexCount s → v < vertexCount s → member s g u ≡ true → member s g v ≡ true → label u ≡ label v) → groupJoined s label g ≡ true
 unfolding groupJoined
-joined-intro s label g h =
+labels-joined-intro s label g h =
     all-intro (vertexCount s) (λ u. allBelow (vertexCount s) (test s label g u))
     (λ u bu.
     all-intro (vertexCount s) (test s label g u)

@@ -19,7 +19,7 @@ use Rattle.theory_steiner.specs.Problem.{separates}
 use Rattle.theory_steiner.specs.Laws.Joined.{Split, separates-elim, separates-intro}
 use Rattle.survey_core.specs.Survey.{Survey, vertexCount, member, sameGroup, problemOf, groupJoined}
 use Rattle.survey_groups.specs.Spread.{Sides}
-use Rattle.survey_core.specs.Laws.Member.{member-elim, member-intro, joined-elim, joined-intro}
+use Rattle.survey_core.specs.Laws.Member.{member-elim, member-intro, labels-joined-elim, labels-joined-intro}
 
 module _ (s : Survey) (S : ℕ → Bool) (label : ℕ → ℕ) (sided : (v : ℕ) → v < length (s .groups) → label v ≡ counted (S v) 1) where
   -- A pair on two sides has two labels.
@@ -48,7 +48,7 @@ module _ (s : Survey) (S : ℕ → Bool) (label : ℕ → ℕ) (sided : (v : ℕ
 
   whole-joined : separates (problemOf s) S ≡ false → (g : ℕ) → groupJoined s label g ≡ true
   unfolding vertexCount
-  whole-joined h g = joined-intro s label g (λ u v bu bv mu mv. by u v bu bv mu mv (either (S u)) (either (S v)))
+  whole-joined h g = labels-joined-intro s label g (λ u v bu bv mu mv. by u v bu bv mu mv (either (S u)) (either (S v)))
     where
       by : (u v : ℕ) → u < length (s .groups) → v < length (s .groups) → member s g u ≡ true → member s g v ≡ true → (S u ≡ true) ⊎ (S u ≡ false)
           → (S v ≡ true) ⊎ (S v ≡ false) → label u ≡ label v
@@ -94,7 +94,7 @@ module _ (s : Survey) (S : ℕ → Bool) (label : ℕ → ℕ) (sided : (v : ℕ
         (p .v-below)
         (p .inside)
         (p .outside)
-        (joined-elim
+        (labels-joined-elim
         s
         label
         g

@@ -22,7 +22,7 @@ use Rattle.theory_steiner.specs.Growth.{active}
 use Rattle.survey_core.specs.Survey.{Survey, vertexCount, member, sameGroup, problemOf, groupJoined}
 use Rattle.survey_groups.specs.Spread.{noted, spread, split, notedIn}
 use Rattle.survey_core.specs.Laws.Refusal.{same-group-symmetric}
-use Rattle.survey_core.specs.Laws.Member.{member-elim, member-intro, joined-elim, joined-intro}
+use Rattle.survey_core.specs.Laws.Member.{member-elim, member-intro, labels-joined-elim, labels-joined-intro}
 use Rattle.base_buffer.specs.Laws.Store.{tabulate-cong, set-table}
 
 -- Two members of g below n with different labels.
@@ -164,10 +164,10 @@ module _ (s : Survey) (label : ℕ → ℕ) (g : ℕ) where
   joined-unsplit : groupJoined s label g ≡ true → split s label g ≡ true → ⊥
   joined-unsplit h k =
       let a = split-apart k in
-      a .differ (joined-elim s label g h (a .u) (a .v) (a .u-below) (a .v-below) (a .u-member) (a .v-member))
+      a .differ (labels-joined-elim s label g h (a .u) (a .v) (a .u-below) (a .v-below) (a .u-member) (a .v-member))
 
   unsplit-joined : split s label g ≡ false → groupJoined s label g ≡ true
-  unsplit-joined h = joined-intro s label g (λ u v bu bv mu mv. by u v bu bv mu mv (ℕ-discrete (label u) (label v)))
+  unsplit-joined h = labels-joined-intro s label g (λ u v bu bv mu mv. by u v bu bv mu mv (ℕ-discrete (label u) (label v)))
     where
       by : (u v : ℕ) → u < vertexCount s → v < vertexCount s → member s g u ≡ true → member s g v ≡ true → Dec (label u ≡ label v) → label u ≡ label v
       by u v bu bv mu mv (yes e) = e

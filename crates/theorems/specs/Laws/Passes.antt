@@ -6,6 +6,7 @@ use mathlib.Core.List.{List, _++_}
 use lib.ListN.{length}
 use Rattle.base_limits.specs.Limits.{figureDigits, verifyRoom}
 use Rattle.base_limits.specs.Verdict.{answer}
+use Rattle.base_limits.specs.Laws.Verdict.{answer-fine}
 use Rattle.base_limits.specs.declared.Verdict.the-variants.{Fine}
 use Rattle.format_write.specs.Text.{planText}
 use Rattle.format_survey.specs.Reading.{reading, SurveyText}
@@ -14,7 +15,6 @@ use Rattle.survey_core.specs.Survey.{Survey, vertexCount, problemOf}
 use Rattle.survey_core.specs.Sound.{SurveySound, ByteGroups}
 use Rattle.survey_core.specs.Laws.Refusal.{survey-sound}
 use Rattle.check_rule.specs.Check.{Checked}
-use Rattle.check_rule.specs.Laws.Accuracy.{answered}
 use Rattle.plan_duals.specs.Drawing.{recordsOf}
 use Rattle.plan_duals.specs.Laws.Drawing.{bytes-records}
 use Rattle.plan_core.specs.Plan.{planOf, planRefusal, PlanCounts, planCountsOf, counting}
@@ -69,7 +69,7 @@ module _ (t gb fb sb wb : List ℕ) (s : SurveyText) (read : reading t gb fb sb 
   module _ (marks records : List ℕ) (c : PlanCounts) (called : counting (surveyIn s) (length marks) (length records) ≡ answer c) where
     finished : (planRefusal (surveyIn s) (length marks) (length records) ≡ Fine) × (planCountsOf (planFor s) ≡ c)
     unfolding counting
-    finished = answered (planRefusal (surveyIn s) (length marks) (length records)) (planCountsOf (planFor s)) c called
+    finished = answer-fine (planRefusal (surveyIn s) (length marks) (length records)) (planCountsOf (planFor s)) c called
 
     same-text : printedCall (surveyIn s) marks records (planCountsOf (planFor s)) ≡ printedPlan (planFor s)
     unfolding planCountsOf
@@ -77,7 +77,7 @@ module _ (t gb fb sb wb : List ℕ) (s : SurveyText) (read : reading t gb fb sb 
         let p = planFor s in
         ap₂ (planText (p .terminals) (p .cost) (p .bound) (p .rounds)) (cut-marks (surveyIn s) numbered marks records (finished .0)) (cut-records (surveyIn s) numbered marks records (finished .0))
 
-    -- Whatever a finished call leaves to print passes, with the counts that the call answered.
+    -- Whatever a finished call leaves to print passes, with the counts that the call answer-fine.
     pub call-passes : verifying (t ++ printedCall (surveyIn s) marks records c) ≡ answer (record { terminals = c .terminals; cost = c .cost; bound = c .bound })
     unfolding planCountsOf
     call-passes =

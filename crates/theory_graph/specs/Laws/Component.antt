@@ -19,16 +19,16 @@ pub record Labels (a b : ℕ → ℕ) (F : ℕ → Bool) (D : ℕ → Type 0) (l
   pub ends : (e : ℕ) → F e ≡ true → label (a e) ≡ label (b e)
   pub sound : (u v : ℕ) → D u → D v → label u ≡ label v → Linked a b F u v
 
-pub linked-label : {a b : ℕ → ℕ} {F : ℕ → Bool} (label : ℕ → ℕ) → ((e : ℕ) → F e ≡ true → label (a e) ≡ label (b e)) →
+pub linked-same-label : {a b : ℕ → ℕ} {F : ℕ → Bool} (label : ℕ → ℕ) → ((e : ℕ) → F e ≡ true → label (a e) ≡ label (b e)) →
     {u v : ℕ} → Linked a b F u v → label u ≡ label v
-linked-label label h here = refl
-linked-label label h (step e f (forth p q) r) = ap label (sym p) ∙ h e f ∙ ap label q ∙ linked-label label h r
-linked-label label h (step e f (back p q) r) = ap label (sym p) ∙ sym (h e f) ∙ ap label q ∙ linked-label label h r
+linked-same-label label h here = refl
+linked-same-label label h (step e f (forth p q) r) = ap label (sym p) ∙ h e f ∙ ap label q ∙ linked-same-label label h r
+linked-same-label label h (step e f (back p q) r) = ap label (sym p) ∙ sym (h e f) ∙ ap label q ∙ linked-same-label label h r
 
 -- Equal labels exactly if linked.
 pub labels-iff : {a b : ℕ → ℕ} {F : ℕ → Bool} {D : ℕ → Type 0} {label : ℕ → ℕ} → Labels a b F D label →
     (u v : ℕ) → D u → D v → (label u ≡ label v) ↔ Linked a b F u v
-labels-iff {label = label} h u v du dv = (h .sound u v du dv, linked-label label (h .ends))
+labels-iff {label = label} h u v du dv = (h .sound u v du dv, linked-same-label label (h .ends))
 
 -- ---- what merging does to a label
 

@@ -22,7 +22,7 @@ use Rattle.theory_steiner.specs.Laws.Winner.{Waits, one-first, one-secon
 use Rattle.theory_steiner.specs.Laws.Partition.{label-below, winner-candidate, winner-below}
 use Rattle.theory_steiner.specs.Laws.Weighed.{component, activeCount, dualLoadAt, feels-pick}
 use Rattle.theory_steiner.specs.Laws.Feasible.{feels-start, picked-tight, not-overtight}
-use Rattle.theory_steiner.specs.Laws.Rounds.{meets, meets-intro, stateAt-pick, stateAt-still, grown-reached, delayIn, roundDelay, bound-by-rounds}
+use Rattle.theory_steiner.specs.Laws.Rounds.{meets, meets-intro, stateAt-pick, stateAt-still, grown-reached, delayOrZero, roundDelay, bound-by-rounds}
 use Rattle.theory_steiner.specs.Laws.Finish.{kept-picked}
 use Rattle.theory_steiner.specs.Laws.Dual.{each-dual, value-separates, total-duals, load-duals}
 use Rattle.theory_steiner.specs.Laws.WeakDuality.{weak-duality}
@@ -124,8 +124,8 @@ kept-feels-pick p ok {s} h e d =
         ∙ sum-scale N d (λ c. counted (active p (s .label) c) (sumBelow M (λ f. counted (kept p f && x c f) 1)))
 
 kept-feels-step : (p : Problem) (ok : Sound p) (r : ℕ) (x : Winner) → winner p (stateAt p r) ≡ x →
-    keptFeels p (stateAt p (suc r)) ≡ keptFeels p (stateAt p r) + delayIn x * activeDegree p (stateAt p r)
-unfolding delayIn
+    keptFeels p (stateAt p (suc r)) ≡ keptFeels p (stateAt p r) + delayOrZero x * activeDegree p (stateAt p r)
+unfolding delayOrZero
 kept-feels-step p ok r nobody k = ap (keptFeels p) (stateAt-still p r k) ∙ omega arith
 kept-feels-step p ok r (edge e d) k = ap (keptFeels p) (stateAt-pick p r e d k) ∙ kept-feels-pick p ok (stateAt-reached p r) e d
 
@@ -139,7 +139,7 @@ unfolding stateAt roundDelay sumBelow
 kept-feels-by-rounds p ok zero = kept-feels-start p
 kept-feels-by-rounds p ok (suc r) =
     kept-feels-step p ok r (winner p (stateAt p r)) refl
-    ∙ ap (λ x. x + delayIn (winner p (stateAt p r)) * activeDegree p (stateAt p r)) (kept-feels-by-rounds p ok r)
+    ∙ ap (λ x. x + delayOrZero (winner p (stateAt p r)) * activeDegree p (stateAt p r)) (kept-feels-by-rounds p ok r)
 
 -- ---- the factor
 
@@ -191,8 +191,8 @@ module _ (p : Problem) (ok : Sound p) (some : 0 < p .vertices) (joinable : Joins
   grown-bound = bound-by-rounds p ok (p .vertices)
 
   round-ratio : (k : ℕ) → k ≡ terminals p → (i : ℕ) → i < p .vertices → (x : Winner) → winner p (stateAt p i) ≡ x →
-      k * (delayIn x * activeDegree p (stateAt p i)) ≤ 2 * ((k - 1) * (delayIn x * activeCount p (stateAt p i)))
-  unfolding delayIn
+      k * (delayOrZero x * activeDegree p (stateAt p i)) ≤ 2 * ((k - 1) * (delayOrZero x * activeCount p (stateAt p i)))
+  unfolding delayOrZero
   round-ratio k same i b nobody w = omega arith
   round-ratio k same i b (edge e d) w =
       ratio k (activeDegree p (stateAt p i)) (activeCount p (stateAt p i)) d (degree-bound p ok some joinable i (omega arith) e d w)
@@ -216,7 +216,7 @@ module _ (p : Problem) (ok : Sound p) (some : 0 < p .vertices) (joinable : Joins
 
   -- Where there is no terminal the kept edges cost nothing.
   pub no-terminal-free : terminals p ≡ 0 → cost p (kept p) ≡ 0
-  unfolding roundDelay delayIn
+  unfolding roundDelay delayOrZero
   no-terminal-free none =
       omega (
         arith,
@@ -224,7 +224,7 @@ module _ (p : Problem) (ok : Sound p) (some : 0 < p .vertices) (joinable : Joins
         sum-zero (p .vertices) (λ i. roundDelay p i * activeDegree p (stateAt p i)) (λ i b. idle i (winner p (stateAt p i)) refl),
       )
     where
-      idle : (i : ℕ) (x : Winner) → winner p (stateAt p i) ≡ x → delayIn x * activeDegree p (stateAt p i) ≡ 0
+      idle : (i : ℕ) (x : Winner) → winner p (stateAt p i) ≡ x → delayOrZero x * activeDegree p (stateAt p i) ≡ 0
       idle i nobody w = omega arith
       idle i (edge e d) w = absurd (omega (arith, winner-active p ok (stateAt-reached p i) e d w, active-le-terminals p ok (stateAt p i)))
 

@@ -12,7 +12,7 @@ use Rattle.base_finite.specs.Laws.Test.{or-cases, or-left, or-right}
 use Rattle.theory_graph.specs.Path.{Linked, Forest}
 use Rattle.theory_graph.specs.Component.{merged}
 use Rattle.theory_graph.specs.Laws.Linked.{linked-refl}
-use Rattle.theory_graph.specs.Laws.Component.{Labels, linked-label, labels-iff, labels-merged, labels-cong, Merging, inside, outside, merging}
+use Rattle.theory_graph.specs.Laws.Component.{Labels, linked-same-label, labels-iff, labels-merged, labels-cong, Merging, inside, outside, merging}
 use Rattle.theory_graph.specs.Laws.Forest.{forest-more}
 use Rattle.theory_steiner.specs.Problem.{Problem, Sound, EdgeSet}
 use Rattle.theory_steiner.specs.Growth.{State, start, active, numbers, edge, winner, pick, stateAt, Reached, first, next}
@@ -84,7 +84,7 @@ unfolding start
 picked-forest p ok first = λ e h l. absurd (false≢true h)
 picked-forest p ok (next {s = s} {e = e} {d = d} h w) =
     forest-more (p .first) (p .second) (s .picked) (pick p s e d .picked) e (picked-forest p ok h)
-    (λ l. winner-candidate p s e d w .apart (linked-label (s .label) (partition p ok h .ends) l)) (pick-only p s e d)
+    (λ l. winner-candidate p s e d w .apart (linked-same-label (s .label) (partition p ok h .ends) l)) (pick-only p s e d)
 
 -- ---- members
 

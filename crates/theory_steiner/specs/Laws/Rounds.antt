@@ -272,16 +272,16 @@ picked-count p ok (next {s = s} {e = e} {d = d} h w) =
 -- ---- the bound as a sum over rounds
 
 -- The delay of round r + 1, or 0 where there is none.
-unfoldable pub delayIn : Winner → ℕ
-delayIn nobody = 0
-delayIn (edge e d) = d
+unfoldable pub delayOrZero : Winner → ℕ
+delayOrZero nobody = 0
+delayOrZero (edge e d) = d
 
 unfoldable pub roundDelay : Problem → ℕ → ℕ
-roundDelay p r = delayIn (winner p (stateAt p r))
+roundDelay p r = delayOrZero (winner p (stateAt p r))
 
 bound-step : (p : Problem) (ok : Sound p) (r : ℕ) (x : Winner) → winner p (stateAt p r) ≡ x →
-    dualBound p (stateAt p (suc r)) ≡ dualBound p (stateAt p r) + delayIn x * activeCount p (stateAt p r)
-unfolding delayIn
+    dualBound p (stateAt p (suc r)) ≡ dualBound p (stateAt p r) + delayOrZero x * activeCount p (stateAt p r)
+unfolding delayOrZero
 bound-step p ok r nobody k = ap (dualBound p) (stateAt-still p r k) ∙ omega arith
 bound-step p ok r (edge e d) k = ap (dualBound p) (stateAt-pick p r e d k) ∙ bound-pick p ok (stateAt-reached p r) e d
 
@@ -296,7 +296,7 @@ unfolding stateAt roundDelay sumBelow
 bound-by-rounds p ok zero = bound-start p
 bound-by-rounds p ok (suc r) =
     bound-step p ok r (winner p (stateAt p r)) refl
-    ∙ ap (λ x. x + delayIn (winner p (stateAt p r)) * activeCount p (stateAt p r)) (bound-by-rounds p ok r)
+    ∙ ap (λ x. x + delayOrZero (winner p (stateAt p r)) * activeCount p (stateAt p r)) (bound-by-rounds p ok r)
 
 -- ---- how large a load and a value can get
 

@@ -5,7 +5,7 @@ use lib.ListN.{length}
 use Rattle.base_limits.specs.Limits.{recordBytes}
 use Rattle.survey_core.specs.Survey.{groupsAlone}
 use Rattle.check_rule.specs.Check.{dualAt, dualRefusal}
-use Rattle.check_core.specs.Stage.{dualOf}
+use Rattle.check_core.specs.Stage.{dualOfRecord}
 use Rattle.base_limits.specs.Laws.Verdict.{Scanned, scan-start, scan-turn, scan-found, scan-end}
 use borrow.Author.Needs.{needs}
 use Rattle.check_core.proofs.duals.values_refusal.Statement.{statement}
@@ -29,7 +29,7 @@ unfolding dualAt
 returns c =
     let at = c .before .before .before .before in
     let s = groupsAlone (at .before .before .before .before .args .groups .now) in
-    let is = c .before .before .dual-refusal .ensures ∙ ap (λ part. dualRefusal s (dualOf part) (at .before .loop .i)) (c .before .before .before .«record» .ensures) in
+    let is = c .before .before .dual-refusal .ensures ∙ ap (λ part. dualRefusal s (dualOfRecord part) (at .before .loop .i)) (c .before .before .before .«record» .ensures) in
     scan-found (at .before .loop .inv) (at .loop-test .taken) is (c .enum-told2 .given .1)
 
 loop-again : tie.Need-loop-again Inv-loop μ-loop
@@ -37,7 +37,7 @@ unfolding dualAt
 loop-again c =
     let at = c .before .before .before .before in
     let s = groupsAlone (at .before .before .before .before .args .groups .now) in
-    let is = c .before .before .dual-refusal .ensures ∙ ap (λ part. dualRefusal s (dualOf part) (at .before .loop .i)) (c .before .before .before .«record» .ensures) in
+    let is = c .before .before .dual-refusal .ensures ∙ ap (λ part. dualRefusal s (dualOfRecord part) (at .before .loop .i)) (c .before .before .before .«record» .ensures) in
     scan-turn (at .before .loop .inv) (at .loop-test .taken) is (c .enum-told .given .1)
 
 -- 11 refuses no record

@@ -1,6 +1,6 @@
 -- `judge_edges` meets its contract: after e edges their marks are judged, and the index is that of the next picked one.
 use Rattle.plan_drop.specs.Laws.Judge.{marks-more}
-use Rattle.plan_cuts.specs.Laws.Word.{count-none, next-index}
+use Rattle.plan_cuts.specs.Laws.Word.{count-start, next-index}
 use Rattle.plan_drop.specs.Judge.{judged, raised}
 use Rattle.plan_cuts.specs.Word.{pickedIn}
 use Rattle.base_buffer.specs.Store.{remade}
@@ -26,7 +26,7 @@ abbrev μ-loop : tie.MeasureT-loop
 loop-holds : tie.Need-loop-holds Inv-loop μ-loop
 unfolding remade
 loop-holds c =
-    (omega arith, count-none _, refl)
+    (omega arith, count-start _, refl)
 
 judge-edge-requires : tie.Need-judge-edge-requires Inv-loop μ-loop
 judge-edge-requires c κs =
