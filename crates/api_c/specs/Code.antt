@@ -1,16 +1,15 @@
 -- Calls from other languages (document 01, 'Refused surveys and plans', where a call returns one number): the answer is a number, and counts go into a lent buffer.
 use Prim.Native.Nat.{ℕ, _+_, _*_}
 use mathlib.Core.List.{List, [], _∷_}
-use lib.ListN.{length}
 use lib.Seq.{sets}
 use lib.Dec.{ltb}
-use Rattle.base_limits.specs.Verdict.{refuseIf, _before_, Outcome, refusal, answer, outcome, written}
+use Rattle.base_limits.specs.Verdict.{refuseIf, _before_, written}
 use Rattle.base_limits.specs.declared.Verdict.{Verdict}
 use Rattle.base_limits.specs.declared.Verdict.the-variants.{Fine, Refused}
 use Rattle.survey_core.specs.Survey.{Survey}
 use Rattle.survey_core.specs.Refusal.{surveyRefusal}
-use Rattle.plan_core.specs.Plan.{PlanCounts, planRefusal, planOf, planCountsOf}
-use Rattle.check_rule.specs.Check.{Checked, checkRefusal, checkedOf}
+use Rattle.plan_core.specs.Plan.{PlanCounts}
+use Rattle.check_rule.specs.Check.{Checked}
 
 -- a place counts this many times in the one number
 abbrev pub placeUnit : ℕ

@@ -1,6 +1,6 @@
 // Checks a survey text with a printedWith plan behind it: the survey is read, then the plan, then the checker looks at
 // both, and at last the claimed counts are held against what it finds. Definitions in specs/.
-ghost use Rattle.base_buffer.specs.Lent.{old, new};
+ghost use Rattle.base_buffer.specs.Lent.{old};
 ghost use mathlib.Core.Path.{_≡_};
 ghost use Prim.Native.Nat.{_≤_};
 ghost use lib.ListN.{length};

@@ -1,7 +1,7 @@
 -- The parts of a line (document 01, 'Survey text and printed plan'): fixed bytes, and numbers of so many decimal digits with no
 -- leading zero. Past its end a text reads as 0, which is no byte of a well-formed text, so that a text that stops early is refused
 -- at its length.
-use Prim.Native.Nat.{ℕ, zero, suc, _+_, _*_, _-_, _^_, _<_}
+use Prim.Native.Nat.{ℕ, zero, suc, _+_, _-_, _^_, _<_}
 use mathlib.Core.Bool.{Bool, true, false, _&&_, cond}
 use mathlib.Core.List.{List, [], _∷_, _++_}
 use lib.ListN.{length, getD, take, drop}

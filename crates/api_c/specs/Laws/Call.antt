@@ -1,13 +1,11 @@
 -- The calls from other languages, by cases on the length of the lent counts: long enough, they are the library's own; too short, 1 to 6 and then 7.
 use Prim.Native.Nat.{ℕ, _+_, _*_, _<_, _≤_, _^_}
-use native.Mathlib.Omega.{arith}
 use mathlib.Core.Path.{_≡_, refl, ap, sym, _∙_}
 use mathlib.Core.List.{List, [], _∷_, _++_}
 use lib.ListN.{length, drop}
 use lib.Seq.{sets}
-use lib.Dec.{ltb}
 use borrow.Author.Tests.{lt-ltb, le-ltb}
-use Rattle.base_limits.specs.Verdict.{refuseIf, _before_, written, Outcome, refusal, answer, outcome}
+use Rattle.base_limits.specs.Verdict.{refuseIf, _before_, written, refusal, answer, outcome}
 use Rattle.base_limits.specs.declared.Verdict.{Verdict}
 use Rattle.base_limits.specs.declared.Verdict.the-variants.{Fine, Refused}
 use Rattle.base_limits.specs.Laws.Verdict.{before-fine, before-refused, answer-fine, refusal-found}
@@ -24,7 +22,7 @@ use Rattle.check_core.specs.declared.Checking.{Checking}
 use Rattle.check_core.specs.declared.Checking.the-variants.{Passed, Refused as CheckRefused}
 use Rattle.api_c.specs.Code.{placeUnit, planFigures, checkFigures, codeOf, withCounts, countsAfter, planFiguresOf, checkFiguresOf}
 use Rattle.api_c.specs.Call.{planCall, planMarks, planRecords, planCounts, checkCall, checkCounts}
-use Rattle.api_c.specs.Laws.Small.{Small, small-fits, survey-small, plan-small, check-small}
+use Rattle.api_c.specs.Laws.Small.{small-fits, survey-small, plan-small, check-small}
 
 -- ---- counts that fit, and counts that do not
 

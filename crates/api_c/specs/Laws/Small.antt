@@ -1,8 +1,7 @@
 -- Refusals of surveys, plans and checks fit one number of 64 bits: each number is below 256 and each place below 2^32.
-use Prim.Native.Nat.{ℕ, _+_, _*_, _<_, _≤_, _^_, _/_, _%_}
+use Prim.Native.Nat.{ℕ, _+_, _*_, _<_, _^_, _/_, _%_}
 use native.Mathlib.Omega.{arith}
-use mathlib.Core.Path.{_≡_, refl, sym, _∙_}
-use mathlib.Core.Logic.{⊎-elim}
+use mathlib.Core.Path.{_≡_, refl}
 use mathlib.Core.Bool.{Bool, _||_, not}
 use mathlib.Core.List.{List}
 use lib.ListN.{length}
@@ -13,10 +12,9 @@ use Rattle.base_limits.specs.Limits.{maxEdges, maxDuals, groupNumbers, recordBy
 use Rattle.base_limits.specs.Verdict.{refuseIf, _before_, lowestBelow}
 use Rattle.base_limits.specs.declared.Verdict.{Verdict}
 use Rattle.base_limits.specs.declared.Verdict.the-variants.{Fine, Refused}
-use Rattle.base_limits.specs.Laws.Verdict.{Lowest, lowest-elim, refused-refuse, before-fine, before-refused, fine-refuse}
-use Rattle.survey_core.specs.Survey.{Survey, edgeCount, vertexCount}
+use Rattle.base_limits.specs.Laws.Verdict.{Lowest, lowest-elim, refused-refuse, fine-refuse}
+use Rattle.survey_core.specs.Survey.{Survey, edgeCount}
 use Rattle.survey_core.specs.Refusal.{edgeRefusal, surveyRefusal, groupRefusal}
-use Rattle.survey_core.specs.Sound.{SurveySound}
 use Rattle.survey_core.specs.Laws.Refusal.{fine-survey}
 use Rattle.check_rule.specs.Check.{checkRefusal, shapeRefusal, dualRefusal, ruleRefusal}
 use Rattle.plan_core.specs.Plan.{planRefusal}

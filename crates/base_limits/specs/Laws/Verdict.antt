@@ -6,7 +6,7 @@ use mathlib.Core.Path.{_≡_, refl, ap, sym, _∙_}
 use mathlib.Core.Logic.{⊎-elim}
 use mathlib.Core.Bool.{Bool, true, false}
 use Rattle.base_finite.specs.Laws.Below.{below-suc}
-use Rattle.base_limits.specs.Verdict.{refuseIf, _before_, lowestBelow, Outcome, refusal, answer, outcome}
+use Rattle.base_limits.specs.Verdict.{refuseIf, _before_, lowestBelow, refusal, answer, outcome}
 use Rattle.base_limits.specs.declared.Verdict.{Verdict}
 use Rattle.base_limits.specs.declared.Verdict.the-variants.{Fine, Refused}
 

@@ -1,7 +1,7 @@
 -- The accuracy rule of whatever passes the checker (the buyer's demand 3): for any set of tracks that joins every group, 2k - 2 times its cost is at least k times the kept cost; and with
 -- k = 0 the kept cost is 0. Nothing is said of who drew the marks and the moats.
 use Prim.Native.Nat.{ℕ, zero, suc, _/_, _<_}
-use mathlib.Core.Path.{ap, sym, _∙_, _≡_, refl, subst}
+use mathlib.Core.Path.{ap, sym, _∙_, _≡_, subst}
 use mathlib.Core.List.{List, [], _∷_, _++_}
 use native.Mathlib.Omega.{arith}
 use lib.ListN.{length}
@@ -9,8 +9,6 @@ use Rattle.base_finite.specs.Below.{tabulate}
 use Rattle.base_limits.specs.Limits.{recordBytes}
 use Rattle.base_limits.specs.Verdict.{Outcome, answer, outcome}
 use Rattle.base_limits.specs.Laws.Verdict.{answer-fine}
-use Rattle.base_limits.specs.declared.Verdict.{Verdict}
-use Rattle.base_limits.specs.declared.Verdict.the-variants.{Fine, Refused}
 use Rattle.theory_steiner.specs.Problem.{terminals, cost}
 use Rattle.theory_steiner.specs.Dual.{Dual, EachDual, none, more}
 use Rattle.theory_steiner.specs.Laws.Accuracy.{within-factor}

@@ -9,7 +9,6 @@ use lib.Seq.{sets, sets-eq, drop-drop}
 use lib.Dec.{eqb, ltb, leb}
 use borrow.Author.Tests.{lt-leb, ltb-true, ltb-false, leb-true, leb-false, lt-ltb, le-ltb}
 use Rattle.base_limits.specs.Limits.{valueBytes, memberBytes, recordBytes}
-use Rattle.base_limits.specs.declared.Verdict.{Verdict}
 use Rattle.base_limits.specs.Laws.Verdict.{no-refusal}
 use Rattle.base_limits.specs.declared.Verdict.the-variants.{Fine, Refused}
 use Rattle.format_record.specs.Bits.{lowBytes}

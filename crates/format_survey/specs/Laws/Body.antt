@@ -7,7 +7,7 @@ use lib.Seq.{sets}
 use Rattle.format_grammar.specs.Step.{Step, found, refused, _then_, storedIf}
 use Rattle.format_grammar.specs.Laws.Step.{then-found, then-refused, stored-found, stored-refused}
 use Rattle.format_grammar.specs.Laws.Bytes.{end-here, end-later}
-use Rattle.format_survey_lines.specs.Line.{firstsOf, secondsOf, weightsOf, SurveyLines, linesAt}
+use Rattle.format_survey_lines.specs.Line.{firstsOf, secondsOf, weightsOf, linesAt}
 use Rattle.format_survey_lines.specs.Answer.{LinesStored}
 use Rattle.format_survey.specs.Answer.{LinesFilled}
 use Rattle.format_number.specs.Answer.{numberStep}

@@ -1,5 +1,5 @@
 -- How long a well-formed text within the counts can be (document 01, 'Survey text and printed plan': 62,741 bytes).
-use Prim.Native.Nat.{ℕ, _+_, _*_, _≤_, _<_}
+use Prim.Native.Nat.{ℕ, _+_, _*_, _≤_}
 use native.Mathlib.Omega.{arith}
 use mathlib.Core.Path.{_≡_, refl, ap, sym, subst}
 use mathlib.Core.List.{List, [], _∷_, _++_}

@@ -2,13 +2,12 @@
 use Prim.Native.Nat.{ℕ, _+_, _≤_}
 use native.Mathlib.Omega.{arith}
 use native.Mathlib.Nat.{zero-add}
-use mathlib.Core.Path.{_≡_, refl, ap, sym, _∙_}
+use mathlib.Core.Path.{_≡_, ap, sym, _∙_}
 use mathlib.Core.List.{List, _++_}
 use lib.ListN.{length, drop, length-map}
 use lib.Seq.{sets, sets-eq}
 use Rattle.format_survey_lines.specs.Laws.Body.{lines-sizes}
 use Rattle.base_limits.specs.Verdict.{Outcome, refusal, answer}
-use Rattle.base_limits.specs.declared.Verdict.{Verdict}
 use Rattle.format_grammar.specs.Step.{Step, found, refused, _then_, storedIf}
 use Rattle.format_survey_lines.specs.Line.{Tests, testsFor, countsAt, SurveyCounts, firstsOf, secondsOf, weightsOf, linesAt}
 use Rattle.format_number.specs.Answer.{numberStep}

@@ -9,7 +9,6 @@ use lib.Dec.{eqb, ltb}
 use borrow.Author.Tests.{ltb-true, ltb-false, eqb-true, eqb-false, eq-eqb, ne-eqb, lt-ltb, le-ltb, le-leb, lt-leb}
 use Rattle.base_limits.specs.Limits.{maxVertices, maxEdges, groupNumbers, countDigits, groupDigits, endpointDigits, weightDigits}
 use Rattle.base_limits.specs.Verdict.{refuseIf, _before_}
-use Rattle.base_limits.specs.declared.Verdict.{Verdict}
 use Rattle.base_limits.specs.Laws.Verdict.{no-refusal}
 use Rattle.base_limits.specs.declared.Verdict.the-variants.{Fine, Refused}
 use Rattle.format_key.specs.Key.{comma, newline, nodeKey, linkKey, nodesKey, linksKey}

@@ -3,7 +3,7 @@ use Prim.Native.Nat.{_≤_, _-_}
 use native.Mathlib.Omega.{arith}
 use mathlib.Core.Path.{_≡_, ap, _∙_}
 use mathlib.Core.List.{_++_}
-use lib.ListN.{length, getD}
+use lib.ListN.{length}
 use Rattle.base_finite.specs.Below.{tabulate}
 use Rattle.format_write.specs.Wrote.{farthest, Wrote}
 use Rattle.format_write.specs.Laws.Wrote.{wrote-none, wrote-length, wrote-then, wrote-as}

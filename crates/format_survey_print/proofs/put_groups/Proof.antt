@@ -1,7 +1,7 @@
 -- `put_groups`: what is written so far are the lines of the vertices below v.
 use Prim.Native.Nat.{_≤_, _-_}
 use native.Mathlib.Omega.{arith}
-use mathlib.Core.Path.{_≡_, ap}
+use mathlib.Core.Path.{ap}
 use lib.ListN.{length, take}
 use lib.Seq.{take-all}
 use Rattle.format_key.specs.Key.{nodeKey}

@@ -1,14 +1,14 @@
 -- `put_survey`: the two counts, the vertices and the edges.
 use Prim.Native.Nat.{_≤_}
 use native.Mathlib.Omega.{arith}
-use mathlib.Core.Path.{_≡_, ap, sym, _∙_}
+use mathlib.Core.Path.{ap, sym, _∙_}
 use lib.ListN.{length}
 use Rattle.format_key.specs.Key.{nodesKey, linksKey}
 use Rattle.format_write.specs.Text.{lineOf}
 use Rattle.format_write.specs.Wrote.{farthest}
 use Rattle.format_write.specs.Laws.Wrote.{wrote-then, wrote-as}
 use Rattle.format_survey.specs.Render.{render}
-use Rattle.format_survey_print.specs.Print.{edgesFrom, surveyText}
+use Rattle.format_survey_print.specs.Print.{surveyText}
 use Rattle.format_survey_print.specs.Laws.Print.{edges-count}
 use borrow.Author.Needs.{needs}
 use Rattle.format_survey_print.proofs.put_survey.Statement.{statement}

@@ -1,6 +1,6 @@
 -- What the accuracy rule says in the numbers that a buyer is told (docs/GUARANTEE.md): by how much a set of tracks that joins every group can be cheaper, for each number of sites;
 -- and that the number of sites is never 1.
-use Prim.Native.Nat.{ℕ, suc, _+_, _*_, _-_, _≤_}
+use Prim.Native.Nat.{ℕ, suc, _*_, _-_, _≤_}
 use native.Mathlib.Omega.{arith}
 use native.Mathlib.Nat.{le-of-mul-le-mul-left, mul-le-mul-right}
 use mathlib.Core.Path.{_≡_, refl}
