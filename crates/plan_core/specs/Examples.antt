@@ -8,7 +8,7 @@ use Rattle.theory_graph.specs.Component.{merged, components}
 use Rattle.base_limits.specs.Limits.{recordBytes, dualsFor}
 use Rattle.base_limits.specs.Verdict.{refuseIf, _before_, lowestBelow, Outcome, refusal, answer, outcome}
 use Rattle.theory_steiner.specs.Problem.{allUsable, joined, cost, separates, terminal, terminals}
-use Rattle.theory_steiner.specs.Growth.{start, active, numbers, load, slack, delayOf, delay, better, winnerBelow, winner, pick, advance, stateAt, grown}
+use Rattle.theory_steiner.specs.Growth.{start, active, numbers, load, slack, delayOf, delay, better, winnerBelow, winner, pick, advance, stateAt, grown, activeEnds, delayFor}
 use Rattle.theory_steiner.specs.Dual.{Dual}
 use Rattle.theory_steiner.specs.Dual.{dualsOf as grownDuals}
 use Rattle.theory_steiner.specs.Pruning.{needed, picked, kept, markOf, mark, dualBound}
@@ -147,7 +147,7 @@ examples =
 -- Each survey of the list gets what stands beside it.
 pub examples-hold : map (λ x. planned (exampleSurvey x)) examples ≡ map (λ x. x .expected) examples
 unfolding counted sumBelow countBelow anyBelow allBelow thoseBelow tabulate lookup memo without merged components refuseIf _before_ lowestBelow outcome
-    allUsable joined cost separates terminal terminals start active numbers load slack delayOf delay better winnerBelow winner pick advance stateAt grown grownDuals
+    allUsable joined cost separates terminal terminals start active numbers load slack delayOf activeEnds delayFor delay better winnerBelow winner pick advance stateAt grown grownDuals
     needed picked kept markOf mark dualBound vertexCount edgeCount member sameGroup problemOf groupJoined componentsOf edgeRefusal surveyRefusal
     groupRefusal planOf planRefusal planning dualFigures figures planned exampleSurvey examples
 examples-hold = refl

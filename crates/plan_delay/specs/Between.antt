@@ -4,16 +4,23 @@ use mathlib.Core.Bool.{cond}
 use mathlib.Core.List.{List}
 use lib.ListN.{getD}
 use lib.Dec.{eqb}
-use Rattle.theory_steiner.specs.Growth.{Delay, never, after, delayOf, Winner, nobody, edge}
+use Rattle.theory_steiner.specs.Growth.{ActiveEnds, noneActive, oneActive, bothActive, Delay, never, after, delayOf, Winner, nobody, edge}
+use Rattle.plan_delay.specs.declared.ActiveEnds.{ActiveEnds as CodeEnds}
+use Rattle.plan_delay.specs.declared.ActiveEnds.the-variants.{Neither, One, Both}
 use Rattle.plan_delay.specs.declared.Delay.{Delay as CodeDelay}
 use Rattle.plan_delay.specs.declared.Delay.the-variants.{Never, After}
 use Rattle.plan_delay.specs.declared.Winner.{Winner as CodeWinner}
 use Rattle.plan_delay.specs.declared.Winner.the-variants.{Nobody, Edge}
 
--- The definition's delay and winner that the code's answers are.
+-- The definition's delay, case and winner that the code's answers are.
 unfoldable pub delayIn : CodeDelay → Delay
 delayIn Never = never
 delayIn (After d) = after d
+
+unfoldable pub endsIn : CodeEnds → ActiveEnds
+endsIn Neither = noneActive
+endsIn One = oneActive
+endsIn Both = bothActive
 
 unfoldable pub winnerIn : CodeWinner → Winner
 winnerIn Nobody = nobody

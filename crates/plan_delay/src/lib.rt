@@ -3,14 +3,21 @@ ghost use Rattle.base_buffer.specs.Lent.{old};
 ghost use mathlib.Core.Path.{_≡_};
 ghost use Prim.Native.Nat.{_+_, _*_, _-_};
 ghost use lib.Dec.{eqb};
-ghost use Rattle.theory_steiner.specs.Growth.{delayOf, better};
-ghost use Rattle.plan_delay.specs.Between.{delayIn, winnerIn, delayBetween};
+ghost use Rattle.theory_steiner.specs.Growth.{activeEnds, delayOf, better};
+ghost use Rattle.plan_delay.specs.Between.{endsIn, delayIn, winnerIn, delayBetween};
 use base_buffer::at64;
 
 // An edge's delay, if it is a candidate.
 pub enum Delay {
     Never,
     After(u64),
+}
+
+// The ends of an edge between two components, by how many are active.
+pub enum ActiveEnds {
+    Neither,
+    One,
+    Both,
 }
 
 // The winner of a round, if there is a candidate.
@@ -34,20 +41,32 @@ pub fn edge_slack(weight: u32, first_load: u64, second_load: u64) -> u64
     rest - second_load
 }
 
+// How many ends of an edge between two components are active.
+fn active_ends(first: u8, second: u8) -> ActiveEnds
+    ensures { λ r. ⌜ endsIn r ≡ activeEnds (eqb first 1) (eqb second 1) ⌝ }
+{
+    if first == 1 {
+        if second == 1 {
+            return ActiveEnds::Both;
+        }
+        return ActiveEnds::One;
+    }
+    if second == 1 {
+        return ActiveEnds::One;
+    }
+    ActiveEnds::Neither
+}
+
 // The delay by whether each end is active, and what remains.
 fn delay_of(first: u8, second: u8, slack: u64) -> Delay
     ensures { λ r. ⌜ delayIn r ≡ delayOf (eqb first 1) (eqb second 1) slack ⌝ }
 {
-    if first == 1 {
-        if second == 1 {
-            return Delay::After(slack / 2);
-        }
-        return Delay::After(slack);
+    let ends = active_ends(first, second);
+    match ends {
+        ActiveEnds::Neither => Delay::Never,
+        ActiveEnds::One => Delay::After(slack),
+        ActiveEnds::Both => Delay::After(slack / 2),
     }
-    if second == 1 {
-        return Delay::After(slack);
-    }
-    Delay::Never
 }
 
 // The delay of an edge between two vertices.

@@ -41,11 +41,6 @@ abbrev pub newArrays : (labels loads values picked order keys floors : Buffer) �
 newArrays labels loads values picked order keys floors =
     arraysFrom (new labels) (new loads) (new values) (new picked) (new order) (new keys) (new floors)
 
--- The delay of the winner, if there is one, and the rounds and the time after a round with this delay; a round without a winner is not counted.
-unfoldable pub winnerDelay : Winner → Delay
-winnerDelay nobody = never
-winnerDelay (edge e d) = after d
-
 unfoldable pub roundsAfter : (r : ℕ) → Delay → ℕ
 roundsAfter r never = r
 roundsAfter r (after d) = r + 1

@@ -45,12 +45,28 @@ pub data Delay : Type 0 where
   never : Delay
   after : ℕ → Delay
 
--- By whether each end is active, and what remains: source 003, section 4.2.1.
+-- The ends of an edge between two components, by how many are active. Source 003, section 4.2.1, tells these cases apart by its two minima
+-- (Minima.antt, law `round-delay`).
+pub data ActiveEnds : Type 0 where
+  noneActive : ActiveEnds
+  oneActive : ActiveEnds
+  bothActive : ActiveEnds
+
+unfoldable pub activeEnds : Bool → Bool → ActiveEnds
+activeEnds false false = noneActive
+activeEnds false true = oneActive
+activeEnds true false = oneActive
+activeEnds true true = bothActive
+
+-- The delay in each case: none; what remains; half of what remains.
+unfoldable pub delayFor : ActiveEnds → (slack : ℕ) → Delay
+delayFor noneActive r = never
+delayFor oneActive r = after r
+delayFor bothActive r = after (r / 2)
+
+-- By whether each end is active, and what remains.
 unfoldable pub delayOf : Bool → Bool → ℕ → Delay
-delayOf false false r = never
-delayOf false true r = after r
-delayOf true false r = after r
-delayOf true true r = after (r / 2)
+delayOf x y r = delayFor (activeEnds x y) r
 
 unfoldable pub delay : Problem → State → ℕ → Delay
 delay p s e =

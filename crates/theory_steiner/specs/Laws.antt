@@ -12,3 +12,4 @@ pub mod WeakDuality
 pub mod Degree
 pub mod Accuracy
 pub mod Terminals
+pub mod Minima

@@ -1,5 +1,6 @@
 pub mod Problem
 pub mod Growth
+pub mod Minima
 pub mod Dual
 pub mod Pruning
 pub mod Laws

@@ -1,29 +1,35 @@
--- `delay_of` meets its contract: each return by the tests that led there.
-use borrow.Author.Tests.{eq-eqb, ne-eqb}
-use Rattle.theory_steiner.specs.Growth.{delayOf}
-use Rattle.plan_delay.specs.Between.{delayIn}
+-- `delay_of` meets its contract: the delay of the case that was found.
+use mathlib.Core.Path.{sym}
+use borrow.Author.Needs.{needs}
+use Rattle.theory_steiner.specs.Growth.{delayFor}
+use Rattle.plan_delay.specs.Between.{endsIn, delayIn}
+use Rattle.plan_delay.specs.Laws.Between.{delay-case}
 use Rattle.plan_delay.proofs.delay_of.Statement.{statement}
 use Rattle.plan_delay.proofs.delay_of.Tie as tie
 
--- both ends active
+-- neither end active
 returns : tie.Need-returns
-unfolding delayOf delayIn
-returns c = rw (eq-eqb (c .before .before .args .first) 1 (c .before .if1 .taken), eq-eqb (c .before .before .args .second) 1 (c .if2 .taken))
+unfolding endsIn delayIn delayFor
+returns c = sym (delay-case _ _ _ (c .before .before .active-ends .ensures) (c .enum-told .given .1))
 
--- the first alone
+-- one
 returns-2 : tie.Need-returns-2
-unfolding delayOf delayIn
-returns-2 c = rw (eq-eqb (c .before .before .args .first) 1 (c .before .if1 .taken), ne-eqb (c .before .before .args .second) 1 (c .if2 .left))
+unfolding endsIn delayIn delayFor
+returns-2 c = sym (delay-case _ _ _ (c .before .before .active-ends .ensures) (c .enum-told2 .given .1))
 
--- the second alone
+-- both
 returns-3 : tie.Need-returns-3
-unfolding delayOf delayIn
-returns-3 c = rw (ne-eqb (c .before .before .args .first) 1 (c .before .if1 .left), eq-eqb (c .before .before .args .second) 1 (c .if3 .taken))
-
--- neither
-returns-4 : tie.Need-returns-4
-unfolding delayOf delayIn
-returns-4 c = rw (ne-eqb (c .before .before .args .first) 1 (c .before .if1 .left), ne-eqb (c .before .before .args .second) 1 (c .if3 .left))
+unfolding endsIn delayIn delayFor
+returns-3 c = sym (delay-case _ _ _ (c .before .before .active-ends .ensures) (c .enum-told3 .given .1))
 
 pub delay-of-spec : {M : Type 1} → statement M
-delay-of-spec = tie.close (tie.spec returns returns-2 returns-3 returns-4)
+delay-of-spec =
+    tie.close
+    (tie.spec
+    (λ c κs. search needs)
+    (λ c. search needs)
+    (λ c. search needs)
+    (λ c. search needs)
+    returns
+    returns-2
+    returns-3)

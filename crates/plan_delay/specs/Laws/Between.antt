@@ -1,13 +1,14 @@
 -- What the code reads of two vertices, read by read, is what the tables say of them.
 use Prim.Native.Nat.{ℕ, _+_, _*_, _-_}
 use mathlib.Core.Path.{_≡_, refl, ap, sym, _∙_}
-use mathlib.Core.Bool.{true, false}
+use mathlib.Core.Bool.{Bool, true, false}
 use mathlib.Core.List.{List}
 use lib.ListN.{getD}
 use lib.Dec.{eqb}
 use borrow.Author.Tests.{eq-eqb, ne-eqb}
-use Rattle.theory_steiner.specs.Growth.{Delay, never, delayOf}
-use Rattle.plan_delay.specs.Between.{delayBetween}
+use Rattle.theory_steiner.specs.Growth.{Delay, never, activeEnds, delayFor, delayOf}
+use Rattle.plan_delay.specs.declared.ActiveEnds.{ActiveEnds as CodeEnds}
+use Rattle.plan_delay.specs.Between.{endsIn, delayBetween}
 
 -- Vertices a and b with the labels x and y.
 module _ (labels : List ℕ) (a b : ℕ) {x y : ℕ} (x-is : x ≡ getD labels a 0) (y-is : y ≡ getD labels b 0) where
@@ -34,3 +35,8 @@ module _ (labels loads : List ℕ) (a b : ℕ) {x y : ℕ} (x-is : x ≡ getD la
       let m : f ≡ getD flags (getD labels a 0) 0 = f-is ∙ ap (λ z. getD flags z 0) (i-is ∙ x-is) in
       let n : g ≡ getD flags (getD labels b 0) 0 = g-is ∙ ap (λ z. getD flags z 0) (j-is ∙ y-is) in
       rw (two-labels labels a b x-is y-is apart, sym m, sym n, sym (slack-read loads a b w p-is q-is s-is)) h
+
+-- The delay is that of the case that the code found.
+pub delay-case : (x y : Bool) (slack : ℕ) {r e : CodeEnds} → endsIn r ≡ activeEnds x y → r ≡ e → delayOf x y slack ≡ delayFor (endsIn e) slack
+unfolding delayOf
+delay-case x y slack h k = ap (λ a. delayFor a slack) (sym h ∙ ap endsIn k)

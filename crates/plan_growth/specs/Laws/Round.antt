@@ -35,7 +35,8 @@ use Rattle.plan_winner.specs.Tables.{Tables, tablesFrom, delayBy, keyBetween, k
 use Rattle.plan_winner.specs.Laws.Scan.{capped-is, scan-wins, keyed-next}
 use Rattle.plan_winner.specs.Laws.Blocks.{passes-scan, passes-cong}
 use Rattle.plan_growth.specs.Tables.{activeFlags, raisedValues, raisedLoads, RaiseFits}
-use Rattle.plan_growth.specs.Represents.{winnerEdge, pickAt, Arrays, arraysFrom, winnerDelay, roundsAfter, timeAfter, Represents}
+use Rattle.plan_growth.specs.Represents.{winnerEdge, pickAt, Arrays, arraysFrom, roundsAfter, timeAfter, Represents}
+use Rattle.theory_steiner.specs.Minima.{winnerDelay}
 
 -- A flag of 1 stands for the test.
 flag-is : (t : Bool) → eqb (counted t 1) 1 ≡ t

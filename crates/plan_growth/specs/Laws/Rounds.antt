@@ -30,7 +30,8 @@ use Rattle.plan_delay.specs.declared.Delay.{Delay}
 use Rattle.plan_delay.specs.declared.Delay.the-variants.{Never}
 use Rattle.plan_growth.specs.declared.Growth.{Growth}
 use Rattle.plan_growth.specs.Tables.{SumFits}
-use Rattle.plan_growth.specs.Represents.{winnerEdge, pickAt, Arrays, arraysFrom, winnerDelay, Represents}
+use Rattle.plan_growth.specs.Represents.{winnerEdge, pickAt, Arrays, arraysFrom, Represents}
+use Rattle.theory_steiner.specs.Minima.{winnerDelay}
 use Rattle.plan_growth.specs.Grown.{growthFrom, GrownAfter}
 use Rattle.plan_growth.specs.Laws.Round.{going, weights-light}
 

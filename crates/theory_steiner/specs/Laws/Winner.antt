@@ -10,22 +10,7 @@ use borrow.Author.Tests.{eqb-false, ne-eqb, not-true, ltb-true, ltb-false}
 use Rattle.base_finite.specs.Laws.Test.{and-left, and-right, and-both, not-of-false}
 use Rattle.base_finite.specs.Laws.Below.{below-suc}
 use Rattle.theory_steiner.specs.Problem.{Problem}
-use Rattle.theory_steiner.specs.Growth.{
-  State,
-  active,
-  slack,
-  Delay,
-  never,
-  after,
-  delayOf,
-  delay,
-  Winner,
-  nobody,
-  edge,
-  better,
-  winnerBelow,
-  winner,
-}
+use Rattle.theory_steiner.specs.Growth.{State, active, slack, Delay, never, after, delayOf, delay, Winner, nobody, edge, better, winnerBelow, winner, activeEnds, delayFor}
 
 -- What remains decides by how many ends are active.
 pub data Waits (x y : Bool) (r d : ℕ) : Type 0 where
@@ -40,14 +25,14 @@ never-after : {A : Type 0} (d : ℕ) → never ≡ after d → A
 never-after d h = absurd (let z : _≡_ {A = ℕ} 0 1 = cc in omega arith)
 
 waits-of : (x y : Bool) (r d : ℕ) → delayOf x y r ≡ after d → Waits x y r d
-unfolding delayOf
+unfolding delayOf activeEnds delayFor
 waits-of false false r d h = never-after d h
 waits-of false true r d h = one-second refl refl (after-same r d h)
 waits-of true false r d h = one-first refl refl (after-same r d h)
 waits-of true true r d h = both refl refl (after-same (r / 2) d h)
 
 resting-of : (x y : Bool) (r : ℕ) → delayOf x y r ≡ never → (x ≡ false) × (y ≡ false)
-unfolding delayOf
+unfolding delayOf activeEnds delayFor
 resting-of false false r h = (refl, refl)
 resting-of false true r h = never-after r (sym h)
 resting-of true false r h = never-after r (sym h)
