@@ -20,8 +20,8 @@ use Rattle.theory_steiner.specs.Laws.Joined.{Split, separates-elim, term
 use Rattle.theory_steiner.specs.Laws.Round.{stateAt-reached}
 use Rattle.theory_steiner.specs.Laws.Winner.{Waits, one-first, one-second, both}
 use Rattle.theory_steiner.specs.Laws.Partition.{label-below, winner-candidate, winner-below}
-use Rattle.theory_steiner.specs.Laws.Weighed.{component, activeCount, dualLoadAt, feels-pick}
-use Rattle.theory_steiner.specs.Laws.Feasible.{feels-start, picked-tight, not-overtight}
+use Rattle.theory_steiner.specs.Laws.Weighed.{component, activeCount, dualLoadAt, dual-load-pick}
+use Rattle.theory_steiner.specs.Laws.Feasible.{dual-load-start, picked-tight, not-overtight}
 use Rattle.theory_steiner.specs.Laws.Rounds.{meets, meets-intro, stateAt-pick, stateAt-still, grown-reached, delayOrZero, roundDelay, bound-by-rounds}
 use Rattle.theory_steiner.specs.Laws.Finish.{kept-picked}
 use Rattle.theory_steiner.specs.Laws.Dual.{each-dual, value-separates, total-duals, load-duals}
@@ -76,7 +76,7 @@ winner-active p ok {s} h e d w = by (winner-candidate p s e d w .waits)
 
 -- ---- twice the cost, as a sum over rounds
 
--- What the kept edges feel.
+-- The dual load of the kept edges.
 keptFeels : Problem → State → ℕ
 keptFeels p s = sumBelow (p .edges) (λ e. counted (kept p e) (dualLoadAt p s e))
 
@@ -89,11 +89,11 @@ both-counted false true t d = omega arith
 both-counted false false t d = omega arith
 
 -- One round: the delay for every kept edge at every active component.
-kept-feels-pick : (p : Problem) (ok : Sound p) {s : State} → Reached p s → (e d : ℕ) → keptFeels p (pick p s e d) ≡ keptFeels p s + d * activeDegree p s
+kept-load-pick : (p : Problem) (ok : Sound p) {s : State} → Reached p s → (e d : ℕ) → keptFeels p (pick p s e d) ≡ keptFeels p s + d * activeDegree p s
 unfolding keptFeels activeDegree degree countBelow
-kept-feels-pick p ok {s} h e d =
+kept-load-pick p ok {s} h e d =
     sum-cong M _ (λ f. counted (kept p f) (dualLoadAt p s f) + counted (kept p f) (sumBelow N (added f)))
-    (λ f b. ap (counted (kept p f)) (feels-pick p ok h e d f b) ∙ counted-add (kept p f) (dualLoadAt p s f) (sumBelow N (added f)))
+    (λ f b. ap (counted (kept p f)) (dual-load-pick p ok h e d f b) ∙ counted-add (kept p f) (dualLoadAt p s f) (sumBelow N (added f)))
     ∙ sum-add M (λ f. counted (kept p f) (dualLoadAt p s f)) (λ f. counted (kept p f) (sumBelow N (added f)))
     ∙ ap (λ x. sumBelow M (λ f. counted (kept p f) (dualLoadAt p s f)) + x) exchanged
   where
@@ -123,23 +123,23 @@ kept-feels-pick p ok {s} h e d =
         ∙ sum-cong N _ (λ c. d * counted (active p (s .label) c) (sumBelow M (λ f. counted (kept p f && x c f) 1))) (λ c b. at c)
         ∙ sum-scale N d (λ c. counted (active p (s .label) c) (sumBelow M (λ f. counted (kept p f && x c f) 1)))
 
-kept-feels-step : (p : Problem) (ok : Sound p) (r : ℕ) (x : Winner) → winner p (stateAt p r) ≡ x →
+kept-load-step : (p : Problem) (ok : Sound p) (r : ℕ) (x : Winner) → winner p (stateAt p r) ≡ x →
     keptFeels p (stateAt p (suc r)) ≡ keptFeels p (stateAt p r) + delayOrZero x * activeDegree p (stateAt p r)
 unfolding delayOrZero
-kept-feels-step p ok r nobody k = ap (keptFeels p) (stateAt-still p r k) ∙ omega arith
-kept-feels-step p ok r (edge e d) k = ap (keptFeels p) (stateAt-pick p r e d k) ∙ kept-feels-pick p ok (stateAt-reached p r) e d
+kept-load-step p ok r nobody k = ap (keptFeels p) (stateAt-still p r k) ∙ omega arith
+kept-load-step p ok r (edge e d) k = ap (keptFeels p) (stateAt-pick p r e d k) ∙ kept-load-pick p ok (stateAt-reached p r) e d
 
-kept-feels-start : (p : Problem) → keptFeels p start ≡ 0
+kept-load-start : (p : Problem) → keptFeels p start ≡ 0
 unfolding keptFeels
-kept-feels-start p = sum-zero (p .edges) _ (λ e b. ap (counted (kept p e)) (feels-start p e) ∙ counted-zero (kept p e))
+kept-load-start p = sum-zero (p .edges) _ (λ e b. ap (counted (kept p e)) (dual-load-start p e) ∙ counted-zero (kept p e))
 
-kept-feels-by-rounds : (p : Problem) (ok : Sound p) (r : ℕ) →
+kept-load-by-rounds : (p : Problem) (ok : Sound p) (r : ℕ) →
     keptFeels p (stateAt p r) ≡ sumBelow r (λ i. roundDelay p i * activeDegree p (stateAt p i))
 unfolding stateAt roundDelay sumBelow
-kept-feels-by-rounds p ok zero = kept-feels-start p
-kept-feels-by-rounds p ok (suc r) =
-    kept-feels-step p ok r (winner p (stateAt p r)) refl
-    ∙ ap (λ x. x + delayOrZero (winner p (stateAt p r)) * activeDegree p (stateAt p r)) (kept-feels-by-rounds p ok r)
+kept-load-by-rounds p ok zero = kept-load-start p
+kept-load-by-rounds p ok (suc r) =
+    kept-load-step p ok r (winner p (stateAt p r)) refl
+    ∙ ap (λ x. x + delayOrZero (winner p (stateAt p r)) * activeDegree p (stateAt p r)) (kept-load-by-rounds p ok r)
 
 -- ---- the factor
 
@@ -184,7 +184,7 @@ module _ (p : Problem) (ok : Sound p) (some : 0 < p .vertices) (joinable : Joins
   -- twice the cost, and the bound, as sums over rounds
   cost-by-rounds : 2 * cost p (kept p) ≡ sumBelow (p .vertices) (λ i. roundDelay p i * activeDegree p (stateAt p i))
   unfolding grown
-  cost-by-rounds = twice-cost ∙ kept-feels-by-rounds p ok (p .vertices)
+  cost-by-rounds = twice-cost ∙ kept-load-by-rounds p ok (p .vertices)
 
   grown-bound : dualBound p (grown p) ≡ sumBelow (p .vertices) (λ i. roundDelay p i * activeCount p (stateAt p i))
   unfolding grown

@@ -25,7 +25,7 @@ use Rattle.theory_steiner.specs.Laws.Partition.{
   partition,
   picked-usable,
 }
-use Rattle.theory_steiner.specs.Laws.Weighed.{weighed, dualLoadAt, feels-inside, feels-between, load-pick, load-weighed}
+use Rattle.theory_steiner.specs.Laws.Weighed.{weighed, dualLoadAt, dual-load-inside, dual-load-between, load-pick, load-weighed}
 
 weighed-start : (p : Problem) (t : (ℕ → Bool) → Bool) → weighed p start t ≡ 0
 unfolding weighed start
@@ -34,9 +34,9 @@ weighed-start p t = sum-zero (numbers p start) _ (λ c b. counted-zero (t (λ v.
 pub load-start : (p : Problem) (v : ℕ) → load p start v ≡ 0
 load-start p v = load-weighed p start v ∙ weighed-start p (λ S. S v)
 
-pub feels-start : (p : Problem) (e : ℕ) → dualLoadAt p start e ≡ 0
+pub dual-load-start : (p : Problem) (e : ℕ) → dualLoadAt p start e ≡ 0
 unfolding dualLoadAt
-feels-start p e = weighed-start p _
+dual-load-start p e = weighed-start p _
 
 -- Ends in different components were in different ones before.
 pub apart-before : (p : Problem) (s : State) (e d u v : ℕ) → (pick p s e d .label u ≡ pick p s e d .label v → ⊥) → s .label u ≡ s .label v → ⊥
@@ -44,14 +44,14 @@ apart-before p s e d u v h k =
     h (pick-label p s e d u ∙ merged-cong (s .label (p .first e)) (s .label (p .second e)) (numbers p s) (s .label) u v k ∙ sym (pick-label p s e d v))
 
 -- While its ends lie in different components, the load of an edge is the sum of their loads.
-pub feels-loads : (p : Problem) (ok : Sound p) {s : State} → Reached p s → (f : ℕ) → f < p .edges →
+pub dual-load-loads : (p : Problem) (ok : Sound p) {s : State} → Reached p s → (f : ℕ) → f < p .edges →
     (s .label (p .first f) ≡ s .label (p .second f) → ⊥) → dualLoadAt p s f ≡ load p s (p .first f) + load p s (p .second f)
-feels-loads p ok first f b apart =
-    let a = load-start p (p .first f) in let c = load-start p (p .second f) in let z = feels-start p f in omega arith
-feels-loads p ok (next {s = s} {e = e} {d = d} h w) f b apart =
+dual-load-loads p ok first f b apart =
+    let a = load-start p (p .first f) in let c = load-start p (p .second f) in let z = dual-load-start p f in omega arith
+dual-load-loads p ok (next {s = s} {e = e} {d = d} h w) f b apart =
     let before : s .label (p .first f) ≡ s .label (p .second f) → ⊥ = apart-before p s e d (p .first f) (p .second f) apart in
-    let ih : dualLoadAt p s f ≡ load p s (p .first f) + load p s (p .second f) = feels-loads p ok h f b before in
-    let q = feels-between p ok h e d f b before in
+    let ih : dualLoadAt p s f ≡ load p s (p .first f) + load p s (p .second f) = dual-load-loads p ok h f b before in
+    let q = dual-load-between p ok h e d f b before in
     let l = load-pick p ok h e d (p .first f) (ok .first-below f b) in
     let m = load-pick p ok h e d (p .second f) (ok .second-below f b) in
     omega arith
@@ -279,7 +279,7 @@ picked-tight p ok first f h = absurd (false≢true h)
 picked-tight p ok (next {s = s} {e = e} {d = d} h w) f g =
     ⊎-elim
     (λ old.
-    feels-inside p ok h e d f (picked-usable p h f old .0) (partition p ok h .ends f old) ∙ picked-tight p ok h f old)
+    dual-load-inside p ok h e d f (picked-usable p h f old .0) (partition p ok h .ends f old) ∙ picked-tight p ok h f old)
     (λ same. subst (λ x. dualLoadAt p (pick p s e d) x ≡ 2 * p .weight x) (sym same) new)
     (pick-only p s e d f g)
   where
@@ -290,8 +290,8 @@ picked-tight p ok (next {s = s} {e = e} {d = d} h w) f g =
     new =
         omega (
           arith,
-          feels-between p ok h e d e b (winner-candidate p s e d w .apart),
-          feels-loads p ok h e b (winner-candidate p s e d w .apart),
+          dual-load-between p ok h e d e b (winner-candidate p s e d w .apart),
+          dual-load-loads p ok h e b (winner-candidate p s e d w .apart),
           load-pick p ok h e d (p .first e) (ok .first-below e b),
           load-pick p ok h e d (p .second e) (ok .second-below e b),
           tight-after p ok h (loads-even p ok h) e d w,
@@ -299,11 +299,11 @@ picked-tight p ok (next {s = s} {e = e} {d = d} h w) f g =
 
 -- No usable edge is overtight.
 pub not-overtight : (p : Problem) (ok : Sound p) {s : State} → Reached p s → (f : ℕ) → f < p .edges → p .usable f ≡ true → dualLoadAt p s f ≤ 2 * p .weight f
-not-overtight p ok first f b u = omega (arith, feels-start p f)
+not-overtight p ok first f b u = omega (arith, dual-load-start p f)
 not-overtight p ok (next {s = s} {e = e} {d = d} h w) f b u =
     by (not-overtight p ok h f b u) (ℕ-discrete (s .label (p .first f)) (s .label (p .second f)))
   where
     by : dualLoadAt p s f ≤ 2 * p .weight f → Dec (s .label (p .first f) ≡ s .label (p .second f)) → dualLoadAt p (pick p s e d) f ≤ 2 * p .weight f
-    by ih (yes same) = omega (arith, feels-inside p ok h e d f b same)
+    by ih (yes same) = omega (arith, dual-load-inside p ok h e d f b same)
     by ih (no apart) =
-        omega (arith, feels-between p ok h e d f b apart, feels-loads p ok h f b apart, raise-fits p s e d w f b u apart (loads-fit p ok h f b u apart))
+        omega (arith, dual-load-between p ok h e d f b apart, dual-load-loads p ok h f b apart, raise-fits p s e d w f b u apart (loads-fit p ok h f b u apart))

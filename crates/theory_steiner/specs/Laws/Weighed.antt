@@ -119,18 +119,18 @@ load-pick p ok {s} h e d v b =
 unfoldable pub dualLoadAt : Problem → State → ℕ → ℕ
 dualLoadAt p s e = weighed p s (λ S. crosses (p .first) (p .second) S e)
 
-pub feels-pick : (p : Problem) (ok : Sound p) {s : State} → Reached p s → (e d f : ℕ) → f < p .edges →
+pub dual-load-pick : (p : Problem) (ok : Sound p) {s : State} → Reached p s → (e d f : ℕ) → f < p .edges →
     dualLoadAt p (pick p s e d) f
     ≡ dualLoadAt p s f + sumBelow (numbers p s) (λ c. counted (active p (s .label) c && crosses (p .first) (p .second) (component (s .label) c) f) d)
 unfolding dualLoadAt
-feels-pick p ok {s} h e d f b =
+dual-load-pick p ok {s} h e d f b =
     weighed-pick p ok h e d (λ S. crosses (p .first) (p .second) S f)
     (λ S R k. crosses-cong (p .first) (p .second) S R f (k (p .first f) (ok .first-below f b)) (k (p .second f) (ok .second-below f b)))
 
 -- Inside a component it stays.
-pub feels-inside : (p : Problem) (ok : Sound p) {s : State} → Reached p s → (e d f : ℕ) → f < p .edges →
+pub dual-load-inside : (p : Problem) (ok : Sound p) {s : State} → Reached p s → (e d f : ℕ) → f < p .edges →
     s .label (p .first f) ≡ s .label (p .second f) → dualLoadAt p (pick p s e d) f ≡ dualLoadAt p s f
-feels-inside p ok {s} h e d f b same =
+dual-load-inside p ok {s} h e d f b same =
     let z : sumBelow (numbers p s) (λ c. counted (active p (s .label) c && crosses (p .first) (p .second) (component (s .label) c) f) d) ≡ 0 =
     sum-zero (numbers p s) _
     (λ c bc.
@@ -138,7 +138,7 @@ feels-inside p ok {s} h e d f b same =
     (rw (crosses-not (p .first) (p .second) (component (s .label) c) f (ap (λ x. eqb x c) same)) (and-false (active p (s .label) c))) d) in
     let q : dualLoadAt p (pick p s e d) f
     ≡ dualLoadAt p s f + sumBelow (numbers p s) (λ c. counted (active p (s .label) c && crosses (p .first) (p .second) (component (s .label) c) f) d) =
-    feels-pick p ok h e d f b in
+    dual-load-pick p ok h e d f b in
     omega arith
 
 -- One of two different numbers is c, or none.
@@ -154,13 +154,13 @@ two-ends a x y c d apart = by a (eqb x c) (eqb y c) (λ p q. apart (eqb-true x c
     by true true true k = absurd (k refl refl)
 
 -- Between two components it rises by what each end is raised.
-pub feels-between : (p : Problem) (ok : Sound p) {s : State} → Reached p s → (e d f : ℕ) → f < p .edges →
+pub dual-load-between : (p : Problem) (ok : Sound p) {s : State} → Reached p s → (e d f : ℕ) → f < p .edges →
     (s .label (p .first f) ≡ s .label (p .second f) → ⊥) →
     dualLoadAt p (pick p s e d) f
     ≡ dualLoadAt p s f + (counted (active p (s .label) (s .label (p .first f))) d + counted (active p (s .label) (s .label (p .second f))) d)
 unfolding crosses
-feels-between p ok {s} h e d f b apart =
-    feels-pick p ok h e d f b ∙ ap (λ x. dualLoadAt p s f + x) ends
+dual-load-between p ok {s} h e d f b apart =
+    dual-load-pick p ok h e d f b ∙ ap (λ x. dualLoadAt p s f + x) ends
   where
     x : ℕ
     x = s .label (p .first f)
