@@ -18,7 +18,7 @@ use Rattle.survey_core.specs.Refusal.{edgeRefusal, surveyRefusal, groupRefusal}
 use Rattle.survey_core.specs.Laws.Refusal.{fine-survey}
 use Rattle.check_rule.specs.Check.{checkRefusal, shapeRefusal, dualRefusal, ruleRefusal}
 use Rattle.plan_core.specs.Plan.{planRefusal}
-use Rattle.api_c.specs.Code.{placeUnit, withCounts}
+use Rattle.api_c.specs.Code.{placeUnit}
 
 -- Number and place of a finding are small.
 pub record Small (v : Verdict) : Type 0 where
@@ -96,8 +96,3 @@ check-small s marks records =
         let few = or-false-right (not (eqb (length marks) (length (s .firsts))) || not (eqb (length records % recordBytes) 0)) (ltb maxDuals (length records / recordBytes)) (fine-refuse _ 9 0 shaped) in
         let l = ltb-false maxDuals (length records / recordBytes) few in
         omega arith
-
-pub counts-small : (s : Survey) (wanted counts : ℕ) (v : Verdict) → Small v → Small (withCounts s wanted counts v)
-unfolding withCounts
-counts-small s wanted counts v h =
-    small-before _ _ (survey-small s) λ _. small-before _ _ (small-refuse _ 7 0 (lit< tt) (lit< tt)) λ _. h
