@@ -1,7 +1,7 @@
 -- The arrays of a growth, and the state of the definition that they represent between rounds.
 use Prim.Native.Nat.{ℕ, _+_}
 use mathlib.Core.Path.{_≡_}
-use mathlib.Core.List.{List}
+use mathlib.Core.List.{[], List}
 use lib.ListN.{length}
 use lib.Dec.{ltb}
 use Rattle.base_finite.specs.Below.{counted, tabulate}
@@ -52,6 +52,8 @@ timeAfter time (after d) = time + d
 -- What holds before each round: r rounds, each with a winner, took so much time, the arrays are those of the definition after them, and no key or floor is too high.
 pub record Represents (s : Survey) (r time : ℕ) (a : Arrays) : Type 0 where
   pub sound : SurveySound s
+  -- growth is of a survey whose lists are its own groups
+  pub plain : s .owners ≡ []
   pub rounds-are : stateAt (problemOf s) r .rounds ≡ r
   pub labels-are : a .labels ≡ tabulate maxVertices (stateAt (problemOf s) r .label)
   pub loads-are : a .loads ≡ tabulate maxVertices (λ v. counted (ltb v (problemOf s .vertices)) (load (problemOf s) (stateAt (problemOf s) r) v))

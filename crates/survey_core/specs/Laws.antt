@@ -1,3 +1,5 @@
+pub mod Lists
+pub mod Pairs
 pub mod Member
 pub mod Refusal
 pub mod Group

@@ -1,3 +1,5 @@
+pub mod Lists
+pub mod Pairs
 pub mod Survey
 pub mod Sound
 pub mod Refusal

@@ -1,4 +1,4 @@
--- A survey, its groups, and the Steiner forest problem that it poses (document 01, 'The survey and the plan').
+-- A survey, its lists, and the Steiner forest problem that it poses (document 01, 'The survey and the plan'; document 02, No. 2).
 use Prim.Native.Nat.{ℕ, _<_}
 use mathlib.Core.Path.{_≡_}
 use mathlib.Core.Bool.{Bool, true, _&&_, _||_, not}
@@ -10,23 +10,38 @@ use Rattle.theory_graph.specs.Path.{Linked}
 use Rattle.theory_graph.specs.Component.{components}
 use Rattle.base_buffer.specs.Lent.{Buffer, old}
 use Rattle.theory_steiner.specs.Problem.{Problem}
+use Rattle.survey_core.specs.Lists.{Lists, listsFrom, inList, sameList}
 
--- The four buffers of a call: n is the length of the groups, m that of the first ends.
+-- The six buffers of a call: n is the length of the groups, m that of the first ends. A pair says that a vertex (owners) is in a further list (others).
 pub record Survey : Type 0 where
   pub groups : List ℕ
   pub firsts : List ℕ
   pub seconds : List ℕ
   pub weights : List ℕ
+  pub owners : List ℕ
+  pub others : List ℕ
 
--- The survey that four buffers are.
+-- The survey that six buffers are.
+abbrev pub surveyWith : (groups firsts seconds weights owners others : List ℕ) → Survey
+surveyWith groups firsts seconds weights owners others =
+    record { groups = groups; firsts = firsts; seconds = seconds; weights = weights; owners = owners; others = others }
+
+-- The survey that six lent buffers held when the call began.
+abbrev pub lentWith : (groups firsts seconds weights owners others : Buffer) → Survey
+lentWith groups firsts seconds weights owners others =
+    surveyWith (old groups) (old firsts) (old seconds) (old weights) (old owners) (old others)
+
+-- A survey without pairs, by its four buffers.
 abbrev pub surveyFrom : (groups firsts seconds weights : List ℕ) → Survey
-surveyFrom groups firsts seconds weights = record { groups = groups; firsts = firsts; seconds = seconds; weights = weights }
+surveyFrom groups firsts seconds weights = surveyWith groups firsts seconds weights [] []
 
--- The survey that four lent buffers held when the call began.
 abbrev pub lentSurvey : (groups firsts seconds weights : Buffer) → Survey
 lentSurvey groups firsts seconds weights = surveyFrom (old groups) (old firsts) (old seconds) (old weights)
 
--- Groups with no track.
+-- Lists with no track, and groups with none.
+abbrev pub listsAlone : (groups owners others : List ℕ) → Survey
+listsAlone groups owners others = surveyWith groups [] [] [] owners others
+
 abbrev pub groupsAlone : List ℕ → Survey
 groupsAlone groups = surveyFrom groups [] [] []
 
@@ -36,13 +51,17 @@ vertexCount s = length (s .groups)
 unfoldable pub edgeCount : Survey → ℕ
 edgeCount s = length (s .firsts)
 
+-- The lists of a survey.
+abbrev pub listsOf : Survey → Lists
+listsOf s = listsFrom (s .groups) (s .owners) (s .others)
+
 -- v is a member of group g; 0 is no group.
 unfoldable pub member : Survey → (g v : ℕ) → Bool
-member s g v = not (eqb g 0) && eqb (getD (s .groups) v 0) g
+member s g v = inList (listsOf s) g v
 
 -- r(u, v) of source 001: the two belong to the same group.
 unfoldable pub sameGroup : Survey → (u v : ℕ) → Bool
-sameGroup s u v = member s (getD (s .groups) u 0) v
+sameGroup s u v = sameList (listsOf s) u v
 
 -- The problem of a survey, with all its tracks to choose from.
 unfoldable pub problemOf : Survey → Problem

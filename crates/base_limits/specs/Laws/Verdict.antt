@@ -14,6 +14,11 @@ pub before-fine : {v : Verdict} → v ≡ Fine → (w : Verdict) → (v before w
 unfolding _before_
 before-fine h w = rw h
 
+pub before-none : (v : Verdict) → (v before Fine) ≡ v
+unfolding _before_
+before-none Fine = refl
+before-none (Refused number place) = refl
+
 pub before-refused : {v : Verdict} {number place : ℕ} → v ≡ Refused number place → (w : Verdict) → (v before w) ≡ Refused number place
 unfolding _before_
 before-refused h w = rw h

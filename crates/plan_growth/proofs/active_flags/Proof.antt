@@ -1,6 +1,6 @@
 -- `active_flags` meets its contract: after v vertices the flags say which components those make active.
 use Prim.Native.Nat.{_≤_, _-_}
-use mathlib.Core.Path.{_≡_, ap, sym, _∙_}
+use mathlib.Core.Path.{_≡_, refl, ap, sym, _∙_}
 use lib.ListN.{length, getD}
 use lib.Dec.{eqb}
 use Rattle.base_finite.specs.Below.{counted, tabulate}
@@ -53,7 +53,7 @@ loop-again c =
 
 returns : tie.Need-returns Inv-loop μ-loop
 unfolding vertexCount activeFlags
-returns c = c .before .loop .inv .1 ∙ flags-end _ _ _ _ (omega arith) (omega arith) ∙ flags-active _ _
+returns c = c .before .loop .inv .1 ∙ flags-end _ _ _ _ (omega arith) (omega arith) ∙ flags-active _ _ refl
 
 pub active-flags-spec : {M : Type 1} → statement M
 active-flags-spec =

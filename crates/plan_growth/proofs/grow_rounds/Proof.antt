@@ -2,6 +2,7 @@
 use Prim.Native.Nat.{_-_}
 use native.Mathlib.Omega.{arith}
 use lib.ListN.{length}
+use mathlib.Core.Path.{refl}
 use Rattle.survey_core.specs.Survey.{surveyFrom}
 use Rattle.plan_delay.specs.Between.{delayIn}
 use Rattle.plan_growth.specs.Represents.{arraysFrom, roundsAfter, timeAfter, Represents}
@@ -20,7 +21,7 @@ abbrev μ-loop : tie.MeasureT-loop
     length groups - r
 
 loop-holds : tie.Need-loop-holds Inv-loop μ-loop
-loop-holds c = represents-start (c .before .before .before .before .before .before .before .pre) (c .before .own-labels .ensures)
+loop-holds c = represents-start (c .before .before .before .before .before .before .before .pre) refl (c .before .own-labels .ensures)
 
 round-requires : tie.Need-round-requires Inv-loop μ-loop
 round-requires c κs = c .before .before .before .before .before .before .before .before .loop .inv

@@ -5,7 +5,7 @@ use native.Mathlib.Numerals.{add-one}
 use mathlib.Core.Path.{_≡_, refl, ap, sym, _∙_}
 use mathlib.Core.Logic.{_⊎_, inl, inr}
 use mathlib.Core.Bool.{Bool, true, false, _&&_, _||_, cond, or-false}
-use mathlib.Core.List.{List}
+use mathlib.Core.List.{[], List}
 use lib.ListN.{getD, set}
 use lib.Dec.{eqb}
 use borrow.Author.Tests.{eq-eqb, ne-eqb}
@@ -86,11 +86,11 @@ module _ (s : Survey) (label : ℕ → ℕ) where
           no-and true y q = q
           no-and false y q = refl
 
-  pub flags-active : tabulate maxDuals (λ c. counted (activeBelow s label (vertexCount s) c) 1) ≡ tabulate maxDuals (λ c. counted (active (problemOf s) label c) 1)
+  pub flags-active : s .owners ≡ [] → tabulate maxDuals (λ c. counted (activeBelow s label (vertexCount s) c) 1) ≡ tabulate maxDuals (λ c. counted (active (problemOf s) label c) 1)
   unfolding activeBelow
-  flags-active =
+  flags-active plain =
       tabulate-cong
       maxDuals
       (λ c. counted (activeBelow s label (vertexCount s) c) 1)
       (λ c. counted (active (problemOf s) label c) 1)
-      (λ c _. ap (λ x. counted x 1) (sym (active-split s label c)))
+      (λ c _. ap (λ x. counted x 1) (sym (active-split s plain label c)))

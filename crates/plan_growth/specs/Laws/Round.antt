@@ -6,11 +6,11 @@ use native.Mathlib.Numerals.{add-one}
 use mathlib.Core.Path.{_≡_, refl, ap, sym, _∙_, subst}
 use mathlib.Core.Logic.{_⊎_, inl, inr}
 use mathlib.Core.Bool.{Bool, true, false, _||_, not, cond, or-false}
-use mathlib.Core.List.{List}
+use mathlib.Core.List.{[], List}
 use lib.ListN.{length, getD, set, List·getD-eq-default}
 use lib.Dec.{eqb, ltb}
 use borrow.Author.Tests.{ne-eqb, lt-ltb, le-ltb}
-use Rattle.base_finite.specs.Below.{counted, tabulate}
+use Rattle.base_finite.specs.Below.{counted, anyBelow, tabulate}
 use Rattle.base_finite.specs.Laws.Below.{length-tabulate, getD-tabulate, counted-true, counted-false, lt-or-ge}
 use Rattle.theory_graph.specs.Component.{merged}
 use Rattle.base_limits.specs.Limits.{maxVertices, maxEdges, maxWeight, maxDuals}
@@ -21,7 +21,8 @@ use Rattle.theory_steiner.specs.Laws.Round.{stateAt-reached, pick-rounds, pick-
 use Rattle.theory_steiner.specs.Laws.Rounds.{rounds-lt, stateAt-pick, delay-le, value-bounded, load-bounded}
 use Rattle.theory_steiner.specs.Laws.Partition.{label-below, winner-below}
 use Rattle.theory_steiner.specs.Laws.Weighed.{load-pick}
-use Rattle.survey_core.specs.Survey.{Survey, groupsAlone, vertexCount, edgeCount, sameGroup, member, problemOf}
+use Rattle.survey_core.specs.Lists.{isPaired, inList, sameList}
+use Rattle.survey_core.specs.Survey.{Survey, surveyWith, groupsAlone, vertexCount, edgeCount, sameGroup, member, problemOf}
 use Rattle.survey_components.specs.Labels.{relabelled}
 use Rattle.survey_core.specs.Laws.Refusal.{survey-sound}
 use Rattle.base_buffer.specs.Laws.Store.{tabulate-cong, set-table, remade-table, remade-part}
@@ -48,9 +49,10 @@ active-cong : (p : Problem) (f g : ℕ → ℕ) (c : ℕ) → ((v : ℕ) → v <
 unfolding active
 active-cong p f g c h = separates-cong p (λ v. eqb (f v) c) (λ v. eqb (g v) c) (λ v b. ap (λ x. eqb x c) (h v b))
 
-active-groups : (s : Survey) (label : ℕ → ℕ) (c : ℕ) → active (problemOf (groupsAlone (s .groups))) label c ≡ active (problemOf s) label c
-unfolding active separates problemOf vertexCount sameGroup member
-active-groups s label c = refl
+active-groups : (s : Survey) → s .owners ≡ [] → (label : ℕ → ℕ) (c : ℕ) → active (problemOf (groupsAlone (s .groups))) label c ≡ active (problemOf s) label c
+unfolding active separates problemOf vertexCount sameGroup member sameList inList isPaired anyBelow
+active-groups s plain label c =
+    ap (λ (owners : List ℕ). active (problemOf (surveyWith (s .groups) (s .firsts) (s .seconds) (s .weights) owners (s .others))) label c) (sym plain)
 
 -- A choice and its reverse.
 cond-not {ℓ} : {A : Type ℓ} (t : Bool) (x y : A) → cond t x y ≡ cond (not t) y x
@@ -151,7 +153,7 @@ module _ {s : Survey} {r time : ℕ} {a : Arrays} (h : Represents s r time a) wh
         ap (λ t. eqb (getD t c 0) 1) f
         ∙ ap (λ x. eqb x 1) (getD-tabulate maxDuals _ c 0 b)
         ∙ flag-is (active (problemOf (groupsAlone (s .groups))) (λ v. getD (a .labels) v 0) c)
-        ∙ active-groups s (λ v. getD (a .labels) v 0) c
+        ∙ active-groups s (h .plain) (λ v. getD (a .labels) v 0) c
         ∙ active-cong p (λ v. getD (a .labels) v 0) (S .label) c (λ v q. label-at v (omega arith))
 
     delay-at : (e : ℕ) → e < length (s .firsts) → delayBy tables e ≡ delay p S e
@@ -392,6 +394,7 @@ module _ {s : Survey} {r time : ℕ} {a : Arrays} (h : Represents s r time a) wh
         sym (ap winnerDelay (over t)),
         record {
           sound = h .sound;
+          plain = h .plain;
           rounds-are = h .rounds-are;
           labels-are = h .labels-are;
           loads-are = h .loads-are;
@@ -419,6 +422,7 @@ module _ {s : Survey} {r time : ℕ} {a : Arrays} (h : Represents s r time a) wh
             sym (ap winnerDelay w),
             record {
               sound = h .sound;
+              plain = h .plain;
               rounds-are = rounds-next w;
               labels-are = labels-made ∙ rw (u-is, v-is) (labels-next w);
               loads-are = loads-made ∙ loads-next w f;

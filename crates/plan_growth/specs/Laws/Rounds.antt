@@ -5,7 +5,7 @@ use native.Mathlib.Omega.{arith}
 use mathlib.Core.Path.{_≡_, refl, ap, sym, _∙_}
 use mathlib.Core.Logic.{_⊎_, inl, inr}
 use mathlib.Core.Bool.{Bool, true, false}
-use mathlib.Core.List.{List}
+use mathlib.Core.List.{[], List}
 use lib.ListN.{length, getD, replicate, List·getD-eq-default}
 use lib.Dec.{ltb}
 use borrow.Author.Tests.{lt-ltb, le-ltb}
@@ -56,13 +56,14 @@ grown-start p h =
       order-is = replicate-table maxVertices 0 ∙ tabulate-cong maxVertices _ _ (λ k _. sym (counted-false (le-ltb k 0 (omega arith)) (pickAt p k)));
     }
 
-pub represents-start : {s : Survey} {labels : List ℕ} → SurveySound s → labels ≡ remade (λ v x. v) maxVertices (replicate maxVertices 0)
+pub represents-start : {s : Survey} {labels : List ℕ} → SurveySound s → s .owners ≡ [] → labels ≡ remade (λ v x. v) maxVertices (replicate maxVertices 0)
     → Represents s 0 0 (arraysFrom labels (replicate maxVertices 0) (replicate maxDuals 0) (replicate maxEdges 0) (replicate maxVertices 0) (replicate maxEdges 0) (replicate maxBlocks 0))
 unfolding stateAt start
-represents-start {s} sound h =
+represents-start {s} sound plain h =
     let g = grown-start (problemOf s) h in
     record {
       sound = sound;
+      plain = plain;
       rounds-are = refl;
       labels-are = g .labels-are;
       loads-are =

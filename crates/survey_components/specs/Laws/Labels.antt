@@ -17,7 +17,7 @@ use Rattle.theory_graph.specs.Component.{merged, components}
 use Rattle.base_limits.specs.Limits.{maxVertices, groupNumbers}
 use Rattle.base_limits.specs.Verdict.{refuseIf, lowestBelow}
 use Rattle.base_limits.specs.Laws.Verdict.{lowest-cong}
-use Rattle.survey_core.specs.Survey.{Survey, vertexCount, edgeCount, member, groupJoined, groupsAlone, componentsOf, problemOf}
+use Rattle.survey_core.specs.Survey.{Survey, vertexCount, edgeCount, member, groupJoined, listsAlone, componentsOf, problemOf}
 use Rattle.survey_core.specs.Refusal.{groupRefusal}
 use Rattle.survey_components.specs.Labels.{relabelled, endsJoined}
 use Rattle.base_buffer.specs.Laws.Store.{remade-still, remade-table, tabulate-cong}
@@ -138,20 +138,21 @@ joined-cong s f g k h =
     (λ v. not (member s k u && member s k v) || eqb (g u) (g v))
     (λ v vb. rw (h u ub, h v vb)))
 
--- Only the groups of a survey say which group is joined.
-joined-groups : (s : Survey) (label : ℕ → ℕ) (g : ℕ) → groupJoined (groupsAlone (s .groups)) label g ≡ groupJoined s label g
+-- Only the lists of a survey say which group is joined.
+joined-groups : (s : Survey) (label : ℕ → ℕ) (g : ℕ) → groupJoined (listsAlone (s .groups) (s .owners) (s .others)) label g ≡ groupJoined s label g
 unfolding groupJoined member vertexCount
 joined-groups s label g = refl
 
 -- The refusal by a buffer of labels is the refusal by the components of F.
 pub refusal-by-labels : (s : Survey) (F : ℕ → Bool) (number : ℕ) {labels : List ℕ} → length (s .groups) ≤ maxVertices
     → labels ≡ tabulate maxVertices (components maxVertices (λ e. getD (s .firsts) e 0) (λ e. getD (s .seconds) e 0) F (length (s .firsts)))
-    → lowestBelow groupNumbers (λ g. refuseIf (not (groupJoined (groupsAlone (s .groups)) (λ v. getD labels v 0) g)) number g) ≡ groupRefusal s number F
+    → lowestBelow groupNumbers (λ g. refuseIf (not (groupJoined (listsAlone (s .groups) (s .owners) (s .others)) (λ v. getD labels v 0) g)) number g)
+    ≡ groupRefusal s number F
 unfolding groupRefusal componentsOf problemOf vertexCount edgeCount
 refusal-by-labels s F number {labels} few h =
     lowest-cong
     groupNumbers
-    (λ g. refuseIf (not (groupJoined (groupsAlone (s .groups)) (λ v. getD labels v 0) g)) number g)
+    (λ g. refuseIf (not (groupJoined (listsAlone (s .groups) (s .owners) (s .others)) (λ v. getD labels v 0) g)) number g)
     (λ g. refuseIf (not (groupJoined s label g)) number g)
     (λ g b. ap (λ x. refuseIf (not x) number g) (joined-groups s (λ v. getD labels v 0) g ∙ joined-cong s (λ v. getD labels v 0) label g at))
   where

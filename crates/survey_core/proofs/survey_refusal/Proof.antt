@@ -1,6 +1,6 @@
 -- `survey_refusal` meets its contract: each return by the law of its case.
-use mathlib.Core.Path.{sym, _∙_}
-use Rattle.survey_core.specs.Laws.Refusal.{survey-empty, survey-large, survey-uneven, survey-many, survey-shaped}
+use mathlib.Core.Path.{refl, sym, _∙_}
+use Rattle.survey_core.specs.Laws.Refusal.{survey-empty, survey-large, survey-uneven, survey-many, tracks-decide}
 use native.Mathlib.Omega.{arith}
 use borrow.Author.Needs.{needs}
 use Rattle.survey_core.proofs.survey_refusal.Statement.{statement}
@@ -24,13 +24,13 @@ returns-4 c = sym (survey-uneven _ (omega (arith, c .before .before .before .if1
 
 -- 3
 returns-5 : tie.Need-returns-5
-returns-5 c = sym (survey-many _ (omega (arith, c .before .before .before .before .if1 .left)) (omega arith) (omega arith) (omega arith) (omega arith))
+returns-5 c = sym (survey-many _ (omega (arith, c .before .before .before .before .if1 .left)) (omega arith) (omega arith) (omega arith) refl (omega arith))
 
 -- 4 to 6 or nothing
 returns-6 : tie.Need-returns-6
 returns-6 c =
     c .edges-refusal .ensures
-    ∙ sym (survey-shaped _ (omega (arith, c .before .before .before .before .before .if1 .left)) (omega arith) (omega arith) (omega arith) (omega arith))
+    ∙ tracks-decide _ _ _ _ (omega (arith, c .before .before .before .before .before .if1 .left)) (omega arith) (omega arith) (omega arith) (omega arith)
 
 pub survey-refusal-spec : {M : Type 1} → statement M
 survey-refusal-spec =

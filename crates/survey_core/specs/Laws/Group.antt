@@ -3,11 +3,13 @@
 use Prim.Native.Nat.{ℕ, _<_}
 use mathlib.Core.Path.{_≡_, refl, sym, subst}
 use mathlib.Core.Logic.{_↔_}
+use native.Mathlib.Omega.{arith}
+use mathlib.Core.List.{[], List}
 use mathlib.Core.Bool.{Bool, true, false, _&&_, not}
 use lib.ListN.{getD}
 use lib.Dec.{eqb}
 use borrow.Author.Tests.{eqb-true, eq-eqb, not-true, not-false}
-use Rattle.base_finite.specs.Laws.Test.{and-left, and-right, and-both, true-not-false}
+use Rattle.base_finite.specs.Laws.Test.{true-not-false, same-test}
 use Rattle.theory_graph.specs.Laws.Linked.{linked-mono}
 use Rattle.base_limits.specs.Limits.{groupNumbers}
 use Rattle.base_limits.specs.Verdict.{refuseIf}
@@ -16,23 +18,50 @@ use Rattle.base_limits.specs.Laws.Verdict.{lowest-none, none-lowest, refuse-fal
 use Rattle.theory_steiner.specs.Problem.{EdgeSet, Joins, allUsable, Bounded}
 use Rattle.theory_steiner.specs.Laws.Joined.{label-linked, linked-label}
 use Rattle.theory_steiner.specs.Laws.Finish.{allUsable-all, allUsable-edges}
-use Rattle.survey_core.specs.Survey.{Survey, member, sameGroup, problemOf, JoinsGroup, groupJoined, componentsOf}
+use Rattle.survey_core.specs.Survey.{Survey, surveyFrom, listsOf, member, sameGroup, problemOf, JoinsGroup, groupJoined, componentsOf}
 use Rattle.survey_core.specs.Sound.{ByteGroups}
 use Rattle.survey_core.specs.Refusal.{groupRefusal, LowestUnjoined}
-use Rattle.survey_core.specs.Laws.Member.{labels-joined-elim, labels-joined-intro}
+use Rattle.survey_core.specs.Laws.Lists.{Listed, by-own, by-pair, in-list-elim, Both, same-list-elim, same-list-intro}
+use Rattle.survey_core.specs.Laws.Member.{member-elim, member-intro, labels-joined-elim, labels-joined-intro}
+
+-- A group that two vertices share.
+pub record Shared (s : Survey) (u v : ℕ) : Type 0 where
+  pub group : ℕ
+  pub first : member s group u ≡ true
+  pub second : member s group v ≡ true
 
 -- Two vertices share a group exactly if they are members of one.
-pub same-group-member : (s : Survey) (u v : ℕ) → sameGroup s u v ≡ true → member s (getD (s .groups) u 0) u ≡ true
+pub same-group-shared : (s : Survey) (u v : ℕ) → sameGroup s u v ≡ true → Shared s u v
 unfolding sameGroup member
-same-group-member s u v h =
-    and-both (not (eqb (getD (s .groups) u 0) 0)) (eqb (getD (s .groups) u 0) (getD (s .groups) u 0)) (and-left (not (eqb (getD (s .groups) u 0) 0)) _ h)
-    (eq-eqb (getD (s .groups) u 0) (getD (s .groups) u 0) refl)
+same-group-shared s u v h = let b : Both (listsOf s) u v = same-list-elim (listsOf s) u v h in record { group = b .list; first = b .first; second = b .second }
 
 pub members-same-group : (s : Survey) (g u v : ℕ) → member s g u ≡ true → member s g v ≡ true → sameGroup s u v ≡ true
 unfolding sameGroup member
-members-same-group s g u v h k =
-    let e : getD (s .groups) u 0 ≡ g = eqb-true (getD (s .groups) u 0) g (and-right (not (eqb g 0)) _ h) in
-    subst (λ x. (not (eqb x 0) && eqb (getD (s .groups) v 0) x) ≡ true) (sym e) k
+members-same-group s g u v h k = same-list-intro (listsOf s) g u v h k
+
+-- A group with a member has a number that fits a byte.
+pub member-byte : (s : Survey) → ByteGroups s → (g v : ℕ) → member s g v ≡ true → g < groupNumbers
+unfolding member
+member-byte s numbered g v h = by (in-list-elim (listsOf s) g v h)
+  where
+    by : Listed (listsOf s) g v → g < groupNumbers
+    by (by-own e) = subst (λ x. x < groupNumbers) e (numbered .own-byte v)
+    by (by-pair p) = subst (λ x. x < groupNumbers) (p .other-is) (numbered .other-byte (p .at))
+
+-- Without pairs the own group of one decides.
+pub plain-same : (s : Survey) → s .owners ≡ [] → (u v : ℕ) → sameGroup s u v ≡ member s (getD (s .groups) u 0) v
+plain-same s plain u v =
+    same-test (sameGroup s u v) (member s (getD (s .groups) u 0) v)
+    (λ h.
+    let x : Shared s u v = same-group-shared s u v h in
+    subst (λ g. member s g v ≡ true) (sym (member-elim s plain (x .group) u (x .first) .same)) (x .second))
+    (λ h.
+    members-same-group s (getD (s .groups) u 0) u v
+    (member-intro s (getD (s .groups) u 0) u (member-elim s plain (getD (s .groups) u 0) v h .some) refl) h)
+
+-- Without pairs the own groups are all that has to fit.
+pub plain-bytes : (groups firsts seconds weights : List ℕ) → ((v : ℕ) → getD groups v 0 < groupNumbers) → ByteGroups (surveyFrom groups firsts seconds weights)
+plain-bytes groups firsts seconds weights h = record { own-byte = h; other-byte = λ i. let z : getD {A = ℕ} [] i 0 ≡ 0 = refl in omega arith }
 
 -- To join every required pair is to join every group.
 pub joins-groups : (s : Survey) (F : ℕ → Bool) → Joins (problemOf s) F → (g : ℕ) → JoinsGroup s F g
@@ -40,8 +69,10 @@ unfolding problemOf
 joins-groups s F h g u v bu bv mu mv = h u v bu bv (members-same-group s g u v mu mv)
 
 pub groups-join : (s : Survey) (F : ℕ → Bool) → ByteGroups s → ((g : ℕ) → g < groupNumbers → JoinsGroup s F g) → Joins (problemOf s) F
-unfolding problemOf sameGroup
-groups-join s F numbered h u v bu bv r = h (getD (s .groups) u 0) (numbered u) u v bu bv (same-group-member s u v r) r
+unfolding problemOf
+groups-join s F numbered h u v bu bv r =
+    let x : Shared s u v = same-group-shared s u v r in
+    h (x .group) (member-byte s numbered (x .group) u (x .first)) u v bu bv (x .first) (x .second)
 
 -- ---- the test of one group
 

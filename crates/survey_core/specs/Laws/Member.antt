@@ -1,32 +1,35 @@
 -- What it is that a vertex is a member of a group, and that labels join a group.
 use Prim.Native.Nat.{ℕ, _<_}
-use mathlib.Core.Path.{_≡_}
+use native.Mathlib.Omega.{arith}
+use mathlib.Core.Path.{_≡_, ap}
+use mathlib.Core.List.{[]}
 use mathlib.Core.Logic.{⊎-elim}
 use mathlib.Core.Bool.{Bool, true, _&&_, _||_, not}
-use lib.ListN.{getD}
+use lib.ListN.{length, getD}
 use lib.Dec.{eqb}
 use borrow.Author.Tests.{eq-eqb, ne-eqb, eqb-true, eqb-false, not-true}
 use Rattle.base_finite.specs.Below.{allBelow}
 use Rattle.base_finite.specs.Laws.Below.{all-intro, all-elim}
 use Rattle.base_finite.specs.Laws.Test.{either, and-left, and-right, and-both, or-right, not-of-false}
-use Rattle.survey_core.specs.Survey.{Survey, vertexCount, member, groupJoined}
+use Rattle.survey_core.specs.Survey.{Survey, listsOf, vertexCount, member, groupJoined}
+use Rattle.survey_core.specs.Laws.Lists.{Listed, by-own, by-pair, in-list-some, in-list-elim, in-list-intro}
 
+-- Without pairs: v's own group is g.
 pub record IsMember (s : Survey) (g v : ℕ) : Type 0 where
   pub some : g ≡ 0 → ⊥
   pub same : getD (s .groups) v 0 ≡ g
 
-pub member-elim : (s : Survey) (g v : ℕ) → member s g v ≡ true → IsMember s g v
+pub member-elim : (s : Survey) → s .owners ≡ [] → (g v : ℕ) → member s g v ≡ true → IsMember s g v
 unfolding member
-member-elim s g v h =
-    record {
-      some = eqb-false g 0 (not-true (eqb g 0) (and-left (not (eqb g 0)) (eqb (getD (s .groups) v 0) g) h));
-      same = eqb-true (getD (s .groups) v 0) g (and-right (not (eqb g 0)) (eqb (getD (s .groups) v 0) g) h);
-    }
+member-elim s plain g v h = record { some = in-list-some (listsOf s) g v h; same = by (in-list-elim (listsOf s) g v h) }
+  where
+    by : Listed (listsOf s) g v → getD (s .groups) v 0 ≡ g
+    by (by-own e) = e
+    by (by-pair p) = absurd (let b : p .at < length (s .owners) = p .below in let none : length (s .owners) ≡ 0 = ap length plain in omega arith)
 
 pub member-intro : (s : Survey) (g v : ℕ) → (g ≡ 0 → ⊥) → getD (s .groups) v 0 ≡ g → member s g v ≡ true
 unfolding member
-member-intro s g v n e =
-    and-both (not (eqb g 0)) (eqb (getD (s .groups) v 0) g) (not-of-false (eqb g 0) (ne-eqb g 0 n)) (eq-eqb (getD (s .groups) v 0) g e)
+member-intro s g v n e = in-list-intro (listsOf s) g v n (by-own e)
 
 -- The test of `groupJoined` at two vertices.
 abbrev test : Survey → (label : ℕ → ℕ) → (g u v : ℕ) → Bool

@@ -2,7 +2,8 @@
 -- The code's decisions and every caller that has seen `Fine` use it.
 use Prim.Native.Nat.{ℕ, _<_, _≤_}
 use native.Mathlib.Omega.{arith}
-use mathlib.Core.Path.{_≡_, sym, _∙_}
+use mathlib.Core.Path.{_≡_, refl, sym, _∙_}
+use mathlib.Core.List.{List}
 use mathlib.Core.Bool.{true, false, _&&_, _||_, not}
 use lib.ListN.{length, getD}
 use lib.Dec.{eqb, ltb, leb}
@@ -11,11 +12,14 @@ use Rattle.base_finite.specs.Laws.Test.{and-left, and-right, and-both, or-false
 use Rattle.base_limits.specs.Limits.{maxVertices, maxEdges, maxWeight}
 use Rattle.base_limits.specs.Verdict.{refuseIf, _before_, lowestBelow}
 use Rattle.base_limits.specs.declared.Verdict.the-variants.{Fine, Refused}
-use Rattle.base_limits.specs.Laws.Verdict.{before-fine, before-refused, fine-left, fine-right, refuse-true, refuse-false, fine-refuse, lowest-none, none-lowest}
+use Rattle.base_limits.specs.Laws.Verdict.{before-fine, before-none, before-refused, fine-left, fine-right, refuse-true, refuse-false, fine-refuse, lowest-none, none-lowest}
 use Rattle.theory_steiner.specs.Problem.{Sound}
-use Rattle.survey_core.specs.Survey.{Survey, vertexCount, edgeCount, member, sameGroup, problemOf}
+use Rattle.survey_core.specs.Survey.{Survey, surveyFrom, listsOf, vertexCount, edgeCount, sameGroup, problemOf}
+use Rattle.survey_core.specs.Pairs.{pairsRefusal}
 use Rattle.survey_core.specs.Sound.{EdgeSound, SurveySound}
 use Rattle.survey_core.specs.Refusal.{edgeRefusal, surveyRefusal}
+use Rattle.survey_core.specs.Laws.Lists.{same-list-symmetric}
+use Rattle.survey_core.specs.Laws.Pairs.{pairs-fine, fine-pairs}
 
 module _ (s : Survey) (e : ℕ) where
   pub edge-first-out : length (s .groups) ≤ getD (s .firsts) e 0 → edgeRefusal s e ≡ Refused 4 e
@@ -109,26 +113,41 @@ module _ (s : Survey) where
       two-passes =
           rw (eq-eqb (length (s .firsts)) (length (s .seconds)) seconds-long, eq-eqb (length (s .firsts)) (length (s .weights)) weights-long)
 
-      pub survey-many : maxEdges < length (s .firsts) → surveyRefusal s ≡ Refused 3 0
+      pub pairs-uneven : (length (s .owners) ≡ length (s .others) → ⊥) → surveyRefusal s ≡ Refused 2 0
       unfolding surveyRefusal vertexCount edgeCount
-      survey-many h =
+      pairs-uneven h =
           before-fine (refuse-false one-passes 1 0) _
           ∙ before-fine (refuse-false two-passes 2 0) _
-          ∙ before-refused (refuse-true (lt-ltb maxEdges (length (s .firsts)) h) 3 0) _
+          ∙ before-refused (refuse-true (rw (ne-eqb (length (s .owners)) (length (s .others)) h)) 2 0) _
 
-      pub survey-shaped : length (s .firsts) ≤ maxEdges → surveyRefusal s ≡ lowestBelow (edgeCount s) (edgeRefusal s)
-      unfolding surveyRefusal vertexCount edgeCount
-      survey-shaped h =
-          before-fine (refuse-false one-passes 1 0) _
-          ∙ before-fine (refuse-false two-passes 2 0) _
-          ∙ before-fine (refuse-false (le-ltb maxEdges (length (s .firsts)) h) 3 0) _
+      module _ (pairs-long : length (s .owners) ≡ length (s .others)) where
+        pairs-pass : not (eqb (length (s .owners)) (length (s .others))) ≡ false
+        pairs-pass = rw (eq-eqb (length (s .owners)) (length (s .others)) pairs-long)
+
+        pub survey-many : maxEdges < length (s .firsts) → surveyRefusal s ≡ Refused 3 0
+        unfolding surveyRefusal vertexCount edgeCount
+        survey-many h =
+            before-fine (refuse-false one-passes 1 0) _
+            ∙ before-fine (refuse-false two-passes 2 0) _
+            ∙ before-fine (refuse-false pairs-pass 2 0) _
+            ∙ before-refused (refuse-true (lt-ltb maxEdges (length (s .firsts)) h) 3 0) _
+
+        pub survey-shaped : length (s .firsts) ≤ maxEdges
+            → surveyRefusal s ≡ (lowestBelow (edgeCount s) (edgeRefusal s) before pairsRefusal (listsOf s))
+        unfolding surveyRefusal vertexCount edgeCount
+        survey-shaped h =
+            before-fine (refuse-false one-passes 1 0) _
+            ∙ before-fine (refuse-false two-passes 2 0) _
+            ∙ before-fine (refuse-false pairs-pass 2 0) _
+            ∙ before-fine (refuse-false (le-ltb maxEdges (length (s .firsts)) h) 3 0) _
 
 -- `Fine` exactly if the survey is sound.
 pub survey-fine : (s : Survey) → SurveySound s → surveyRefusal s ≡ Fine
 unfolding edgeCount
 survey-fine s h =
-    survey-shaped s (h .some) (h .few) (h .seconds-long) (h .weights-long) (h .edges-few)
-    ∙ lowest-none (edgeCount s) (edgeRefusal s) (λ e b. edge-fine s e (h .edges e b))
+    survey-shaped s (h .some) (h .few) (h .seconds-long) (h .weights-long) (h .pairs-long) (h .edges-few)
+    ∙ before-fine (lowest-none (edgeCount s) (edgeRefusal s) (λ e b. edge-fine s e (h .edges e b))) _
+    ∙ pairs-fine (listsOf s) (h .pairs)
 
 pub fine-survey : (s : Survey) → surveyRefusal s ≡ Fine → SurveySound s
 unfolding surveyRefusal vertexCount edgeCount
@@ -138,7 +157,9 @@ fine-survey s h =
     let one = fine-refuse (eqb n 0 || ltb maxVertices n) 1 0 (fine-left _ _ h) in
     let rest = fine-right _ _ h in
     let two = not-false (eqb m (length (s .seconds)) && eqb m (length (s .weights))) (fine-refuse _ 2 0 (fine-left _ _ rest)) in
-    let last = fine-right _ _ rest in
+    let pairs-rest = fine-right _ _ rest in
+    let last = fine-right _ _ pairs-rest in
+    let tracks = fine-right _ _ last in
     let positive : n ≡ 0 → ⊥ = eqb-false n 0 (or-false-left (eqb n 0) (ltb maxVertices n) one) in
     record {
       some = omega (arith, positive);
@@ -146,17 +167,25 @@ fine-survey s h =
       seconds-long = eqb-true m (length (s .seconds)) (and-left (eqb m (length (s .seconds))) (eqb m (length (s .weights))) two);
       weights-long = eqb-true m (length (s .weights)) (and-right (eqb m (length (s .seconds))) (eqb m (length (s .weights))) two);
       edges-few = ltb-false maxEdges m (fine-refuse (ltb maxEdges m) 3 0 (fine-left _ _ last));
-      edges = λ e b. fine-edge s e (none-lowest m (edgeRefusal s) (fine-right _ _ last) e b);
+      edges = λ e b. fine-edge s e (none-lowest m (edgeRefusal s) (fine-left _ _ tracks) e b);
+      pairs-long =
+          eqb-true (length (s .owners)) (length (s .others)) (not-false (eqb (length (s .owners)) (length (s .others))) (fine-refuse _ 2 0 (fine-left _ _ pairs-rest)));
+      pairs = fine-pairs (listsOf s) (fine-right _ _ tracks);
     }
+
+-- Without pairs the tracks decide last.
+pub tracks-decide : (groups firsts seconds weights : List ℕ) → 1 ≤ length groups → length groups ≤ maxVertices
+    → length firsts ≡ length seconds → length firsts ≡ length weights → length firsts ≤ maxEdges
+    → lowestBelow (edgeCount (surveyFrom groups firsts seconds weights)) (edgeRefusal (surveyFrom groups firsts seconds weights))
+    ≡ surveyRefusal (surveyFrom groups firsts seconds weights)
+unfolding pairsRefusal lowestBelow
+tracks-decide groups firsts seconds weights some few seconds-long weights-long edges-few =
+    sym (survey-shaped (surveyFrom groups firsts seconds weights) some few seconds-long weights-long refl edges-few ∙ before-none _)
 
 -- Membership of one group is symmetric, whatever the survey.
 pub same-group-symmetric : (s : Survey) (u v : ℕ) → sameGroup s u v ≡ true → sameGroup s v u ≡ true
-unfolding sameGroup member
-same-group-symmetric s u v h =
-    let gu = getD (s .groups) u 0 in
-    let gv = getD (s .groups) v 0 in
-    let e : gv ≡ gu = eqb-true gv gu (and-right (not (eqb gu 0)) (eqb gv gu) h) in
-    and-both (not (eqb gv 0)) (eqb gu gv) (rw e (and-left (not (eqb gu 0)) (eqb gv gu) h)) (eq-eqb gu gv (sym e))
+unfolding sameGroup
+same-group-symmetric s = same-list-symmetric (listsOf s)
 
 pub survey-sound : (s : Survey) → SurveySound s → Sound (problemOf s)
 unfolding problemOf vertexCount edgeCount

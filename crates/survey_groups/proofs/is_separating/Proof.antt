@@ -3,6 +3,7 @@ use native.Mathlib.Omega.{arith}
 use mathlib.Core.Path.{sym, _∙_}
 use borrow.Author.Needs.{needs}
 use Rattle.survey_core.specs.Survey.{groupsAlone}
+use Rattle.survey_core.specs.Laws.Group.{plain-bytes}
 use Rattle.survey_groups.specs.Laws.Cut.{whole-separates-none, parted-separates}
 use Rattle.survey_groups.proofs.is_separating.Statement.{statement}
 use Rattle.survey_groups.proofs.is_separating.Tie as tie
@@ -15,7 +16,7 @@ returns : tie.Need-returns
 returns c S sides =
     let bytes = c .before .before .before .before .shared-slice-known .given in
     sym
-    (whole-separates-none (groupsAlone (c .before .before .before .before .before .args .groups .now)) S _ sides 0 (λ v. omega (arith, bytes v))
+    (whole-separates-none (groupsAlone (c .before .before .before .before .before .args .groups .now)) S _ sides 0 (plain-bytes _ _ _ _ (λ v. omega (arith, bytes v)))
     (sym (c .before .before .split-refusal .ensures) ∙ c .enum-told .given .1))
 
 -- some group is split

@@ -1,6 +1,6 @@
 -- `spreads` meets its contract: after v vertices the table holds the groups over the vertices below v.
 use Prim.Native.Nat.{_≤_, _-_}
-use mathlib.Core.Path.{_≡_, ap, sym, _∙_}
+use mathlib.Core.Path.{_≡_, refl, ap, sym, _∙_}
 use lib.ListN.{length, getD}
 use Rattle.base_finite.specs.Below.{tabulate}
 use Rattle.base_finite.specs.Laws.Below.{length-tabulate}
@@ -35,7 +35,7 @@ loop-less c = omega arith
 
 loop-again : tie.Need-loop-again Inv-loop μ-loop
 loop-again c =
-    (omega arith, spread-step _ _ _ (c .before .before .before .before .before .before .before .loop .inv .1) (c .before .note .ensures) (c .before .before .before .before .at8 .ensures) (c .before .before .wide32 .ensures ∙ c .before .before .before .at32 .ensures) (omega arith))
+    (omega arith, spread-step _ refl _ _ (c .before .before .before .before .before .before .before .loop .inv .1) (c .before .note .ensures) (c .before .before .before .before .at8 .ensures) (c .before .before .wide32 .ensures ∙ c .before .before .before .at32 .ensures) (omega arith))
 
 returns : tie.Need-returns Inv-loop μ-loop
 returns c = c .before .loop .inv .1 ∙ spread-end _ _ _ _ (omega arith) (omega arith)

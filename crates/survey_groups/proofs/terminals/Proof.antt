@@ -1,5 +1,5 @@
 -- `terminals` meets its contract: the vertices of split groups, each with its own label, are the terminals.
-use mathlib.Core.Path.{ap, sym, _∙_}
+use mathlib.Core.Path.{refl, ap, sym, _∙_}
 use lib.ListN.{length}
 use Rattle.base_finite.specs.Laws.Below.{length-tabulate}
 use Rattle.base_limits.specs.Limits.{groupNumbers}
@@ -16,7 +16,7 @@ slice-aggregate-count-split c = sym (ap length (c .before .own-spreads .ensures)
 returns : tie.Need-returns
 unfolding vertexCount
 returns c =
-    c .count-split .ensures ∙ split-terminals _ (c .before .before .own-spreads .ensures) (λ v. omega (arith, c .before .before .before .shared-slice-known .given v))
+    c .count-split .ensures ∙ split-terminals _ refl (c .before .before .own-spreads .ensures) (λ v. omega (arith, c .before .before .before .shared-slice-known .given v))
 
 pub terminals-spec : {M : Type 1} → statement M
 terminals-spec =

@@ -2,14 +2,15 @@
 -- for refusal 12 and for pruning (source 001, section 22.1).
 use Prim.Native.Nat.{ℕ, _<_, _≤_}
 use native.Mathlib.Omega.{arith}
-use mathlib.Core.Path.{_≡_, refl, ap, sym, _∙_}
+use mathlib.Core.Path.{_≡_, ap, sym, _∙_}
 use mathlib.Core.Logic.{_⊎_, inl, inr, ⊎-elim}
 use mathlib.Core.Bool.{Bool, true, false, not}
 use mathlib.Core.List.{List}
 use lib.ListN.{length, getD}
+use borrow.Author.Tests.{not-false}
 use Rattle.base_finite.specs.Below.{counted, tabulate}
 use Rattle.base_finite.specs.Laws.Below.{counted-true, counted-false, getD-tabulate}
-use Rattle.base_finite.specs.Laws.Test.{either, true-not-false, not-true-false, not-of-false}
+use Rattle.base_finite.specs.Laws.Test.{either, true-not-false, not-true-false}
 use Rattle.base_limits.specs.Limits.{groupNumbers}
 use Rattle.base_limits.specs.Verdict.{refuseIf, lowestBelow}
 use Rattle.base_limits.specs.declared.Verdict.{Verdict}
@@ -17,9 +18,11 @@ use Rattle.base_limits.specs.declared.Verdict.the-variants.{Fine, Refused}
 use Rattle.base_limits.specs.Laws.Verdict.{no-refusal, refuse-false, fine-refuse, lowest-none, none-lowest}
 use Rattle.theory_steiner.specs.Problem.{separates}
 use Rattle.theory_steiner.specs.Laws.Joined.{Split, separates-elim, separates-intro}
-use Rattle.survey_core.specs.Survey.{Survey, vertexCount, member, sameGroup, problemOf, groupJoined}
+use Rattle.survey_core.specs.Survey.{Survey, vertexCount, member, problemOf, groupJoined}
+use Rattle.survey_core.specs.Sound.{ByteGroups}
 use Rattle.survey_groups.specs.Spread.{Sides}
-use Rattle.survey_core.specs.Laws.Member.{member-elim, member-intro, labels-joined-elim, labels-joined-intro}
+use Rattle.survey_core.specs.Laws.Member.{labels-joined-elim, labels-joined-intro}
+use Rattle.survey_core.specs.Laws.Group.{Shared, same-group-shared, members-same-group, member-byte}
 
 module _ (s : Survey) (S : ℕ → Bool) (label : ℕ → ℕ) (sided : (v : ℕ) → v < length (s .groups) → label v ≡ counted (S v) 1) where
   -- A pair on two sides has two labels.
@@ -31,7 +34,7 @@ module _ (s : Survey) (S : ℕ → Bool) (label : ℕ → ℕ) (sided : (v : ℕ
 
   parted : (g u v : ℕ) → u < length (s .groups) → v < length (s .groups) → member s g u ≡ true → member s g v ≡ true → S u ≡ true → S v ≡ false
       → separates (problemOf s) S ≡ true
-  unfolding problemOf vertexCount sameGroup
+  unfolding problemOf vertexCount
   parted g u v bu bv mu mv hu hv =
       separates-intro
       (problemOf s)
@@ -41,7 +44,7 @@ module _ (s : Survey) (S : ℕ → Bool) (label : ℕ → ℕ) (sided : (v : ℕ
         v = v;
         u-below = bu;
         v-below = bv;
-        required = rw (member-elim s g u mu .same) mv;
+        required = members-same-group s g u v mu mv;
         inside = hu;
         outside = hv;
       })
@@ -69,46 +72,21 @@ module _ (s : Survey) (S : ℕ → Bool) (label : ℕ → ℕ) (sided : (v : ℕ
         (λ g. refuseIf (not (groupJoined s label g)) number g)
         (λ g b. refuse-false (ap not (whole-joined h g)) number g)
 
-    fine-whole : ((v : ℕ) → getD (s .groups) v 0 < groupNumbers) → partedGroup ≡ Fine → separates (problemOf s) S ≡ true → ⊥
-    unfolding problemOf vertexCount sameGroup
-    fine-whole small h k =
+    fine-whole : ByteGroups s → partedGroup ≡ Fine → separates (problemOf s) S ≡ true → ⊥
+    unfolding problemOf vertexCount
+    fine-whole numbered h k =
         let p : Split (problemOf s) S = separates-elim (problemOf s) S k in
-        let g : ℕ = getD (s .groups) (p .u) 0 in
-        let j : groupJoined s label g ≡ true =
-        ⊎-elim
-        (λ e. e)
-        (λ e.
-        true-not-false
-        (not (groupJoined s label g))
-        (not-of-false (groupJoined s label g) e)
-        (fine-refuse
-        (not (groupJoined s label g))
-        number
-        g
-        (none-lowest groupNumbers (λ g. refuseIf (not (groupJoined s label g)) number g) h g (small (p .u)))))
-        (either (groupJoined s label g)) in
-        sides-differ
-        (p .u)
-        (p .v)
-        (p .u-below)
-        (p .v-below)
-        (p .inside)
-        (p .outside)
-        (labels-joined-elim
-        s
-        label
-        g
-        j
-        (p .u)
-        (p .v)
-        (p .u-below)
-        (p .v-below)
-        (member-intro s g (p .u) (member-elim s g (p .v) (p .required) .some) refl)
-        (p .required))
+        let x : Shared s (p .u) (p .v) = same-group-shared s (p .u) (p .v) (p .required) in
+        let j : groupJoined s label (x .group) ≡ true =
+        not-false (groupJoined s label (x .group))
+        (fine-refuse (not (groupJoined s label (x .group))) number (x .group)
+        (none-lowest groupNumbers (λ g. refuseIf (not (groupJoined s label g)) number g) h (x .group) (member-byte s numbered (x .group) (p .u) (x .first)))) in
+        sides-differ (p .u) (p .v) (p .u-below) (p .v-below) (p .inside) (p .outside)
+        (labels-joined-elim s label (x .group) j (p .u) (p .v) (p .u-below) (p .v-below) (x .first) (x .second))
 
     -- No group is parted.
-    pub whole-separates-none : ((v : ℕ) → getD (s .groups) v 0 < groupNumbers) → partedGroup ≡ Fine → separates (problemOf s) S ≡ false
-    whole-separates-none small h = not-true-false (separates (problemOf s) S) (fine-whole small h)
+    pub whole-separates-none : ByteGroups s → partedGroup ≡ Fine → separates (problemOf s) S ≡ false
+    whole-separates-none numbered h = not-true-false (separates (problemOf s) S) (fine-whole numbered h)
 
     -- Some group is.
     pub parted-separates : {other place : ℕ} → partedGroup ≡ Refused other place → separates (problemOf s) S ≡ true

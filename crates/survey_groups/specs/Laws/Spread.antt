@@ -7,7 +7,7 @@ use native.Mathlib.Numerals.{add-one}
 use mathlib.Core.Path.{_≡_, refl, ap, sym, _∙_}
 use mathlib.Core.Logic.{_⊎_, inl, inr, ⊎-elim}
 use mathlib.Core.Bool.{Bool, true, false, _&&_, _||_, not, cond, Bool·not-not}
-use mathlib.Core.List.{List}
+use mathlib.Core.List.{[], List}
 use lib.ListN.{getD, set}
 use lib.Dec.{eqb}
 use borrow.Author.Tests.{eq-eqb, ne-eqb, eqb-true, eqb-false, not-true}
@@ -22,6 +22,7 @@ use Rattle.theory_steiner.specs.Growth.{active}
 use Rattle.survey_core.specs.Survey.{Survey, vertexCount, member, sameGroup, problemOf, groupJoined}
 use Rattle.survey_groups.specs.Spread.{noted, spread, split, notedIn}
 use Rattle.survey_core.specs.Laws.Refusal.{same-group-symmetric}
+use Rattle.survey_core.specs.Laws.Group.{plain-same}
 use Rattle.survey_core.specs.Laws.Member.{member-elim, member-intro, labels-joined-elim, labels-joined-intro}
 use Rattle.base_buffer.specs.Laws.Store.{tabulate-cong, set-table}
 
@@ -208,12 +209,13 @@ other s label g n c a = by (ℕ-discrete (label (a .u)) c)
               and-both (not (eqb (label (a .u)) c)) (member s g (a .u)) (not-of-false (eqb (label (a .u)) c) (ne-eqb (label (a .u)) c d)) (a .u-member);
         }
 
-module _ (s : Survey) where
+module _ (s : Survey) (plain : s .owners ≡ []) where
   -- Some member of u's group lies outside u's component exactly if the group is split.
   outside-split : (label : ℕ → ℕ) (u : ℕ) → u < vertexCount s
       → anyBelow (vertexCount s) (λ v. not (eqb (label v) (label u)) && sameGroup s u v) ≡ split s label (getD (s .groups) u 0)
-  unfolding sameGroup
-  outside-split label u ub = same-test (anyBelow (vertexCount s) t) (split s label g) forth back
+  outside-split label u ub =
+      any-cong (vertexCount s) _ _ (λ v vb. ap (λ x. not (eqb (label v) (label u)) && x) (plain-same s plain u v))
+      ∙ same-test (anyBelow (vertexCount s) t) (split s label g) forth back
     where
       g : ℕ
       g = getD (s .groups) u 0
@@ -226,7 +228,7 @@ module _ (s : Survey) where
           let f = any-elim (vertexCount s) t h in
           let m = and-right (not (eqb (label (f .at)) (label u))) (member s g (f .at)) (f .passes) in
           let d = eqb-false (label (f .at)) (label u) (not-true (eqb (label (f .at)) (label u)) (and-left (not (eqb (label (f .at)) (label u))) (member s g (f .at)) (f .passes))) in
-          apart-split s label g (f .at) u (f .below) ub m (member-intro s g u (member-elim s g (f .at) m .some) refl) d
+          apart-split s label g (f .at) u (f .below) ub m (member-intro s g u (member-elim s plain g (f .at) m .some) refl) d
 
       back : split s label g ≡ true → anyBelow (vertexCount s) t ≡ true
       back h = let f = other s label g (vertexCount s) (label u) (split-apart s label g h) in any-intro (vertexCount s) t (f .at) (f .below) (f .passes)
@@ -257,10 +259,10 @@ module _ (s : Survey) where
 -- ---- the table of all groups
 
 -- One more vertex.
-pub spread-more : (s : Survey) (label : ℕ → ℕ) (v : ℕ) → getD (s .groups) v 0 < groupNumbers
+pub spread-more : (s : Survey) → s .owners ≡ [] → (label : ℕ → ℕ) (v : ℕ) → getD (s .groups) v 0 < groupNumbers
     → notedIn (tabulate groupNumbers (λ g. spread s label g v)) (getD (s .groups) v 0) (label v) ≡ tabulate groupNumbers (λ g. spread s label g (v + 1))
 unfolding notedIn
-spread-more s label v b = by (ℕ-discrete g 0)
+spread-more s plain label v b = by (ℕ-discrete g 0)
   where
     g : ℕ
     g = getD (s .groups) v 0
@@ -280,7 +282,7 @@ spread-more s label v b = by (ℕ-discrete g 0)
         groupNumbers
         (λ k. spread s label k v)
         (λ k. spread s label k (v + 1))
-        (λ k _. stays k (not-true-false (member s k v) (λ m. member-elim s k v m .some (sym (member-elim s k v m .same) ∙ e)))))
+        (λ k _. stays k (not-true-false (member s k v) (λ m. member-elim s plain k v m .some (sym (member-elim s plain k v m .same) ∙ e)))))
     by (no d) =
         rw
         (ne-eqb g 0 d)
@@ -292,19 +294,19 @@ spread-more s label v b = by (ℕ-discrete g 0)
         (noted (getD table g 0) (label v))
         (rw
         (add-one v, spread-suc s label g v, member-intro s g v d refl, getD-tabulate groupNumbers (λ g. spread s label g v) g 0 b))
-        (λ k q. stays k (not-true-false (member s k v) (λ m. q (sym (member-elim s k v m .same))))))
+        (λ k q. stays k (not-true-false (member s k v) (λ m. q (sym (member-elim s plain k v m .same))))))
 
 -- One more vertex, as a call leaves the table.
-pub spread-step : (s : Survey) (label : ℕ → ℕ) (v : ℕ) {table after : List ℕ} {g l : ℕ}
+pub spread-step : (s : Survey) → s .owners ≡ [] → (label : ℕ → ℕ) (v : ℕ) {table after : List ℕ} {g l : ℕ}
     → table ≡ tabulate groupNumbers (λ g. spread s label g v)
     → after ≡ notedIn table g l
     → g ≡ getD (s .groups) v 0
     → l ≡ label v
     → g < groupNumbers
     → after ≡ tabulate groupNumbers (λ g. spread s label g (v + 1))
-spread-step s label v {table} {after} {g} {l} t a e f b =
+spread-step s plain label v {table} {after} {g} {l} t a e f b =
     let c : getD (s .groups) v 0 < groupNumbers = omega arith in
-    a ∙ rw (t, e, f) (spread-more s label v c)
+    a ∙ rw (t, e, f) (spread-more s plain label v c)
 
 -- Before the first vertex.
 pub spread-none : (s : Survey) (label : ℕ → ℕ) → tabulate groupNumbers (λ g. 0) ≡ tabulate groupNumbers (λ g. spread s label g 0)
@@ -339,13 +341,13 @@ split-lowest s label {table} t number =
     (split-read s label t g b ∙ sym (ap not (joined-not-split s label g) ∙ Bool·not-not (split s label g))))
 
 -- The vertices in split groups, each with its own label, are the terminals.
-pub split-terminals : (s : Survey) {table : List ℕ} → table ≡ tabulate groupNumbers (λ g. spread s (λ v. v) g (vertexCount s))
+pub split-terminals : (s : Survey) → s .owners ≡ [] → {table : List ℕ} → table ≡ tabulate groupNumbers (λ g. spread s (λ v. v) g (vertexCount s))
     → ((v : ℕ) → getD (s .groups) v 0 < groupNumbers)
     → countBelow (vertexCount s) (λ v. eqb (getD table (getD (s .groups) v 0) 0) 1) ≡ terminals (problemOf s)
 unfolding terminals problemOf
-split-terminals s {table} t b =
+split-terminals s plain {table} t b =
     count-cong
     (vertexCount s)
     (λ v. eqb (getD table (getD (s .groups) v 0) 0) 1)
     (terminal (problemOf s))
-    (λ v c. split-read s (λ v. v) t (getD (s .groups) v 0) (b v) ∙ sym (terminal-split s v c))
+    (λ v c. split-read s (λ v. v) t (getD (s .groups) v 0) (b v) ∙ sym (terminal-split s plain v c))
