@@ -2,19 +2,21 @@
 -- The code's decisions and every caller that has seen `Fine` use it.
 use Prim.Native.Nat.{ℕ, _<_, _≤_}
 use native.Mathlib.Omega.{arith}
-use mathlib.Core.Path.{_≡_, refl, sym, _∙_}
+use mathlib.Core.Path.{_≡_, refl, ap, sym, _∙_}
 use mathlib.Core.List.{List}
-use mathlib.Core.Bool.{true, false, _&&_, _||_, not}
+use mathlib.Core.Bool.{Bool, true, false, _&&_, _||_, not}
 use lib.ListN.{length, getD}
 use lib.Dec.{eqb, ltb, leb}
 use borrow.Author.Tests.{eq-eqb, ne-eqb, le-leb, lt-leb, le-ltb, lt-ltb, eqb-true, eqb-false, ltb-false, leb-false, not-false}
 use Rattle.base_finite.specs.Laws.Test.{and-left, and-right, and-both, or-false-left, or-false-right, not-of-false, not-true-false}
 use Rattle.base_limits.specs.Limits.{maxVertices, maxEdges, maxWeight}
 use Rattle.base_limits.specs.Verdict.{refuseIf, _before_, lowestBelow}
+use Rattle.base_limits.specs.declared.Verdict.{Verdict}
 use Rattle.base_limits.specs.declared.Verdict.the-variants.{Fine, Refused}
-use Rattle.base_limits.specs.Laws.Verdict.{before-fine, before-none, before-refused, fine-left, fine-right, refuse-true, refuse-false, fine-refuse, lowest-none, none-lowest}
+use Rattle.base_limits.specs.Laws.Verdict.{before-assoc, before-fine, before-none, before-refused, fine-left, fine-right, refuse-true, refuse-false, fine-refuse, lowest-none, none-lowest}
 use Rattle.theory_steiner.specs.Problem.{Sound}
-use Rattle.survey_core.specs.Survey.{Survey, surveyFrom, listsOf, vertexCount, edgeCount, sameGroup, problemOf}
+use Rattle.survey_core.specs.Survey.{Survey, surveyWith, surveyFrom, listsOf, vertexCount, edgeCount, sameGroup, problemOf}
+use Rattle.survey_core.specs.Lists.{listsFrom}
 use Rattle.survey_core.specs.Pairs.{pairsRefusal}
 use Rattle.survey_core.specs.Sound.{EdgeSound, SurveySound}
 use Rattle.survey_core.specs.Refusal.{edgeRefusal, surveyRefusal}
@@ -141,6 +143,28 @@ module _ (s : Survey) where
             ∙ before-fine (refuse-false pairs-pass 2 0) _
             ∙ before-fine (refuse-false (le-ltb maxEdges (length (s .firsts)) h) 3 0) _
 
+-- Without pairs nothing is wrong with them.
+no-pairs-refusal : (groups firsts seconds weights : List ℕ)
+    → surveyRefusal (surveyFrom groups firsts seconds weights)
+    ≡ (refuseIf (eqb (length groups) 0 || ltb maxVertices (length groups)) 1 0
+    before refuseIf (not (eqb (length firsts) (length seconds) && eqb (length firsts) (length weights))) 2 0
+    before refuseIf (ltb maxEdges (length firsts)) 3 0
+    before lowestBelow (length firsts) (edgeRefusal (surveyFrom groups firsts seconds weights)))
+unfolding surveyRefusal pairsRefusal vertexCount edgeCount lowestBelow
+no-pairs-refusal groups firsts seconds weights =
+    let one = refuseIf (eqb (length groups) 0 || ltb maxVertices (length groups)) 1 0 in
+    let two = refuseIf (not (eqb (length firsts) (length seconds) && eqb (length firsts) (length weights))) 2 0 in
+    let three = refuseIf (ltb maxEdges (length firsts)) 3 0 in
+    let tracks = lowestBelow (length firsts) (edgeRefusal (surveyFrom groups firsts seconds weights)) in
+    ap (λ v. one before two before v)
+    (before-fine (refuse-false refl 2 0) (three before tracks before Fine) ∙ ap (λ v. three before v) (before-none tracks))
+
+-- 2 comes from either test.
+either-two : (t : Bool) (rest : Verdict) → rest ≡ Refused 2 0 → (refuseIf t 2 0 before rest) ≡ Refused 2 0
+unfolding refuseIf _before_
+either-two true rest h = refl
+either-two false rest h = h
+
 -- `Fine` exactly if the survey is sound.
 pub survey-fine : (s : Survey) → SurveySound s → surveyRefusal s ≡ Fine
 unfolding edgeCount
@@ -181,6 +205,35 @@ pub tracks-decide : (groups firsts seconds weights : List ℕ) → 1 ≤ length 
 unfolding pairsRefusal lowestBelow
 tracks-decide groups firsts seconds weights some few seconds-long weights-long edges-few =
     sym (survey-shaped (surveyFrom groups firsts seconds weights) some few seconds-long weights-long refl edges-few ∙ before-none _)
+
+-- Pairs of one length: the four other buffers decide, then the pairs.
+pub pairs-decide : (groups firsts seconds weights owners others : List ℕ) → length owners ≡ length others
+    → surveyRefusal (surveyWith groups firsts seconds weights owners others)
+    ≡ (surveyRefusal (surveyFrom groups firsts seconds weights) before pairsRefusal (listsFrom groups owners others))
+unfolding surveyRefusal edgeRefusal vertexCount edgeCount
+pairs-decide groups firsts seconds weights owners others even =
+    let n = length groups in
+    let m = length firsts in
+    let one = refuseIf (eqb n 0 || ltb maxVertices n) 1 0 in
+    let two = refuseIf (not (eqb m (length seconds) && eqb m (length weights))) 2 0 in
+    let three = refuseIf (ltb maxEdges m) 3 0 in
+    let tracks = lowestBelow m (edgeRefusal (surveyFrom groups firsts seconds weights)) in
+    let pairs = pairsRefusal (listsFrom groups owners others) in
+    let passes : refuseIf (not (eqb (length owners) (length others))) 2 0 ≡ Fine = refuse-false (rw (eq-eqb (length owners) (length others) even)) 2 0 in
+    ap (λ v. one before two before v) (before-fine passes (three before tracks before pairs))
+    ∙ sym
+    (ap (λ v. v before pairs) (no-pairs-refusal groups firsts seconds weights)
+    ∙ before-assoc one (two before three before tracks) pairs
+    ∙ ap (λ v. one before v) (before-assoc two (three before tracks) pairs ∙ ap (λ v. two before v) (before-assoc three tracks pairs)))
+
+-- Pairs of two lengths: 1, or 2.
+pub pairs-differ : (s : Survey) → 1 ≤ length (s .groups) → length (s .groups) ≤ maxVertices → (length (s .owners) ≡ length (s .others) → ⊥)
+    → surveyRefusal s ≡ Refused 2 0
+unfolding surveyRefusal vertexCount edgeCount
+pairs-differ s some few h =
+    before-fine (refuse-false (one-passes s some few) 1 0) _
+    ∙ either-two (not (eqb (length (s .firsts)) (length (s .seconds)) && eqb (length (s .firsts)) (length (s .weights)))) _
+    (before-refused (refuse-true (not-of-false (eqb (length (s .owners)) (length (s .others))) (ne-eqb (length (s .owners)) (length (s .others)) h)) 2 0) _)
 
 -- Membership of one group is symmetric, whatever the survey.
 pub same-group-symmetric : (s : Survey) (u v : ℕ) → sameGroup s u v ≡ true → sameGroup s v u ≡ true
