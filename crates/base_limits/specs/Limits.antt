@@ -22,6 +22,10 @@ maxValue = 2 * maxWeight
 abbrev pub groupNumbers : ℕ
 groupNumbers = 256
 
+-- pairs (v, g) of a junction and a further group, at most
+abbrev pub maxPairs : ℕ
+maxPairs = 256
+
 -- bytes of a moat record: its amount, its members, the whole
 abbrev pub valueBytes : ℕ
 valueBytes = 8

@@ -13,6 +13,9 @@ pub const MAX_VALUE: u64 = 2 * (MAX_WEIGHT as u64);
 // Group numbers lie below this.
 pub const GROUP_NUMBERS: usize = 256;
 
+// Pairs of a vertex and a further group, at most.
+pub const MAX_PAIRS: usize = 256;
+
 // Bytes of a dual's record: its value, its members, the whole.
 pub const VALUE_BYTES: usize = 8;
 
