@@ -1,3 +1,4 @@
 pub mod Linked
 pub mod Component
 pub mod Forest
+pub mod Label

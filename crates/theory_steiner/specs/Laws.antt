@@ -13,3 +13,4 @@ pub mod Degree
 pub mod Accuracy
 pub mod Terminals
 pub mod Minima
+pub mod Required

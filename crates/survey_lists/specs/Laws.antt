@@ -1,0 +1,6 @@
+pub mod Lists
+pub mod Refusal
+pub mod Home
+pub mod Pouring
+pub mod Plan
+pub mod Room

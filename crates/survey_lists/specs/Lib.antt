@@ -1,0 +1,5 @@
+pub mod Lists
+pub mod Refusal
+pub mod Pouring
+pub mod Examples
+pub mod Laws

@@ -1,0 +1,202 @@
+// Groups as member lists that may overlap: a vertex belongs to its own group and to those of its pairs. Which pairs are
+// refused, and the disjoint groups that lists sharing a member are poured into.
+ghost use Rattle.base_buffer.specs.Lent.{old, new};
+ghost use mathlib.Core.Path.{_≡_};
+ghost use Prim.Native.Nat.{ℕ};
+ghost use mathlib.Core.Bool.{cond};
+ghost use lib.ListN.{getD, length};
+ghost use lib.Dec.{eqb};
+ghost use Rattle.base_finite.specs.Below.{tabulate};
+ghost use Rattle.base_limits.specs.Limits.{groupNumbers};
+ghost use Rattle.survey_components.specs.Labels.{endsJoined};
+ghost use Rattle.survey_lists.specs.Lists.{listsFrom, lentLists};
+ghost use Rattle.survey_lists.specs.Refusal.{isRising, pairRefusal, pairsRefusal};
+ghost use Rattle.survey_lists.specs.Pouring.{home, pouredLabel, poured, roomOf};
+use base_buffer::at8;
+use base_buffer::at32;
+use base_buffer::index8;
+use base_buffer::index32;
+use base_buffer::put8;
+use base_limits::GROUP_NUMBERS;
+use base_limits::MAX_PAIRS;
+use base_limits::MAX_VERTICES;
+use base_limits::Verdict;
+
+// Whether pair i stands above the one before it, by vertex, then by group.
+fn is_rising(owners: &[u32], others: &[u8], i: usize) -> bool
+    ensures { λ r. ⌜ r ≡ isRising (old owners) (old others) i ⌝ }
+{
+    if i == 0 {
+        return true;
+    }
+    let before = at32(owners, i - 1);
+    let owner = at32(owners, i);
+    if before < owner {
+        return true;
+    }
+    if owner < before {
+        return false;
+    }
+    if at8(others, i - 1) < at8(others, i) {
+        return true;
+    }
+    false
+}
+
+// What is wrong with one pair: 18.
+fn pair_refusal(groups: &[u8], owners: &[u32], others: &[u8], i: usize) -> Verdict
+    ensures { λ r. ⌜ r ≡ pairRefusal (lentLists groups owners others) i ⌝ }
+{
+    let owner = index32(at32(owners, i));
+    let other = at8(others, i);
+    if groups.len() <= owner {
+        return Verdict::Refused {
+            number: 18,
+            place: i,
+        };
+    }
+    if other == 0 {
+        return Verdict::Refused {
+            number: 18,
+            place: i,
+        };
+    }
+    if other == at8(groups, owner) {
+        return Verdict::Refused {
+            number: 18,
+            place: i,
+        };
+    }
+    if !is_rising(owners, others, i) {
+        return Verdict::Refused {
+            number: 18,
+            place: i,
+        };
+    }
+    if MAX_PAIRS <= i {
+        return Verdict::Refused {
+            number: 18,
+            place: i,
+        };
+    }
+    Verdict::Fine
+}
+
+// What is wrong with the lowest pair that has something wrong.
+pub fn pairs_refusal(groups: &[u8], owners: &[u32], others: &[u8]) -> Verdict
+    ensures { λ r. ⌜ r ≡ pairsRefusal (lentLists groups owners others) ⌝ }
+{
+    let mut i = 0;
+    while i < owners.len() {
+        let found = pair_refusal(groups, owners, others, i);
+        let Verdict::Fine = found else {
+            return found;
+        };
+        i += 1;
+    }
+    Verdict::Fine
+}
+
+// The group of pair i, if it is a pair of v.
+fn pair_of(owners: &[u32], others: &[u8], v: usize, i: usize) -> u8
+    ensures { λ r. ⌜ r ≡ cond (eqb (getD (old owners) i 0) v) (getD (old others) i 0) 0 ⌝ }
+{
+    if index32(at32(owners, i)) == v {
+        return at8(others, i);
+    }
+    0
+}
+
+// One list of v: its own group, or that of its first pair.
+fn home(groups: &[u8], owners: &[u32], others: &[u8], v: usize) -> u8
+    ensures { λ r. ⌜ r ≡ home (lentLists groups owners others) v ⌝ }
+{
+    let own = at8(groups, v);
+    if own != 0 {
+        return own;
+    }
+    let mut i = 0;
+    while i < owners.len() {
+        let found = pair_of(owners, others, v, i);
+        if found != 0 {
+            return found;
+        }
+        i += 1;
+    }
+    0
+}
+
+// The list of pair i and the home of its vertex become one.
+fn join_pair(groups: &[u8], owners: &[u32], others: &[u8], labels: &mut [u32], i: usize)
+    ensures { λ r. let first = home (lentLists groups owners others) (getD (old owners) i 0) in
+        ⌜ new labels ≡ endsJoined first (getD (old others) i 0) (old labels) ⌝ }
+{
+    let first = home(groups, owners, others, index32(at32(owners, i)));
+    let second = at8(others, i);
+    let z = at32(labels, index8(first));
+    survey_components::merge(labels, first as u32, second as u32, z);
+}
+
+// Labels of the lists: those that are poured together have one.
+fn label_lists(groups: &[u8], owners: &[u32], others: &[u8]) -> [u32; GROUP_NUMBERS]
+    ensures { λ r. ⌜ r ≡ tabulate groupNumbers (pouredLabel (lentLists groups owners others)) ⌝ }
+{
+    let mut labels = [0u32; GROUP_NUMBERS];
+    survey_components::own_labels(&mut labels);
+    let mut i = 0;
+    while i < owners.len() {
+        join_pair(groups, owners, others, &mut labels, i);
+        i += 1;
+    }
+    labels
+}
+
+// The own groups.
+fn own_groups(groups: &[u8]) -> [u8; MAX_VERTICES]
+    ensures { λ r. ⌜ r ≡ roomOf (length (old groups)) (λ v. getD (old groups) v 0) ⌝ }
+{
+    let mut room = [0u8; MAX_VERTICES];
+    let mut v = 0;
+    while v < groups.len() {
+        put8(&mut room, v, at8(groups, v));
+        v += 1;
+    }
+    room
+}
+
+// The poured group of v, by the labels of the lists.
+fn poured_group(groups: &[u8], owners: &[u32], others: &[u8], labels: &[u32], v: usize) -> u8
+    requires { ⌜ now labels ≡ tabulate groupNumbers (pouredLabel (listsFrom (now groups) (now owners) (now others))) ⌝ }
+    ensures { λ r. ⌜ r ≡ poured (lentLists groups owners others) v ⌝ }
+{
+    let list = home(groups, owners, others, v);
+    at32(labels, index8(list)) as u8
+}
+
+// The poured groups of a survey with pairs.
+fn poured_groups(groups: &[u8], owners: &[u32], others: &[u8]) -> [u8; MAX_VERTICES]
+    ensures { λ r. ⌜ r ≡ roomOf (length (old groups)) (poured (lentLists groups owners others)) ⌝ }
+{
+    let labels = label_lists(groups, owners, others);
+    let mut room = [0u8; MAX_VERTICES];
+    let mut v = 0;
+    while v < groups.len() {
+        put8(
+            &mut room,
+            v,
+            poured_group(groups, owners, others, &labels, v),
+        );
+        v += 1;
+    }
+    room
+}
+
+// The groups of the vertices after pouring, zeros behind the last. Without pairs they are the own groups.
+pub fn pour(groups: &[u8], owners: &[u32], others: &[u8]) -> [u8; MAX_VERTICES]
+    ensures { λ r. ⌜ r ≡ roomOf (length (old groups)) (poured (lentLists groups owners others)) ⌝ }
+{
+    if owners.len() == 0 {
+        return own_groups(groups);
+    }
+    poured_groups(groups, owners, others)
+}
