@@ -6,9 +6,9 @@ use Rattle.base_finite.specs.Below.{counted, sumBelow, countBelow, anyBelow, ta
 use Rattle.base_limits.specs.Verdict.{refuseIf, _before_, lowestBelow, Outcome, refusal, answer, outcome}
 use Rattle.theory_graph.specs.Component.{merged, components}
 use Rattle.theory_steiner.specs.Problem.{terminal, terminals}
-use Rattle.survey_core.specs.Survey.{vertexCount, edgeCount, groupsAlone, problemOf}
-use Rattle.survey_lists.specs.Lists.{Lists, listsFrom, isPaired, inList, sameList, listProblem}
-use Rattle.survey_lists.specs.Refusal.{isRising, pairRefusal, pairsRefusal}
+use Rattle.survey_core.specs.Survey.{vertexCount, edgeCount, listsAlone, sameGroup, problemOf}
+use Rattle.survey_core.specs.Lists.{Lists, listsFrom, isPaired, inList, sameList}
+use Rattle.survey_core.specs.Pairs.{isRising, pairRefusal, pairsRefusal}
 use Rattle.survey_lists.specs.Pouring.{homeBelow, home, pouredLabel, pouredGroups}
 
 -- k of the lists, and the groups that they are poured into.
@@ -20,7 +20,7 @@ pub record Figures : Type 0 where
 unfoldable pub figures : Lists → Outcome Figures
 figures l =
     outcome (pairsRefusal l)
-    (record { sites = terminals (listProblem (groupsAlone (l .groups)) (l .owners) (l .others)); poured = pouredGroups l })
+    (record { sites = terminals (problemOf (listsAlone (l .groups) (l .owners) (l .others))); poured = pouredGroups l })
 
 pub record Example : Type 0 where
   pub lists : Lists
@@ -66,6 +66,6 @@ examples =
 pub examples-hold : map (λ x. figures (x .lists)) examples ≡ map (λ x. x .expected) examples
 unfolding
     examples figures outcome pairsRefusal pairRefusal isRising refuseIf _before_ lowestBelow
-    terminals terminal countBelow sumBelow counted anyBelow listProblem problemOf vertexCount edgeCount
+    terminals terminal countBelow sumBelow counted anyBelow problemOf sameGroup vertexCount edgeCount
     sameList inList isPaired pouredGroups pouredLabel home homeBelow components merged memo tabulate lookup
 examples-hold = refl

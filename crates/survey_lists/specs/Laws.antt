@@ -1,5 +1,3 @@
-pub mod Lists
-pub mod Refusal
 pub mod Home
 pub mod Pouring
 pub mod Plan

@@ -8,8 +8,8 @@ use lib.Dec.{eqb, ltb}
 use Rattle.base_finite.specs.Below.{counted, tabulate}
 use Rattle.base_limits.specs.Limits.{maxVertices, groupNumbers}
 use Rattle.theory_graph.specs.Component.{components}
-use Rattle.survey_core.specs.Survey.{Survey, surveyFrom}
-use Rattle.survey_lists.specs.Lists.{Lists, listsOf, own, owner, other, inList}
+use Rattle.survey_core.specs.Survey.{Survey, surveyFrom, listsOf}
+use Rattle.survey_core.specs.Lists.{Lists, own, owner, other, inList}
 
 -- Lists g and h are poured together: from g to h each list of a chain shares a member with the next.
 pub data Chained (l : Lists) : (g h : ℕ) → Type 0 where
@@ -48,5 +48,5 @@ unfoldable pub roomOf : (n : ℕ) → (f : ℕ → ℕ) → List ℕ
 roomOf n f = tabulate maxVertices (λ v. counted (ltb v n) (f v))
 
 -- The survey without pairs that a survey with pairs is poured into.
-unfoldable pub pouredSurvey : Survey → (owners others : List ℕ) → Survey
-pouredSurvey s owners others = surveyFrom (pouredGroups (listsOf s owners others)) (s .firsts) (s .seconds) (s .weights)
+abbrev pub pouredSurvey : Survey → Survey
+pouredSurvey s = surveyFrom (pouredGroups (listsOf s)) (s .firsts) (s .seconds) (s .weights)

@@ -1,7 +1,7 @@
 -- What 18 finds at a pair, case by case, and what pairs without it are (document 02, No. 2).
 use Prim.Native.Nat.{ℕ, _-_, _<_, _≤_}
 use native.Mathlib.Omega.{arith}
-use mathlib.Core.Path.{_≡_}
+use mathlib.Core.Path.{_≡_, ap, _∙_}
 use mathlib.Core.Bool.{Bool, true, false, _&&_, _||_, not}
 use mathlib.Core.List.{List}
 use lib.ListN.{length, getD}
@@ -34,14 +34,24 @@ module _ (owners others : List ℕ) (i : ℕ) where
         rw (ne-eqb i 0 later, le-ltb (getD owners (i - 1) 0) (getD owners i 0) w, ne-eqb (getD owners (i - 1) 0) (getD owners i 0) d)
 
     -- One vertex: the groups decide.
-    pub rising-group : getD owners i 0 ≤ getD owners (i - 1) 0 → getD owners (i - 1) 0 ≤ getD owners i 0
-        → isRising owners others i ≡ ltb (getD others (i - 1) 0) (getD others i 0)
-    unfolding isRising
-    rising-group h k =
-        let e : getD owners (i - 1) 0 ≡ getD owners i 0 = omega arith in
-        rw (ne-eqb i 0 later, le-ltb (getD owners (i - 1) 0) (getD owners i 0) h, eq-eqb (getD owners (i - 1) 0) (getD owners i 0) e)
+    module _ (h : getD owners i 0 ≤ getD owners (i - 1) 0) (k : getD owners (i - 1) 0 ≤ getD owners i 0) where
+      by-group : isRising owners others i ≡ ltb (getD others (i - 1) 0) (getD others i 0)
+      unfolding isRising
+      by-group =
+          let e : getD owners (i - 1) 0 ≡ getD owners i 0 = omega arith in
+          rw (ne-eqb i 0 later, le-ltb (getD owners (i - 1) 0) (getD owners i 0) h, eq-eqb (getD owners (i - 1) 0) (getD owners i 0) e)
+
+      pub rising-group : getD others (i - 1) 0 < getD others i 0 → isRising owners others i ≡ true
+      rising-group lower = by-group ∙ lt-ltb (getD others (i - 1) 0) (getD others i 0) lower
+
+      pub falling-group : getD others i 0 ≤ getD others (i - 1) 0 → isRising owners others i ≡ false
+      falling-group upper = by-group ∙ le-ltb (getD others (i - 1) 0) (getD others i 0) upper
 
 -- ---- one pair
+
+-- The own group of o, read at v.
+pub own-read : (groups : List ℕ) {v o x : ℕ} → v ≡ o → x ≡ getD groups v 0 → x ≡ getD groups o 0
+own-read groups same is = is ∙ ap (λ k. getD groups k 0) same
 
 module _ (l : Lists) (i : ℕ) where
   pub pair-out : length (l .groups) ≤ owner l i → pairRefusal l i ≡ Refused 18 i

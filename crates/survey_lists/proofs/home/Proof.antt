@@ -4,7 +4,7 @@ use native.Mathlib.Omega.{arith}
 use mathlib.Core.Path.{sym, _∙_}
 use lib.ListN.{length}
 use borrow.Author.Needs.{needs}
-use Rattle.survey_lists.specs.Lists.{listsFrom}
+use Rattle.survey_core.specs.Lists.{listsFrom}
 use Rattle.survey_lists.specs.Laws.Home.{home-own, Homeless, homeless-start, homeless-turn, homeless-found, homeless-end}
 use Rattle.survey_lists.proofs.home.Statement.{statement}
 use Rattle.survey_lists.proofs.home.Tie as tie

@@ -2,7 +2,7 @@
 use native.Mathlib.Omega.{arith}
 use mathlib.Core.Path.{sym}
 use borrow.Author.Needs.{needs}
-use Rattle.survey_lists.specs.Laws.Refusal.{rising-first, rising-vertex, falling-vertex, rising-group, falling-group}
+use Rattle.survey_core.specs.Laws.Pairs.{rising-first, rising-vertex, falling-vertex, rising-group, falling-group}
 use Rattle.survey_lists.proofs.is_rising.Statement.{statement}
 use Rattle.survey_lists.proofs.is_rising.Tie as tie
 

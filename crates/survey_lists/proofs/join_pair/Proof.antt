@@ -1,9 +1,9 @@
 -- `join_pair` meets its contract: the home's label takes the place of both.
 use mathlib.Core.Path.{ap, _∙_}
 use borrow.Author.Needs.{needs}
-use Rattle.survey_lists.specs.Lists.{listsFrom}
+use Rattle.survey_core.specs.Lists.{listsFrom}
 use Rattle.survey_lists.specs.Pouring.{home}
-use Rattle.survey_lists.specs.Laws.Refusal.{own-read}
+use Rattle.survey_core.specs.Laws.Pairs.{own-read}
 use Rattle.survey_lists.specs.Laws.Room.{joined-by-merge}
 use Rattle.survey_lists.proofs.join_pair.Statement.{statement}
 use Rattle.survey_lists.proofs.join_pair.Tie as tie

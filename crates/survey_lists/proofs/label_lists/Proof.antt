@@ -6,7 +6,7 @@ use lib.ListN.{length, replicate, length-replicate}
 use Rattle.base_finite.specs.Laws.Below.{length-tabulate}
 use Rattle.base_limits.specs.Limits.{groupNumbers}
 use borrow.Author.Needs.{needs}
-use Rattle.survey_lists.specs.Lists.{listsFrom}
+use Rattle.survey_core.specs.Lists.{listsFrom}
 use Rattle.survey_lists.specs.Laws.Room.{Labelled, labelled-start, labelled-turn, labelled-end}
 use Rattle.survey_lists.proofs.label_lists.Statement.{statement}
 use Rattle.survey_lists.proofs.label_lists.Tie as tie

@@ -3,8 +3,8 @@ use native.Mathlib.Omega.{arith}
 use mathlib.Core.Path.{sym, _∙_}
 use borrow.Author.Tests.{not-true, not-false}
 use borrow.Author.Needs.{needs}
-use Rattle.survey_lists.specs.Lists.{listsFrom}
-use Rattle.survey_lists.specs.Laws.Refusal.{pair-out, pair-none, pair-own, pair-falls, pair-past, pair-fine, own-read}
+use Rattle.survey_core.specs.Lists.{listsFrom}
+use Rattle.survey_core.specs.Laws.Pairs.{pair-out, pair-none, pair-own, pair-falls, pair-past, pair-fine, own-read}
 use Rattle.survey_lists.proofs.pair_refusal.Statement.{statement}
 use Rattle.survey_lists.proofs.pair_refusal.Tie as tie
 

@@ -2,8 +2,8 @@
 use Prim.Native.Nat.{_-_}
 use lib.ListN.{length}
 use Rattle.base_limits.specs.Laws.Verdict.{Scanned, scan-start, scan-turn, scan-found, scan-end}
-use Rattle.survey_lists.specs.Lists.{listsFrom}
-use Rattle.survey_lists.specs.Refusal.{pairRefusal, pairsRefusal}
+use Rattle.survey_core.specs.Lists.{listsFrom}
+use Rattle.survey_core.specs.Pairs.{pairRefusal, pairsRefusal}
 use borrow.Author.Needs.{needs}
 use Rattle.survey_lists.proofs.pairs_refusal.Statement.{statement}
 use Rattle.survey_lists.proofs.pairs_refusal.Tie as tie

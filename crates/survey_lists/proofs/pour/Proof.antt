@@ -1,6 +1,6 @@
 -- `pour` meets its contract: without pairs nothing is poured.
 use borrow.Author.Needs.{needs}
-use Rattle.survey_lists.specs.Lists.{listsFrom}
+use Rattle.survey_core.specs.Lists.{listsFrom}
 use Rattle.survey_lists.specs.Laws.Room.{unpaired-room}
 use Rattle.survey_lists.proofs.pour.Statement.{statement}
 use Rattle.survey_lists.proofs.pour.Tie as tie

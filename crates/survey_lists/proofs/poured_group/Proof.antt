@@ -2,9 +2,9 @@
 use native.Mathlib.Omega.{arith}
 use mathlib.Core.Path.{_≡_, _∙_}
 use borrow.Author.Needs.{needs}
-use Rattle.survey_lists.specs.Lists.{listsFrom}
+use Rattle.survey_core.specs.Lists.{listsFrom}
 use Rattle.survey_lists.specs.Pouring.{poured}
-use Rattle.survey_lists.specs.Laws.Refusal.{own-read}
+use Rattle.survey_core.specs.Laws.Pairs.{own-read}
 use Rattle.survey_lists.specs.Laws.Pouring.{poured-below}
 use Rattle.survey_lists.specs.Laws.Room.{label-read}
 use Rattle.survey_lists.proofs.poured_group.Statement.{statement}

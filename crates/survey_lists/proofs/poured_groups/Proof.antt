@@ -6,7 +6,7 @@ use lib.ListN.{length}
 use Rattle.base_finite.specs.Laws.Below.{length-tabulate}
 use Rattle.base_limits.specs.Limits.{groupNumbers}
 use borrow.Author.Needs.{needs}
-use Rattle.survey_lists.specs.Lists.{listsFrom}
+use Rattle.survey_core.specs.Lists.{listsFrom}
 use Rattle.survey_lists.specs.Pouring.{poured}
 use Rattle.survey_lists.specs.Laws.Room.{length-room, Filled, filled-start, filled-turn, filled-end}
 use Rattle.survey_lists.proofs.poured_groups.Statement.{statement}

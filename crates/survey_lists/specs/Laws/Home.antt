@@ -10,9 +10,9 @@ use lib.ListN.{length}
 use lib.Dec.{eqb}
 use borrow.Author.Tests.{eq-eqb, ne-eqb}
 use Rattle.base_finite.specs.Laws.Below.{lt-or-ge}
-use Rattle.survey_lists.specs.Lists.{Lists, own, owner, other, inList}
+use Rattle.survey_core.specs.Lists.{Lists, own, owner, other, inList}
 use Rattle.survey_lists.specs.Pouring.{homeBelow, home}
-use Rattle.survey_lists.specs.Laws.Lists.{PairAt, Listed, by-own, by-pair, in-list-some, in-list-elim, in-list-intro}
+use Rattle.survey_core.specs.Laws.Lists.{PairAt, Listed, by-own, by-pair, in-list-some, in-list-elim, in-list-intro}
 
 module _ (l : Lists) (v : ℕ) where
   home-stays : (i : ℕ) → (homeBelow l v i ≡ 0 → ⊥) → homeBelow l v (suc i) ≡ homeBelow l v i

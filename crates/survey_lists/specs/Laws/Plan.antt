@@ -5,31 +5,30 @@ use Prim.Native.Nat.{ℕ, _<_}
 use mathlib.Core.Path.{_≡_, refl, ap, sym, _∙_, subst}
 use mathlib.Core.Logic.{_↔_}
 use mathlib.Core.Bool.{Bool, true}
-use mathlib.Core.List.{[], List}
+use mathlib.Core.List.{List}
 use lib.ListN.{length, getD}
-use Rattle.base_finite.specs.Below.{anyBelow}
 use Rattle.theory_steiner.specs.Problem.{Problem, Bounded, Joins, separates}
 use Rattle.theory_steiner.specs.Requirement.{requiring, Chain, one, more, SamePlan}
 use Rattle.theory_steiner.specs.Laws.Required.{between-separates, plan-same, joins-same}
-use Rattle.survey_core.specs.Survey.{Survey, vertexCount, edgeCount, member, sameGroup, problemOf}
+use Rattle.survey_core.specs.Survey.{Survey, surveyFrom, listsOf, vertexCount, edgeCount, member, sameGroup, problemOf}
 use Rattle.survey_core.specs.Laws.Member.{IsMember, member-elim, member-intro}
 use Rattle.survey_core.specs.Laws.Refusal.{same-group-symmetric}
-use Rattle.survey_lists.specs.Lists.{Lists, listsOf, inList, sameList, listProblem, isPaired}
-use Rattle.survey_lists.specs.Refusal.{PairsSound}
-use Rattle.survey_lists.specs.Pouring.{Chained, same, shared, ChainLinked, poured, pouredGroups, pouredSurvey}
-use Rattle.survey_lists.specs.Laws.Lists.{Both, same-list-elim, same-list-intro, same-list-symmetric}
+use Rattle.survey_core.specs.Lists.{Lists, inList}
+use Rattle.survey_core.specs.Pairs.{PairsSound}
+use Rattle.survey_lists.specs.Pouring.{Chained, same, shared, ChainLinked, poured, pouredSurvey}
+use Rattle.survey_core.specs.Laws.Group.{Shared, same-group-shared, members-same-group, plain-same}
 use Rattle.survey_lists.specs.Laws.Pouring.{poured-iff, length-poured, getD-poured, no-pairs-groups}
 
-module _ (s : Survey) (owners others : List ℕ) where
+module _ (s : Survey) where
   abbrev l : Lists
-  l = listsOf s owners others
+  l = listsOf s
 
   abbrev into : Survey
-  into = pouredSurvey s owners others
+  into = pouredSurvey s
 
   -- The poured survey's problem differs from that of the lists in what it requires alone.
-  poured-problem : problemOf into ≡ requiring (listProblem s owners others) (sameGroup into)
-  unfolding problemOf pouredSurvey listProblem vertexCount edgeCount
+  poured-problem : problemOf into ≡ requiring (problemOf s) (sameGroup into)
+  unfolding problemOf vertexCount edgeCount
   poured-problem i =
       record {
         vertices = length-poured l i;
@@ -42,62 +41,58 @@ module _ (s : Survey) (owners others : List ℕ) where
       }
 
   group-poured : (v : ℕ) → v < length (s .groups) → getD (into .groups) v 0 ≡ poured l v
-  unfolding pouredSurvey
   group-poured v b = getD-poured l v b
 
   -- A chain of lists is a chain of required pairs.
   required-chain : {g h : ℕ} → Chained l g h → (u v : ℕ) → u < length (s .groups) → v < length (s .groups) → inList l g u ≡ true → inList l h v ≡ true
-      → Chain (listProblem s owners others) u v
-  unfolding listProblem problemOf vertexCount
-  required-chain (same {g}) u v bu bv mu mv = one bu bv (same-list-intro l g u v mu mv)
-  required-chain (shared {g} {k} {h} x b m n c) u v bu bv mu mv = more bu b (same-list-intro l g u x mu m) (required-chain c x v b bv n mv)
+      → Chain (problemOf s) u v
+  unfolding problemOf vertexCount member
+  required-chain (same {g}) u v bu bv mu mv = one bu bv (members-same-group s g u v mu mv)
+  required-chain (shared {g} {k} {h} x b m n c) u v bu bv mu mv = more bu b (members-same-group s g u x mu m) (required-chain c x v b bv n mv)
 
   module _ (sound : PairsSound l) where
     -- What a list requires the poured group does.
-    low : (u v : ℕ) → u < length (s .groups) → v < length (s .groups) → sameList l u v ≡ true → sameGroup into u v ≡ true
-    unfolding sameGroup
+    low : (u v : ℕ) → u < length (s .groups) → v < length (s .groups) → sameGroup s u v ≡ true → sameGroup into u v ≡ true
+    unfolding member
     low u v bu bv h =
-        let b : Both l u v = same-list-elim l u v h in
-        let c : ChainLinked l u v = record { from = b .list; to = b .list; member-from = b .first; member-to = b .second; chain = same } in
+        let b : Shared s u v = same-group-shared s u v h in
+        let c : ChainLinked l u v = record { from = b .group; to = b .group; member-from = b .first; member-to = b .second; chain = same } in
         let p = poured-iff l sound u v .1 c in
-        member-intro into (getD (into .groups) u 0) v (λ z. p .1 (sym (group-poured u bu) ∙ z)) (group-poured v bv ∙ sym (p .0) ∙ sym (group-poured u bu))
+        let some : getD (into .groups) u 0 ≡ 0 → ⊥ = λ z. p .1 (sym (group-poured u bu) ∙ z) in
+        members-same-group into (getD (into .groups) u 0) u v (member-intro into (getD (into .groups) u 0) u some refl)
+        (member-intro into (getD (into .groups) u 0) v some (group-poured v bv ∙ sym (p .0) ∙ sym (group-poured u bu)))
 
     -- What the poured group requires a chain of lists does.
-    high : (u v : ℕ) → u < length (s .groups) → v < length (s .groups) → sameGroup into u v ≡ true → Chain (listProblem s owners others) u v
-    unfolding sameGroup
+    high : (u v : ℕ) → u < length (s .groups) → v < length (s .groups) → sameGroup into u v ≡ true → Chain (problemOf s) u v
     high u v bu bv h =
-        let m : IsMember into (getD (into .groups) u 0) v = member-elim into (getD (into .groups) u 0) v h in
+        let m : IsMember into (getD (into .groups) u 0) v =
+        member-elim into refl (getD (into .groups) u 0) v (sym (plain-same into refl u v) ∙ h) in
         let c : ChainLinked l u v =
         poured-iff l sound u v .0
         (sym (group-poured u bu) ∙ sym (m .same) ∙ group-poured v bv, λ z. m .some (group-poured u bu ∙ z)) in
         required-chain (c .chain) u v bu bv (c .member-from) (c .member-to)
 
-    separates-required : (S : ℕ → Bool) → separates (listProblem s owners others) S ≡ separates (requiring (listProblem s owners others) (sameGroup into)) S
-    unfolding listProblem problemOf vertexCount
-    separates-required S = between-separates (listProblem s owners others) (sameGroup into) low high S
+    separates-required : (S : ℕ → Bool) → separates (problemOf s) S ≡ separates (requiring (problemOf s) (sameGroup into)) S
+    unfolding problemOf vertexCount
+    separates-required S = between-separates (problemOf s) (sameGroup into) low high S
 
     -- The lists and the poured groups part the same cuts.
-    pub poured-separates : (S : ℕ → Bool) → separates (listProblem s owners others) S ≡ separates (problemOf into) S
+    pub poured-separates : (S : ℕ → Bool) → separates (problemOf s) S ≡ separates (problemOf into) S
     poured-separates S = separates-required S ∙ ap (λ p. separates p S) (sym poured-problem)
 
     -- They have one plan.
-    pub poured-plan : SamePlan (listProblem s owners others) (problemOf into)
-    unfolding listProblem
+    pub poured-plan : SamePlan (problemOf s) (problemOf into)
+    unfolding problemOf
     poured-plan =
-        subst (λ p. SamePlan (listProblem s owners others) p) (sym poured-problem)
-        (plan-same (listProblem s owners others) (sameGroup into) separates-required (same-list-symmetric l) (same-group-symmetric into))
+        subst (λ p. SamePlan (problemOf s) p) (sym poured-problem)
+        (plan-same (problemOf s) (sameGroup into) separates-required (same-group-symmetric s) (same-group-symmetric into))
 
     -- The same sets of tracks join both.
-    pub poured-joins : (F : ℕ → Bool) → Bounded (listProblem s owners others) F → Joins (listProblem s owners others) F ↔ Joins (problemOf into) F
+    pub poured-joins : (F : ℕ → Bool) → Bounded (problemOf s) F → Joins (problemOf s) F ↔ Joins (problemOf into) F
     poured-joins F bounded =
-        subst (λ p. Joins (listProblem s owners others) F ↔ Joins p F) (sym poured-problem)
-        (joins-same (listProblem s owners others) (sameGroup into) separates-required F bounded)
+        subst (λ p. Joins (problemOf s) F ↔ Joins p F) (sym poured-problem)
+        (joins-same (problemOf s) (sameGroup into) separates-required F bounded)
 
 -- Without pairs the survey is what it was.
-pub no-pairs-problem : (s : Survey) → listProblem s [] [] ≡ problemOf s
-unfolding listProblem problemOf sameList inList isPaired anyBelow sameGroup member
-no-pairs-problem s = refl
-
-pub no-pairs-survey : (s : Survey) → pouredSurvey s [] [] ≡ s
-unfolding pouredSurvey
-no-pairs-survey s i = record { groups = no-pairs-groups (s .groups) i; firsts = s .firsts; seconds = s .seconds; weights = s .weights }
+pub no-pairs-survey : (groups firsts seconds weights : List ℕ) → pouredSurvey (surveyFrom groups firsts seconds weights) ≡ surveyFrom groups firsts seconds weights
+no-pairs-survey groups firsts seconds weights = ap (λ (g : List ℕ). surveyFrom g firsts seconds weights) (no-pairs-groups groups)

@@ -18,10 +18,10 @@ use Rattle.theory_graph.specs.Component.{components}
 use Rattle.theory_graph.specs.Laws.Linked.{linked-trans, linked-sym, linked-refl, linked-edge}
 use Rattle.theory_graph.specs.Laws.Component.{below, components-iff}
 use Rattle.theory_graph.specs.Laws.Label.{label-below, untouched-label}
-use Rattle.survey_lists.specs.Lists.{Lists, listsFrom, own, owner, other, inList}
-use Rattle.survey_lists.specs.Refusal.{PairSound, PairsSound}
+use Rattle.survey_core.specs.Lists.{Lists, listsFrom, own, owner, other, inList}
+use Rattle.survey_core.specs.Pairs.{PairSound, PairsSound}
 use Rattle.survey_lists.specs.Pouring.{Chained, same, shared, ChainLinked, homeBelow, home, pouredLabel, poured, pouredGroups}
-use Rattle.survey_lists.specs.Laws.Lists.{Listed, by-own, by-pair, in-list-some, in-list-elim, in-list-intro}
+use Rattle.survey_core.specs.Laws.Lists.{Listed, by-own, by-pair, in-list-some, in-list-elim, in-list-intro}
 use Rattle.survey_lists.specs.Laws.Home.{home-own, in-list-home, home-in-list, home-below}
 
 module _ (l : Lists) where

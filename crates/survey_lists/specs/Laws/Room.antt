@@ -18,7 +18,7 @@ use Rattle.base_buffer.specs.Laws.Store.{length-remade, remade-passed, tabulate
 use Rattle.theory_graph.specs.Component.{components}
 use Rattle.survey_components.specs.Labels.{relabelled, endsJoined}
 use Rattle.survey_components.specs.Laws.Labels.{components-more, components-none, components-end}
-use Rattle.survey_lists.specs.Lists.{Lists, own, owner, other}
+use Rattle.survey_core.specs.Lists.{Lists, own, owner, other}
 use Rattle.survey_lists.specs.Pouring.{homeBelow, home, pouredLabel, poured, pouredGroups, roomOf}
 use Rattle.survey_lists.specs.Laws.Home.{home-below}
 
