@@ -42,4 +42,3 @@ inList l g v = not (eqb g 0) && (isPaired l g v || eqb (own l v) g)
 -- r(u, v) of source 001: some list holds both (laws `same-list-elim`, `same-list-intro`). Looked for among the pairs of u and by u's own group.
 unfoldable pub sameList : Lists → (u v : ℕ) → Bool
 sameList l u v = anyBelow (length (l .owners)) (λ i. eqb (owner l i) u && inList l (other l i) v) || inList l (own l u) v
-

@@ -3,11 +3,15 @@
 ghost use Rattle.base_buffer.specs.Lent.{old, new};
 ghost use mathlib.Core.Path.{_≡_};
 ghost use Prim.Native.Nat.{ℕ};
-ghost use mathlib.Core.Bool.{cond};
+ghost use mathlib.Core.Bool.{cond, _||_};
 ghost use lib.ListN.{getD, length};
-ghost use lib.Dec.{eqb};
+ghost use lib.Dec.{eqb, ltb};
 ghost use Rattle.base_finite.specs.Below.{tabulate};
-ghost use Rattle.base_limits.specs.Limits.{groupNumbers};
+ghost use Rattle.base_limits.specs.Verdict.{refuseIf, _before_};
+ghost use Rattle.base_limits.specs.declared.Verdict.the-variants.{Refused};
+ghost use Rattle.survey_core.specs.Survey.{lentWith};
+ghost use Rattle.survey_core.specs.Refusal.{surveyRefusal};
+ghost use Rattle.base_limits.specs.Limits.{maxVertices, groupNumbers};
 ghost use Rattle.survey_components.specs.Labels.{endsJoined};
 ghost use Rattle.survey_core.specs.Lists.{listsFrom, lentLists};
 ghost use Rattle.survey_core.specs.Pairs.{isRising, pairRefusal, pairsRefusal};
@@ -95,6 +99,49 @@ pub fn pairs_refusal(groups: &[u8], owners: &[u32], others: &[u8]) -> Verdict
         i += 1;
     }
     Verdict::Fine
+}
+
+// The pair buffers differ in length: 1 comes before 2.
+fn uneven_refusal(n: usize) -> Verdict
+    ensures { λ r. ⌜ r ≡ (refuseIf (eqb n 0 || ltb maxVertices n) 1 0 before Refused 2 0) ⌝ }
+{
+    if n == 0 {
+        return Verdict::Refused {
+            number: 1,
+            place: 0,
+        };
+    }
+    if MAX_VERTICES < n {
+        return Verdict::Refused {
+            number: 1,
+            place: 0,
+        };
+    }
+    Verdict::Refused {
+        number: 2,
+        place: 0,
+    }
+}
+
+// 1, 2 and 3, then the tracks rising with 4, 5 and 6, then 18 by pair.
+pub fn survey_refusal(
+    groups: &[u8],
+    firsts: &[u32],
+    seconds: &[u32],
+    weights: &[u32],
+    owners: &[u32],
+    others: &[u8],
+) -> Verdict
+    ensures { λ r. ⌜ r ≡ surveyRefusal (lentWith groups firsts seconds weights owners others) ⌝ }
+{
+    if owners.len() != others.len() {
+        return uneven_refusal(groups.len());
+    }
+    let found = survey_core::survey_refusal(groups, firsts, seconds, weights);
+    let Verdict::Fine = found else {
+        return found;
+    };
+    pairs_refusal(groups, owners, others)
 }
 
 // The group of pair i, if it is a pair of v.

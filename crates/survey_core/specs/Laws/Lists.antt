@@ -111,4 +111,3 @@ module _ (l : Lists) where
 
   pub same-list-symmetric : (u v : ℕ) → sameList l u v ≡ true → sameList l v u ≡ true
   same-list-symmetric u v h = let b : Both l u v = same-list-elim u v h in same-list-intro (b .list) v u (b .second) (b .first)
-

@@ -227,13 +227,13 @@ pairs-decide groups firsts seconds weights owners others even =
     ∙ ap (λ v. one before v) (before-assoc two (three before tracks) pairs ∙ ap (λ v. two before v) (before-assoc three tracks pairs)))
 
 -- Pairs of two lengths: 1, or 2.
-pub pairs-differ : (s : Survey) → 1 ≤ length (s .groups) → length (s .groups) ≤ maxVertices → (length (s .owners) ≡ length (s .others) → ⊥)
-    → surveyRefusal s ≡ Refused 2 0
+pub pairs-differ : (s : Survey) → (length (s .owners) ≡ length (s .others) → ⊥)
+    → surveyRefusal s ≡ (refuseIf (eqb (length (s .groups)) 0 || ltb maxVertices (length (s .groups))) 1 0 before Refused 2 0)
 unfolding surveyRefusal vertexCount edgeCount
-pairs-differ s some few h =
-    before-fine (refuse-false (one-passes s some few) 1 0) _
-    ∙ either-two (not (eqb (length (s .firsts)) (length (s .seconds)) && eqb (length (s .firsts)) (length (s .weights)))) _
-    (before-refused (refuse-true (not-of-false (eqb (length (s .owners)) (length (s .others))) (ne-eqb (length (s .owners)) (length (s .others)) h)) 2 0) _)
+pairs-differ s h =
+    ap (λ v. refuseIf (eqb (length (s .groups)) 0 || ltb maxVertices (length (s .groups))) 1 0 before v)
+    (either-two (not (eqb (length (s .firsts)) (length (s .seconds)) && eqb (length (s .firsts)) (length (s .weights)))) _
+    (before-refused (refuse-true (not-of-false (eqb (length (s .owners)) (length (s .others))) (ne-eqb (length (s .owners)) (length (s .others)) h)) 2 0) _))
 
 -- Membership of one group is symmetric, whatever the survey.
 pub same-group-symmetric : (s : Survey) (u v : ℕ) → sameGroup s u v ≡ true → sameGroup s v u ≡ true
