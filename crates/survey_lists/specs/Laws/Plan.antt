@@ -1,24 +1,28 @@
 -- Planning with lists is planning with lists that share a member poured together (document 02, No. 2): where 18 does not come, the two problems separate
 -- the same cuts, so they have one plan, and the same sets of tracks join both. A set S that parts A ∪ B has a member u of A inside and w of B
 -- outside, or the other way round; x in both parts B if it is inside, and A if it is not.
-use Prim.Native.Nat.{ℕ, _<_}
+use Prim.Native.Nat.{ℕ, _<_, _≤_}
+use native.Mathlib.Omega.{arith}
 use mathlib.Core.Path.{_≡_, refl, ap, sym, _∙_, subst}
-use mathlib.Core.Logic.{_↔_}
+use mathlib.Core.Logic.{_⊎_, inl, inr, _↔_}
 use mathlib.Core.Bool.{Bool, true}
 use mathlib.Core.List.{[], List}
-use lib.ListN.{length, getD}
+use lib.ListN.{length, getD, List·getD-eq-default}
 use Rattle.base_finite.specs.Below.{anyBelow}
+use Rattle.base_finite.specs.Laws.Below.{lt-or-ge}
+use Rattle.base_limits.specs.Limits.{groupNumbers}
 use Rattle.theory_steiner.specs.Problem.{Problem, Bounded, Joins, separates}
 use Rattle.theory_steiner.specs.Requirement.{requiring, Chain, one, more, SamePlan}
 use Rattle.theory_steiner.specs.Laws.Required.{between-separates, plan-same, joins-same}
 use Rattle.survey_core.specs.Survey.{Survey, vertexCount, edgeCount, member, sameGroup, problemOf}
+use Rattle.survey_core.specs.Sound.{ByteGroups}
 use Rattle.survey_core.specs.Laws.Member.{IsMember, member-elim, member-intro}
 use Rattle.survey_core.specs.Laws.Refusal.{same-group-symmetric}
-use Rattle.survey_lists.specs.Lists.{Lists, listsOf, inList, sameList, listProblem, isPaired}
+use Rattle.survey_lists.specs.Lists.{Lists, listsOf, own, other, inList, sameList, listProblem, isPaired}
 use Rattle.survey_lists.specs.Refusal.{PairsSound}
 use Rattle.survey_lists.specs.Pouring.{Chained, same, shared, ChainLinked, poured, pouredGroups, pouredSurvey}
 use Rattle.survey_lists.specs.Laws.Lists.{Both, same-list-elim, same-list-intro, same-list-symmetric}
-use Rattle.survey_lists.specs.Laws.Pouring.{poured-iff, length-poured, getD-poured, no-pairs-groups}
+use Rattle.survey_lists.specs.Laws.Pouring.{poured-iff, length-poured, getD-poured, poured-below, no-pairs-groups}
 
 module _ (s : Survey) (owners others : List ℕ) where
   abbrev l : Lists
@@ -44,6 +48,15 @@ module _ (s : Survey) (owners others : List ℕ) where
   group-poured : (v : ℕ) → v < length (s .groups) → getD (into .groups) v 0 ≡ poured l v
   unfolding pouredSurvey
   group-poured v b = getD-poured l v b
+
+  -- Poured groups are bytes.
+  pub poured-bytes : ((v : ℕ) → own l v < groupNumbers) → ((i : ℕ) → other l i < groupNumbers) → ByteGroups into
+  unfolding pouredSurvey
+  poured-bytes groups bytes v = by (lt-or-ge v (length (s .groups)))
+    where
+      by : (v < length (s .groups)) ⊎ (length (s .groups) ≤ v) → getD (pouredGroups l) v 0 < groupNumbers
+      by (inl b) = rw (getD-poured l v b) (poured-below l groups bytes v)
+      by (inr b) = rw (List·getD-eq-default (pouredGroups l) 0 {n = v} (rw (length-poured l) b)) (omega arith)
 
   -- A chain of lists is a chain of required pairs.
   required-chain : {g h : ℕ} → Chained l g h → (u v : ℕ) → u < length (s .groups) → v < length (s .groups) → inList l g u ≡ true → inList l h v ≡ true
