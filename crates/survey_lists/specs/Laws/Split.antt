@@ -91,11 +91,12 @@ module _ (l : Lists) where
       let c : n ≤ n + i = omega arith in
       ((rw (le-ltb (n + i) n c, add-sub-cancel-left n i)), (rw (le-ltb (n + i) n c, add-sub-cancel-left n i)))
 
-  pair-group : (i : ℕ) → owner l i < n → pairGroup l i ≡ other l i
+  -- The group of a pair whose vertex is one of the survey, and of any other.
+  pub pair-group : (i : ℕ) → owner l i < n → pairGroup l i ≡ other l i
   unfolding pairGroup
   pair-group i b = rw (lt-ltb (owner l i) n b)
 
-  pair-none : (i : ℕ) → n ≤ owner l i → pairGroup l i ≡ 0
+  pub pair-none : (i : ℕ) → n ≤ owner l i → pairGroup l i ≡ 0
   unfolding pairGroup
   pair-none i b = rw (le-ltb (owner l i) n b)
 
@@ -193,6 +194,10 @@ spread-prefix s t f h g zero same labels = refl
 spread-prefix s t f h g (suc k) same labels =
     rw
     (same k (omega arith), labels k (omega arith), spread-prefix s t f h g k (λ v b. same v (omega arith)) (λ v b. labels v (omega arith)))
+
+-- One more entry, by the numbers that a call was given.
+pub noted-by : (table : List ℕ) {after : List ℕ} {g h x y : ℕ} → after ≡ notedIn table g x → g ≡ h → x ≡ y → after ≡ notedIn table h y
+noted-by table is p q = is ∙ rw (p, q)
 
 -- A table of all lists, after the own groups and i pairs.
 pub record Noted (l : Lists) (label : ℕ → ℕ) (i : ℕ) (table : List ℕ) : Type 0 where
