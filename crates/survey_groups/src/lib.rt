@@ -31,7 +31,7 @@ fn noted_label(summary: u64, label: u64) -> u64
 }
 
 // One more vertex in the table of all groups.
-fn note(table: &mut [u64], group: u8, label: u64)
+pub fn note(table: &mut [u64], group: u8, label: u64)
     requires { ⌜ label + 2 < 2 ^ 64 ⌝ }
     ensures { λ r. ⌜ new table ≡ notedIn (old table) group label ⌝ }
 {
@@ -81,7 +81,7 @@ fn own_spreads(groups: &[u8]) -> [u64; GROUP_NUMBERS]
 }
 
 // The lowest group that a table says is split.
-fn first_split(table: &[u64], number: u64) -> Verdict
+pub fn first_split(table: &[u64], number: u64) -> Verdict
     ensures { λ r. ⌜ r ≡ lowestBelow groupNumbers (λ g. refuseIf (eqb (getD (old table) g 0) 1) number g) ⌝ }
 {
     let mut g = 0;

@@ -2,19 +2,21 @@
 // refused, and the disjoint groups that lists sharing a member are poured into.
 ghost use Rattle.base_buffer.specs.Lent.{old, new};
 ghost use mathlib.Core.Path.{_≡_};
-ghost use Prim.Native.Nat.{ℕ};
+ghost use Prim.Native.Nat.{ℕ, _+_};
 ghost use mathlib.Core.Bool.{cond, _||_};
 ghost use lib.ListN.{getD, length};
 ghost use lib.Dec.{eqb, ltb};
 ghost use Rattle.base_finite.specs.Below.{tabulate};
 ghost use Rattle.base_limits.specs.Verdict.{refuseIf, _before_};
 ghost use Rattle.base_limits.specs.declared.Verdict.the-variants.{Refused};
-ghost use Rattle.survey_core.specs.Survey.{lentWith};
+ghost use Rattle.survey_core.specs.Survey.{groupsAlone, lentWith};
+ghost use Rattle.survey_groups.specs.Spread.{notedIn, spread};
 ghost use Rattle.survey_core.specs.Refusal.{surveyRefusal};
 ghost use Rattle.base_limits.specs.Limits.{maxVertices, groupNumbers};
 ghost use Rattle.survey_components.specs.Labels.{endsJoined};
 ghost use Rattle.survey_core.specs.Lists.{listsFrom, lentLists};
 ghost use Rattle.survey_core.specs.Pairs.{isRising, pairRefusal, pairsRefusal};
+ghost use Rattle.survey_lists.specs.Split.{splitList, pairGroup, entryVertex, entries};
 ghost use Rattle.survey_lists.specs.Pouring.{home, pouredLabel, poured, roomOf};
 use base_buffer::at8;
 use base_buffer::at32;
@@ -246,4 +248,67 @@ pub fn pour(groups: &[u8], owners: &[u32], others: &[u8]) -> [u8; MAX_VERTICES]
         return own_groups(groups);
     }
     poured_groups(groups, owners, others)
+}
+
+// The group of pair i, or 0 where its vertex is none of the survey.
+fn pair_group(groups: &[u8], owners: &[u32], others: &[u8], i: usize) -> u8
+    ensures { λ r. ⌜ r ≡ pairGroup (lentLists groups owners others) i ⌝ }
+{
+    if index32(at32(owners, i)) < groups.len() {
+        return at8(others, i);
+    }
+    0
+}
+
+// One more pair in the table of all lists.
+fn note_pair(
+    groups: &[u8],
+    owners: &[u32],
+    others: &[u8],
+    labels: &[u32],
+    table: &mut [u64],
+    i: usize,
+)
+    ensures { λ r. let label = getD (old labels) (getD (old owners) i 0) 0 in
+        ⌜ new table ≡ notedIn (old table) (pairGroup (lentLists groups owners others) i) label ⌝ }
+{
+    let group = pair_group(groups, owners, others, i);
+    let label = at32(labels, index32(at32(owners, i)));
+    survey_groups::note(table, group, base_buffer::wide32(label));
+}
+
+// The table of all lists under given labels.
+fn list_spreads(
+    groups: &[u8],
+    owners: &[u32],
+    others: &[u8],
+    labels: &[u32],
+) -> [u64; GROUP_NUMBERS]
+    ensures { λ r. let l = lentLists groups owners others in
+        let label : ℕ → ℕ = λ j. getD (old labels) (entryVertex l j) 0 in
+        let count = length (old groups) + length (old owners) in
+        ⌜ r ≡ tabulate groupNumbers (λ g. spread (groupsAlone (entries l)) label g count) ⌝ }
+{
+    let mut table = survey_groups::spreads(groups, labels);
+    let mut i = 0;
+    while i < owners.len() {
+        note_pair(groups, owners, others, labels, &mut table, i);
+        i += 1;
+    }
+    table
+}
+
+// The lowest list whose members have different labels.
+pub fn split_list(
+    groups: &[u8],
+    owners: &[u32],
+    others: &[u8],
+    labels: &[u32],
+    number: u64,
+) -> Verdict
+    ensures { λ r. let label : ℕ → ℕ = λ v. getD (old labels) v 0 in
+        ⌜ r ≡ splitList (lentLists groups owners others) label number ⌝ }
+{
+    let table = list_spreads(groups, owners, others, labels);
+    survey_groups::first_split(&table, number)
 }

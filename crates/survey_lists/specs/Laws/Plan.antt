@@ -1,12 +1,16 @@
 -- Planning with lists is planning with lists that share a member poured together (document 02, No. 2): where 18 does not come, the two problems separate
 -- the same cuts, so they have one plan, and the same sets of tracks join both. A set S that parts A ∪ B has a member u of A inside and w of B
 -- outside, or the other way round; x in both parts B if it is inside, and A if it is not.
-use Prim.Native.Nat.{ℕ, _<_}
+use Prim.Native.Nat.{ℕ, _<_, _≤_}
+use native.Mathlib.Omega.{arith}
 use mathlib.Core.Path.{_≡_, refl, ap, sym, _∙_, subst}
-use mathlib.Core.Logic.{_↔_}
+use mathlib.Core.Logic.{_⊎_, inl, inr, _↔_}
 use mathlib.Core.Bool.{Bool, true}
 use mathlib.Core.List.{List}
-use lib.ListN.{length, getD}
+use lib.ListN.{length, getD, List·getD-eq-default}
+use Rattle.base_finite.specs.Laws.Below.{lt-or-ge}
+use Rattle.base_limits.specs.Limits.{groupNumbers}
+use Rattle.survey_core.specs.Sound.{ByteGroups}
 use Rattle.theory_steiner.specs.Problem.{Problem, Bounded, Joins, separates}
 use Rattle.theory_steiner.specs.Requirement.{requiring, Chain, one, more, SamePlan}
 use Rattle.theory_steiner.specs.Laws.Required.{between-separates, plan-same, joins-same}
@@ -15,9 +19,9 @@ use Rattle.survey_core.specs.Laws.Member.{IsMember, member-elim, member-intro}
 use Rattle.survey_core.specs.Laws.Refusal.{same-group-symmetric}
 use Rattle.survey_core.specs.Lists.{Lists, inList}
 use Rattle.survey_core.specs.Pairs.{PairsSound}
-use Rattle.survey_lists.specs.Pouring.{Chained, same, shared, ChainLinked, poured, pouredSurvey}
-use Rattle.survey_core.specs.Laws.Group.{Shared, same-group-shared, members-same-group, plain-same}
-use Rattle.survey_lists.specs.Laws.Pouring.{poured-iff, length-poured, getD-poured, no-pairs-groups}
+use Rattle.survey_lists.specs.Pouring.{Chained, same, shared, ChainLinked, poured, pouredGroups, pouredSurvey}
+use Rattle.survey_core.specs.Laws.Group.{Shared, same-group-shared, members-same-group, plain-same, plain-bytes}
+use Rattle.survey_lists.specs.Laws.Pouring.{poured-iff, length-poured, getD-poured, poured-below, no-pairs-groups}
 
 module _ (s : Survey) where
   abbrev l : Lists
@@ -42,6 +46,14 @@ module _ (s : Survey) where
 
   group-poured : (v : ℕ) → v < length (s .groups) → getD (into .groups) v 0 ≡ poured l v
   group-poured v b = getD-poured l v b
+
+  -- Poured groups are bytes.
+  pub poured-bytes : ByteGroups s → ByteGroups into
+  poured-bytes numbered = plain-bytes (pouredGroups l) (s .firsts) (s .seconds) (s .weights) (λ v. by v (lt-or-ge v (length (s .groups))))
+    where
+      by : (v : ℕ) → (v < length (s .groups)) ⊎ (length (s .groups) ≤ v) → getD (pouredGroups l) v 0 < groupNumbers
+      by v (inl b) = rw (getD-poured l v b) (poured-below l (numbered .own-byte) (numbered .other-byte) v)
+      by v (inr b) = rw (List·getD-eq-default (pouredGroups l) 0 {n = v} (rw (length-poured l) b)) (omega arith)
 
   -- A chain of lists is a chain of required pairs.
   required-chain : {g h : ℕ} → Chained l g h → (u v : ℕ) → u < length (s .groups) → v < length (s .groups) → inList l g u ≡ true → inList l h v ≡ true
