@@ -31,7 +31,7 @@ fn noted_label(summary: u64, label: u64) -> u64
 }
 
 // One more vertex in the table of all groups.
-pub fn note(table: &mut [u64], group: u8, label: u64)
+fn note(table: &mut [u64], group: u8, label: u64)
     requires { ⌜ label + 2 < 2 ^ 64 ⌝ }
     ensures { λ r. ⌜ new table ≡ notedIn (old table) group label ⌝ }
 {
@@ -41,6 +41,13 @@ pub fn note(table: &mut [u64], group: u8, label: u64)
     let g = base_buffer::index8(group);
     let x = noted_label(at64(table, g), label);
     put64(table, g, x);
+}
+
+// The same with a label of a buffer, which always fits.
+pub fn note_label(table: &mut [u64], group: u8, label: u32)
+    ensures { λ r. ⌜ new table ≡ notedIn (old table) group label ⌝ }
+{
+    note(table, group, base_buffer::wide32(label));
 }
 
 // The table of all groups under given labels.

@@ -274,7 +274,7 @@ fn note_pair(
 {
     let group = pair_group(groups, owners, others, i);
     let label = at32(labels, index32(at32(owners, i)));
-    survey_groups::note(table, group, base_buffer::wide32(label));
+    survey_groups::note_label(table, group, label);
 }
 
 // The table of all lists under given labels.

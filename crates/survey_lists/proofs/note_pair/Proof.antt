@@ -7,19 +7,15 @@ use Rattle.survey_lists.specs.Laws.Split.{noted-by}
 use Rattle.survey_lists.proofs.note_pair.Statement.{statement}
 use Rattle.survey_lists.proofs.note_pair.Tie as tie
 
-note-requires : tie.Need-note-requires
-note-requires c κs = omega arith
-
 returns : tie.Need-returns
 returns c =
-    let read = c .before .before .before .before .before in
+    let read = c .before .before .before .before in
     let args = read .before .before .before .before .before .before .before .before .before .args in
     noted-by
     (args .table .now)
-    (c .before .before .note .ensures)
+    (c .before .before .note-label .ensures)
     (read .before .before .before .pair-group .ensures)
-    (c .before .before .before .wide32 .ensures
-    ∙ own-read (args .labels .now) (read .before .index32 .ensures ∙ read .before .before .at32 .ensures) (read .at322 .ensures))
+    (own-read (args .labels .now) (read .before .index32 .ensures ∙ read .before .before .at32 .ensures) (read .at322 .ensures))
 
 pub note-pair-spec : {M : Type 1} → statement M
 note-pair-spec =
@@ -30,6 +26,5 @@ note-pair-spec =
     (λ c κs. search needs)
     (λ c κs. search needs)
     (λ c κs. search needs)
-    note-requires
     (λ c. search needs)
     returns)
