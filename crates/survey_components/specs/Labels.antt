@@ -5,11 +5,13 @@ use mathlib.Core.Bool.{Bool, true}
 use mathlib.Core.List.{List}
 use lib.ListN.{length, getD}
 use lib.Dec.{eqb}
-use Rattle.theory_graph.specs.Component.{merged}
+use Rattle.base_finite.specs.Below.{tabulate}
+use Rattle.theory_graph.specs.Component.{merged, components}
 use Rattle.base_limits.specs.Limits.{maxVertices}
 use Rattle.survey_components.specs.declared.Chosen.{Chosen}
 use Rattle.survey_components.specs.declared.Chosen.the-variants.{All, Kept}
 use Rattle.base_buffer.specs.Store.{remade}
+use Rattle.survey_core.specs.Survey.{Survey}
 
 -- All tracks, or those marked 2.
 unfoldable pub chosenMark : Chosen → ℕ → Bool
@@ -32,3 +34,7 @@ pub record EndsFit (firsts seconds labels : List ℕ) : Type 0 where
   pub long : length labels ≡ maxVertices
   pub first-below : (e : ℕ) → e < length firsts → getD firsts e 0 < maxVertices
   pub second-below : (e : ℕ) → e < length firsts → getD seconds e 0 < maxVertices
+
+-- The labels of the components that a set of edges makes, in a buffer for every survey.
+unfoldable pub labelsOf : Survey → (ℕ → Bool) → List ℕ
+labelsOf s F = tabulate maxVertices (components maxVertices (λ e. getD (s .firsts) e 0) (λ e. getD (s .seconds) e 0) F (length (s .firsts)))

@@ -3,16 +3,16 @@ ghost use Rattle.base_buffer.specs.Lent.{old, new};
 ghost use mathlib.Core.Path.{_≡_};
 ghost use Prim.Native.Nat.{ℕ, _<_};
 ghost use mathlib.Core.Bool.{cond};
-ghost use lib.ListN.{getD, length};
+ghost use lib.ListN.{getD, length, replicate};
 ghost use lib.Dec.{eqb};
 ghost use Rattle.base_finite.specs.Below.{tabulate};
 ghost use Rattle.theory_graph.specs.Component.{merged, components};
 ghost use Rattle.base_limits.specs.Limits.{maxVertices};
-ghost use Rattle.base_limits.specs.Verdict.{_before_};
+ghost use Rattle.base_limits.specs.Verdict.{_before_, written};
 ghost use Rattle.survey_core.specs.Survey.{lentSurvey};
 ghost use Rattle.survey_core.specs.Refusal.{surveyRefusal, groupRefusal};
 ghost use Rattle.base_buffer.specs.Store.{remade};
-ghost use Rattle.survey_components.specs.Labels.{chosenMark, chosen, relabelled, endsJoined, EndsFit};
+ghost use Rattle.survey_components.specs.Labels.{chosenMark, chosen, relabelled, endsJoined, EndsFit, labelsOf};
 use base_buffer::put32;
 use base_limits::MAX_VERTICES;
 use base_limits::Verdict;
@@ -133,6 +133,27 @@ fn label_components(set: Chosen, firsts: &[u32], seconds: &[u32], marks: &[u8], 
         join_edge(set, firsts, seconds, marks, labels, e);
         e += 1;
     }
+}
+
+// The labels of the components that the edges of the set make; zeros where one of 1 to 6 comes.
+pub fn set_labels(
+    groups: &[u8],
+    firsts: &[u32],
+    seconds: &[u32],
+    weights: &[u32],
+    set: Chosen,
+    marks: &[u8],
+) -> [u32; MAX_VERTICES]
+    ensures { λ r. let s = lentSurvey groups firsts seconds weights in
+        ⌜ r ≡ written (surveyRefusal s) (labelsOf s (chosen set (old marks))) (replicate maxVertices 0) ⌝ }
+{
+    let mut labels = [0u32; MAX_VERTICES];
+    let found = survey_core::survey_refusal(groups, firsts, seconds, weights);
+    let Verdict::Fine = found else {
+        return labels;
+    };
+    label_components(set, firsts, seconds, marks, &mut labels);
+    labels
 }
 
 // 1 to 6, and then the lowest group that the set of tracks does not join, under the number given: 8 of all tracks,

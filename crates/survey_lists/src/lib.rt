@@ -11,9 +11,9 @@ ghost use Rattle.base_limits.specs.Verdict.{refuseIf, _before_};
 ghost use Rattle.base_limits.specs.declared.Verdict.the-variants.{Refused};
 ghost use Rattle.survey_core.specs.Survey.{groupsAlone, lentWith};
 ghost use Rattle.survey_groups.specs.Spread.{notedIn, spread};
-ghost use Rattle.survey_core.specs.Refusal.{surveyRefusal};
+ghost use Rattle.survey_core.specs.Refusal.{surveyRefusal, groupRefusal};
 ghost use Rattle.base_limits.specs.Limits.{maxVertices, groupNumbers};
-ghost use Rattle.survey_components.specs.Labels.{endsJoined};
+ghost use Rattle.survey_components.specs.Labels.{chosen, endsJoined};
 ghost use Rattle.survey_core.specs.Lists.{listsFrom, lentLists};
 ghost use Rattle.survey_core.specs.Pairs.{isRising, pairRefusal, pairsRefusal};
 ghost use Rattle.survey_lists.specs.Split.{splitList, pairGroup, entryVertex, entries};
@@ -27,6 +27,7 @@ use base_limits::GROUP_NUMBERS;
 use base_limits::MAX_PAIRS;
 use base_limits::MAX_VERTICES;
 use base_limits::Verdict;
+use survey_components::Chosen;
 
 // Whether pair i stands above the one before it, by vertex, then by group.
 fn is_rising(owners: &[u32], others: &[u8], i: usize) -> bool
@@ -311,4 +312,28 @@ pub fn split_list(
 {
     let table = list_spreads(groups, owners, others, labels);
     survey_groups::first_split(&table, number)
+}
+
+// 1 to 6 and 18, and then the lowest list that the set of tracks does not join, under the number given: 8 of all
+// tracks, 14 of the kept ones.
+pub fn group_refusal(
+    groups: &[u8],
+    firsts: &[u32],
+    seconds: &[u32],
+    weights: &[u32],
+    owners: &[u32],
+    others: &[u8],
+    set: Chosen,
+    marks: &[u8],
+    number: u64,
+) -> Verdict
+    ensures { λ r. let s = lentWith groups firsts seconds weights owners others in
+        ⌜ r ≡ (surveyRefusal s before groupRefusal s number (chosen set (old marks))) ⌝ }
+{
+    let found = survey_refusal(groups, firsts, seconds, weights, owners, others);
+    let Verdict::Fine = found else {
+        return found;
+    };
+    let labels = survey_components::set_labels(groups, firsts, seconds, weights, set, marks);
+    split_list(groups, owners, others, &labels, number)
 }

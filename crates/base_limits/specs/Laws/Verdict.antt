@@ -6,7 +6,7 @@ use mathlib.Core.Path.{_≡_, refl, ap, sym, _∙_}
 use mathlib.Core.Logic.{⊎-elim}
 use mathlib.Core.Bool.{Bool, true, false}
 use Rattle.base_finite.specs.Laws.Below.{below-suc}
-use Rattle.base_limits.specs.Verdict.{refuseIf, _before_, lowestBelow, refusal, answer, outcome}
+use Rattle.base_limits.specs.Verdict.{refuseIf, _before_, lowestBelow, refusal, answer, outcome, written}
 use Rattle.base_limits.specs.declared.Verdict.{Verdict}
 use Rattle.base_limits.specs.declared.Verdict.the-variants.{Fine, Refused}
 
@@ -30,6 +30,15 @@ passed-on is refused w = refused ∙ sym (before-refused (sym is ∙ refused) w)
 -- Nothing is found, and what comes next decides.
 pub goes-on : {found v w next : Verdict} → found ≡ v → found ≡ Fine → next ≡ w → next ≡ (v before w)
 goes-on {w = w} is fine h = h ∙ sym (before-fine (sym is ∙ fine) w)
+
+-- What a buffer holds after a verdict that was found.
+pub written-refused : {A : Type 0} {found v : Verdict} {number place : ℕ} (new old : A) → found ≡ v → found ≡ Refused number place → old ≡ written v new old
+unfolding written
+written-refused new old is refused = rw (sym is ∙ refused)
+
+pub written-fine : {A : Type 0} {found v : Verdict} (new old : A) → found ≡ v → found ≡ Fine → new ≡ written v new old
+unfolding written
+written-fine new old is fine = rw (sym is ∙ fine)
 
 pub before-assoc : (u v w : Verdict) → ((u before v) before w) ≡ (u before v before w)
 unfolding _before_

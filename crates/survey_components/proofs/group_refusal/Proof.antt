@@ -6,6 +6,7 @@ use Rattle.base_limits.specs.Limits.{maxVertices}
 use Rattle.base_limits.specs.Laws.Verdict.{passed-on, goes-on}
 use Rattle.survey_core.specs.Survey.{surveyFrom}
 use Rattle.survey_core.specs.Laws.Refusal.{fine-survey}
+use Rattle.survey_components.specs.Labels.{labelsOf}
 use Rattle.survey_components.specs.Laws.Labels.{refusal-by-labels}
 use native.Mathlib.Omega.{arith}
 use borrow.Author.Needs.{needs}
@@ -34,6 +35,7 @@ slice-aggregate-split-refusal c = sym (ap length (c .before .before .label-compo
 
 -- a group, or nothing
 returns-2 : tie.Need-returns-2
+unfolding labelsOf
 returns-2 c =
     let found = c .before .before .before .before .before in
     let fine = sym (found .before .before .survey-refusal .ensures) ∙ found .enum-told .given .1 in

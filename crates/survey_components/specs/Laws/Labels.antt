@@ -7,7 +7,7 @@ use mathlib.Core.Path.{_≡_, refl, ap, sym, _∙_}
 use mathlib.Core.Logic.{_⊎_, inl, inr}
 use mathlib.Core.Bool.{Bool, true, false, _&&_, _||_, not, cond}
 use mathlib.Core.List.{List}
-use lib.ListN.{length, getD}
+use lib.ListN.{length, getD, replicate, length-replicate}
 use lib.Dec.{eqb}
 use borrow.Author.Tests.{eqb-true}
 use Rattle.base_finite.specs.Below.{allBelow, tabulate, memo}
@@ -15,11 +15,14 @@ use Rattle.base_finite.specs.Laws.Below.{memo-is, all-cong, length-tabulate, ge
 use Rattle.base_finite.specs.Laws.Test.{either}
 use Rattle.theory_graph.specs.Component.{merged, components}
 use Rattle.base_limits.specs.Limits.{maxVertices, groupNumbers}
-use Rattle.base_limits.specs.Verdict.{refuseIf, lowestBelow}
+use Rattle.base_limits.specs.Verdict.{refuseIf, lowestBelow, written}
+use Rattle.base_limits.specs.declared.Verdict.{Verdict}
+use Rattle.base_limits.specs.declared.Verdict.the-variants.{Fine, Refused}
 use Rattle.base_limits.specs.Laws.Verdict.{lowest-cong}
-use Rattle.survey_core.specs.Survey.{Survey, vertexCount, edgeCount, member, groupJoined, listsAlone, componentsOf, problemOf}
-use Rattle.survey_core.specs.Refusal.{groupRefusal}
-use Rattle.survey_components.specs.Labels.{relabelled, endsJoined}
+use Rattle.survey_core.specs.Survey.{Survey, surveyWith, surveyFrom, vertexCount, edgeCount, member, groupJoined, listsAlone, componentsOf, problemOf}
+use Rattle.survey_core.specs.Refusal.{surveyRefusal, groupRefusal}
+use Rattle.survey_core.specs.Laws.Refusal.{fine-survey, fine-plain}
+use Rattle.survey_components.specs.Labels.{relabelled, endsJoined, labelsOf}
 use Rattle.base_buffer.specs.Laws.Store.{remade-still, remade-table, tabulate-cong}
 
 -- Relabelling a table of labels.
@@ -145,10 +148,10 @@ joined-groups s label g = refl
 
 -- The refusal by a buffer of labels is the refusal by the components of F.
 pub refusal-by-labels : (s : Survey) (F : ℕ → Bool) (number : ℕ) {labels : List ℕ} → length (s .groups) ≤ maxVertices
-    → labels ≡ tabulate maxVertices (components maxVertices (λ e. getD (s .firsts) e 0) (λ e. getD (s .seconds) e 0) F (length (s .firsts)))
+    → labels ≡ labelsOf s F
     → lowestBelow groupNumbers (λ g. refuseIf (not (groupJoined (listsAlone (s .groups) (s .owners) (s .others)) (λ v. getD labels v 0) g)) number g)
     ≡ groupRefusal s number F
-unfolding groupRefusal componentsOf problemOf vertexCount edgeCount
+unfolding groupRefusal componentsOf problemOf vertexCount edgeCount labelsOf
 refusal-by-labels s F number {labels} few h =
     lowest-cong
     groupNumbers
@@ -164,3 +167,23 @@ refusal-by-labels s F number {labels} few h =
         ap (λ t. getD t v 0) h
         ∙ getD-tabulate maxVertices _ v 0 (omega arith)
         ∙ components-stored maxVertices (length (s .groups)) (λ e. getD (s .firsts) e 0) (λ e. getD (s .seconds) e 0) F (length (s .firsts)) v
+
+-- Labels of a survey fill a buffer for every survey, also those of a refused one.
+pub length-labels : (s : Survey) (F : ℕ → Bool) (v : Verdict) {labels : List ℕ} → labels ≡ written v (labelsOf s F) (replicate maxVertices 0) → length labels ≡ maxVertices
+unfolding written labelsOf
+length-labels s F Fine h = ap length h ∙ length-tabulate maxVertices _
+length-labels s F (Refused number place) h = ap length h ∙ length-replicate {A = ℕ} maxVertices 0
+
+-- The lists of a sound survey, by the labels of its tracks.
+pub lists-by-labels : (groups firsts seconds weights owners others : List ℕ) (F : ℕ → Bool) (number : ℕ) {labels : List ℕ}
+    → surveyRefusal (surveyWith groups firsts seconds weights owners others) ≡ Fine
+    → labels ≡ written (surveyRefusal (surveyFrom groups firsts seconds weights)) (labelsOf (surveyFrom groups firsts seconds weights) F) (replicate maxVertices 0)
+    → lowestBelow groupNumbers (λ g. refuseIf (not (groupJoined (listsAlone groups owners others) (λ v. getD labels v 0) g)) number g)
+    ≡ groupRefusal (surveyWith groups firsts seconds weights owners others) number F
+unfolding written labelsOf
+lists-by-labels groups firsts seconds weights owners others F number fine h =
+    refusal-by-labels (surveyWith groups firsts seconds weights owners others) F number
+    (fine-survey (surveyWith groups firsts seconds weights owners others) fine .few)
+    (h
+    ∙ ap (λ v. written v (labelsOf (surveyFrom groups firsts seconds weights) F) (replicate maxVertices 0))
+    (fine-plain groups firsts seconds weights owners others fine))

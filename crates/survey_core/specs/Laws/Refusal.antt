@@ -226,6 +226,13 @@ pairs-decide groups firsts seconds weights owners others even =
     ∙ before-assoc one (two before three before tracks) pairs
     ∙ ap (λ v. one before v) (before-assoc two (three before tracks) pairs ∙ ap (λ v. two before v) (before-assoc three tracks pairs)))
 
+-- A sound survey is sound without its pairs.
+pub fine-plain : (groups firsts seconds weights owners others : List ℕ) → surveyRefusal (surveyWith groups firsts seconds weights owners others) ≡ Fine
+    → surveyRefusal (surveyFrom groups firsts seconds weights) ≡ Fine
+fine-plain groups firsts seconds weights owners others h =
+    let even = fine-survey (surveyWith groups firsts seconds weights owners others) h .pairs-long in
+    fine-left _ _ (sym (pairs-decide groups firsts seconds weights owners others even) ∙ h)
+
 -- Pairs of two lengths: 1, or 2.
 pub pairs-differ : (s : Survey) → (length (s .owners) ≡ length (s .others) → ⊥)
     → surveyRefusal s ≡ (refuseIf (eqb (length (s .groups)) 0 || ltb maxVertices (length (s .groups))) 1 0 before Refused 2 0)
