@@ -39,7 +39,7 @@ pub record CountsFit (terminals cost bound : ℕ) : Type 0 where
   pub cost-small : cost ≤ maxEdges * maxWeight
   pub bound-small : bound ≤ maxDuals * maxValue
 
--- 1 to 6, then 9 and 10.
+-- 1 to 6, 18, then 9 and 10.
 unfoldable pub inputRefusal : Survey → (marks records : List ℕ) → Verdict
 inputRefusal s marks records =
     surveyRefusal s
@@ -52,10 +52,6 @@ dualsRefusal s records =
     lowestBelow (length records / recordBytes) (λ i. dualRefusal s (dualAt records i) i)
     before lowestBelow (length records / recordBytes) (λ i. refuseIf (not (separates (problemOf s) (dualAt records i .holds))) 12 i)
     before lowestBelow (edgeCount s) (λ e. refuseIf (ltb (2 * problemOf s .weight e) (dualLoad (problemOf s) (dualsIn records) e)) 13 e)
-
--- All refusals but 15.
-unfoldable pub allButRule : Survey → (marks records : List ℕ) → Verdict
-allButRule s marks records = inputRefusal s marks records before dualsRefusal s records before groupRefusal s 14 (keptBy marks)
 
 -- What 1 to 11 leave of a plan whose counts are judged.
 pub record PlanFits (groups firsts weights marks records : List ℕ) : Type 0 where

@@ -6,11 +6,11 @@ ghost use Prim.Native.Nat.{_≤_, _/_};
 ghost use lib.ListN.{length};
 ghost use Rattle.base_limits.specs.Limits.{maxVertices, maxDuals, recordBytes};
 ghost use Rattle.base_limits.specs.Verdict.{outcome, answer};
-ghost use Rattle.survey_core.specs.Survey.{surveyFrom, lentSurvey};
+ghost use Rattle.survey_core.specs.Survey.{surveyFrom, lentSurvey, lentWith};
 ghost use Rattle.survey_core.specs.Accuracy.{Accurate};
 ghost use Rattle.check_rule.specs.Passing.{Passing};
 ghost use Rattle.check_rule.specs.Check.{Checked, ruleRefusal, checkedOf, checking};
-ghost use Rattle.check_core.specs.Stage.{inputRefusal, dualsRefusal, allButRule, PlanFits, checkedOutcome};
+ghost use Rattle.check_core.specs.Stage.{inputRefusal, dualsRefusal, PlanFits, checkedOutcome};
 use base_limits::Verdict;
 use survey_components::Chosen;
 
@@ -31,18 +31,21 @@ pub enum Checking {
     },
 }
 
-// 1 to 6, then 9 and 10.
+// 1 to 6, 18, then 9 and 10.
 fn input_refusal(
     groups: &[u8],
     firsts: &[u32],
     seconds: &[u32],
     weights: &[u32],
+    owners: &[u32],
+    others: &[u8],
     marks: &[u8],
     records: &[u8],
 ) -> Verdict
-    ensures { λ r. ⌜ r ≡ inputRefusal (lentSurvey groups firsts seconds weights) (old marks) (old records) ⌝ }
+    ensures { λ r. let s = lentWith groups firsts seconds weights owners others in
+        ⌜ r ≡ inputRefusal s (old marks) (old records) ⌝ }
 {
-    let unsound = survey_core::survey_refusal(groups, firsts, seconds, weights);
+    let unsound = survey_lists::survey_refusal(groups, firsts, seconds, weights, owners, others);
     let Verdict::Fine = unsound else {
         return unsound;
     };
@@ -75,28 +78,6 @@ fn duals_refusal(
     duals::loads_refusal(firsts, seconds, weights, records)
 }
 
-// All refusals but 15.
-fn all_but_rule(
-    groups: &[u8],
-    firsts: &[u32],
-    seconds: &[u32],
-    weights: &[u32],
-    marks: &[u8],
-    records: &[u8],
-) -> Verdict
-    ensures { λ r. ⌜ r ≡ allButRule (lentSurvey groups firsts seconds weights) (old marks) (old records) ⌝ }
-{
-    let unfit = input_refusal(groups, firsts, seconds, weights, marks, records);
-    let Verdict::Fine = unfit else {
-        return unfit;
-    };
-    let unsound = duals_refusal(groups, firsts, seconds, weights, records);
-    let Verdict::Fine = unsound else {
-        return unsound;
-    };
-    survey_components::group_refusal(groups, firsts, seconds, weights, Chosen::Kept, marks, 14)
-}
-
 // The counts, if the accuracy rule's premise holds of them; else 15.
 fn judge(groups: &[u8], firsts: &[u32], weights: &[u32], marks: &[u8], records: &[u8]) -> Checking
     requires { ⌜ PlanFits (now groups) (now firsts) (now weights) (now marks) (now records) ⌝ }
@@ -118,27 +99,59 @@ fn judge(groups: &[u8], firsts: &[u32], weights: &[u32], marks: &[u8], records: 
     }
 }
 
-// Checks a plan, marks and moat records, against a survey. It passes exactly if none of 1 to 6 and 9 to 15 applies,
-// and then the accuracy rule holds of the k and the kept cost that it answers.
+// Checks a plan, marks and moat records, against a survey. It passes exactly if none of 1 to 6, 18 and 9 to 15 applies,
+// and then the accuracy rule holds of the k and the kept cost that it answers. Lists that share a member are poured
+// together for what does not depend on their numbers.
 pub fn check(
     groups: &[u8],
     firsts: &[u32],
     seconds: &[u32],
     weights: &[u32],
+    owners: &[u32],
+    others: &[u8],
     marks: &[u8],
     records: &[u8],
 ) -> Checking
-    ensures { λ r. let s = lentSurvey groups firsts seconds weights in
+    ensures { λ r. let s = lentWith groups firsts seconds weights owners others in
         ⌜ checkedOutcome r ≡ checking s (old marks) (old records) ⌝ }
-    ensures passed { λ r. let s = lentSurvey groups firsts seconds weights in
+    ensures passed { λ r. let s = lentWith groups firsts seconds weights owners others in
         ⌜ ((c : Checked) → checkedOutcome r ≡ answer c → Passing s (old marks) (old records))
         × (Passing s (old marks) (old records) → checkedOutcome r ≡ answer (checkedOf s (old marks) (old records))) ⌝ }
-    ensures accurate { λ r. let s = lentSurvey groups firsts seconds weights in
+    ensures accurate { λ r. let s = lentWith groups firsts seconds weights owners others in
         ⌜ ((c : Checked) → checkedOutcome r ≡ answer c → Accurate s (c .terminals) (c .cost)) ⌝ }
 {
-    let found = all_but_rule(groups, firsts, seconds, weights, marks, records);
-    if let Verdict::Refused { number, place } = found {
+    let unfit = input_refusal(
+        groups,
+        firsts,
+        seconds,
+        weights,
+        owners,
+        others,
+        marks,
+        records,
+    );
+    if let Verdict::Refused { number, place } = unfit {
         return Checking::Refused { number, place };
     }
-    judge(groups, firsts, weights, marks, records)
+    let poured = survey_lists::pour(groups, owners, others);
+    let n = groups.len();
+    let unsound = duals_refusal(&poured[0..n], firsts, seconds, weights, records);
+    if let Verdict::Refused { number, place } = unsound {
+        return Checking::Refused { number, place };
+    }
+    let apart = survey_lists::group_refusal(
+        groups,
+        firsts,
+        seconds,
+        weights,
+        owners,
+        others,
+        Chosen::Kept,
+        marks,
+        14,
+    );
+    if let Verdict::Refused { number, place } = apart {
+        return Checking::Refused { number, place };
+    }
+    judge(&poured[0..n], firsts, weights, marks, records)
 }

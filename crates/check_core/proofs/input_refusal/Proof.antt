@@ -10,7 +10,7 @@ use Rattle.check_core.proofs.input_refusal.Tie as tie
 enum-told : tie.Need-enum-told
 enum-told c = search needs
 
--- 1 to 6
+-- 1 to 6 and 18
 returns : tie.Need-returns
 unfolding inputRefusal
 returns c = passed-on (c .before .before .survey-refusal .ensures) (c .enum-told2 .given .1) _

@@ -10,7 +10,7 @@ use mathlib.Core.List.{List}
 use lib.ListN.{length, getD, List·getD-eq-default}
 use Rattle.base_finite.specs.Laws.Below.{lt-or-ge}
 use Rattle.base_limits.specs.Limits.{groupNumbers}
-use Rattle.survey_core.specs.Sound.{ByteGroups}
+use Rattle.survey_core.specs.Sound.{ByteGroups, SurveySound}
 use Rattle.theory_steiner.specs.Problem.{Problem, Bounded, Joins, separates}
 use Rattle.theory_steiner.specs.Requirement.{requiring, Chain, one, more, SamePlan}
 use Rattle.theory_steiner.specs.Laws.Required.{between-separates, plan-same, joins-same}
@@ -54,6 +54,26 @@ module _ (s : Survey) where
       by : (v : ℕ) → (v < length (s .groups)) ⊎ (length (s .groups) ≤ v) → getD (pouredGroups l) v 0 < groupNumbers
       by v (inl b) = rw (getD-poured l v b) (poured-below l (numbered .own-byte) (numbered .other-byte) v)
       by v (inr b) = rw (List·getD-eq-default (pouredGroups l) 0 {n = v} (rw (length-poured l) b)) (omega arith)
+
+  -- A sound survey is sound when it is poured.
+  pub poured-sound : SurveySound s → SurveySound into
+  poured-sound h =
+      record {
+        some = rw (length-poured l) (h .some);
+        few = rw (length-poured l) (h .few);
+        seconds-long = h .seconds-long;
+        weights-long = h .weights-long;
+        edges-few = h .edges-few;
+        edges = λ e b.
+            record {
+              first-below = rw (length-poured l) (h .edges e b .first-below);
+              second-below = rw (length-poured l) (h .edges e b .second-below);
+              ends-differ = h .edges e b .ends-differ;
+              weight-le = h .edges e b .weight-le;
+            };
+        pairs-long = refl;
+        pairs = λ i b. absurd (omega arith);
+      }
 
   -- A chain of lists is a chain of required pairs.
   required-chain : {g h : ℕ} → Chained l g h → (u v : ℕ) → u < length (s .groups) → v < length (s .groups) → inList l g u ≡ true → inList l h v ≡ true

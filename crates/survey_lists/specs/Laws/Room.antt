@@ -151,3 +151,7 @@ take-room n f fits =
 pub take-poured : (l : Lists) → length (l .groups) ≤ maxVertices → take (length (l .groups) - 0) (roomOf (length (l .groups)) (poured l)) ≡ pouredGroups l
 unfolding pouredGroups poured
 take-poured l fits = take-room (length (l .groups)) (poured l) fits
+
+pub part-poured : (l : Lists) {room : List ℕ} → length (l .groups) ≤ maxVertices → room ≡ roomOf (length (l .groups)) (poured l)
+    → take (length (l .groups) - 0) room ≡ pouredGroups l
+part-poured l fits h = ap (take (length (l .groups) - 0)) h ∙ take-poured l fits
