@@ -3,4 +3,5 @@ pub mod Growth
 pub mod Minima
 pub mod Dual
 pub mod Pruning
+pub mod Rounds
 pub mod Laws
