@@ -36,6 +36,8 @@ fn is_kept(mark: u8) -> bool
     ensures { λ r. ⌜ r ≡ eqb mark 2 ⌝ }
 {
     match mark {
+        0 => false,
+        1 => false,
         2 => true,
         _ => false,
     }
