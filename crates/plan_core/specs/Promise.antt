@@ -1,15 +1,17 @@
 -- What planning promises beside its answer and its buffers, in words of the survey: for the buyer, by the number of the demand (docs/TRACE.md, 'The demands').
 -- Laws/Promise proves it of every call.
-use Prim.Native.Nat.{ℕ, _*_, _≤_, _<_}
+use Prim.Native.Nat.{ℕ, _*_, _-_, _≤_, _<_}
 use mathlib.Core.Path.{_≡_}
-use mathlib.Core.Bool.{Bool}
+use mathlib.Core.Bool.{Bool, false}
 use mathlib.Core.List.{List}
 use lib.ListN.{length, take}
 use Rattle.base_finite.specs.Below.{countBelow}
 use Rattle.base_limits.specs.Limits.{recordBytes, dualsFor}
 use Rattle.base_limits.specs.Verdict.{Outcome, refusal, answer}
 use Rattle.theory_steiner.specs.Problem.{Joins, EdgeSet, allUsable}
+use Rattle.theory_steiner.specs.Growth.{active, stateAt}
 use Rattle.theory_steiner.specs.Pruning.{picked}
+use Rattle.theory_steiner.specs.Rounds.{boundOfRounds, TakesRounds}
 use Rattle.survey_core.specs.Survey.{Survey, vertexCount, edgeCount, problemOf, JoinsGroup}
 use Rattle.survey_core.specs.Accuracy.{Accurate}
 use Rattle.survey_core.specs.Sound.{SurveySound}
@@ -34,8 +36,14 @@ pub record Unjoinable (s : Survey) (marksLength recordsLength g : ℕ) : Type 0 
 -- A finished plan with these counts, in buffers that held these marks and records before.
 pub record FinishedPlan (s : Survey) (marks records : List ℕ) (c : PlanCounts) : Type 0 where
   pub ready : Ready s (length marks) (length records)
-  -- 'How moats grow': as many rounds as picked tracks
+  -- 'How moats grow': as many rounds as picked tracks, and at most n - 1
   pub rounds-picked : c .rounds ≡ countBelow (edgeCount s) (picked (problemOf s))
+  pub rounds-few : c .rounds ≤ vertexCount s - 1
+  -- the definition's steps: each round has a winner, after them there is none, and no component grows
+  pub rounds-steps : TakesRounds (problemOf s) (c .rounds)
+  pub rounds-rest : (v : ℕ) → active (problemOf s) (stateAt (problemOf s) (c .rounds) .label) v ≡ false
+  -- the bound: the sum over the rounds of the wait times the number of growing components
+  pub bound-rounds : c .bound ≡ boundOfRounds (problemOf s) (c .rounds)
   -- demand 3: the checker passes the marks and records that were written, with the same k, cost and bound
   pub passes-checker :
       checking s (take (edgeCount s) (marksAfter s marks records)) (take (recordBytes * c .duals) (recordsAfter s marks records))

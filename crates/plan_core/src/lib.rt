@@ -77,7 +77,8 @@ fn plan_refusal(
     survey_components::group_refusal(groups, firsts, seconds, weights, Chosen::All, &[], 8)
 }
 
-// The plan of a survey that no refusal stops: growing, dropping, drawing, and the counts.
+// The plan of a survey that no refusal stops: growing, dropping, drawing, and the counts. What growing leaves is a forest
+// that joins every group, so dropping refuses nothing.
 fn finish(
     groups: &[u8],
     firsts: &[u32],
@@ -104,7 +105,8 @@ fn finish(
     let order = grown.order;
     let rounds = grown.rounds;
     let bound = grown.bound;
-    plan_drop::prune(groups, firsts, seconds, &picked, marks);
+    let picks = &picked[0..firsts.len()];
+    plan_drop::prune(groups, firsts, seconds, weights, picks, marks);
     let duals = plan_duals::draw(
         groups.len(),
         firsts,

@@ -1,7 +1,7 @@
 -- The sides of up to 64 edges in one pass: every vertex has a word, and bit k of it says on which side of the edge with index base + k the vertex
 -- lies. The index of an edge is how many edges of F have lower numbers.
 use Prim.Native.Nat.{ℕ, zero, suc, _-_, _^_}
-use mathlib.Core.Bool.{Bool, _&&_, not, cond}
+use mathlib.Core.Bool.{Bool, _&&_, cond}
 use mathlib.Core.List.{List}
 use lib.ListN.{length, getD}
 use lib.Dec.{eqb, ltb, leb}
@@ -12,10 +12,6 @@ use Rattle.base_buffer.specs.Store.{remade}
 
 abbrev pub wordBits : ℕ
 wordBits = 64
-
--- The edges that a buffer of picks holds: those with anything but 0.
-unfoldable pub pickedIn : List ℕ → ℕ → Bool
-pickedIn picked e = not (eqb (getD picked e 0) 0)
 
 -- Index i is one of the 64 from base on.
 unfoldable pub inBatch : (base i : ℕ) → Bool

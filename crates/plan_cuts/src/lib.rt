@@ -6,8 +6,8 @@ ghost use lib.ListN.{getD, length};
 ghost use lib.Dec.{eqb};
 ghost use Rattle.base_finite.specs.Below.{counted};
 ghost use Rattle.base_limits.specs.Limits.{maxVertices};
-ghost use Rattle.survey_components.specs.Labels.{endsJoined};
-ghost use Rattle.plan_cuts.specs.Word.{pickedIn, ownWord, turned, turnedAll, edgeTaken};
+ghost use Rattle.survey_components.specs.Labels.{pickedIn, endsJoined};
+ghost use Rattle.plan_cuts.specs.Word.{ownWord, turned, turnedAll, edgeTaken};
 ghost use Rattle.plan_cuts.specs.Taken.{EdgeStep, takenBelow};
 use base_buffer::at64;
 use base_buffer::put64;
@@ -15,16 +15,6 @@ use base_limits::MAX_VERTICES;
 
 // Edges of one batch.
 pub const WORD_BITS: usize = 64;
-
-// Whether edge e is picked.
-pub fn is_picked(picked: &[u8], e: usize) -> bool
-    ensures { λ r. ⌜ r ≡ pickedIn (old picked) e ⌝ }
-{
-    if base_buffer::at8(picked, e) == 0 {
-        return false;
-    }
-    true
-}
 
 // The bit of the edge with index i, among the 64 from base on.
 fn own_word(base: usize, i: usize) -> u64
@@ -105,7 +95,7 @@ fn take_edge(
         let second = getD (old seconds) e 0 in
         ⌜ EdgeStep (pickedIn (old picked) e) first second base i (old labels) (old words) r (new labels) (new words) ⌝ }
 {
-    if is_picked(picked, e) {
+    if survey_components::is_picked(picked, e) {
         take_ends(
             base_buffer::at32(firsts, e),
             base_buffer::at32(seconds, e),

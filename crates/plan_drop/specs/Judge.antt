@@ -9,7 +9,10 @@ use Rattle.base_limits.specs.Limits.{maxVertices}
 use Rattle.format_record.specs.Bits.{bitAt}
 use Rattle.theory_steiner.specs.Problem.{Problem, separates}
 use Rattle.theory_steiner.specs.Pruning.{needed, markOf}
-use Rattle.survey_core.specs.Survey.{groupsAlone, problemOf}
+use Rattle.base_limits.specs.Verdict.{written}
+use Rattle.survey_core.specs.Survey.{Survey, groupsAlone, edgeCount, problemOf}
+use Rattle.survey_components.specs.Labels.{pickedIn}
+use Rattle.survey_components.specs.Forest.{forestRefusal}
 use Rattle.base_buffer.specs.Store.{remade}
 use Rattle.plan_cuts.specs.Word.{wordBits, inBatch}
 
@@ -28,6 +31,11 @@ raised F judgement e mark = cond (F e && judgement (countBelow e F)) 2 mark
 -- The marks of the edges of F below m with 2 for the needed ones; what lies past them stays.
 unfoldable pub prunedMarks : Problem → (ℕ → Bool) → (m : ℕ) → List ℕ → List ℕ
 prunedMarks p F m marks = remade (λ e mark. markOf (F e) (needed p F e)) m marks
+
+-- What a lent buffer of marks holds after pruning: a refusal writes nothing.
+unfoldable pub marksPruned : Survey → (picked marks : List ℕ) → List ℕ
+marksPruned s picked marks =
+    written (forestRefusal s picked) (prunedMarks (problemOf s) (pickedIn picked) (edgeCount s) marks) marks
 
 -- The first marks: every edge of F is dropped.
 unfoldable pub droppedMarks : (ℕ → Bool) → (m : ℕ) → List ℕ → List ℕ

@@ -1,4 +1,4 @@
--- What pruning asks of its caller.
+-- What the batches of pruning ask.
 use Prim.Native.Nat.{ℕ, _≤_}
 use mathlib.Core.List.{List, []}
 use lib.ListN.{length}
@@ -6,13 +6,13 @@ use Rattle.theory_graph.specs.Path.{Forest}
 use Rattle.base_limits.specs.Limits.{maxVertices, maxEdges}
 use Rattle.theory_steiner.specs.Problem.{Problem, Sound, Joins, Bounded}
 use Rattle.survey_core.specs.Survey.{surveyFrom, problemOf}
-use Rattle.plan_cuts.specs.Word.{pickedIn}
+use Rattle.survey_components.specs.Labels.{pickedIn}
 
 -- The problem of a survey whatever its weights: which edges are needed does not depend on them.
 abbrev pub unweighted : (groups firsts seconds : List ℕ) → Problem
 unweighted groups firsts seconds = problemOf (surveyFrom groups firsts seconds [])
 
--- Growth leaves this: a forest of surveyed edges that joins every required pair.
+-- A forest of surveyed edges that joins every required pair.
 pub record Prunable (groups firsts seconds picked : List ℕ) : Type 0 where
   pub few : length groups ≤ maxVertices
   pub edges-few : length firsts ≤ maxEdges

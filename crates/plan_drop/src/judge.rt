@@ -9,13 +9,14 @@ ghost use Rattle.format_record.specs.Bits.{bitAt};
 ghost use Rattle.theory_steiner.specs.Problem.{separates};
 ghost use Rattle.survey_core.specs.Survey.{groupsAlone, problemOf};
 ghost use Rattle.base_buffer.specs.Store.{remade};
-ghost use Rattle.plan_cuts.specs.Word.{wordBits, pickedIn};
+ghost use Rattle.survey_components.specs.Labels.{pickedIn};
+ghost use Rattle.plan_cuts.specs.Word.{wordBits};
 ghost use Rattle.plan_drop.specs.Judge.{sideIn, judged, raised, MarkStep, Judging};
 use base_buffer::at64;
 use base_buffer::put8;
 use base_limits::MAX_VERTICES;
 use plan_cuts::WORD_BITS;
-use plan_cuts::is_picked;
+use survey_components::is_picked;
 
 // 1 where bit k is set, else 0.
 fn side(word: u64, k: usize) -> u32

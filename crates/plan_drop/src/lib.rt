@@ -7,18 +7,21 @@ ghost use lib.ListN.{length};
 ghost use Rattle.base_finite.specs.Below.{countBelow};
 ghost use Rattle.base_limits.specs.Limits.{maxEdges};
 ghost use Rattle.theory_steiner.specs.Pruning.{markOf};
-ghost use Rattle.plan_cuts.specs.Word.{pickedIn};
+ghost use Rattle.survey_core.specs.Survey.{lentSurvey};
+ghost use Rattle.survey_components.specs.Labels.{pickedIn};
+ghost use Rattle.survey_components.specs.Forest.{forestRefusal};
 ghost use Rattle.plan_drop.specs.Prunable.{Prunable, unweighted};
-ghost use Rattle.plan_drop.specs.Judge.{droppedMarks, batchMarks, prunedMarks};
+ghost use Rattle.plan_drop.specs.Judge.{droppedMarks, batchMarks, prunedMarks, marksPruned};
 use base_buffer::put8;
+use base_limits::Verdict;
 
-pub mod judge;
+mod judge;
 
 // 1 for a picked edge, else 0.
 fn dropped_mark(picked: &[u8], e: usize) -> u8
     ensures { λ r. ⌜ r ≡ markOf (pickedIn (old picked) e) false ⌝ }
 {
-    if plan_cuts::is_picked(picked, e) {
+    if survey_components::is_picked(picked, e) {
         return 1;
     }
     0
@@ -66,9 +69,9 @@ fn prune_batch(
     judge::judge_edges(groups, &words, picked, base, marks, firsts.len());
 }
 
-// Marks every surveyed edge: 0 not picked, 1 picked and dropped, 2 needed. Which edges a picked set needs is found by
-// their sides, and those are only defined in a forest that joins every group: what growth leaves is asked here.
-pub fn prune(groups: &[u8], firsts: &[u32], seconds: &[u32], picked: &[u8], marks: &mut [u8])
+// All batches. Which edges a picked set needs is found by their sides, and those are only defined in a forest that
+// joins every group.
+fn prune_forest(groups: &[u8], firsts: &[u32], seconds: &[u32], picked: &[u8], marks: &mut [u8])
     requires { ⌜ Prunable (now groups) (now firsts) (now seconds) (now picked) ⌝ }
     ensures { λ r. let p = unweighted (old groups) (old firsts) (old seconds) in
         ⌜ new marks ≡ prunedMarks p (pickedIn (old picked)) (length (old firsts)) (old marks) ⌝ }
@@ -80,4 +83,26 @@ pub fn prune(groups: &[u8], firsts: &[u32], seconds: &[u32], picked: &[u8], mark
         prune_batch(groups, firsts, seconds, picked, marks, base);
         base += plan_cuts::WORD_BITS;
     }
+}
+
+// Marks every surveyed edge: 0 not picked, 1 picked and dropped, 2 needed. Refused, with no mark written, where 1 to 6
+// apply, 9 for picks not m long, 21 for a picked track that closes a loop, 14 for a group that the picked tracks leave
+// apart.
+pub fn prune(
+    groups: &[u8],
+    firsts: &[u32],
+    seconds: &[u32],
+    weights: &[u32],
+    picked: &[u8],
+    marks: &mut [u8],
+) -> Verdict
+    ensures { λ r. ⌜ r ≡ forestRefusal (lentSurvey groups firsts seconds weights) (old picked) ⌝ }
+    ensures { λ _. ⌜ new marks ≡ marksPruned (lentSurvey groups firsts seconds weights) (old picked) (old marks) ⌝ }
+{
+    let found = survey_components::forest_refusal(groups, firsts, seconds, weights, picked);
+    let Verdict::Fine = found else {
+        return found;
+    };
+    prune_forest(groups, firsts, seconds, picked, marks);
+    Verdict::Fine
 }

@@ -1,3 +1,4 @@
 pub mod Drawing
 pub mod Trace
+pub mod Drawable
 pub mod Growth

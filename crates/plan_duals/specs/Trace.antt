@@ -2,9 +2,10 @@
 use Prim.Native.Nat.{ℕ, zero, suc, _+_, _*_, _-_, _≤_, _<_}
 use mathlib.Core.Path.{_≡_}
 use mathlib.Core.Bool.{Bool, _&&_, cond}
-use mathlib.Core.List.{List}
+use mathlib.Core.List.{List, []}
 use lib.ListN.{length, getD}
-use lib.Dec.{eqb, ltb}
+use lib.Dec.{eqb, ltb, leb}
+use Rattle.base_finite.specs.Below.{allBelow}
 use Rattle.theory_graph.specs.Component.{merged}
 use Rattle.base_buffer.specs.Lent.{Buffer, old}
 use Rattle.base_limits.specs.Limits.{maxVertices, recordBytes}
@@ -65,6 +66,20 @@ pub record Drawable (t : Trace) (records : List ℕ) : Type 0 where
   pub room : recordBytes * (t .vertices + t .rounds) ≤ length records
   pub first-below : (r : ℕ) → r < t .rounds → t .first r < maxVertices
   pub second-below : (r : ℕ) → r < t .rounds → t .second r < maxVertices
+
+-- The ends of the edge of round r have labels.
+unfoldable pub endsFit : (first second : ℕ → ℕ) → (r : ℕ) → Bool
+endsFit first second r = ltb (first r) maxVertices && ltb (second r) maxVertices
+
+-- The same as a test, with room for so many bytes (laws `drawable-test`, `test-drawable`).
+unfoldable pub isDrawable : Trace → (room : ℕ) → Bool
+isDrawable t room =
+    leb (t .vertices) maxVertices && (leb (t .rounds) (t .vertices)
+    && (leb (recordBytes * (t .vertices + t .rounds)) room && allBelow (t .rounds) (endsFit (t .first) (t .second))))
+
+-- The duals that are drawn of any trace: none where it cannot be replayed.
+unfoldable pub drawnDuals : Trace → (room : ℕ) → List Dual
+drawnDuals t room = cond (isDrawable t room) (traceDuals t) []
 
 -- The trace of a problem's growth.
 pub record TraceOf (p : Problem) (t : Trace) : Type 0 where

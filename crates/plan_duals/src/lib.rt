@@ -6,9 +6,11 @@ ghost use Prim.Native.Nat.{_+_, _-_, _<_, _^_};
 ghost use mathlib.Core.Bool.{cond};
 ghost use lib.ListN.{length};
 ghost use lib.Dec.{eqb};
+ghost use Rattle.base_finite.specs.Below.{allBelow};
 ghost use Rattle.format_record.specs.Record.{recordOf, withMemberIn};
 ghost use Rattle.plan_duals.specs.Drawing.{recordsOver, recordsFrom, dualIf, withLabel, RecordFits, RecordsFit};
-ghost use Rattle.plan_duals.specs.Trace.{endOf, arisen, traceFrom, lentTrace, traceDuals, Drawable};
+ghost use Rattle.plan_duals.specs.Trace.{endOf, arisen, traceFrom, lentTrace, traceDuals, Drawable, endsFit};
+ghost use Rattle.plan_duals.specs.Trace.{isDrawable, drawnDuals};
 use base_buffer::at64;
 use base_limits::MAX_VERTICES;
 use base_limits::RECORD_BYTES;
@@ -88,9 +90,8 @@ fn arise(
     );
 }
 
-// The duals of a finished growth, from the values of the component numbers and the edges that the rounds picked in
-// order; answers how many there are.
-pub fn draw(
+// The duals of a trace that can be replayed.
+fn draw_trace(
     n: usize,
     firsts: &[u32],
     seconds: &[u32],
@@ -116,4 +117,85 @@ pub fn draw(
         c += 1;
     }
     count
+}
+
+// Whether the ends of the edge of round r have labels.
+fn round_fits(firsts: &[u32], seconds: &[u32], order: &[u32], r: usize) -> bool
+    ensures { λ x. let first = endOf (old firsts) (old order) in
+        let second = endOf (old seconds) (old order) in
+        ⌜ x ≡ endsFit first second r ⌝ }
+{
+    let e = base_buffer::index32(base_buffer::at32(order, r));
+    if MAX_VERTICES <= base_buffer::index32(base_buffer::at32(firsts, e)) {
+        return false;
+    }
+    if MAX_VERTICES <= base_buffer::index32(base_buffer::at32(seconds, e)) {
+        return false;
+    }
+    true
+}
+
+// The same of all rounds.
+fn rounds_fit(firsts: &[u32], seconds: &[u32], order: &[u32], rounds: usize) -> bool
+    ensures { λ x. let first = endOf (old firsts) (old order) in
+        let second = endOf (old seconds) (old order) in
+        ⌜ x ≡ allBelow rounds (endsFit first second) ⌝ }
+{
+    let mut r = 0;
+    while r < rounds {
+        if !round_fits(firsts, seconds, order, r) {
+            return false;
+        }
+        r += 1;
+    }
+    true
+}
+
+// Whether a trace can be replayed, with room for so many bytes of records.
+fn is_drawable(
+    n: usize,
+    firsts: &[u32],
+    seconds: &[u32],
+    values: &[u64],
+    order: &[u32],
+    rounds: usize,
+    room: usize,
+) -> bool
+    ensures { λ r. ⌜ r ≡ isDrawable (lentTrace n firsts seconds values order rounds) room ⌝ }
+{
+    if MAX_VERTICES < n {
+        return false;
+    }
+    if n < rounds {
+        return false;
+    }
+    if room < RECORD_BYTES * (n + rounds) {
+        return false;
+    }
+    rounds_fit(firsts, seconds, order, rounds)
+}
+
+// The duals of a finished growth, from the values of the component numbers and the edges that the rounds picked in
+// order; answers how many there are. A trace that no growth within the limits leaves, or one without room for its
+// records, has none.
+pub fn draw(
+    n: usize,
+    firsts: &[u32],
+    seconds: &[u32],
+    values: &[u64],
+    order: &[u32],
+    rounds: usize,
+    records: &mut [u8],
+) -> usize
+    ensures count { λ r.
+        let t = lentTrace n firsts seconds values order rounds in
+        ⌜ r ≡ length (drawnDuals t (length (old records))) ⌝ }
+    ensures written { λ r.
+        let t = lentTrace n firsts seconds values order rounds in
+        ⌜ new records ≡ recordsOver (drawnDuals t (length (old records))) (old records) ⌝ }
+{
+    if is_drawable(n, firsts, seconds, values, order, rounds, records.len()) {
+        return draw_trace(n, firsts, seconds, values, order, rounds, records);
+    }
+    0
 }

@@ -208,7 +208,7 @@ fn finished(
     }
 }
 
-// Rounds until no candidate is left.
+// Rounds until no candidate is left: at most n - 1.
 fn grow_rounds(groups: &[u8], firsts: &[u32], seconds: &[u32], weights: &[u32]) -> Growth
     requires { ⌜ SurveySound (surveyFrom (now groups) (now firsts) (now seconds) (now weights)) ⌝ }
     ensures { λ r. ⌜ GrownAfter (problemOf (lentSurvey groups firsts seconds weights)) (length (old groups)) r ⌝ }
@@ -221,9 +221,10 @@ fn grow_rounds(groups: &[u8], firsts: &[u32], seconds: &[u32], weights: &[u32]) 
     let mut keys = [0u64; MAX_EDGES];
     let mut floors = [0u64; MAX_BLOCKS];
     survey_components::own_labels(&mut labels);
+    let most = groups.len() - 1;
     let mut time = 0;
     let mut r = 0;
-    while r < groups.len() {
+    while r < most {
         let wait = round(
             groups,
             firsts,

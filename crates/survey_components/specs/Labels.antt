@@ -1,7 +1,7 @@
 -- Component labels as they stand in a buffer, and the sets of edges that are joined.
 use Prim.Native.Nat.{ℕ, _<_}
 use mathlib.Core.Path.{_≡_}
-use mathlib.Core.Bool.{Bool, true}
+use mathlib.Core.Bool.{Bool, true, not}
 use mathlib.Core.List.{List}
 use lib.ListN.{length, getD}
 use lib.Dec.{eqb}
@@ -20,6 +20,10 @@ chosenMark Kept mark = eqb mark 2
 
 unfoldable pub chosen : Chosen → (marks : List ℕ) → ℕ → Bool
 chosen set marks e = chosenMark set (getD marks e 0)
+
+-- The edges that a buffer of marks picks: those with anything but 0.
+unfoldable pub pickedIn : (marks : List ℕ) → ℕ → Bool
+pickedIn marks e = not (eqb (getD marks e 0) 0)
 
 -- z in place of x and of y.
 unfoldable pub relabelled : (x y z : ℕ) → List ℕ → List ℕ

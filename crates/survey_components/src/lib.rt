@@ -2,17 +2,19 @@
 ghost use Rattle.base_buffer.specs.Lent.{old, new};
 ghost use mathlib.Core.Path.{_≡_};
 ghost use Prim.Native.Nat.{ℕ, _<_};
-ghost use mathlib.Core.Bool.{cond};
+ghost use mathlib.Core.Bool.{cond, _&&_};
+ghost use mathlib.Core.List.{[]};
 ghost use lib.ListN.{getD, length, replicate};
 ghost use lib.Dec.{eqb};
 ghost use Rattle.base_finite.specs.Below.{tabulate};
 ghost use Rattle.theory_graph.specs.Component.{merged, components};
 ghost use Rattle.base_limits.specs.Limits.{maxVertices};
-ghost use Rattle.base_limits.specs.Verdict.{_before_, written};
-ghost use Rattle.survey_core.specs.Survey.{lentSurvey};
+ghost use Rattle.base_limits.specs.Verdict.{refuseIf, _before_, written};
+ghost use Rattle.survey_core.specs.Survey.{surveyFrom, lentSurvey};
 ghost use Rattle.survey_core.specs.Refusal.{surveyRefusal, groupRefusal};
 ghost use Rattle.base_buffer.specs.Store.{remade};
-ghost use Rattle.survey_components.specs.Labels.{chosenMark, chosen, relabelled, endsJoined, EndsFit, labelsOf};
+ghost use Rattle.survey_components.specs.Labels.{chosenMark, chosen, pickedIn, relabelled, endsJoined, EndsFit, labelsOf};
+ghost use Rattle.survey_components.specs.Forest.{EndsBelow, loopRefusal, forestRefusal};
 use base_buffer::put32;
 use base_limits::MAX_VERTICES;
 use base_limits::Verdict;
@@ -36,8 +38,22 @@ fn is_kept(mark: u8) -> bool
     ensures { λ r. ⌜ r ≡ eqb mark 2 ⌝ }
 {
     match mark {
+        0 => false,
+        1 => false,
         2 => true,
         _ => false,
+    }
+}
+
+// Whether the mark of edge e is that of a picked one.
+pub fn is_picked(marks: &[u8], e: usize) -> bool
+    ensures { λ r. ⌜ r ≡ pickedIn (old marks) e ⌝ }
+{
+    match base_buffer::at8(marks, e) {
+        0 => false,
+        1 => true,
+        2 => true,
+        _ => true,
     }
 }
 
@@ -86,16 +102,18 @@ pub fn merge(labels: &mut [u32], first: u32, second: u32, z: u32)
     relabel(labels, x, y, z);
 }
 
-// The components of two vertices become that of the first.
-fn join_ends(labels: &mut [u32], first: u32, second: u32)
-    ensures { λ r. ⌜ new labels ≡ endsJoined first second (old labels) ⌝ }
+// The components of two vertices become that of the first; answers whether they were one already.
+fn join_ends(labels: &mut [u32], first: u32, second: u32) -> bool
+    ensures one { λ r. ⌜ r ≡ eqb (getD (old labels) first 0) (getD (old labels) second 0) ⌝ }
+    ensures joined { λ r. ⌜ new labels ≡ endsJoined first second (old labels) ⌝ }
 {
     let x = base_buffer::at32(labels, base_buffer::index32(first));
     let y = base_buffer::at32(labels, base_buffer::index32(second));
     if x == y {
-        return;
+        return true;
     }
     relabel(labels, x, y, x);
+    false
 }
 
 // The ends of edge e become linked, if it is in the set.
@@ -177,4 +195,80 @@ pub fn group_refusal(
     let mut labels = [0u32; MAX_VERTICES];
     label_components(set, firsts, seconds, marks, &mut labels);
     survey_groups::split_refusal(groups, &labels, number)
+}
+
+// The ends of edge e become linked, if it is picked; 21 where they are linked already.
+fn join_picked(
+    firsts: &[u32],
+    seconds: &[u32],
+    picked: &[u8],
+    labels: &mut [u32],
+    e: usize,
+) -> Verdict
+    ensures closed { λ r. let first = getD (old firsts) e 0 in
+        let second = getD (old seconds) e 0 in
+        let one = eqb (getD (old labels) first 0) (getD (old labels) second 0) in
+        ⌜ r ≡ refuseIf (pickedIn (old picked) e && one) 21 e ⌝ }
+    ensures joined { λ r. let joined = endsJoined (getD (old firsts) e 0) (getD (old seconds) e 0) (old labels) in
+        ⌜ new labels ≡ cond (pickedIn (old picked) e) joined (old labels) ⌝ }
+{
+    if is_picked(picked, e) {
+        let linked = join_ends(
+            labels,
+            base_buffer::at32(firsts, e),
+            base_buffer::at32(seconds, e),
+        );
+        if linked {
+            return Verdict::Refused {
+                number: 21,
+                place: e,
+            };
+        }
+        return Verdict::Fine;
+    }
+    Verdict::Fine
+}
+
+// 21 at the lowest picked track that closes a loop, then 14.
+fn loop_refusal(groups: &[u8], firsts: &[u32], seconds: &[u32], picked: &[u8]) -> Verdict
+    requires { ⌜ EndsBelow (now groups) (now firsts) (now seconds) ⌝ }
+    ensures { λ r. let s = surveyFrom (old groups) (old firsts) (old seconds) [] in
+        let picks = pickedIn (old picked) in
+        ⌜ r ≡ (loopRefusal s picks before groupRefusal s 14 picks) ⌝ }
+{
+    let mut labels = [0u32; MAX_VERTICES];
+    own_labels(&mut labels);
+    let mut e = 0;
+    while e < firsts.len() {
+        let found = join_picked(firsts, seconds, picked, &mut labels, e);
+        let Verdict::Fine = found else {
+            return found;
+        };
+        e += 1;
+    }
+    survey_groups::split_refusal(groups, &labels, 14)
+}
+
+// What keeps marks from being those of a forest that joins every group: 1 to 6, 9 for marks not m long, 21, then 14 for
+// the picked tracks.
+pub fn forest_refusal(
+    groups: &[u8],
+    firsts: &[u32],
+    seconds: &[u32],
+    weights: &[u32],
+    picked: &[u8],
+) -> Verdict
+    ensures { λ r. ⌜ r ≡ forestRefusal (lentSurvey groups firsts seconds weights) (old picked) ⌝ }
+{
+    let found = survey_core::survey_refusal(groups, firsts, seconds, weights);
+    let Verdict::Fine = found else {
+        return found;
+    };
+    if picked.len() != firsts.len() {
+        return Verdict::Refused {
+            number: 9,
+            place: 0,
+        };
+    }
+    loop_refusal(groups, firsts, seconds, picked)
 }

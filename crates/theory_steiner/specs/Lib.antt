@@ -4,4 +4,5 @@ pub mod Minima
 pub mod Dual
 pub mod Pruning
 pub mod Requirement
+pub mod Rounds
 pub mod Laws

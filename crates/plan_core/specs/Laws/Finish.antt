@@ -1,12 +1,13 @@
 -- From what growing, dropping and drawing leave to the plan: picked marks become the plan's marks, and the trace's duals are the plan's duals. `finish` cites it.
 use Prim.Native.Nat.{ℕ, _+_, _*_, _-_, _≤_, _<_}
 use mathlib.Core.Path.{_≡_, refl, ap, sym, _∙_, subst, fun-ext}
-use mathlib.Core.Logic.{_⊎_, ⊎-elim}
+use mathlib.Core.Logic.{⊎-elim}
 use mathlib.Core.Bool.{Bool, true, false, not}
 use mathlib.Core.List.{List, [], _++_}
 use native.Mathlib.Omega.{arith}
-use lib.ListN.{length, getD, drop, length-append, length-drop, List·getD-append, List·getD-eq-default}
-use lib.Seq.{ext-getD, getD-append-add, getD-drop}
+use native.Mathlib.Nat.{sub-zero}
+use lib.ListN.{length, getD, take, drop, length-append, length-drop, List·getD-append, List·getD-eq-default}
+use lib.Seq.{ext-getD, getD-append-add, getD-drop, getD-take, length-take-le}
 use lib.Dec.{eqb, ltb}
 use borrow.Author.Tests.{lt-ltb}
 use Rattle.base_finite.specs.Below.{counted, tabulate}
@@ -14,8 +15,9 @@ use Rattle.base_finite.specs.Laws.Test.{not-true-false}
 use Rattle.base_finite.specs.Laws.Below.{sum-cong, length-tabulate, getD-tabulate, lt-or-ge, counted-true}
 use Rattle.base_limits.specs.Limits.{maxVertices, maxEdges, recordBytes, dualsFor}
 use Rattle.base_limits.specs.Verdict.{answer, written}
+use Rattle.base_limits.specs.declared.Verdict.the-variants.{Fine}
 use Rattle.theory_graph.specs.Path.{Forest}
-use Rattle.theory_steiner.specs.Problem.{Problem, Sound, Joins, joined, terminal, terminals, cost, Bounded}
+use Rattle.theory_steiner.specs.Problem.{Problem, Sound, Joins, terminal, terminals, cost}
 use Rattle.theory_steiner.specs.Growth.{edge, winner, stateAt, grown}
 use Rattle.theory_steiner.specs.Laws.Finish.{picked-joins}
 use Rattle.theory_steiner.specs.Pruning.{needed, picked, kept, markOf, mark}
@@ -26,13 +28,15 @@ use Rattle.survey_core.specs.Refusal.{surveyRefusal}
 use Rattle.survey_core.specs.Laws.Refusal.{survey-fine, survey-sound}
 use Rattle.base_buffer.specs.Store.{remade}
 use Rattle.base_buffer.specs.Laws.Store.{tabulate-cong, length-remade, remade-passed, remade-ahead}
-use Rattle.plan_cuts.specs.Word.{pickedIn}
-use Rattle.plan_drop.specs.Prunable.{Prunable, unweighted}
-use Rattle.plan_drop.specs.Judge.{prunedMarks}
+use Rattle.survey_components.specs.Labels.{pickedIn}
+use Rattle.survey_components.specs.Forest.{forestRefusal}
+use Rattle.plan_drop.specs.Judge.{prunedMarks, marksPruned}
+use Rattle.plan_drop.specs.Laws.Prunable.{prunable-fine}
 use Rattle.plan_growth.specs.Represents.{pickAt, winnerEdge}
 use Rattle.plan_growth.specs.Grown.{GrownAfter}
 use Rattle.plan_growth.specs.declared.Growth.{Growth}
-use Rattle.plan_duals.specs.Trace.{Trace, traceFrom, traceDuals, Drawable, TraceOf}
+use Rattle.plan_duals.specs.Trace.{Trace, traceFrom, drawnDuals, Drawable, TraceOf}
+use Rattle.plan_duals.specs.Laws.Drawable.{drawn-all}
 use Rattle.plan_duals.specs.Laws.Growth.{trace-duals, trace-drawable, traces-from}
 use Rattle.check_rule.specs.Check.{keptBy}
 use Rattle.plan_core.specs.Promise.{Ready}
@@ -77,57 +81,53 @@ module _ (s : Survey) where
   abbrev p : Problem
   p = problemOf s
 
-  -- Pruning does not read the weights, and nothing that it asks depends on them.
-  abbrev q : Problem
-  q = unweighted (s .groups) (s .firsts) (s .seconds)
+  -- The first m marks of growing are lent to pruning.
+  picks-long : length (s .firsts) ≤ maxEdges → (marks : List ℕ) → marks ≡ tabulate maxEdges (λ e. counted (grown p .picked e) 1) →
+      length (take (length (s .firsts) - 0) marks) ≡ edgeCount s
+  unfolding edgeCount
+  picks-long few marks h =
+      let long : length marks ≡ maxEdges = ap length h ∙ length-tabulate maxEdges _ in
+      rw (sub-zero (length (s .firsts))) (length-take-le (length (s .firsts)) marks (omega arith))
 
-  -- The edges that growing marks are the picked ones.
-  picked-marks : length (s .firsts) ≤ maxEdges → (marks : List ℕ) → marks ≡ tabulate maxEdges (λ e. counted (grown p .picked e) 1) → pickedIn marks ≡ picked p
+  -- The edges that they mark are the picked ones.
+  picked-marks : length (s .firsts) ≤ maxEdges → (marks : List ℕ) → marks ≡ tabulate maxEdges (λ e. counted (grown p .picked e) 1) →
+      pickedIn (take (length (s .firsts) - 0) marks) ≡ picked p
   unfolding pickedIn picked problemOf edgeCount
-  picked-marks few marks h = fun-ext (λ e. ap (λ l. not (eqb (getD l e 0) 0)) h ∙ ⊎-elim (marked e) (past e) (lt-or-ge e maxEdges))
+  picked-marks few marks h =
+      fun-ext
+      (λ e.
+      rw (sub-zero (length (s .firsts)))
+      (⊎-elim (marked e) (past e) (lt-or-ge e (length (s .firsts)))))
     where
-      marked : (e : ℕ) → e < maxEdges → not (eqb (getD (tabulate maxEdges (λ e. counted (grown p .picked e) 1)) e 0) 0) ≡ grown p .picked e
-      marked e b = ap (λ x. not (eqb x 0)) (getD-tabulate maxEdges (λ e. counted (grown p .picked e) 1) e 0 b) ∙ one-or-none (grown p .picked e)
+      long : length (take (length (s .firsts)) marks) ≡ length (s .firsts)
+      long =
+          let all : length marks ≡ maxEdges = ap length h ∙ length-tabulate maxEdges _ in
+          length-take-le (length (s .firsts)) marks (omega arith)
 
-      past : (e : ℕ) → maxEdges ≤ e → not (eqb (getD (tabulate maxEdges (λ e. counted (grown p .picked e) 1)) e 0) 0) ≡ grown p .picked e
+      marked : (e : ℕ) → e < length (s .firsts) → not (eqb (getD (take (length (s .firsts)) marks) e 0) 0) ≡ grown p .picked e
+      marked e b =
+          ap (λ x. not (eqb x 0))
+          (getD-take (length (s .firsts)) marks e 0 b ∙ ap (λ l. getD l e 0) h ∙ getD-tabulate maxEdges (λ e. counted (grown p .picked e) 1) e 0 (omega arith))
+          ∙ one-or-none (grown p .picked e)
+
+      past : (e : ℕ) → length (s .firsts) ≤ e → not (eqb (getD (take (length (s .firsts)) marks) e 0) 0) ≡ grown p .picked e
       past e b =
-          let long = length-tabulate maxEdges (λ e. counted (grown p .picked e) 1) in
-          ap (λ x. not (eqb x 0)) (List·getD-eq-default (tabulate maxEdges (λ e. counted (grown p .picked e) 1)) 0 (omega arith))
+          ap (λ x. not (eqb x 0)) (List·getD-eq-default (take (length (s .firsts)) marks) 0 (omega (arith, long)))
           ∙ sym (not-true-false (grown p .picked e) (λ k. let l = picked-usable p (grown-reached p) e k .0 in omega arith))
 
-  needed-unweighted : (F : ℕ → Bool) (e : ℕ) → needed q F e ≡ needed p F e
-  unfolding needed joined problemOf sameGroup member vertexCount edgeCount
-  needed-unweighted F e = refl
-
-  sound-unweighted : Sound p → Sound q
-  unfolding problemOf sameGroup member vertexCount edgeCount
-  sound-unweighted ok = record { first-below = ok .first-below; second-below = ok .second-below; ends-differ = ok .ends-differ; symmetric = ok .symmetric }
-
-  joins-unweighted : (F : ℕ → Bool) → Joins p F → Joins q F
-  unfolding problemOf sameGroup member vertexCount edgeCount
-  joins-unweighted F h u v bu bv r = h u v bu bv r
-
-  picks-below : Bounded q (picked p)
-  unfolding picked problemOf edgeCount
-  picks-below e h = picked-usable p (grown-reached p) e h .0
-
-  picks-forest : Sound p → Forest (q .first) (q .second) (picked p)
-  unfolding picked problemOf
+  picks-forest : Sound p → Forest (p .first) (p .second) (picked p)
+  unfolding picked
   picks-forest ok = picked-forest p ok (grown-reached p)
 
   -- Marks made by pruning are the plan's.
-  plan-marks : (picks marks : List ℕ) → pickedIn picks ≡ picked p → edgeCount s ≤ length marks →
-      prunedMarks q (pickedIn picks) (length (s .firsts)) marks ≡ planOf p .marks ++ drop (length (s .firsts)) marks
-  unfolding planOf prunedMarks mark kept problemOf edgeCount
-  plan-marks picks marks same room =
-      remade-front _ (length (s .firsts)) marks room
+  plan-marks : (picks marks : List ℕ) → forestRefusal s picks ≡ Fine → pickedIn picks ≡ picked p → edgeCount s ≤ length marks →
+      marksPruned s picks marks ≡ planOf p .marks ++ drop (length (s .firsts)) marks
+  unfolding planOf marksPruned written prunedMarks mark kept problemOf edgeCount
+  plan-marks picks marks fine same room =
+      ap (λ v. written v (prunedMarks p (pickedIn picks) (length (s .firsts)) marks) marks) fine
+      ∙ remade-front _ (length (s .firsts)) marks room
       ∙ ap (λ l. l ++ drop (length (s .firsts)) marks)
-      (tabulate-cong
-      (length (s .firsts))
-      _
-      _
-      (λ e b.
-      ap (markOf (pickedIn picks e)) (needed-unweighted (pickedIn picks) e) ∙ ap (λ G. markOf (G e) (needed (problemOf s) G e)) same))
+      (tabulate-cong (length (s .firsts)) _ _ (λ e b. ap (λ G. markOf (G e) (needed (problemOf s) G e)) same))
 
   plan-terminals : terminals (problemOf (groupsAlone (s .groups))) ≡ planOf p .terminals
   unfolding planOf terminals terminal problemOf sameGroup member vertexCount
@@ -169,21 +169,24 @@ module _ {s : Survey} {marksLength recordsLength : ℕ} (ready : Ready s marksLe
   unfolding written problemOf vertexCount
   to-the-end = subst (λ v. GrownAfter (problemOf s) (written v (length (s .groups)) 0) g) (survey-fine s (ready .survey)) grew
 
-  picks-same : pickedIn (g .picked) ≡ picked P
+  abbrev picks : List ℕ
+  picks = take (length (s .firsts) - 0) (g .picked)
+
+  picks-same : pickedIn picks ≡ picked P
   unfolding grown
   picks-same = picked-marks s (ready .survey .edges-few) (g .picked) (to-the-end .picked-are)
 
-  -- What pruning asks.
-  pub prunable : Prunable (s .groups) (s .firsts) (s .seconds) (g .picked)
-  prunable =
-      record {
-        few = ready .survey .few;
-        edges-few = ready .survey .edges-few;
-        sound = sound-unweighted s ok;
-        bounded = subst (Bounded (q s)) (sym picks-same) (picks-below s);
-        joins = subst (Joins (q s)) (sym picks-same) (joins-unweighted s (picked P) (picked-joins P ok some (ready .joinable)));
-        forest = subst (Forest (q s .first) (q s .second)) (sym picks-same) (picks-forest s ok);
-      }
+  -- Pruning refuses nothing that growing leaves.
+  prunes : forestRefusal s picks ≡ Fine
+  unfolding grown
+  prunes =
+      prunable-fine s picks (ready .survey) (picks-long s (ready .survey .edges-few) (g .picked) (to-the-end .picked-are))
+      (subst (Joins P) (sym picks-same) (picked-joins P ok some (ready .joinable)))
+      (subst (Forest (P .first) (P .second)) (sym picks-same) (picks-forest s ok))
+
+  -- There are marks for all tracks.
+  pub picks-fit : length (s .firsts) ≤ length (g .picked)
+  picks-fit = let few = ready .survey .edges-few in omega (arith, ap length (to-the-end .picked-are), length-tabulate maxEdges (λ e. counted (stateAt P (P .vertices) .picked e) 1))
 
   order-at : (r e d : ℕ) → r < g .rounds → winner P (stateAt P r) ≡ edge e d → getD (g .order) r 0 ≡ e
   unfolding pickAt winnerEdge grown
@@ -201,8 +204,8 @@ module _ {s : Survey} {marksLength recordsLength : ℕ} (ready : Ready s marksLe
       traces-from (problemOf s) ok (s .firsts) (s .seconds) (g .values) (g .order) (g .rounds) some few (λ e b. refl) (λ e b. refl)
       (to-the-end .values-are) order-at (to-the-end .rounds-are)
 
-  -- What drawing asks.
-  pub drawable : (records : List ℕ) → length records ≡ recordsLength → Drawable trace records
+  -- The trace can be replayed.
+  drawable : (records : List ℕ) → length records ≡ recordsLength → Drawable trace records
   unfolding problemOf vertexCount
   drawable records long =
       trace-drawable (problemOf s) ok trace traces records some few (subst (λ x. recordBytes * dualsFor (length (s .groups)) ≤ x) (sym long) (ready .records-fit))
@@ -215,23 +218,25 @@ module _ {s : Survey} {marksLength recordsLength : ℕ} (ready : Ready s marksLe
   unfolding grown planOf
   bound-plan = to-the-end .bound-is
 
-  duals-plan : traceDuals trace ≡ planOf P .duals
+  duals-plan : (records : List ℕ) → length records ≡ recordsLength → drawnDuals trace (length records) ≡ planOf P .duals
   unfolding planOf
-  duals-plan = trace-duals P ok trace traces
+  duals-plan records long = drawn-all trace records (drawable records long) ∙ trace-duals P ok trace traces
 
   -- All together: what the calls leave is the plan.
-  pub finish-plan : (marks records : List ℕ) {marked drawn : List ℕ} {count k c rounds duals : ℕ} → length marks ≡ marksLength →
-      marked ≡ prunedMarks (unweighted (s .groups) (s .firsts) (s .seconds)) (pickedIn (g .picked)) (length (s .firsts)) marks →
-      count ≡ length (traceDuals trace) → drawn ≡ recordsOver (traceDuals trace) records →
+  pub finish-plan : (marks records : List ℕ) {marked drawn : List ℕ} {count k c rounds duals : ℕ} → length marks ≡ marksLength → length records ≡ recordsLength →
+      marked ≡ marksPruned s picks marks →
+      count ≡ length (drawnDuals trace (length records)) → drawn ≡ recordsOver (drawnDuals trace (length records)) records →
       k ≡ terminals (problemOf (groupsAlone (s .groups))) → c ≡ cost (problemOf (surveyFrom [] (s .firsts) [] (s .weights))) (keptBy marked) → rounds ≡ g .rounds → duals ≡ count →
       (plannedOutcome (Finished k c (g .bound) rounds duals) ≡ answer (planCountsOf (planOf P)))
       × ((marked ≡ planOf P .marks ++ drop (length (s .firsts)) marks) × (drawn ≡ recordsOver (planOf P .duals) records))
   unfolding plannedOutcome planCountsOf
-  finish-plan marks records {marked} {k = k} {c = c} {rounds = rounds} {duals = duals} long h-marks h-count h-drawn h-k h-c h-rounds h-duals =
-      (rw (h-k ∙ plan-terminals s, c-is, bound-plan, h-rounds ∙ rounds-plan, h-duals ∙ h-count ∙ ap length duals-plan), (marks-are, h-drawn ∙ ap (λ d. recordsOver d records) duals-plan))
+  finish-plan marks records {marked} {k = k} {c = c} {rounds = rounds} {duals = duals} long room h-marks h-count h-drawn h-k h-c h-rounds h-duals = (
+    rw (h-k ∙ plan-terminals s, c-is, bound-plan, h-rounds ∙ rounds-plan, h-duals ∙ h-count ∙ ap length (duals-plan records room)),
+    (marks-are, h-drawn ∙ ap (λ d. recordsOver d records) (duals-plan records room)),
+  )
     where
       marks-are : marked ≡ planOf P .marks ++ drop (length (s .firsts)) marks
-      marks-are = h-marks ∙ plan-marks s (g .picked) marks picks-same (subst (λ x. edgeCount s ≤ x) (sym long) (ready .marks-fit))
+      marks-are = h-marks ∙ plan-marks s picks marks prunes picks-same (subst (λ x. edgeCount s ≤ x) (sym long) (ready .marks-fit))
 
       c-is : c ≡ planOf P .cost
       c-is =

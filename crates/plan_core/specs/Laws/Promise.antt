@@ -1,6 +1,7 @@
 -- What an answer of planning promises besides its equation with the definition: finished exactly if none of 1 to 8 applies; 8 exactly if the survey is sound, the buffers
--- are long enough and some group cannot be joined by any set of tracks, and then the lowest; rounds are picked tracks; the plan passes the checker and is accurate.
-use Prim.Native.Nat.{ℕ, _*_, _≤_, _<_}
+-- are long enough and some group cannot be joined by any set of tracks, and then the lowest; rounds and bound are those of the definition's steps; the plan passes the
+-- checker and is accurate.
+use Prim.Native.Nat.{ℕ, _*_, _-_, _≤_, _<_}
 use mathlib.Core.Path.{_≡_, refl, ap, sym, _∙_, subst}
 use mathlib.Core.Logic.{_⊎_, inl, inr, ⊎-elim}
 use mathlib.Core.Bool.{Bool, false, _||_}
@@ -18,16 +19,18 @@ use Rattle.base_limits.specs.Verdict.{Outcome, refusal, refuseIf, _before_, low
 use Rattle.base_limits.specs.declared.Verdict.{Verdict}
 use Rattle.base_limits.specs.declared.Verdict.the-variants.{Fine, Refused}
 use Rattle.base_limits.specs.Laws.Verdict.{before-fine, refuse-true, refuse-false, lowest-none, lowest-found, lowest-elim, Lowest, refused-refuse, fine-refuse, answer-fine}
-use Rattle.theory_steiner.specs.Problem.{Sound, allUsable}
+use Rattle.theory_steiner.specs.Problem.{Problem, Sound, Joins, allUsable}
+use Rattle.theory_steiner.specs.Growth.{active, stateAt, grown}
 use Rattle.theory_steiner.specs.Pruning.{picked}
-use Rattle.theory_steiner.specs.Laws.Rounds.{grown-reached, picked-count}
+use Rattle.theory_steiner.specs.Rounds.{boundOfRounds, TakesRounds}
+use Rattle.theory_steiner.specs.Laws.Rounds.{rounds-lt, takes-rounds, grown-reached, picked-count, bound-of-rounds}
 use Rattle.survey_core.specs.Survey.{Survey, vertexCount, edgeCount, problemOf, groupJoined, componentsOf}
 use Rattle.survey_core.specs.Refusal.{edgeRefusal, surveyRefusal, groupRefusal, LowestUnjoined}
 use Rattle.survey_core.specs.Laws.Refusal.{survey-fine, fine-survey, survey-sound}
 use Rattle.survey_core.specs.Sound.{ByteGroups}
 use Rattle.survey_core.specs.Laws.Group.{group-joined-elim, group-joined-intro, group-refused, unjoinable-iff}
 use Rattle.survey_core.specs.Laws.Member.{member-elim}
-use Rattle.theory_steiner.specs.Laws.Finish.{allUsable-edges}
+use Rattle.theory_steiner.specs.Laws.Finish.{allUsable-edges, grown-resting}
 use Rattle.plan_duals.specs.Drawing.{recordsOf, recordsOver}
 use Rattle.plan_duals.specs.Laws.Drawing.{length-records}
 use Rattle.plan_core.specs.Plan.{planOf, planRefusal, PlanCounts, planCountsOf, counting, marksAfter, recordsAfter}
@@ -135,10 +138,25 @@ module _ (s : Survey) (marksLength recordsLength : ℕ) where
 
 -- ---- rounds, checker and accuracy
 
--- Rounds are picked tracks.
-rounds-of : (s : Survey) → Sound (problemOf s) → planOf (problemOf s) .rounds ≡ countBelow (edgeCount s) (picked (problemOf s))
-unfolding planOf picked problemOf
-rounds-of s ok = sym (picked-count (problemOf s) ok (grown-reached (problemOf s)))
+-- The rounds of a plan, and its bound as a sum over them.
+record PlanRounds (p : Problem) : Type 0 where
+  count : planOf p .rounds ≡ countBelow (p .edges) (picked p)
+  few : planOf p .rounds ≤ p .vertices - 1
+  steps : TakesRounds p (planOf p .rounds)
+  rest : (v : ℕ) → active p (stateAt p (planOf p .rounds) .label) v ≡ false
+  bound : planOf p .bound ≡ boundOfRounds p (planOf p .rounds)
+
+plan-rounds : (p : Problem) (ok : Sound p) → 0 < p .vertices → Joins p (allUsable p) → PlanRounds p
+unfolding planOf picked
+plan-rounds p ok some joinable =
+    let steps : TakesRounds p (grown p .rounds) = takes-rounds p ok some in
+    record {
+      count = sym (picked-count p ok (grown-reached p));
+      few = omega (arith, rounds-lt p ok some (grown-reached p));
+      steps = steps;
+      rest = λ v. ap (λ t. active p (t .label) v) (steps .whole) ∙ grown-resting p ok some joinable v;
+      bound = bound-of-rounds p ok;
+    }
 
 module _ (s : Survey) (numbered : ByteGroups s) (marks records : List ℕ) (fine : planRefusal s (length marks) (length records) ≡ Fine) where
   -- The marks and the records of a finished plan, cut from the buffers.
@@ -157,18 +175,20 @@ module _ (s : Survey) (numbered : ByteGroups s) (marks records : List ℕ) (fine
       ∙ take-at new (drop count records) count (length-records (planOf (problemOf s) .duals))
 
   finished-counts : FinishedPlan s marks records (planCountsOf (planOf (problemOf s)))
-  unfolding planCountsOf
+  unfolding planCountsOf problemOf vertexCount edgeCount
   finished-counts =
       let r : Ready s (length marks) (length records) = fine-ready s numbered (length marks) (length records) fine in
+      let rounds : PlanRounds (problemOf s) = plan-rounds (problemOf s) (survey-sound s (r .survey)) (r .survey .some) (r .joinable) in
       record {
         ready = r;
-        rounds-picked = rounds-are r;
+        rounds-picked = rounds .count;
+        rounds-few = rounds .few;
+        rounds-steps = rounds .steps;
+        rounds-rest = rounds .rest;
+        bound-rounds = rounds .bound;
         passes-checker = rw (cut-marks, cut-records) (finished-passes s (r .survey) (r .joinable) numbered);
         accuracy = finished-accurate s (r .survey) (r .joinable);
       }
-    where
-      rounds-are : Ready s (length marks) (length records) → planOf (problemOf s) .rounds ≡ countBelow (edgeCount s) (picked (problemOf s))
-      rounds-are r = rounds-of s (survey-sound s (r .survey))
 
 -- An answer with counts is a finished plan, and none of 1 to 8 applied.
 pub counting-finished : (s : Survey) → ByteGroups s → (marks records : List ℕ) (c : PlanCounts) → counting s (length marks) (length records) ≡ answer c →

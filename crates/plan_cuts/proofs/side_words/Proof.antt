@@ -7,7 +7,7 @@ use Rattle.base_finite.specs.Below.{countBelow}
 use Rattle.base_finite.specs.Laws.Below.{count-le}
 use Rattle.base_limits.specs.Limits.{maxVertices}
 use Rattle.base_buffer.specs.Laws.Store.{remade-table, replicate-table}
-use Rattle.plan_cuts.specs.Word.{pickedIn}
+use Rattle.survey_components.specs.Labels.{pickedIn}
 use Rattle.plan_cuts.specs.Taken.{takenBelow}
 use Rattle.plan_cuts.specs.Laws.Word.{count-start, next-index}
 use Rattle.plan_cuts.specs.Laws.Taken.{taken-none, taken-more, labels-long, words-long, taken-end}

@@ -5,16 +5,16 @@ use mathlib.Core.Logic.{_⊎_, inl, inr}
 use mathlib.Core.Bool.{Bool, true, false, _&&_, xor, cond, false≢true}
 use native.Mathlib.Omega.{arith}
 use lib.Dec.{eqb, ltb}
-use borrow.Author.Tests.{eqb-true, eq-eqb, ne-eqb, lt-ltb, ltb-true}
-use Rattle.base_finite.specs.Laws.Test.{either, and-both, and-left, and-right}
+use borrow.Author.Tests.{eqb-true, eq-eqb, ne-eqb, lt-ltb}
+use Rattle.base_finite.specs.Laws.Test.{either, and-both}
 use Rattle.base_finite.specs.Laws.Below.{below-suc}
 use Rattle.theory_graph.specs.Path.{crosses, Forest}
 use Rattle.theory_graph.specs.Component.{components}
-use Rattle.theory_graph.specs.Laws.Linked.{linked-mono, without-intro}
 use Rattle.theory_graph.specs.Laws.Component.{components-right}
 use Rattle.theory_steiner.specs.Problem.{Problem, Sound, Joins, separates, Bounded}
 use Rattle.theory_steiner.specs.Pruning.{needed}
 use Rattle.theory_steiner.specs.Laws.Cut.{needed-by-cut}
+use Rattle.survey_components.specs.Laws.Forest.{forest-apart}
 use Rattle.plan_cuts.specs.Side.{sideStep, sides}
 
 -- ---- exclusive or
@@ -71,14 +71,6 @@ module _ (a b : ℕ → ℕ) (label : ℕ → ℕ) (e : ℕ) (apart : label (a e
   step-own side = rw (eq-eqb e e refl, eq-eqb (label (a e)) (label (a e)) refl, ne-eqb (label (b e)) (label (a e)) (λ k. apart (sym k)))
 
 -- ---- all edges
-
--- In a forest an edge joins two components of the edges below it.
-forest-apart : (n : ℕ) (a b : ℕ → ℕ) (F : ℕ → Bool) → Forest a b F → (e : ℕ) → F e ≡ true → components n a b F e (a e) ≡ components n a b F e (b e) → ⊥
-forest-apart n a b F forest e f same =
-    forest e f
-    (linked-mono
-    (λ g h. without-intro F e g (and-right (ltb g e) (F g) h) (λ k. let l : g < e = ltb-true g e (and-left (ltb g e) (F g) h) in omega arith))
-    (components-right n a b F e .sound (a e) (b e) tt tt same))
 
 -- Edges of F below m: f's side is crossed by g exactly if g is f.
 pub sides-cross : (n : ℕ) (a b : ℕ → ℕ) (F : ℕ → Bool) → Forest a b F → (m f g : ℕ) → f < m → g < m → F f ≡ true → F g ≡ true →

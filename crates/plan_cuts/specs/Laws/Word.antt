@@ -5,7 +5,7 @@ use native.Mathlib.Decide.{ℕ-discrete}
 use native.Mathlib.Numerals.{add-one}
 use mathlib.Core.Path.{_≡_, refl, ap, sym, _∙_}
 use mathlib.Core.Logic.{_⊎_, inl, inr, ⊎-elim}
-use mathlib.Core.Bool.{Bool, true, false, _&&_, not, xor, cond}
+use mathlib.Core.Bool.{Bool, true, false, _&&_, xor, cond}
 use mathlib.Core.List.{List}
 use lib.ListN.{length, getD}
 use lib.Dec.{eqb, ltb, leb}
@@ -20,15 +20,7 @@ use Rattle.format_record.specs.Laws.Bits.{bit-of-zero, bit-set, bit-set-other, 
 use Rattle.base_buffer.specs.Laws.Store.{remade-table, tabulate-cong}
 use Rattle.survey_components.specs.Labels.{relabelled, endsJoined}
 use Rattle.plan_cuts.specs.Side.{sideStep, sides}
-use Rattle.plan_cuts.specs.Word.{wordBits, pickedIn, inBatch, ownWord, turned, sideWords, turnedAll, edgeTaken}
-
-pub picked-not : (picked : List ℕ) (e : ℕ) → getD picked e 0 ≡ 0 → pickedIn picked e ≡ false
-unfolding pickedIn
-picked-not picked e h = ap not (eq-eqb (getD picked e 0) 0 h)
-
-pub picked-is : (picked : List ℕ) (e : ℕ) → (getD picked e 0 ≡ 0 → ⊥) → pickedIn picked e ≡ true
-unfolding pickedIn
-picked-is picked e h = ap not (ne-eqb (getD picked e 0) 0 h)
+use Rattle.plan_cuts.specs.Word.{wordBits, inBatch, ownWord, turned, sideWords, turnedAll, edgeTaken}
 
 -- ---- bits
 

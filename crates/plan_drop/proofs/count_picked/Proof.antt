@@ -1,7 +1,7 @@
 -- `count_picked` meets its contract: it counts upwards.
 use Rattle.plan_drop.specs.Laws.Judge.{dropped-counts}
 use Rattle.plan_cuts.specs.Laws.Word.{count-start}
-use Rattle.plan_cuts.specs.Word.{pickedIn}
+use Rattle.survey_components.specs.Labels.{pickedIn}
 use Rattle.base_finite.specs.Laws.Count.{count-more, count-end, count-bound}
 use Rattle.base_finite.specs.Below.{countBelow}
 use mathlib.Core.Path.{_≡_, _∙_}

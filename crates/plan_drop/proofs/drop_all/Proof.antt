@@ -1,6 +1,6 @@
 -- `drop_all` meets its contract: it stores at rising places.
 use Rattle.plan_drop.specs.Judge.{droppedMarks}
-use Rattle.plan_cuts.specs.Word.{pickedIn}
+use Rattle.survey_components.specs.Labels.{pickedIn}
 use Rattle.base_buffer.specs.Store.{remade}
 use Rattle.base_buffer.specs.Laws.Store.{length-remade, remade-more, remade-end}
 use Rattle.theory_steiner.specs.Pruning.{markOf}

@@ -1,70 +1,44 @@
--- `prune` meets its contract: after each batch the marks are those of the batches below base.
-use Rattle.plan_drop.specs.Laws.Judge.{marksBelow, length-dropped, length-below, below-start, below-more, below-end}
-use Rattle.plan_drop.specs.Prunable.{unweighted}
-use Rattle.plan_cuts.specs.Word.{pickedIn}
-use Rattle.base_finite.specs.Laws.Below.{count-le}
-use lib.ListN.{length}
-use mathlib.Core.Path.{_≡_, ap, _∙_}
-use Prim.Native.Nat.{_-_}
-use borrow.Author.Needs.{needs}
+-- `prune` meets its contract: a refusal writes nothing, and where none comes the picked edges are what the batches ask for.
+use mathlib.Core.Path.{sym, _∙_}
 use native.Mathlib.Omega.{arith}
+use Rattle.survey_core.specs.Survey.{surveyFrom}
+use Rattle.survey_core.specs.Laws.Group.{plain-bytes}
+use Rattle.plan_drop.specs.Laws.Prunable.{fine-prunable, marks-kept, marks-written}
+use borrow.Author.Needs.{needs}
 use Rattle.plan_drop.proofs.prune.Statement.{statement}
 use Rattle.plan_drop.proofs.prune.Tie as tie
 
-abbrev Inv-loop : tie.InvT-loop
-Inv-loop groups firsts seconds picked marks₀ count base₀ marks base =
-    marks ≡ marksBelow (unweighted groups firsts seconds) (pickedIn picked) base (length firsts) marks₀
+enum-told : tie.Need-enum-told
+enum-told c = search needs
 
-abbrev μ-loop : tie.MeasureT-loop
-μ-loop groups firsts seconds picked marks₀ count base₀ marks base =
-    count - base
-
-count-picked-requires : tie.Need-count-picked-requires Inv-loop μ-loop
-count-picked-requires c κs =
-    c .before .before .before .before .before .before .before .before .before .pre .edges-few
-
-loop-holds : tie.Need-loop-holds Inv-loop μ-loop
-loop-holds c =
-    below-start _ _ _ _ (c .before .before .before .drop-all .ensures)
-
-prune-batch-requires : tie.Need-prune-batch-requires Inv-loop μ-loop
-prune-batch-requires c κs =
-    c .before .before .before .before .before .before .before .before .before .before .before .before .before .pre
-
-add-base : tie.Need-add-base Inv-loop μ-loop
-add-base c =
-    let counted = c .before .before .before .before .before .before in
-    let start = counted .before .before .before .before .before .before .before .before .before .before in
-    let few = start .pre .edges-few in omega (arith, counted .count-picked .ensures, count-le (length (start .args .firsts .now)) (pickedIn (start .args .picked .now)))
-
-loop-less : tie.Need-loop-less Inv-loop μ-loop
-loop-less c =
-    omega arith
-
-loop-again : tie.Need-loop-again Inv-loop μ-loop
-loop-again c =
-    below-more _ _ _ _ _ (c .before .before .before .before .before .loop .inv) (c .before .before .prune-batch .ensures)
-
-same-length : tie.Need-same-length Inv-loop μ-loop
-same-length c =
-    ap length (c .before .loop .inv) ∙ length-below _ _ _ _ _ ∙ ap length (c .before .before .before .before .before .drop-all .ensures) ∙ length-dropped _ _ _
-
-returns : tie.Need-returns Inv-loop μ-loop
+-- refused
+returns : tie.Need-returns
 returns c =
-    below-end _ _ _ _ _ (omega (arith, c .before .before .count-picked .ensures)) (c .before .before .before .before .before .drop-all .ensures) (c .before .loop .inv)
+    (c .before .before .forest-refusal .ensures, marks-kept (surveyFrom _ _ _ _) _ (c .before .before .forest-refusal .ensures) _ (c .enum-told2 .given .1))
+
+prune-forest-requires : tie.Need-prune-forest-requires
+prune-forest-requires c κs =
+    let a = c .before .before .before .before .before .before .before .before .before .before .args in
+    fine-prunable (a .groups .now) (a .firsts .now) (a .seconds .now) (a .weights .now) (a .picked .now)
+    (plain-bytes _ _ _ _ (λ v. omega (arith, c .before .before .before .before .before .before .before .before .before .shared-slice-known .given v)))
+    (sym (c .before .before .before .forest-refusal .ensures) ∙ c .before .enum-told .given .1)
+
+-- pruned
+returns-2 : tie.Need-returns-2
+returns-2 c =
+    let found = c .before .before .before .before in (
+      sym (found .enum-told .given .1) ∙ found .before .before .forest-refusal .ensures,
+      marks-written _ _ _ _ _ (found .before .before .forest-refusal .ensures) _ (found .enum-told .given .1) (c .before .before .prune-forest .ensures),
+    )
 
 pub prune-spec : {M : Type 1} → statement M
 prune-spec =
     tie.close
     (tie.spec
-    Inv-loop
-    μ-loop
     (λ c κs. search needs)
-    count-picked-requires
-    loop-holds
-    prune-batch-requires
-    add-base
-    loop-less
-    loop-again
-    same-length
-    returns)
+    enum-told
+    (λ c. search needs)
+    returns
+    prune-forest-requires
+    (λ c. search needs)
+    returns-2)

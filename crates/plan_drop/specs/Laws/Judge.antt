@@ -19,7 +19,8 @@ use Rattle.survey_core.specs.Survey.{groupsAlone, problemOf, vertexCount, edgeC
 use Rattle.base_buffer.specs.Store.{remade}
 use Rattle.base_buffer.specs.Laws.Store.{length-remade, remade-more}
 use Rattle.plan_cuts.specs.Side.{sides}
-use Rattle.plan_cuts.specs.Word.{wordBits, pickedIn, inBatch, sideWords}
+use Rattle.survey_components.specs.Labels.{pickedIn}
+use Rattle.plan_cuts.specs.Word.{wordBits, inBatch, sideWords}
 use Rattle.plan_cuts.specs.Taken.{takenBelow}
 use Rattle.plan_drop.specs.Prunable.{Prunable, unweighted}
 use Rattle.plan_drop.specs.Judge.{sideIn, judged, raised, prunedMarks, droppedMarks, batchMarks, MarkStep}

@@ -1,83 +1,40 @@
--- `draw` meets its contract: up to component number c, the labels are the trace's and the duals stand in the buffer.
-use borrow.Author.Needs.{needs}
-use Prim.Native.Nat.{_+_, _≤_, _-_}
-use mathlib.Core.Path.{refl, _∙_}
-use Rattle.base_limits.specs.Limits.{maxVertices}
-use Rattle.base_buffer.specs.Laws.Store.{remade-table}
+-- `draw` meets its contract: a trace that passes the test is replayed, and of another nothing is drawn.
+use mathlib.Core.Path.{ap, sym, _∙_}
+use lib.ListN.{length}
+use Rattle.plan_duals.specs.Drawing.{recordsOver}
 use Rattle.plan_duals.specs.Trace.{traceFrom}
-use Rattle.plan_duals.specs.Laws.Drawing.{written-fits, written-length}
-use Rattle.plan_duals.specs.Laws.Trace.{Replayed, replayed-none, replayed-more, replayed-end}
-use native.Mathlib.Omega.{arith}
+use Rattle.plan_duals.specs.Laws.Drawable.{test-drawable, drawn-all, drawn-none}
+use borrow.Author.Needs.{needs}
 use Rattle.plan_duals.proofs.draw.Statement.{statement}
 use Rattle.plan_duals.proofs.draw.Tie as tie
 
-abbrev Inv-loop : tie.InvT-loop
-Inv-loop n firsts seconds values order rounds records₀ labels₀ end count₀ c₀ records labels count c =
-    (c ≤ end) × Replayed (traceFrom n firsts seconds values order rounds) c labels records₀ records count
+draw-trace-requires : tie.Need-draw-trace-requires
+draw-trace-requires c κs =
+    let a = c .before .before .before .before .before .before .before .before .args in
+    test-drawable (traceFrom (a .n) (a .firsts .now) (a .seconds .now) (a .values .now) (a .order .now) (a .rounds)) (a .records .now) (sym (c .before .before .is-drawable .ensures) ∙ c .before .if1 .taken)
 
-abbrev μ-loop : tie.MeasureT-loop
-μ-loop n firsts seconds values order rounds records₀ labels₀ end count₀ c₀ records labels count c =
-    end - c
-
-add-end : tie.Need-add-end Inv-loop μ-loop
-add-end c = let pre = c .before .before .before .before .before .before .before .before .pre in omega arith
-
-loop-holds : tie.Need-loop-holds Inv-loop μ-loop
-loop-holds c =
-    (omega arith, replayed-none _ _ (c .before .own-labels .ensures ∙ remade-table (λ v x. v) maxVertices _ (λ v. v) refl (λ v b. refl)))
-
-arise-requires : tie.Need-arise-requires Inv-loop μ-loop
-arise-requires c κs = let pre = c .before .before .before .before .before .before .before .before .before .before .before .pre in omega arith
-
-cast-write-dual : tie.Need-cast-write-dual Inv-loop μ-loop
-cast-write-dual c =
-    let entry = c .before .before .before .before .before .before .before .before .before .before .before .before .before .before .before in
-    let pre = entry .pre in omega arith
-
-write-dual-requires : tie.Need-write-dual-requires Inv-loop μ-loop
-write-dual-requires c κs =
-    let entry = c .before .before .before .before .before .before .before .before .before .before .before .before .before .before .before in
-    let a = entry .args in
-    let pre = entry .pre in
-    written-fits _ _ (a .n) (a .n + a .rounds) (c .before .before .before .before .before .before .loop .c) (pre .few) (pre .room) (c .before .before .before .before .before .loop-test .taken) (c .before .before .before .before .before .before .loop .inv .1 .duals-written)
-
-loop-again : tie.Need-loop-again Inv-loop μ-loop
-loop-again c =
-    let entry = c .before .before .before .before .before .before .before .before .before .before .before .before .before .before .before .before .before .before in
-    let a = entry .args in
-    let w = c .before .before .write-dual .ensures in (
-      omega arith,
-      replayed-more (traceFrom (a .n) (a .firsts .now) (a .seconds .now) (a .values .now) (a .order .now) (a .rounds)) (c .before .before .before .before .before .before .before .before .before .loop .c) (entry .pre) (c .before .before .before .before .before .before .before .before .loop-test .taken) (c .before .before .before .before .before .before .before .before .before .loop .inv .1) (c .before .before .before .before .before .before .arise .ensures) (c .before .before .before .before .at64 .ensures)
-          (w .0)
-          (w .1),
-    )
-
-same-length : tie.Need-same-length Inv-loop μ-loop
-same-length c =
-    let pre = c .before .before .before .before .before .before .before .before .before .before .pre in
-    written-length _ _ _ (omega arith) (c .before .loop .inv .1 .duals-written)
-
-returns : tie.Need-returns Inv-loop μ-loop
+-- drawn
+returns : tie.Need-returns
 returns c =
-    let d = replayed-end _ (c .before .loop .c) (omega arith) (omega arith) (c .before .loop .inv .1) in
-    (d .count-is, d .records-are)
+    let a = c .before .before .before .before .before .before .before .before .before .before .before .args in
+    let records = a .records .now in
+    let t = traceFrom (a .n) (a .firsts .now) (a .seconds .now) (a .values .now) (a .order .now) (a .rounds) in
+    let test = sym (c .before .before .before .before .before .is-drawable .ensures) ∙ c .before .before .before .before .if1 .taken in
+    let all = drawn-all t records (test-drawable t records test) in
+    (c .before .before .draw-trace .ensures .0 ∙ ap length (sym all), c .before .before .draw-trace .ensures .1 ∙ ap (λ ds. recordsOver ds records) (sym all))
+
+-- nothing is drawn
+returns-2 : tie.Need-returns-2
+returns-2 c =
+    let a = c .before .before .before .before .before .before .before .args in
+    drawn-none (traceFrom (a .n) (a .firsts .now) (a .seconds .now) (a .values .now) (a .order .now) (a .rounds)) (a .records .now) (sym (c .before .is-drawable .ensures) ∙ c .if1 .left)
 
 pub draw-spec : {M : Type 1} → statement M
 draw-spec =
     tie.close
     (tie.spec
-    Inv-loop
-    μ-loop
-    (λ c. search needs)
     (λ c κs. search needs)
-    add-end
-    loop-holds
-    arise-requires
-    (λ c κs. search needs)
-    cast-write-dual
-    write-dual-requires
+    draw-trace-requires
     (λ c. search needs)
-    (λ c. search needs)
-    loop-again
-    same-length
-    returns)
+    returns
+    returns-2)

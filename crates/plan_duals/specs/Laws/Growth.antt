@@ -18,23 +18,13 @@ use Rattle.base_limits.specs.Limits.{maxVertices, maxDuals, recordBytes, dualsF
 use Rattle.theory_steiner.specs.Problem.{Problem, Sound}
 use Rattle.theory_steiner.specs.Growth.{State, start, numbers, Winner, nobody, edge, winner, pick, stateAt, grown}
 use Rattle.theory_steiner.specs.Dual.{Dual, dualsOf, dualOf}
-use Rattle.theory_steiner.specs.Laws.Round.{stateAt-reached, pick-rounds, pick-numbers, pick-label, pick-holds-old}
+use Rattle.theory_steiner.specs.Laws.Round.{stateAt-reached, pick-numbers, pick-label, pick-holds-old}
 use Rattle.theory_steiner.specs.Laws.Partition.{winner-below, members, members-below}
-use Rattle.theory_steiner.specs.Laws.Rounds.{stateAt-pick, stateAt-still, stateAt-last, steps-or-still, rounds-lt, grown-reached}
+use Rattle.theory_steiner.specs.Laws.Rounds.{stateAt-pick, stateAt-still, stateAt-last, steps-or-still, rounds-le, rounds-lt, grown-reached}
 use Rattle.plan_duals.specs.Drawing.{dualIf, dualsBelow}
 use Rattle.plan_duals.specs.Trace.{Trace, endOf, traceFrom, labelAfter, memberOf, traceDuals, Drawable, TraceOf}
 
 -- ---- rounds
-
--- One step has at most one round.
-rounds-le : (p : Problem) (r : ℕ) → stateAt p r .rounds ≤ r
-unfolding stateAt start
-rounds-le p zero = omega arith
-rounds-le p (suc r) = by (rounds-le p r) (winner p (stateAt p r)) refl
-  where
-    by : stateAt p r .rounds ≤ r → (w : Winner) → winner p (stateAt p r) ≡ w → stateAt p (suc r) .rounds ≤ suc r
-    by ih nobody h = omega (arith, ap (λ s. s .rounds) (stateAt-still p r h))
-    by ih (edge e d) h = omega (arith, ap (λ s. s .rounds) (stateAt-pick p r e d h), pick-rounds p (stateAt p r) e d)
 
 -- What round r of a growth does.
 record Picks (p : Problem) (r : ℕ) : Type 0 where

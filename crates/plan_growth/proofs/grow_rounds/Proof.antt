@@ -1,24 +1,22 @@
 -- `grow_rounds` meets its contract: before each turn the arrays represent the state of the definition.
 use Prim.Native.Nat.{_-_}
 use native.Mathlib.Omega.{arith}
-use lib.ListN.{length}
 use mathlib.Core.Path.{refl}
 use Rattle.survey_core.specs.Survey.{surveyFrom}
 use Rattle.plan_delay.specs.Between.{delayIn}
 use Rattle.plan_growth.specs.Represents.{arraysFrom, roundsAfter, timeAfter, Represents}
-use Rattle.plan_growth.specs.Laws.Round.{going}
-use Rattle.plan_growth.specs.Laws.Rounds.{represents-start, time-fits, sum-fits, grown-end}
+use Rattle.plan_growth.specs.Laws.Rounds.{represents-start, time-fits, sum-fits, grown-end, grown-full}
 use borrow.Author.Needs.{needs}
 use Rattle.plan_growth.proofs.grow_rounds.Statement.{statement}
 use Rattle.plan_growth.proofs.grow_rounds.Tie as tie
 
 abbrev Inv-loop : tie.InvT-loop
-Inv-loop groups firsts seconds weights labels₀ loads₀ values₀ picked₀ order₀ keys₀ floors₀ time₀ r₀ labels loads values picked order keys floors time r =
+Inv-loop groups firsts seconds weights labels₀ loads₀ values₀ picked₀ order₀ keys₀ floors₀ most time₀ r₀ labels loads values picked order keys floors time r =
     Represents (surveyFrom groups firsts seconds weights) r time (arraysFrom labels loads values picked order keys floors)
 
 abbrev μ-loop : tie.MeasureT-loop
-μ-loop groups firsts seconds weights labels₀ loads₀ values₀ picked₀ order₀ keys₀ floors₀ time₀ r₀ labels loads values picked order keys floors time r =
-    length groups - r
+μ-loop groups firsts seconds weights labels₀ loads₀ values₀ picked₀ order₀ keys₀ floors₀ most time₀ r₀ labels loads values picked order keys floors time r =
+    most - r
 
 loop-holds : tie.Need-loop-holds Inv-loop μ-loop
 loop-holds c = represents-start (c .before .before .before .before .before .before .before .pre) refl (c .before .own-labels .ensures)
@@ -64,10 +62,10 @@ loop-again c =
 finished-requires-2 : tie.Need-finished-requires-2 Inv-loop μ-loop
 finished-requires-2 c κs = sum-fits (c .before .loop .inv)
 
--- as many rounds as vertices, which cannot be
+-- n - 1 rounds
 returns-2 : tie.Need-returns-2 Inv-loop μ-loop
 returns-2 c =
-    absurd (omega (arith, going (c .before .before .loop .inv)))
+    grown-full (c .before .before .loop .inv) (omega arith) (c .finished2 .ensures)
 
 pub grow-rounds-spec : {M : Type 1} → statement M
 grow-rounds-spec =
@@ -77,6 +75,7 @@ grow-rounds-spec =
     μ-loop
     (λ c. search needs)
     (λ c κs. search needs)
+    (λ c. search needs)
     loop-holds
     round-requires
     (λ c. search needs)

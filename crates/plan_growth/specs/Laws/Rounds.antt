@@ -1,6 +1,6 @@
 -- One round after another: what the arrays represent before the first and after each, and the growth that they are when no candidate is left (001, Algorithm 22.3).
 -- `grow_rounds` and `no_rounds` cite it.
-use Prim.Native.Nat.{ℕ, _+_, _-_, _<_, _≤_, _^_}
+use Prim.Native.Nat.{ℕ, suc, _+_, _-_, _<_, _≤_, _^_}
 use native.Mathlib.Omega.{arith}
 use mathlib.Core.Path.{_≡_, refl, ap, sym, _∙_}
 use mathlib.Core.Logic.{_⊎_, inl, inr}
@@ -15,8 +15,8 @@ use Rattle.base_limits.specs.Limits.{maxVertices, maxEdges, maxWeight, maxDuals
 use Rattle.theory_steiner.specs.Problem.{Problem}
 use Rattle.theory_steiner.specs.Growth.{Winner, nobody, edge, never, winner, numbers, start, stateAt}
 use Rattle.theory_steiner.specs.Pruning.{dualBound}
-use Rattle.theory_steiner.specs.Laws.Round.{stateAt-reached}
-use Rattle.theory_steiner.specs.Laws.Rounds.{stateAt-last, value-bounded}
+use Rattle.theory_steiner.specs.Laws.Round.{stateAt-reached, pick-rounds}
+use Rattle.theory_steiner.specs.Laws.Rounds.{rounds-lt, stateAt-pick, stateAt-last, value-bounded}
 use Rattle.theory_steiner.specs.Laws.Feasible.{load-start}
 use Rattle.base_buffer.specs.Store.{remade}
 use Rattle.base_buffer.specs.Laws.Store.{tabulate-cong, remade-table, replicate-table}
@@ -129,14 +129,12 @@ module _ {s : Survey} {r time : ℕ} {a : Arrays} (h : Represents s r time a) wh
       (h .rounds-are)
       (sum-cong (length (s .groups) + r) (λ c. getD (a .values) c 0) (stateAt (problemOf s) r .value) (λ c k. value-at c (omega arith)))
 
-  -- A round without a winner was the last: this is the growth.
-  pub grown-end : {x : Delay} {g : Growth} → delayIn x ≡ winnerDelay (winner (problemOf s) (stateAt (problemOf s) r)) → x ≡ Never
+  -- With no candidate left this is the growth.
+  grown-still : {g : Growth} → winner (problemOf s) (stateAt (problemOf s) r) ≡ nobody
       → g ≡ growthFrom r (sumBelow (length (s .groups) + r) (λ c. getD (a .values) c 0)) (a .labels) (a .values) (a .picked) (a .order)
       → GrownAfter (problemOf s) (length (s .groups)) g
-  unfolding delayIn
-  grown-end delays t e =
+  grown-still w e =
       let p = problemOf s in
-      let w = no-win (winner p (stateAt p r)) (sym (ap delayIn t) ∙ delays) in
       let still = sym (stateAt-last p r (length (s .groups)) w (omega (arith, going h))) in
       rw
       e
@@ -148,3 +146,32 @@ module _ {s : Survey} {r time : ℕ} {a : Arrays} (h : Represents s r time a) wh
         picked-are = h .picked-are ∙ ap (λ t. tabulate maxEdges (λ i. counted (t .picked i) 1)) still;
         order-is = h .order-is ∙ tabulate-cong maxVertices _ _ (λ i _. last-picks p r (length (s .groups)) w (omega (arith, going h)) i);
       })
+
+  -- A round without a winner was the last.
+  pub grown-end : {x : Delay} {g : Growth} → delayIn x ≡ winnerDelay (winner (problemOf s) (stateAt (problemOf s) r)) → x ≡ Never
+      → g ≡ growthFrom r (sumBelow (length (s .groups) + r) (λ c. getD (a .values) c 0)) (a .labels) (a .values) (a .picked) (a .order)
+      → GrownAfter (problemOf s) (length (s .groups)) g
+  unfolding delayIn
+  grown-end delays t = grown-still (no-win (winner (problemOf s) (stateAt (problemOf s) r)) (sym (ap delayIn t) ∙ delays))
+
+  -- After n - 1 rounds no candidate is left.
+  all-merged : length (s .groups) - 1 ≤ r → winner (problemOf s) (stateAt (problemOf s) r) ≡ nobody
+  unfolding problemOf vertexCount
+  all-merged b = by (winner (problemOf s) (stateAt (problemOf s) r)) refl
+    where
+      by : (w : Winner) → winner (problemOf s) (stateAt (problemOf s) r) ≡ w → w ≡ nobody
+      by nobody k = refl
+      by (edge e d) k =
+          absurd
+          (omega (
+            arith,
+            rounds-lt (problemOf s) (survey-sound s (h .sound)) (h .sound .some) (stateAt-reached (problemOf s) (suc r)),
+            ap (λ t. t .rounds) (stateAt-pick (problemOf s) r e d k),
+            pick-rounds (problemOf s) (stateAt (problemOf s) r) e d,
+            h .rounds-are,
+          ))
+
+  pub grown-full : {g : Growth} → length (s .groups) - 1 ≤ r
+      → g ≡ growthFrom r (sumBelow (length (s .groups) + r) (λ c. getD (a .values) c 0)) (a .labels) (a .values) (a .picked) (a .order)
+      → GrownAfter (problemOf s) (length (s .groups)) g
+  grown-full b = grown-still (all-merged b)

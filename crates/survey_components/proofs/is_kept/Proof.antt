@@ -1,14 +1,25 @@
--- `is_kept` meets its contract: one arm for 2, one for any other mark.
+-- `is_kept` meets its contract: an arm for each mark.
+use native.Mathlib.Omega.{arith}
 use mathlib.Core.Path.{sym}
 use borrow.Author.Tests.{eq-eqb, ne-eqb}
 use Rattle.survey_components.proofs.is_kept.Statement.{statement}
 use Rattle.survey_components.proofs.is_kept.Tie as tie
 
+-- 0
 returns : tie.Need-returns
-returns c = sym (eq-eqb (c .before .args .mark) 2 (c .match .keys1))
+returns c = sym (ne-eqb (c .before .args .mark) 2 (λ e. omega arith))
 
+-- 1
 returns-2 : tie.Need-returns-2
-returns-2 c = sym (ne-eqb (c .before .args .mark) 2 (c .match .rest .1))
+returns-2 c = sym (ne-eqb (c .before .args .mark) 2 (λ e. omega arith))
+
+-- 2
+returns-3 : tie.Need-returns-3
+returns-3 c = sym (eq-eqb (c .before .args .mark) 2 (omega arith))
+
+-- above
+returns-4 : tie.Need-returns-4
+returns-4 c = sym (ne-eqb (c .before .args .mark) 2 (λ e. omega (arith, c .match .rest)))
 
 pub is-kept-spec : {M : Type 1} → statement M
-is-kept-spec = tie.close (tie.spec returns returns-2)
+is-kept-spec = tie.close (tie.spec returns returns-2 returns-3 returns-4)

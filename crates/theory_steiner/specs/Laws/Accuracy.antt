@@ -16,13 +16,14 @@ use Rattle.theory_steiner.specs.Problem.{Problem, Sound, EdgeSet, Joins,
 use Rattle.theory_steiner.specs.Growth.{State, start, active, numbers, slack, Winner, nobody, edge, winner, pick, stateAt, grown, Reached}
 use Rattle.theory_steiner.specs.Dual.{Dual, total, dualLoad, dualsOf, Separating, EachDual}
 use Rattle.theory_steiner.specs.Pruning.{picked, kept, dualBound}
+use Rattle.theory_steiner.specs.Rounds.{activeCount, delayOrZero, roundDelay}
 use Rattle.theory_steiner.specs.Laws.Joined.{Split, separates-elim, terminal-intro}
 use Rattle.theory_steiner.specs.Laws.Round.{stateAt-reached}
 use Rattle.theory_steiner.specs.Laws.Winner.{Waits, one-first, one-second, both}
 use Rattle.theory_steiner.specs.Laws.Partition.{label-below, winner-candidate, winner-below}
-use Rattle.theory_steiner.specs.Laws.Weighed.{component, activeCount, dualLoadAt, dual-load-pick}
+use Rattle.theory_steiner.specs.Laws.Weighed.{component, dualLoadAt, dual-load-pick}
 use Rattle.theory_steiner.specs.Laws.Feasible.{dual-load-start, picked-tight, not-overtight}
-use Rattle.theory_steiner.specs.Laws.Rounds.{meets, meets-intro, stateAt-pick, stateAt-still, grown-reached, delayOrZero, roundDelay, bound-by-rounds}
+use Rattle.theory_steiner.specs.Laws.Rounds.{meets, meets-intro, stateAt-pick, stateAt-still, grown-reached, bound-by-rounds}
 use Rattle.theory_steiner.specs.Laws.Finish.{kept-picked}
 use Rattle.theory_steiner.specs.Laws.Dual.{each-dual, value-separates, total-duals, load-duals}
 use Rattle.theory_steiner.specs.Laws.WeakDuality.{weak-duality}

@@ -38,10 +38,11 @@ use Rattle.theory_graph.specs.Laws.Component.{merged-cong}
 use Rattle.theory_steiner.specs.Problem.{Problem, Sound, Joins, allUsable}
 use Rattle.theory_steiner.specs.Growth.{State, active, numbers, slack, Winner, nobody, edge, winner, pick, stateAt, grown, Reached, next}
 use Rattle.theory_steiner.specs.Pruning.{picked, kept}
+use Rattle.theory_steiner.specs.Rounds.{activeCount}
 use Rattle.theory_steiner.specs.Laws.Round.{stateAt-reached, pick-label, pick-more, pick-new, pick-only}
 use Rattle.theory_steiner.specs.Laws.Winner.{Waits, one-first, one-second, both}
 use Rattle.theory_steiner.specs.Laws.Partition.{label-below, winner-candidate, winner-below, partition}
-use Rattle.theory_steiner.specs.Laws.Weighed.{component, activeCount, two-ends}
+use Rattle.theory_steiner.specs.Laws.Weighed.{component, two-ends}
 use Rattle.theory_steiner.specs.Laws.Rounds.{meets, Met, meets-intro, meets-elim, meets-count, stateAt-pick, stateAt-still, grown-reached}
 use Rattle.theory_steiner.specs.Laws.Finish.{kept-edges, kept-picked, picked-acyclic, grown-ends, no-inactive-leaf}
 

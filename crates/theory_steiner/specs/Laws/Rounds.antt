@@ -15,10 +15,11 @@ use Rattle.theory_graph.specs.Laws.Component.{Merging, inside, outside, merged-
 use Rattle.theory_steiner.specs.Problem.{Problem, Sound}
 use Rattle.theory_steiner.specs.Growth.{State, start, active, numbers, load, slack, Winner, nobody, edge, winner, pick, advance, stateAt, grown, Reached, first, next}
 use Rattle.theory_steiner.specs.Pruning.{dualBound}
+use Rattle.theory_steiner.specs.Rounds.{activeCount, delayOrZero, roundDelay, boundOfRounds, TakesRounds}
 use Rattle.theory_steiner.specs.Laws.Round.{stateAt-reached, pick-rounds, pick-numbers, pick-label, pick-value, pick-more, pick-new, pick-only}
 use Rattle.theory_steiner.specs.Laws.Winner.{Waits, one-first, one-second, both}
 use Rattle.theory_steiner.specs.Laws.Partition.{label-merging, label-below, label-fresh, winner-candidate, winner-below, partition}
-use Rattle.theory_steiner.specs.Laws.Weighed.{activeCount, bound-pick, load-pick}
+use Rattle.theory_steiner.specs.Laws.Weighed.{bound-pick, load-pick}
 use Rattle.theory_steiner.specs.Laws.Feasible.{load-start}
 
 -- ---- components are counted by the labels in use
@@ -241,6 +242,50 @@ grown-still p ok some =
     (λ h. h)
     (steps-or-still p (p .vertices))
 
+-- One step has at most one round.
+pub rounds-le : (p : Problem) (r : ℕ) → stateAt p r .rounds ≤ r
+unfolding stateAt start
+rounds-le p zero = omega arith
+rounds-le p (suc r) = by (rounds-le p r) (winner p (stateAt p r)) refl
+  where
+    by : stateAt p r .rounds ≤ r → (w : Winner) → winner p (stateAt p r) ≡ w → stateAt p (suc r) .rounds ≤ suc r
+    by ih nobody h = omega (arith, ap (λ s. s .rounds) (stateAt-still p r h))
+    by ih (edge e d) h = omega (arith, ap (λ s. s .rounds) (stateAt-pick p r e d h), pick-rounds p (stateAt p r) e d)
+
+-- Steps without a round can be left out.
+pub stateAt-rounds : (p : Problem) (k : ℕ) → stateAt p (stateAt p k .rounds) ≡ stateAt p k
+unfolding stateAt start
+stateAt-rounds p zero = refl
+stateAt-rounds p (suc k) = by (stateAt-rounds p k) (winner p (stateAt p k)) refl
+  where
+    by : stateAt p (stateAt p k .rounds) ≡ stateAt p k → (w : Winner) → winner p (stateAt p k) ≡ w →
+        stateAt p (stateAt p (suc k) .rounds) ≡ stateAt p (suc k)
+    by ih nobody h = let same = stateAt-still p k h in ap (λ s. stateAt p (s .rounds)) same ∙ ih ∙ sym same
+    by ih (edge e d) h =
+        let now = stateAt-pick p k e d h in
+        ap (λ s. stateAt p (s .rounds)) now
+        ∙ ap (stateAt p) (pick-rounds p (stateAt p k) e d)
+        ∙ stateAt-pick p (stateAt p k .rounds) e d (ap (winner p) ih ∙ h)
+        ∙ ap (λ s. pick p s e d) ih
+        ∙ sym now
+
+-- The rounds that growth counts are the definition's.
+pub takes-rounds : (p : Problem) (ok : Sound p) → 0 < p .vertices → TakesRounds p (grown p .rounds)
+unfolding grown
+takes-rounds p ok some =
+    let whole = stateAt-rounds p (p .vertices) in
+    record {
+      won = λ i b h.
+          omega (
+            arith,
+            ap (λ s. s .rounds) (stateAt-last p i (stateAt p (p .vertices) .rounds) h (omega arith)),
+            ap (λ s. s .rounds) whole,
+            rounds-le p i,
+          );
+      ended = ap (winner p) whole ∙ grown-still p ok some;
+      whole = whole;
+    }
+
 pub grown-reached : (p : Problem) → Reached p (grown p)
 unfolding grown
 grown-reached p = stateAt-reached p (p .vertices)
@@ -271,14 +316,6 @@ picked-count p ok (next {s = s} {e = e} {d = d} h w) =
 
 -- ---- the bound as a sum over rounds
 
--- The delay of round r + 1, or 0 where there is none.
-unfoldable pub delayOrZero : Winner → ℕ
-delayOrZero nobody = 0
-delayOrZero (edge e d) = d
-
-unfoldable pub roundDelay : Problem → ℕ → ℕ
-roundDelay p r = delayOrZero (winner p (stateAt p r))
-
 bound-step : (p : Problem) (ok : Sound p) (r : ℕ) (x : Winner) → winner p (stateAt p r) ≡ x →
     dualBound p (stateAt p (suc r)) ≡ dualBound p (stateAt p r) + delayOrZero x * activeCount p (stateAt p r)
 unfolding delayOrZero
@@ -297,6 +334,11 @@ bound-by-rounds p ok zero = bound-start p
 bound-by-rounds p ok (suc r) =
     bound-step p ok r (winner p (stateAt p r)) refl
     ∙ ap (λ x. x + delayOrZero (winner p (stateAt p r)) * activeCount p (stateAt p r)) (bound-by-rounds p ok r)
+
+-- For the rounds that growth counts.
+pub bound-of-rounds : (p : Problem) (ok : Sound p) → dualBound p (grown p) ≡ boundOfRounds p (grown p .rounds)
+unfolding grown boundOfRounds
+bound-of-rounds p ok = ap (dualBound p) (sym (stateAt-rounds p (p .vertices))) ∙ bound-by-rounds p ok (grown p .rounds)
 
 -- ---- how large a load and a value can get
 

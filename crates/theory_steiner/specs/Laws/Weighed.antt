@@ -15,6 +15,7 @@ use Rattle.theory_graph.specs.Laws.Linked.{crosses-cong, crosses-not}
 use Rattle.theory_steiner.specs.Problem.{Problem, Sound}
 use Rattle.theory_steiner.specs.Growth.{State, start, active, numbers, load, pick, Reached, first, next}
 use Rattle.theory_steiner.specs.Pruning.{dualBound}
+use Rattle.theory_steiner.specs.Rounds.{activeCount}
 use Rattle.theory_steiner.specs.Laws.Round.{pick-numbers, pick-value, pick-holds-old}
 use Rattle.theory_steiner.specs.Laws.Partition.{label-below, active-below, active-members}
 
@@ -181,10 +182,6 @@ dual-load-between p ok {s} h e d f b apart =
         cross c = two-ends (active p (s .label) c) x y c d apart
 
 -- ---- the dual bound
-
--- How many components are active.
-unfoldable pub activeCount : Problem → State → ℕ
-activeCount p s = countBelow (numbers p s) (active p (s .label))
 
 pub bound-weighed : (p : Problem) (s : State) → dualBound p s ≡ weighed p s (λ S. true)
 unfolding dualBound weighed counted

@@ -2,7 +2,7 @@
 use Rattle.plan_drop.specs.Laws.Judge.{marks-more}
 use Rattle.plan_cuts.specs.Laws.Word.{count-start, next-index}
 use Rattle.plan_drop.specs.Judge.{judged, raised}
-use Rattle.plan_cuts.specs.Word.{pickedIn}
+use Rattle.survey_components.specs.Labels.{pickedIn}
 use Rattle.base_buffer.specs.Store.{remade}
 use Rattle.base_buffer.specs.Laws.Store.{length-remade, remade-end}
 use Rattle.base_finite.specs.Laws.Below.{count-le}
