@@ -2,5 +2,6 @@ pub mod Body
 pub mod Reading
 pub mod Content
 pub mod WellFormed
+pub mod Beginning
 pub mod Longest
 pub mod Cut
