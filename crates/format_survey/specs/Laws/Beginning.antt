@@ -1,296 +1,35 @@
 -- Reading gives 1, 3, 7 and 17 exactly if the text begins so (specs/Beginning), and every other refusal is 16.
-use Prim.Native.Nat.{ℕ, zero, suc, _+_, _≤_, _<_}
+use Prim.Native.Nat.{ℕ, _+_, _≤_, _<_}
 use native.Mathlib.Omega.{arith}
-use native.Mathlib.Nat.{add-zero}
 use mathlib.Core.Path.{_≡_, refl, ap, sym, _∙_, subst}
-use mathlib.Core.Bool.{Bool, true, false, cond}
+use mathlib.Core.Bool.{Bool, true, false}
 use mathlib.Core.Logic.{_⊎_, inl, inr, ⊎-elim, _↔_}
-use mathlib.Core.List.{List, [], _∷_, _++_, append-assoc}
+use mathlib.Core.List.{List, _++_, append-assoc}
 use lib.ListN.{length, drop, length-append, take-append-drop}
-use lib.Dec.{eqb, ltb, leb}
-use borrow.Author.Tests.{ltb-true, ltb-false, eqb-true, eqb-false}
-use Rattle.base_limits.specs.Limits.{maxVertices, maxEdges, groupNumbers, countDigits, groupDigits, endpointDigits, weightDigits}
+use lib.Dec.{eqb}
+use borrow.Author.Tests.{eqb-true, eqb-false}
+use Rattle.base_limits.specs.Limits.{maxVertices, countDigits}
 use Rattle.base_limits.specs.Verdict.{refusal}
-use Rattle.base_limits.specs.Laws.Verdict.{no-refusal}
-use Rattle.base_limits.specs.declared.Verdict.{Verdict}
-use Rattle.base_limits.specs.declared.Verdict.the-variants.{Fine, Refused}
-use Rattle.format_key.specs.Key.{nodesKey, linksKey, nodeKey, linkKey, comma, newline}
-use Rattle.format_write.specs.Decimal.{spelledAfter}
+use Rattle.base_limits.specs.declared.Verdict.the-variants.{Refused}
+use Rattle.format_key.specs.Key.{nodesKey, linksKey, nodeKey}
 use Rattle.format_write.specs.Text.{lineOf}
-use Rattle.format_grammar.specs.Step.{Step, found, refused, _then_, checked}
-use Rattle.format_grammar.specs.Lines.{following, linesFrom, textOf, whole}
-use Rattle.format_grammar.specs.Bytes.{byteIs, fixedAt, endAt}
+use Rattle.format_grammar.specs.Step.{Step, found, refused, _then_}
+use Rattle.format_grammar.specs.Lines.{textOf, whole}
+use Rattle.format_grammar.specs.Bytes.{endAt}
 use Rattle.format_grammar.specs.Stands.{Stands}
-use Rattle.format_grammar.specs.Language.{EachFrom, noneFrom, moreFrom}
-use Rattle.format_grammar.specs.Laws.Language.{text-stands}
 use Rattle.format_grammar.specs.Laws.Lines.{each-map}
 use Rattle.format_grammar.specs.Laws.Stands.{stands-whole, stands-append, stands-first, stands-second}
 use Rattle.format_grammar.specs.Laws.Step.{then-found, then-refused, Stops, early, late, then-stops}
-use Rattle.format_number.specs.Number.{numeralAt, numberAt, numberTo, numberLine, OfDigits}
-use Rattle.format_number.specs.Laws.Keyed.{Passes, reads-line, reads-tested}
-use Rattle.format_survey_lines.specs.Line.{Tests, testsFor, verticesTest, edgesTest, groupTest, countLine, groupLine, groupLines, Edge, edgeLine, edgeLines}
-use Rattle.format_survey_lines.specs.Laws.Tests.{vertices-none, vertices-many, vertices-short, vertices-fine, vertices-passed, edges-many, edges-first, edges-second, edges-weight, edges-fine, edges-passed, group-high, group-fine, group-passed}
+use Rattle.format_number.specs.Laws.Keyed.{Passes}
+use Rattle.format_survey_lines.specs.Line.{Tests, testsFor, verticesTest, edgesTest, groupTest, countLine, groupLines, edgeLines}
+use Rattle.format_survey_lines.specs.Laws.Tests.{vertices-none, vertices-many, vertices-short, vertices-fine, vertices-passed, edges-many, edges-fine, edges-passed, group-high, group-fine, group-passed}
 use Rattle.format_survey.specs.Reading.{surveyOf, surveyAt, stepOutcome, reading}
 use Rattle.format_survey.specs.Beginning.{BeginsWith, VerticesFit, EdgesFit, VerticesOut, EdgesOver, GroupsShort, EdgesShort, BufferShort, GroupOver, Refusing, verticesOut, edgesOver, bufferShort, groupOver}
 use Rattle.format_survey.specs.Laws.Content.{SurveyContent, contentAt, NeverMalformed, content-survey}
 use Rattle.format_survey.specs.Laws.WellFormed.{never-malformed, outcome-refused}
-
--- ---- steps that refuse with 16 alone
-
-record OnlyMalformed {A : Type 0} (s : Step A) : Type 0 where
-  is : (n p : ℕ) → s ≡ refused n p → n ≡ 16
-
-only-found : {A : Type 0} (a : A) (q : ℕ) → OnlyMalformed (found a q)
-only-found a q = record { is = λ n p e. let z : _≡_ {A = ℕ} 0 1 = cc in absurd (omega arith) }
-
-only-refused : {A : Type 0} (q : ℕ) → OnlyMalformed {A = A} (refused 16 q)
-only-refused {A} q = record { is = λ n p e. number e }
-  where
-    number : {n p : ℕ} → _≡_ {A = Step A} (refused 16 q) (refused n p) → n ≡ 16
-    number e = cc
-
-only-then : {A B : Type 0} (s : Step A) (k : A → ℕ → Step B) → OnlyMalformed s → ((a : A) (q : ℕ) → OnlyMalformed (k a q)) → OnlyMalformed (s then k)
-only-then {A} {B} s k h g = record { is = λ n p e. by-stop n p (then-stops s k e) }
-  where
-    by-stop : (n p : ℕ) → Stops s k n p → n ≡ 16
-    by-stop n p (early q) = h .is n p q
-    by-stop n p (late a q x y) = g a q .is n p y
-
-only-fixed : (bytes t : List ℕ) (at : ℕ) → OnlyMalformed (fixedAt bytes t at)
-unfolding fixedAt
-only-fixed [] t at = only-found 0 at
-only-fixed (b ∷ bytes) t at = by-byte (byteIs t at b) (only-fixed bytes t (at + 1))
-  where
-    by-byte : (c : Bool) → OnlyMalformed (fixedAt bytes t (at + 1)) → OnlyMalformed (cond c (fixedAt bytes t (at + 1)) (refused 16 at))
-    by-byte true h = h
-    by-byte false h = only-refused at
-
-only-number : (limit : ℕ) (t : List ℕ) (at : ℕ) → OnlyMalformed (numberAt limit t at)
-unfolding numberAt
-only-number limit t at = by-length (eqb (length (numeralAt limit t at)) 0) (spelledAfter 0 (numeralAt limit t at)) (at + length (numeralAt limit t at))
-  where
-    by-length : (c : Bool) (x q : ℕ) → OnlyMalformed (cond c (refused 16 at) (found x q))
-    by-length true x q = only-refused at
-    by-length false x q = only-found x q
-
-only-number-to : (limit stop : ℕ) (t : List ℕ) (at : ℕ) → OnlyMalformed (numberTo limit stop t at)
-unfolding numberTo
-only-number-to limit stop t at = only-then _ _ (only-number limit t at) (λ n p. only-then _ _ (only-fixed (stop ∷ []) t p) (λ z q. only-found n q))
-
-only-line : (key : List ℕ) (limit : ℕ) (t : List ℕ) (at : ℕ) → OnlyMalformed (numberLine key limit t at)
-unfolding numberLine
-only-line key limit t at = only-then _ _ (only-fixed key t at) (λ z p. only-number-to limit newline t p)
-
-only-edge : (t : List ℕ) (e at : ℕ) → OnlyMalformed (edgeLine t e at)
-unfolding edgeLine
-only-edge t e at =
-    only-then _ _ (only-fixed linkKey t at) (λ z a.
-    only-then _ _ (only-number-to endpointDigits comma t a) (λ u b.
-    only-then _ _ (only-number-to endpointDigits comma t b) (λ v c.
-    only-then _ _ (only-number-to weightDigits newline t c) (λ w d. only-found _ d))))
-
-only-edges : (t : List ℕ) (count i at : ℕ) → OnlyMalformed (linesFrom (edgeLine t) count i at .end)
-unfolding linesFrom following
-only-edges t zero i at = only-found 0 at
-only-edges t (suc count) i at = by-line (edgeLine t i at) (only-edge t i at) (λ q. only-edges t count (i + 1) q)
-  where
-    by-line : (s : Step Edge) → OnlyMalformed s → ((q : ℕ) → OnlyMalformed (linesFrom (edgeLine t) count (i + 1) q .end)) → OnlyMalformed (following s (λ a next. linesFrom (edgeLine t) count (i + 1) next) .end)
-    by-line (found a q) h g = g q
-    by-line (refused n q) h g = record { is = λ x p e. h .is x p (same e) }
-      where
-        same : {x p : ℕ} → _≡_ {A = Step ℕ} (refused n q) (refused x p) → _≡_ {A = Step Edge} (refused n q) (refused x p)
-        same {x} {p} e = let a : n ≡ x = cc in let b : q ≡ p = cc in cc
-
-only-end : (t : List ℕ) (at : ℕ) → OnlyMalformed (endAt t at)
-unfolding endAt
-only-end t at = by-length (leb (length t) at)
-  where
-    by-length : (c : Bool) → OnlyMalformed {A = ℕ} (cond c (found 0 at) (refused 16 at))
-    by-length true = only-found 0 at
-    by-length false = only-refused at
-
--- ---- a line whose number is tested
-
--- The line stands there, and its number fails the test.
-record Failing (key : List ℕ) (limit : ℕ) (test : ℕ → Verdict) (t : List ℕ) (at n p : ℕ) : Type 0 where
-  value : ℕ
-  digits : OfDigits limit value
-  fails : test value ≡ Refused n p
-  stands : Stands t at (lineOf key value)
-
--- The line stands there, and its number passes the test.
-record Passing (key : List ℕ) (limit : ℕ) (test : ℕ → Verdict) (t : List ℕ) (at value next : ℕ) : Type 0 where
-  passes : Passes limit test value
-  stands : Stands t at (lineOf key value)
-  ends : next ≡ at + length (lineOf key value)
-
-checked-refused : {A : Type 0} (w : Verdict) (a : A) (q : ℕ) {n p : ℕ} → checked w a q ≡ refused n p → w ≡ Refused n p
-unfolding checked
-checked-refused Fine a q e = let z : _≡_ {A = ℕ} 0 1 = cc in absurd (omega arith)
-checked-refused {A} (Refused i j) a q {n} {p} e = let x : i ≡ n = cc in let y : j ≡ p = cc in cc
-
-module _ (key : List ℕ) (limit : ℕ) (positive : 1 ≤ limit) (test : ℕ → Verdict) (t : List ℕ) (at : ℕ) where
-  abbrev line : Step ℕ
-  line = numberLine key limit t at then λ x p. checked (test x) x p
-
-  line-fails : {n p : ℕ} → at ≤ length t → line ≡ refused n p → (n ≡ 16 → ⊥) → Failing key limit test t at n p
-  line-fails {n} {p} h e not-16 = by-stop (then-stops (numberLine key limit t at) _ e)
-    where
-      by-stop : Stops (numberLine key limit t at) (λ x p. checked (test x) x p) n p → Failing key limit test t at n p
-      by-stop (early q) = absurd (not-16 (only-line key limit t at .is n p q))
-      by-stop (late a q x y) =
-          let w = reads-line key limit positive .sound t at a q h x in
-          record { value = a; digits = w .member .holds; fails = checked-refused (test a) a q y; stands = text-stands w .0 }
-
-  fails-line : {n p : ℕ} → Failing key limit test t at n p → line ≡ refused n p
-  unfolding checked
-  fails-line f =
-      then-found _ (reads-line key limit positive .complete t at (f .value) (lineOf key (f .value)) (record { holds = f .digits; word = refl }) (f .stands))
-      ∙ ap (λ w. checked w (f .value) (at + length (lineOf key (f .value)))) (f .fails)
-
-  module _ (never : (x n p : ℕ) → test x ≡ Refused n p → n ≡ 16 → ⊥) where
-    line-passes : {x p : ℕ} → at ≤ length t → line ≡ found x p → Passing key limit test t at x p
-    line-passes {x} {p} h e =
-        let w = reads-tested key limit positive test never .sound t at x p h e in
-        let s = text-stands w in
-        record { passes = w .member .holds; stands = s .0; ends = s .1 }
-
-    passes-line : (x : ℕ) → Passes limit test x → Stands t at (lineOf key x) → line ≡ found x (at + length (lineOf key x))
-    passes-line x h s = reads-tested key limit positive test never .complete t at x (lineOf key x) (record { holds = h; word = refl }) s
-
-passing-fits : {key : List ℕ} {limit : ℕ} {test : ℕ → Verdict} {t : List ℕ} {at x p : ℕ} → Passing key limit test t at x p → p ≤ length t
-passing-fits s = let f = s .stands .fits in let e = s .ends in omega arith
-
--- ---- group lines one after another
-
--- Lines whose groups pass, and the line behind them, whose group fails.
-record FailingGroup (test : ℕ → ℕ → Verdict) (t : List ℕ) (count i at n p : ℕ) : Type 0 where
-  before : List ℕ
-  value : ℕ
-  place : ℕ
-  there : place ≡ i + length before
-  inside : length before < count
-  each : EachFrom (λ v. Passes groupDigits (test v)) i before
-  digits : OfDigits groupDigits value
-  fails : test place value ≡ Refused n p
-  stands : Stands t at (textOf (lineOf nodeKey) before ++ lineOf nodeKey value)
-
-module _ (test : ℕ → ℕ → Verdict) (never : (v x n p : ℕ) → test v x ≡ Refused n p → n ≡ 16 → ⊥) (t : List ℕ) where
-  group-first : {count i at n p : ℕ} → Failing nodeKey groupDigits (test i) t at n p → FailingGroup test t (suc count) i at n p
-  unfolding textOf
-  group-first {count} {i} f = record { before = []; value = f .value; place = i; there = sym (add-zero i); inside = omega arith; each = noneFrom; digits = f .digits; fails = f .fails; stands = f .stands }
-
-  group-later : {count i at a q n p : ℕ} → Passing nodeKey groupDigits (test i) t at a q → FailingGroup test t count (i + 1) q n p → FailingGroup test t (suc count) i at n p
-  unfolding textOf
-  group-later {count} {i} {at} {a} s f =
-      let h = f .there in
-      let k = f .inside in
-      record {
-        before = a ∷ f .before;
-        value = f .value;
-        place = f .place;
-        there = omega arith;
-        inside = omega arith;
-        each = moreFrom (s .passes) (f .each);
-        digits = f .digits;
-        fails = f .fails;
-        stands =
-            subst (Stands t at) (sym (append-assoc (lineOf nodeKey a) (textOf (lineOf nodeKey) (f .before)) (lineOf nodeKey (f .value))))
-            (stands-append (lineOf nodeKey a) _ (s .stands) (subst (λ (k : ℕ). Stands t k (textOf (lineOf nodeKey) (f .before) ++ lineOf nodeKey (f .value))) (s .ends) (f .stands)));
-      }
-
-  lines-fail : (count i at : ℕ) {n p : ℕ} → at ≤ length t → linesFrom (groupLine test t) count i at .end ≡ refused n p → (n ≡ 16 → ⊥) → FailingGroup test t count i at n p
-  unfolding linesFrom following groupLine
-  lines-fail zero i at h e not-16 = let z : _≡_ {A = ℕ} 0 1 = cc in absurd (omega arith)
-  lines-fail (suc count) i at {n} {p} h e not-16 = by-line (groupLine test t i at) refl (λ q b d. lines-fail count (i + 1) q b d not-16) e
-    where
-      by-line : (s : Step ℕ) → groupLine test t i at ≡ s → ((q : ℕ) → q ≤ length t → linesFrom (groupLine test t) count (i + 1) q .end ≡ refused n p → FailingGroup test t count (i + 1) q n p)
-          → following s (λ a next. linesFrom (groupLine test t) count (i + 1) next) .end ≡ refused n p → FailingGroup test t (suc count) i at n p
-      by-line (found a q) k ih d =
-          let s = line-passes nodeKey groupDigits (omega arith) (test i) t at (never i) h k in
-          group-later s (ih q (passing-fits s) d)
-      by-line (refused x y) k ih d =
-          let same : _≡_ {A = Step ℕ} (refused x y) (refused n p) = d in
-          group-first (line-fails nodeKey groupDigits (omega arith) (test i) t at h (k ∙ same) not-16)
-
-  fail-lines : (value place n p : ℕ) → OfDigits groupDigits value → test place value ≡ Refused n p
-      → (before : List ℕ) (count i at : ℕ) → length before < count → EachFrom (λ v. Passes groupDigits (test v)) i before → place ≡ i + length before
-      → Stands t at (textOf (lineOf nodeKey) before ++ lineOf nodeKey value)
-      → linesFrom (groupLine test t) count i at .end ≡ refused n p
-  unfolding linesFrom following groupLine textOf
-  fail-lines value place n p d f before zero i at b each e s = absurd (omega arith)
-  fail-lines value place n p d f [] (suc count) i at b each e s =
-      let same : place ≡ i = omega arith in
-      let g : test i value ≡ Refused n p = subst (λ (k : ℕ). test k value ≡ Refused n p) same f in
-      ap (λ (z : Step ℕ). following z (λ a next. linesFrom (groupLine test t) count (i + 1) next) .end)
-      (fails-line nodeKey groupDigits (omega arith) (test i) t at (record { value = value; digits = d; fails = g; stands = s }))
-  fail-lines value place n p d f (a ∷ l) (suc count) i at b (moreFrom h r) e s =
-      let st : Stands t at (lineOf nodeKey a ++ (textOf (lineOf nodeKey) l ++ lineOf nodeKey value)) = subst (Stands t at) (append-assoc (lineOf nodeKey a) (textOf (lineOf nodeKey) l) (lineOf nodeKey value)) s in
-      ap (λ (z : Step ℕ). following z (λ a next. linesFrom (groupLine test t) count (i + 1) next) .end)
-      (passes-line nodeKey groupDigits (omega arith) (test i) t at (never i) a h (stands-first (lineOf nodeKey a) _ st))
-      ∙ fail-lines value place n p d f l count (i + 1) (at + length (lineOf nodeKey a)) (omega arith) r (omega arith) (stands-second (lineOf nodeKey a) _ st)
-
--- ---- what a test refuses
-
-data VerticesCause (lent n i p : ℕ) : Type 0 where
-  out-of-range : i ≡ 1 → p ≡ 0 → (n ≡ 0) ⊎ (maxVertices < n) → VerticesCause lent n i p
-  too-long : i ≡ 7 → p ≡ 0 → 0 < n → n ≤ maxVertices → lent < n → VerticesCause lent n i p
-
-refused-as : {w : Verdict} {a b i p : ℕ} → w ≡ Refused a b → w ≡ Refused i p → (i ≡ a) × (p ≡ b)
-refused-as e f = ((cc), (cc))
-
-positive : (n : ℕ) → (n ≡ 0 → ⊥) → 0 < n
-positive n z = omega arith
-
-vertices-cause : (lent n : ℕ) {i p : ℕ} → verticesTest lent n ≡ Refused i p → VerticesCause lent n i p
-vertices-cause lent n {i} {p} e = by-tests (eqb n 0) (ltb maxVertices n) (ltb lent n) refl refl refl
-  where
-    by-tests : (z h s : Bool) → eqb n 0 ≡ z → ltb maxVertices n ≡ h → ltb lent n ≡ s → VerticesCause lent n i p
-    by-tests true h s a b c = let r = refused-as (vertices-none lent n (eqb-true n 0 a)) e in out-of-range (r .0) (r .1) (inl (eqb-true n 0 a))
-    by-tests false true s a b c =
-        let r = refused-as (vertices-many lent n (eqb-false n 0 a) (ltb-true maxVertices n b)) e in
-        out-of-range (r .0) (r .1) (inr (ltb-true maxVertices n b))
-    by-tests false false true a b c =
-        let r = refused-as (vertices-short lent n (eqb-false n 0 a) (ltb-false maxVertices n b) (ltb-true lent n c)) e in
-        too-long (r .0) (r .1) (positive n (eqb-false n 0 a)) (ltb-false maxVertices n b) (ltb-true lent n c)
-    by-tests false false false a b c = absurd (no-refusal e (vertices-fine lent n (eqb-false n 0 a) (ltb-false maxVertices n b) (ltb-false lent n c)))
-
-data EdgesCause (firsts seconds weights m i p : ℕ) : Type 0 where
-  over-limit : i ≡ 3 → p ≡ 0 → maxEdges < m → EdgesCause firsts seconds weights m i p
-  too-many : i ≡ 7 → p ≡ 0 → m ≤ maxEdges → (firsts < m) ⊎ ((seconds < m) ⊎ (weights < m)) → EdgesCause firsts seconds weights m i p
-
-edges-cause : (firsts seconds weights m : ℕ) {i p : ℕ} → edgesTest firsts seconds weights m ≡ Refused i p → EdgesCause firsts seconds weights m i p
-edges-cause a b c m {i} {p} e = by-tests (ltb maxEdges m) (ltb a m) (ltb b m) (ltb c m) refl refl refl refl
-  where
-    by-tests : (w x y z : Bool) → ltb maxEdges m ≡ w → ltb a m ≡ x → ltb b m ≡ y → ltb c m ≡ z → EdgesCause a b c m i p
-    by-tests true x y z h f g k = let r = refused-as (edges-many a b c m (ltb-true maxEdges m h)) e in over-limit (r .0) (r .1) (ltb-true maxEdges m h)
-    by-tests false true y z h f g k =
-        let r = refused-as (edges-first a b c m (ltb-false maxEdges m h) (ltb-true a m f)) e in
-        too-many (r .0) (r .1) (ltb-false maxEdges m h) (inl (ltb-true a m f))
-    by-tests false false true z h f g k =
-        let r = refused-as (edges-second a b c m (ltb-false maxEdges m h) (ltb-false a m f) (ltb-true b m g)) e in
-        too-many (r .0) (r .1) (ltb-false maxEdges m h) (inr (inl (ltb-true b m g)))
-    by-tests false false false true h f g k =
-        let r = refused-as (edges-weight a b c m (ltb-false maxEdges m h) (ltb-false a m f) (ltb-false b m g) (ltb-true c m k)) e in
-        too-many (r .0) (r .1) (ltb-false maxEdges m h) (inr (inr (ltb-true c m k)))
-    by-tests false false false false h f g k = absurd (no-refusal e (edges-fine a b c m (ltb-false maxEdges m h) (ltb-false a m f) (ltb-false b m g) (ltb-false c m k)))
-
-short-refused : (a b c m : ℕ) → m ≤ maxEdges → (a < m) ⊎ ((b < m) ⊎ (c < m)) → edgesTest a b c m ≡ Refused 7 0
-short-refused a b c m h s = by-tests (ltb a m) (ltb b m) refl refl s
-  where
-    by-tests : (x y : Bool) → ltb a m ≡ x → ltb b m ≡ y → (a < m) ⊎ ((b < m) ⊎ (c < m)) → edgesTest a b c m ≡ Refused 7 0
-    by-tests true y f g s = edges-first a b c m h (ltb-true a m f)
-    by-tests false true f g s = edges-second a b c m h (ltb-false a m f) (ltb-true b m g)
-    by-tests false false f g (inl l) = let k = ltb-false a m f in absurd (omega arith)
-    by-tests false false f g (inr (inl l)) = let k = ltb-false b m g in absurd (omega arith)
-    by-tests false false f g (inr (inr l)) = edges-weight a b c m h (ltb-false a m f) (ltb-false b m g) l
-
-group-cause : (v g : ℕ) {i p : ℕ} → groupTest v g ≡ Refused i p → (groupNumbers ≤ g) × ((i ≡ 17) × (p ≡ v))
-group-cause v g {i} {p} e = by-test (ltb g groupNumbers) refl
-  where
-    by-test : (b : Bool) → ltb g groupNumbers ≡ b → (groupNumbers ≤ g) × ((i ≡ 17) × (p ≡ v))
-    by-test true h = absurd (no-refusal e (group-fine v g (ltb-true g groupNumbers h)))
-    by-test false h = (ltb-false g groupNumbers h, refused-as (group-high v g (ltb-false g groupNumbers h)) e)
+use Rattle.format_survey.specs.Laws.OnlyMalformed.{only-found, only-then, only-edges, only-end}
+use Rattle.format_survey.specs.Laws.Failing.{FailingLine, PassingLine, line-fails, fails-line, line-passes, passes-line, passing-fits, FailingGroup, lines-fail, fail-lines}
+use Rattle.format_survey.specs.Laws.Cause.{VerticesCause, out-of-range, too-long, vertices-cause, EdgesCause, over-limit, too-many, edges-cause, short-refused, group-cause}
 
 -- ---- how a text begins
 
@@ -305,9 +44,9 @@ stands-begins {w} {t} s =
 
 -- Where a text is refused otherwise than with 16: at a count, or at a group.
 data Stop (tests : Tests) (t : List ℕ) (n p : ℕ) : Type 0 where
-  at-vertices : Failing nodesKey countDigits (tests .vertices) t 0 n p → Stop tests t n p
-  at-edges : (x q : ℕ) → Passing nodesKey countDigits (tests .vertices) t 0 x q → Failing linksKey countDigits (tests .edges) t q n p → Stop tests t n p
-  at-group : (x q y r : ℕ) → Passing nodesKey countDigits (tests .vertices) t 0 x q → Passing linksKey countDigits (tests .edges) t q y r → FailingGroup (tests .group) t x 0 r n p → Stop tests t n p
+  at-vertices : FailingLine nodesKey countDigits (tests .vertices) t 0 n p → Stop tests t n p
+  at-edges : (x q : ℕ) → PassingLine nodesKey countDigits (tests .vertices) t 0 x q → FailingLine linksKey countDigits (tests .edges) t q n p → Stop tests t n p
+  at-group : (x q y r : ℕ) → PassingLine nodesKey countDigits (tests .vertices) t 0 x q → PassingLine linksKey countDigits (tests .edges) t q y r → FailingGroup (tests .group) t x 0 r n p → Stop tests t n p
 
 module _ (a b c d : ℕ) (t : List ℕ) where
   abbrev tests : Tests
@@ -328,7 +67,7 @@ module _ (a b c d : ℕ) (t : List ℕ) where
           whole (edgeLines t y u) then λ es s.
           found (record { counts = record { vertices = x; edges = y }; groups = gs; edges = es }) s
 
-      by-lines : (x q y r : ℕ) → Passing nodesKey countDigits (tests .vertices) t 0 x q → Passing linksKey countDigits (tests .edges) t q y r
+      by-lines : (x q y r : ℕ) → PassingLine nodesKey countDigits (tests .vertices) t 0 x q → PassingLine linksKey countDigits (tests .edges) t q y r
           → Stops (whole (groupLines (tests .group) t x r)) (edges-then x q y r) n p → Stop tests t n p
       by-lines x q y r f g (early h) = at-group x q y r f g (lines-fail (tests .group) (never .group) t x 0 r (passing-fits g) (end-of h) not-16)
         where
@@ -341,7 +80,7 @@ module _ (a b c d : ℕ) (t : List ℕ) where
       by-lines x q y r f g (late gs u h k) =
           absurd (not-16 (only-then _ _ (only-then _ _ (only-edges t y 0 u) (λ z s. only-found _ s)) (λ es s. only-found _ s) .is n p k))
 
-      by-edges : (x q : ℕ) → Passing nodesKey countDigits (tests .vertices) t 0 x q
+      by-edges : (x q : ℕ) → PassingLine nodesKey countDigits (tests .vertices) t 0 x q
           → Stops (countLine linksKey (tests .edges) t q) (λ y r. whole (groupLines (tests .group) t x r) then edges-then x q y r) n p → Stop tests t n p
       by-edges x q f (early h) = at-edges x q f (line-fails linksKey countDigits one (tests .edges) t q (passing-fits f) h not-16)
       by-edges x q f (late y r h k) =
@@ -363,11 +102,11 @@ module _ (a b c d : ℕ) (t : List ℕ) where
       by-stop (late x q h k) = absurd (not-16 (only-then _ _ (only-end t q) (λ z s. only-found _ s) .is n p k))
 
   -- A refusal of a count or of a group is the text's.
-  refused-vertices : {n p : ℕ} → Failing nodesKey countDigits (tests .vertices) t 0 n p → surveyAt tests t ≡ refused n p
+  refused-vertices : {n p : ℕ} → FailingLine nodesKey countDigits (tests .vertices) t 0 n p → surveyAt tests t ≡ refused n p
   unfolding contentAt countLine
   refused-vertices f = content-survey tests t ∙ then-refused _ (then-refused _ (fails-line nodesKey countDigits (omega arith) (tests .vertices) t 0 f))
 
-  refused-edges : {x n p : ℕ} → Passes countDigits (tests .vertices) x → Stands t 0 (lineOf nodesKey x) → Failing linksKey countDigits (tests .edges) t (0 + length (lineOf nodesKey x)) n p → surveyAt tests t ≡ refused n p
+  refused-edges : {x n p : ℕ} → Passes countDigits (tests .vertices) x → Stands t 0 (lineOf nodesKey x) → FailingLine linksKey countDigits (tests .edges) t (0 + length (lineOf nodesKey x)) n p → surveyAt tests t ≡ refused n p
   unfolding contentAt countLine
   refused-edges {x} h s f =
       content-survey tests t
@@ -499,11 +238,11 @@ module _ (groups firsts seconds weights t : List ℕ) where
   unfolding reading testsFor
   refused-begins {n} {p} e not-16 = by-stop (content-stop _ _ _ _ t (survey-stop _ _ _ _ t (outcome-refused (surveyAt tests′ t) e) not-16) not-16)
     where
-      by-vertices : (f : Failing nodesKey countDigits (verticesTest (length groups)) t 0 n p) → VerticesCause (length groups) (f .value) n p → Refusing groups firsts seconds weights t n p
+      by-vertices : (f : FailingLine nodesKey countDigits (verticesTest (length groups)) t 0 n p) → VerticesCause (length groups) (f .value) n p → Refusing groups firsts seconds weights t n p
       by-vertices f (out-of-range i z o) = verticesOut i z record { vertices = f .value; digits = f .digits; out = o; begins = stands-begins (f .stands) }
       by-vertices f (too-long i z s m l) = bufferShort i z (inl record { vertices = f .value; some = s; most = m; short = l; begins = stands-begins (f .stands) })
 
-      by-edges : (x q : ℕ) → Passing nodesKey countDigits (verticesTest (length groups)) t 0 x q → (f : Failing linksKey countDigits (edgesTest (length firsts) (length seconds) (length weights)) t q n p)
+      by-edges : (x q : ℕ) → PassingLine nodesKey countDigits (verticesTest (length groups)) t 0 x q → (f : FailingLine linksKey countDigits (edgesTest (length firsts) (length seconds) (length weights)) t q n p)
           → BeginsWith (lineOf nodesKey x ++ lineOf linksKey (f .value)) t → EdgesCause (length firsts) (length seconds) (length weights) (f .value) n p → Refusing groups firsts seconds weights t n p
       by-edges x q h f s (over-limit i z o) = edgesOver i z record { vertices = x; edges = f .value; fits = vertices-fit (h .passes); digits = f .digits; over = o; begins = s }
       by-edges x q h f s (too-many i z m l) = bufferShort i z (inr record { vertices = x; edges = f .value; fits = vertices-fit (h .passes); most = m; short = l; begins = s })
