@@ -2,5 +2,9 @@ pub mod Body
 pub mod Reading
 pub mod Content
 pub mod WellFormed
+pub mod OnlyMalformed
+pub mod Failing
+pub mod Cause
+pub mod Beginning
 pub mod Longest
 pub mod Cut

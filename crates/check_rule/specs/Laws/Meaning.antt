@@ -4,7 +4,7 @@
 use Prim.Native.Nat.{ℕ, _*_, _-_, _/_, _%_, _≤_, _<_}
 use mathlib.Core.Path.{_≡_, sym, _∙_, subst}
 use mathlib.Core.Logic.{⊎-elim, _↔_}
-use mathlib.Core.Bool.{false, _&&_, _||_, not}
+use mathlib.Core.Bool.{true, false, _&&_, _||_, not}
 use mathlib.Core.List.{List}
 use native.Mathlib.Omega.{arith}
 use native.Mathlib.Nat.{not-le-of-lt}
@@ -110,16 +110,21 @@ rule-fine c none rule =
         eqb-false (c .cost) 0 (not-true (eqb (c .cost) 0) (and-right (eqb (c .terminals) 0) (not (eqb (c .cost) 0)) k))
         (none (eqb-true (c .terminals) 0 (and-left (eqb (c .terminals) 0) (not (eqb (c .cost) 0)) k))))
 
+-- Kept are exactly the tracks marked 2.
+pub kept-iff : (marks : List ℕ) (e : ℕ) → (keptBy marks e ≡ true) ↔ (getD marks e 0 ≡ 2)
+unfolding keptBy
+kept-iff marks e = (eqb-true (getD marks e 0) 2, eq-eqb (getD marks e 0) 2)
+
 -- Marks that are m long mark no number past the tracks.
 pub kept-bounded : (s : Survey) (marks : List ℕ) → length marks ≡ edgeCount s → Bounded (problemOf s) (keptBy marks)
-unfolding problemOf keptBy
+unfolding problemOf
 kept-bounded s marks long e k =
     ⊎-elim
     (λ l. l)
     (λ g.
     absurd
     (let z : getD marks e 0 ≡ 0 = List·getD-eq-default marks 0 (subst (λ x. x ≤ e) (sym long) g) in
-    let t : getD marks e 0 ≡ 2 = eqb-true (getD marks e 0) 2 k in
+    let t : getD marks e 0 ≡ 2 = kept-iff marks e .0 k in
     omega arith))
     (lt-or-ge e (edgeCount s))
 

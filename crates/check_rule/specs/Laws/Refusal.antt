@@ -68,6 +68,14 @@ module _ (s : Survey) (d : Dual) (i : ℕ) where
     dual-fine h = rw (ne-eqb (d .value) 0 some, le-ltb maxValue (d .value) fits, h)
 
 module _ (c : Checked) where
+  pub rule-exceeded : (c .terminals ≡ 0 → ⊥) → (c .terminals - 1) * c .bound < c .terminals * c .cost → ruleRefusal c ≡ Refused 15 0
+  unfolding ruleRefusal refuseIf
+  rule-exceeded h k = rw (ne-eqb (c .terminals) 0 h, lt-ltb ((c .terminals - 1) * c .bound) (c .terminals * c .cost) k)
+
+  pub rule-met : (c .terminals ≡ 0 → ⊥) → c .terminals * c .cost ≤ (c .terminals - 1) * c .bound → ruleRefusal c ≡ Fine
+  unfolding ruleRefusal refuseIf
+  rule-met h k = rw (ne-eqb (c .terminals) 0 h, le-ltb ((c .terminals - 1) * c .bound) (c .terminals * c .cost) k)
+
   pub rule-none : c .terminals ≡ 0 → c .cost ≡ 0 → ruleRefusal c ≡ Fine
   unfolding ruleRefusal refuseIf
   rule-none h k =
@@ -78,11 +86,3 @@ module _ (c : Checked) where
   pub rule-cost : c .terminals ≡ 0 → (c .cost ≡ 0 → ⊥) → ruleRefusal c ≡ Refused 15 0
   unfolding ruleRefusal refuseIf
   rule-cost h k = rw (eq-eqb (c .terminals) 0 h, ne-eqb (c .cost) 0 k)
-
-  pub rule-exceeded : (c .terminals ≡ 0 → ⊥) → (c .terminals - 1) * c .bound < c .terminals * c .cost → ruleRefusal c ≡ Refused 15 0
-  unfolding ruleRefusal refuseIf
-  rule-exceeded h k = rw (ne-eqb (c .terminals) 0 h, lt-ltb ((c .terminals - 1) * c .bound) (c .terminals * c .cost) k)
-
-  pub rule-met : (c .terminals ≡ 0 → ⊥) → c .terminals * c .cost ≤ (c .terminals - 1) * c .bound → ruleRefusal c ≡ Fine
-  unfolding ruleRefusal refuseIf
-  rule-met h k = rw (ne-eqb (c .terminals) 0 h, le-ltb ((c .terminals - 1) * c .bound) (c .terminals * c .cost) k)

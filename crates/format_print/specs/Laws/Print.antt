@@ -2,7 +2,7 @@
 use Prim.Native.Nat.{ℕ, _+_, _≤_, _<_}
 use native.Mathlib.Omega.{arith}
 use borrow.Author.Tests.{lt-ltb, le-ltb, eq-eqb, ne-eqb}
-use mathlib.Core.Path.{_≡_, ap, _∙_}
+use mathlib.Core.Path.{_≡_, ap, sym, _∙_, subst}
 use mathlib.Core.List.{List, [], _++_}
 use lib.ListN.{length, drop}
 use lib.Seq.{sets, sets-eq}
@@ -47,6 +47,34 @@ module _ (text out : List ℕ) {held : List ℕ} {need : ℕ} (small : length ou
         leaves = rw (le-ltb (length out) (length text) le)
             (w .bytes ∙ ap (λ l. sets l 0 text) same ∙ sets-eq text out 0 (omega arith) ∙ ap (λ n. text ++ drop n out) none);
       }
+
+-- A text that fits is printed whole, and never refused.
+module _ (text out : List ℕ) (fits : length text ≤ length out) where
+  fitting-printed : printed text out ≡ Length (length text)
+  unfolding printed printRefusal refuseIf answerOf
+  fitting-printed = rw (le-ltb (length out) (length text) fits)
+
+  pub fitting-length : {r : Printed} {n : ℕ} → r ≡ printed text out → r ≡ Length n → n ≡ length text
+  fitting-length {r} {n} e told = same (sym told ∙ e ∙ fitting-printed)
+    where
+      same : Length n ≡ Length (length text) → n ≡ length text
+      same h = cc
+
+  pub fitting-never : {r : Printed} {number place : ℕ} → r ≡ printed text out → r ≡ Refused number place → ⊥
+  fitting-never {r} {number} {place} e told = other (sym told ∙ e ∙ fitting-printed)
+    where
+      other : Refused number place ≡ Length (length text) → ⊥
+      other h = let z : _≡_ {A = ℕ} 0 1 = cc in omega arith
+
+  pub fitting-out : printedOut text out ≡ text ++ drop (length text) out
+  unfolding printedOut printRefusal refuseIf outAfter written
+  fitting-out = rw (le-ltb (length out) (length text) fits)
+
+-- The same print under another name of its text, which fits a room.
+pub prints-as : (room : ℕ) (out : List ℕ) {w text new : List ℕ} {r : Printed} → w ≡ text → (r ≡ printed w out) × (new ≡ printedOut w out) → length w ≤ room
+    → (r ≡ printed text out) × ((new ≡ printedOut text out) × (length text ≤ room))
+prints-as room out {new = new} {r = r} e p l =
+    subst (λ (x : List ℕ). (r ≡ printed x out) × ((new ≡ printedOut x out) × (length x ≤ room))) e (p .0, (p .1, l))
 
 -- A record of another length is refused first; of one of its own length the line is printed.
 pub dual-short-answer : (r out : List ℕ) → (length r ≡ recordBytes → ⊥) → Refused 9 0 ≡ dualPrinted r out

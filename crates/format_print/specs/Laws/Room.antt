@@ -73,10 +73,10 @@ length-members r =
 
 -- ---- lines
 
-word-digits : (x : ℕ) → x < 2 ^ 64 → length (decimal x) ≤ wordDigits
+pub word-digits : (x : ℕ) → x < 2 ^ 64 → length (decimal x) ≤ wordDigits
 word-digits x h = length-decimal 19 x (omega arith)
 
-length-line : (key : List ℕ) (x : ℕ) → length (lineOf key x) ≡ length key + length (decimal x) + 1
+pub length-line : (key : List ℕ) (x : ℕ) → length (lineOf key x) ≡ length key + length (decimal x) + 1
 unfolding lineOf
 length-line key x =
     let a : length (key ++ decimal x ++ (newline ∷ [])) ≡ length (key ++ decimal x) + 1 = length-append (key ++ decimal x) (newline ∷ []) in

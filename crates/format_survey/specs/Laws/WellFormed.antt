@@ -51,7 +51,7 @@ unfolding stepOutcome
 outcome-found (found b p) e = (p, cc)
 outcome-found (refused n p) e = let z : _≡_ {A = ℕ} 0 1 = cc in absurd (omega arith)
 
-outcome-refused : {A : Type 0} (s : Step A) {n p : ℕ} → stepOutcome s ≡ refusal n p → s ≡ refused n p
+pub outcome-refused : {A : Type 0} (s : Step A) {n p : ℕ} → stepOutcome s ≡ refusal n p → s ≡ refused n p
 unfolding stepOutcome
 outcome-refused (found b q) e = let z : _≡_ {A = ℕ} 0 1 = cc in absurd (omega arith)
 outcome-refused (refused i q) {n} {p} e = let a : i ≡ n = cc in let b : q ≡ p = cc in cc
@@ -234,3 +234,13 @@ module _ (gb fb sb wb t : List ℕ) (p : ℕ) (e : reading t gb fb sb wb ≡ ref
           by-found : contentAt tests′ u 0 ≡ found x p → NotMalformed (contentAt tests′ u 0) (well-content w) (0 + length u) → ⊥
           by-found c (read q) = let z : p ≡ 0 + length u = cc in let b = long in omega arith
           by-found c (otherwise q k) = let z : _≡_ {A = ℕ} 0 1 = cc in omega arith
+
+  -- The text itself is none.
+  pub malformed-is-none : WellFormed t → ⊥
+  malformed-is-none w = by-place why (reads .notMalformed t 0 (well-content w) t (well-formed w) (stands-whole t))
+    where
+      by-place : Malformed tests′ t p → NotMalformed (contentAt tests′ t 0) (well-content w) (0 + length t) → ⊥
+      by-place (in-line h) (read q) = let z : _≡_ {A = ℕ} 0 1 = cc in omega arith
+      by-place (in-line h) (otherwise {n = i} q k) = let z : 16 ≡ i = cc in k (sym z)
+      by-place (after-lines x h l) (read q) = let z : p ≡ 0 + length t = cc in omega arith
+      by-place (after-lines x h l) (otherwise q k) = let z : _≡_ {A = ℕ} 0 1 = cc in omega arith

@@ -1,15 +1,15 @@
 -- Every finished plan, printed behind the text of its survey, passes the checking program with the same counts, and both texts fit that program's buffer.
 use Prim.Native.Nat.{ℕ, _^_, _≤_, _<_}
 use native.Mathlib.Omega.{arith}
-use mathlib.Core.Path.{_≡_, ap, ap₂, sym, _∙_, subst}
+use mathlib.Core.Path.{_≡_, refl, ap, sym, _∙_, subst}
 use mathlib.Core.List.{List, _++_}
-use lib.ListN.{length}
-use Rattle.base_limits.specs.Limits.{figureDigits, verifyRoom}
-use Rattle.base_limits.specs.Verdict.{answer}
+use lib.ListN.{length, replicate}
+use Rattle.base_limits.specs.Limits.{maxVertices, maxEdges, recordsRoom, figureDigits, surveyRoom, verifyRoom}
+use Rattle.base_limits.specs.Verdict.{Outcome, refusal, answer}
 use Rattle.base_limits.specs.Laws.Verdict.{answer-fine}
 use Rattle.base_limits.specs.declared.Verdict.the-variants.{Fine}
-use Rattle.format_write.specs.Text.{planText}
 use Rattle.format_survey.specs.Reading.{reading, SurveyText}
+use Rattle.format_survey.specs.Laws.Longest.{longest-read}
 use Rattle.theory_steiner.specs.Laws.Rounds.{rounds-lt, grown-reached}
 use Rattle.survey_core.specs.Survey.{Survey, vertexCount, problemOf}
 use Rattle.survey_core.specs.Sound.{SurveySound, ByteGroups}
@@ -17,16 +17,18 @@ use Rattle.survey_core.specs.Laws.Refusal.{survey-sound}
 use Rattle.check_rule.specs.Check.{Checked}
 use Rattle.plan_duals.specs.Drawing.{recordsOf}
 use Rattle.plan_duals.specs.Laws.Drawing.{bytes-records}
-use Rattle.plan_core.specs.Plan.{planOf, planRefusal, PlanCounts, planCountsOf, counting}
+use Rattle.plan_core.specs.Plan.{Plan, planOf, planRefusal, planning}
 use Rattle.plan_core.specs.Promise.{Ready}
 use Rattle.plan_core.specs.Laws.Ready.{fine-ready}
 use Rattle.plan_core.specs.Laws.Passes.{finished-passes}
-use Rattle.plan_core.specs.Laws.Promise.{cut-marks, cut-records}
 use Rattle.check_text.specs.Verify.{verifying}
 use Rattle.check_text.specs.Pair.{surveyIn}
 use Rattle.check_text.specs.Laws.Passes.{read-numbered, printed-passes, printed-length}
 use Rattle.check_text.specs.Laws.Length.{verified-length}
-use Rattle.theorems.specs.Printed.{planFor, printedPlan, printedCall}
+use Rattle.api_plan_text.specs.Output.{surveyRead, surveyPlan, readPlan, textPlan, outcomeText, planOutput}
+use Rattle.api_plan_text.specs.Laws.Output.{survey-buffers, reading-whole}
+use Rattle.api_verify_text.specs.Output.{passedText, findingsText, verifyOutput}
+use Rattle.theorems.specs.Printed.{planFor, printedPlan}
 
 -- Rounds have few digits.
 rounds-few : (s : Survey) → SurveySound s → planOf (problemOf s) .rounds < 10 ^ figureDigits
@@ -66,26 +68,57 @@ module _ (t gb fb sb wb : List ℕ) (s : SurveyText) (read : reading t gb fb sb 
         (record { terminals = p .terminals; cost = p .cost; bound = p .bound }) (finished-passes (surveyIn s) (ready .survey) (ready .joinable) numbered) in
         omega arith
 
-  module _ (marks records : List ℕ) (c : PlanCounts) (called : counting (surveyIn s) (length marks) (length records) ≡ answer c) where
-    finished : (planRefusal (surveyIn s) (length marks) (length records) ≡ Fine) × (planCountsOf (planFor s) ≡ c)
-    unfolding counting
-    finished = answer-fine (planRefusal (surveyIn s) (length marks) (length records)) (planCountsOf (planFor s)) c called
+-- Where a finished plan comes from: a survey that was read, to which none of 1 to 8 applies.
+record Source (t : List ℕ) (p : Plan) : Type 0 where
+  survey : SurveyText
+  read : surveyRead t ≡ answer survey
+  fine : planRefusal (surveyIn survey) maxEdges recordsRoom ≡ Fine
+  plan : planFor survey ≡ p
 
-    same-text : printedCall (surveyIn s) marks records (planCountsOf (planFor s)) ≡ printedPlan (planFor s)
-    unfolding planCountsOf
-    same-text =
-        let p = planFor s in
-        ap₂ (planText (p .terminals) (p .cost) (p .bound) (p .rounds)) (cut-marks (surveyIn s) numbered marks records (finished .0)) (cut-records (surveyIn s) numbered marks records (finished .0))
+source : (t : List ℕ) (p : Plan) → textPlan t ≡ answer p → Source t p
+unfolding textPlan readPlan surveyPlan planning
+source t p finished = by-read (surveyRead t) refl finished
+  where
+    by-read : (o : Outcome SurveyText) → surveyRead t ≡ o → readPlan o ≡ answer p → Source t p
+    by-read (refusal number place) r e = let z : _≡_ {A = ℕ} 0 1 = cc in absurd (omega arith)
+    by-read (answer s) r e =
+        let a = answer-fine (planRefusal (surveyIn s) maxEdges recordsRoom) (planFor s) p e in record { survey = s; read = r; fine = a .0; plan = a .1 }
 
-    -- Whatever a finished call leaves to print passes, with the counts that the call answer-fine.
-    pub call-passes : verifying (t ++ printedCall (surveyIn s) marks records c) ≡ answer (record { terminals = c .terminals; cost = c .cost; bound = c .bound })
-    unfolding planCountsOf
-    call-passes =
-        subst (λ (x : PlanCounts). verifying (t ++ printedCall (surveyIn s) marks records x) ≡ answer (record { terminals = x .terminals; cost = x .cost; bound = x .bound })) (finished .1)
-        (ap (λ (w : List ℕ). verifying (t ++ w)) same-text ∙ plan-passes (length marks) (length records) (finished .0))
+-- What the programs print for a text whose plan is finished.
+module _ (t : List ℕ) (p : Plan) (finished : textPlan t ≡ answer p) where
+  from : Source t p
+  from = source t p finished
 
-    -- The checking program reads both texts whole.
-    pub call-fits : length (t ++ printedCall (surveyIn s) marks records c) ≤ verifyRoom
-    call-fits =
-        subst (λ (x : PlanCounts). length (t ++ printedCall (surveyIn s) marks records x) ≤ verifyRoom) (finished .1)
-        (subst (λ (w : List ℕ). length (t ++ w) ≤ verifyRoom) (sym same-text) (plan-fits (length marks) (length records) (finished .0)))
+  groups : List ℕ
+  groups = replicate maxVertices 0
+
+  edges : List ℕ
+  edges = replicate maxEdges 0
+
+  -- Its survey, read with buffers of the limits' sizes.
+  read : reading t groups edges edges edges ≡ answer (from .survey)
+  unfolding groups edges
+  read = reading-whole t survey-buffers ∙ from .read
+
+  -- The program `plan` prints the plan,
+  pub call-prints : planOutput t ≡ printedPlan p
+  unfolding planOutput outcomeText
+  call-prints = ap outcomeText finished
+
+  printed-from : planOutput t ≡ printedPlan (planFor (from .survey))
+  printed-from = call-prints ∙ sym (ap (λ (x : Plan). printedPlan x) (from .plan))
+
+  -- and the program `verify`, given the text and what `plan` printed, prints `passed` and the plan's own sites, cost and bound.
+  pub call-passes : verifyOutput (t ++ planOutput t) ≡ passedText (p .terminals) (p .cost) (p .bound)
+  unfolding verifyOutput findingsText
+  call-passes =
+      ap findingsText (ap (λ (w : List ℕ). verifying (t ++ w)) printed-from ∙ plan-passes t groups edges edges edges (from .survey) read maxEdges recordsRoom (from .fine))
+      ∙ ap (λ (x : Plan). passedText (x .terminals) (x .cost) (x .bound)) (from .plan)
+
+  -- Each program reads its input whole.
+  pub call-reads : length t ≤ surveyRoom
+  call-reads = let l = longest-read t groups edges edges edges (from .survey) read in omega arith
+
+  pub call-fits : length (t ++ planOutput t) ≤ verifyRoom
+  call-fits =
+      subst (λ (w : List ℕ). length (t ++ w) ≤ verifyRoom) (sym printed-from) (plan-fits t groups edges edges edges (from .survey) read maxEdges recordsRoom (from .fine))

@@ -1,0 +1,94 @@
+// A survey's text in, its plan's text out: what the program `plan` does between reading and writing. Definitions in
+// specs/.
+ghost use Rattle.base_buffer.specs.Lent.{old, new};
+ghost use mathlib.Core.Path.{_≡_};
+ghost use mathlib.Core.List.{_++_};
+ghost use Prim.Native.Nat.{_≤_};
+ghost use lib.ListN.{length, drop};
+ghost use Rattle.base_limits.specs.Limits.{planRoom};
+ghost use Rattle.survey_core.specs.Survey.{lentSurvey};
+ghost use Rattle.format_print.specs.Print.{printed, printedOut};
+ghost use Rattle.api_plan_text.specs.Output.{surveyOutput, planOutput};
+use base_limits::MAX_EDGES;
+use base_limits::MAX_VERTICES;
+use base_limits::PLAN_ROOM;
+use base_limits::RECORD_BYTES;
+use base_limits::RECORDS_ROOM;
+use format_print::Printed;
+use format_survey::Reading;
+use plan_core::Planned;
+
+// Plans a survey and prints the plan, or the refusal's two lines.
+fn plan_survey(
+    groups: &[u8],
+    firsts: &[u32],
+    seconds: &[u32],
+    weights: &[u32],
+    out: &mut [u8],
+) -> Printed
+    ensures { λ r. ⌜ r ≡ printed (surveyOutput (lentSurvey groups firsts seconds weights)) (old out) ⌝ }
+    ensures { λ _. ⌜ new out ≡ printedOut (surveyOutput (lentSurvey groups firsts seconds weights)) (old out) ⌝ }
+    ensures fits { λ _. ⌜ length (surveyOutput (lentSurvey groups firsts seconds weights)) ≤ planRoom ⌝ }
+{
+    let mut marks = [0u8; MAX_EDGES];
+    let mut records = [0u8; RECORDS_ROOM];
+    let edges = firsts.len();
+    match plan_core::plan(groups, firsts, seconds, weights, &mut marks, &mut records) {
+        Planned::Refused { number, place } => format_print::print_refusal(number, place, out),
+        Planned::Finished {
+            terminals,
+            cost,
+            bound,
+            rounds,
+            duals,
+        } => {
+            let size = RECORD_BYTES * (duals as usize);
+            format_print::print_plan(
+                terminals,
+                cost,
+                bound,
+                rounds,
+                &marks[0..edges],
+                &records[0..size],
+                out,
+            )
+        }
+    }
+}
+
+// Prints the plan of the survey that a text says, or the two lines of the refusal of reading or planning; 7 where that
+// does not fit. A buffer of `PLAN_ROOM` bytes always holds it.
+pub fn plan_text(text: &[u8], out: &mut [u8]) -> Printed
+    ensures { λ r. ⌜ r ≡ printed (planOutput (old text)) (old out) ⌝ }
+    ensures { λ _. ⌜ new out ≡ printedOut (planOutput (old text)) (old out) ⌝ }
+    ensures fits { λ _. ⌜ length (planOutput (old text)) ≤ planRoom ⌝ }
+{
+    let mut groups = [0u8; MAX_VERTICES];
+    let mut firsts = [0u32; MAX_EDGES];
+    let mut seconds = [0u32; MAX_EDGES];
+    let mut weights = [0u32; MAX_EDGES];
+    match format_survey::read(text, &mut groups, &mut firsts, &mut seconds, &mut weights) {
+        Reading::Refused { number, place } => format_print::print_refusal(number, place, out),
+        Reading::Survey { vertices, edges } => plan_survey(
+            &groups[0..vertices],
+            &firsts[0..edges],
+            &seconds[0..edges],
+            &weights[0..edges],
+            out,
+        ),
+    }
+}
+
+// The same into a buffer that always holds it: the number of bytes printed, and no refusal. 7 cannot come, so that 0 is
+// never answered.
+pub fn plan_whole(text: &[u8], out: &mut [u8; PLAN_ROOM]) -> usize
+    ensures { λ r. ⌜ r ≡ length (planOutput (old text)) ⌝ }
+    ensures { λ _. ⌜ new out ≡ planOutput (old text) ++ drop (length (planOutput (old text))) (old out) ⌝ }
+    ensures fits { λ r. ⌜ r ≤ length (new out) ⌝ }
+{
+    let answer = plan_text(text, out);
+    let Printed::Length(n) = answer else {
+        return 0;
+    };
+    n
+}
