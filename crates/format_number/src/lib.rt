@@ -1,5 +1,6 @@
 // Reads the bytes and numbers of a text: fixed bytes, a number with the byte that ends it, a line of a key and a
-// number. Each step answers a value with the next cursor, or a refusal.
+// number. Each step answers a value with the next cursor, or a refusal. Every key and every number is taken through a
+// reader that stands where the step before it has ended.
 ghost use Rattle.base_buffer.specs.Lent.{old};
 ghost use mathlib.Core.Path.{_≡_};
 ghost use Prim.Native.Nat.{_-_, _≤_, min};
@@ -14,6 +15,12 @@ use base_buffer::at8;
 use base_limits::MAX_DIGITS;
 
 pub struct Cursor {
+    pub at: usize,
+}
+
+// A text and how far it has been read. Each function over it takes it apart, for the function on slice and offset below.
+pub struct Reader<'a> {
+    pub text: &'a [u8],
     pub at: usize,
 }
 
@@ -114,11 +121,10 @@ fn capped(limit: usize) -> usize
     MAX_DIGITS
 }
 
-// The number of at most limit digits at the cursor.
-pub fn number_at(text: &[u8], cursor: Cursor, limit: usize) -> Number
-    ensures { λ r. ⌜ numberStep r ≡ numberAt (min limit maxDigits) (old text) (cursor .at) ⌝ }
+// The number of at most limit digits at an offset.
+fn number_from(text: &[u8], at: usize, limit: usize) -> Number
+    ensures { λ r. ⌜ numberStep r ≡ numberAt (min limit maxDigits) (old text) at ⌝ }
 {
-    let at = cursor.at;
     let part = digits(text, at, capped(limit));
     let width = part.len();
     if width == 0 {
@@ -131,6 +137,66 @@ pub fn number_at(text: &[u8], cursor: Cursor, limit: usize) -> Number
         value: value(part),
         next: Cursor { at: at + width },
     }
+}
+
+// Fixed bytes at an offset.
+fn fixed_from(text: &[u8], from: usize, bytes: &[u8]) -> Number
+    ensures { λ r. ⌜ numberStep r ≡ fixedAt (old bytes) (old text) from ⌝ }
+{
+    let mut at = from;
+    let mut i = 0;
+    while i < bytes.len() {
+        if text.len() <= at {
+            return Number::Refused {
+                number: 16,
+                place: at,
+            };
+        }
+        if text[at] != bytes[i] {
+            return Number::Refused {
+                number: 16,
+                place: at,
+            };
+        }
+        at += 1;
+        i += 1;
+    }
+    Number::Value {
+        value: 0,
+        next: Cursor { at },
+    }
+}
+
+fn reader_at<'a>(text: &'a [u8], at: usize) -> Reader<'a>
+    ensures { λ r. ⌜ (r .text ≡ text .entry) × (r .at ≡ at) ⌝ }
+{
+    Reader { text, at }
+}
+
+fn take_bytes<'a, 'b>(r: Reader<'a>, bytes: &'b [u8]) -> Number
+    ensures { λ s. ⌜ numberStep s ≡ fixedAt (old bytes) (now (r .entry .text)) (r .entry .at) ⌝ }
+{
+    fixed_from(r.text, r.at, bytes)
+}
+
+fn take_number<'a>(r: Reader<'a>, limit: usize) -> Number
+    ensures { λ s. ⌜ numberStep s ≡ numberAt (min limit maxDigits) (now (r .entry .text)) (r .entry .at) ⌝ }
+{
+    number_from(r.text, r.at, limit)
+}
+
+// Fixed bytes at the cursor.
+pub fn fixed(text: &[u8], cursor: Cursor, bytes: &[u8]) -> Number
+    ensures { λ r. ⌜ numberStep r ≡ fixedAt (old bytes) (old text) (cursor .at) ⌝ }
+{
+    take_bytes(reader_at(text, cursor.at), bytes)
+}
+
+// The number of at most limit digits at the cursor.
+pub fn number_at(text: &[u8], cursor: Cursor, limit: usize) -> Number
+    ensures { λ r. ⌜ numberStep r ≡ numberAt (min limit maxDigits) (old text) (cursor .at) ⌝ }
+{
+    take_number(reader_at(text, cursor.at), limit)
 }
 
 // The number at an offset has ended there, with a comma where one is wanted and otherwise with byte 10.
@@ -164,34 +230,6 @@ pub fn number_to(text: &[u8], cursor: Cursor, limit: usize, comma: bool) -> Numb
     Number::Refused {
         number: 16,
         place: end,
-    }
-}
-
-// Fixed bytes.
-pub fn fixed(text: &[u8], cursor: Cursor, bytes: &[u8]) -> Number
-    ensures { λ r. ⌜ numberStep r ≡ fixedAt (old bytes) (old text) (cursor .at) ⌝ }
-{
-    let mut at = cursor.at;
-    let mut i = 0;
-    while i < bytes.len() {
-        if text.len() <= at {
-            return Number::Refused {
-                number: 16,
-                place: at,
-            };
-        }
-        if text[at] != bytes[i] {
-            return Number::Refused {
-                number: 16,
-                place: at,
-            };
-        }
-        at += 1;
-        i += 1;
-    }
-    Number::Value {
-        value: 0,
-        next: Cursor { at },
     }
 }
 

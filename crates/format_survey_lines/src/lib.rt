@@ -5,8 +5,7 @@ ghost use mathlib.Core.Path.{_≡_};
 ghost use Prim.Native.Nat.{_<_};
 ghost use lib.ListN.{set};
 ghost use lib.Seq.{sets};
-ghost use Rattle.base_limits.specs.Limits.{countDigits, groupNumbers};
-ghost use Rattle.format_number.specs.Number.{numberLine};
+ghost use Rattle.base_limits.specs.Limits.{groupNumbers};
 ghost use Rattle.format_number.specs.Answer.{numberStep};
 ghost use Rattle.format_grammar.specs.Step.{stopped};
 ghost use Rattle.format_key.specs.Key.{nodesKey, linksKey};
@@ -26,13 +25,6 @@ use format_number::Number;
 use format_number::fixed;
 use format_number::number_line;
 use format_number::number_to;
-
-// The text and how far it has been read. Each function over it takes it apart, for a function on the slice and the
-// offset.
-pub struct Reader<'a> {
-    pub text: &'a [u8],
-    pub at: usize,
-}
 
 pub enum EdgeLine {
     Edge {
@@ -59,37 +51,11 @@ pub enum Head {
     },
 }
 
-fn opened<'a>(text: &'a [u8]) -> Reader<'a>
-    ensures { λ r. ⌜ (r .text ≡ text .entry) × (r .at ≡ 0) ⌝ }
-{
-    Reader { text, at: 0 }
-}
-
-// `nodes=n` at an offset.
-fn nodes_at(text: &[u8], at: usize) -> Number
-    ensures { λ r. ⌜ numberStep r ≡ numberLine nodesKey countDigits (old text) at ⌝ }
-{
-    number_line(text, Cursor { at }, &format_key::NODES, COUNT_DIGITS)
-}
-
-fn nodes_line<'a>(r: Reader<'a>) -> Number
-    ensures { λ s. ⌜ numberStep s ≡ numberLine nodesKey countDigits (now (r .entry .text)) (r .entry .at) ⌝ }
-{
-    nodes_at(r.text, r.at)
-}
-
-// The line with which a text begins.
-fn first_line(text: &[u8]) -> Number
-    ensures { λ r. ⌜ numberStep r ≡ numberLine nodesKey countDigits (old text) 0 ⌝ }
-{
-    nodes_line(opened(text))
-}
-
 // `nodes=n`: 1, then 7 where the group buffer, of length lent, is short.
 fn vertices_line(text: &[u8], lent: usize) -> Number
     ensures { λ r. ⌜ numberStep r ≡ countLine nodesKey (verticesTest lent) (old text) 0 ⌝ }
 {
-    let step = first_line(text);
+    let step = number_line(text, Cursor { at: 0 }, &format_key::NODES, COUNT_DIGITS);
     let Number::Value { value, next: _ } = step else {
         return step;
     };
