@@ -7,8 +7,8 @@ ghost use Prim.Native.Nat.{_-_, _≤_, min};
 ghost use lib.ListN.{length};
 ghost use Rattle.base_limits.specs.Limits.{maxDigits};
 ghost use Rattle.format_write.specs.Decimal.{spelledAfter};
-ghost use Rattle.format_number.specs.Number.{classOf, digitsEnd, numeralEnd, numeralAt, numberAt, stopOf};
-ghost use Rattle.format_number.specs.Number.{numberTo, numberLine};
+ghost use Rattle.format_number.specs.Number.{classOf, isDigit, classNumber, isClass, classStep, digitsEnd};
+ghost use Rattle.format_number.specs.Number.{numeralEnd, numeralAt, numberAt, stopOf, numberTo, numberLine};
 ghost use Rattle.format_grammar.specs.Bytes.{byteIs, fixedAt};
 ghost use Rattle.format_number.specs.Answer.{numberStep};
 use base_buffer::at8;
@@ -24,11 +24,15 @@ pub struct Reader<'a> {
     pub at: usize,
 }
 
-// The classes of bytes that tell the parts of a line apart.
+// The classes of bytes that tell the parts of a line apart: the digit 0 and the others, what ends a line, stands between
+// values and behind a value, and the letter with which the line of a kept track begins.
 pub enum Class {
+    Zero,
     Digit,
     LineEnd,
     Comma,
+    Colon,
+    Keep,
     Other,
 }
 
@@ -42,10 +46,68 @@ fn class_of(b: u8) -> Class
     ensures { λ r. ⌜ r ≡ classOf b ⌝ }
 {
     match b {
-        48..=57 => Class::Digit,
-        10 => Class::LineEnd,
-        44 => Class::Comma,
+        b'0' => Class::Zero,
+        b'1'..=b'9' => Class::Digit,
+        b'\n' => Class::LineEnd,
+        b',' => Class::Comma,
+        b':' => Class::Colon,
+        b'k' => Class::Keep,
         _ => Class::Other,
+    }
+}
+
+fn class_number(kind: Class) -> u8
+    ensures { λ r. ⌜ r ≡ classNumber kind ⌝ }
+{
+    match kind {
+        Class::Zero => 0,
+        Class::Digit => 1,
+        Class::LineEnd => 2,
+        Class::Comma => 3,
+        Class::Colon => 4,
+        Class::Keep => 5,
+        Class::Other => 6,
+    }
+}
+
+// A byte of this class stands at an offset.
+pub fn is_class(text: &[u8], at: usize, kind: Class) -> bool
+    ensures { λ r. ⌜ r ≡ isClass (old text) at kind ⌝ }
+{
+    if text.len() <= at {
+        return false;
+    }
+    class_number(class_of(text[at])) == class_number(kind)
+}
+
+// A byte of this class at the cursor.
+pub fn class_step(text: &[u8], cursor: Cursor, kind: Class) -> Number
+    ensures { λ r. ⌜ numberStep r ≡ classStep kind (old text) (cursor .at) ⌝ }
+{
+    let at = cursor.at;
+    if is_class(text, at, kind) {
+        return Number::Value {
+            value: 0,
+            next: Cursor { at: at + 1 },
+        };
+    }
+    Number::Refused {
+        number: 16,
+        place: at,
+    }
+}
+
+fn is_digit(kind: Class) -> bool
+    ensures { λ r. ⌜ r ≡ isDigit kind ⌝ }
+{
+    match kind {
+        Class::Zero => true,
+        Class::Digit => true,
+        Class::LineEnd => false,
+        Class::Comma => false,
+        Class::Colon => false,
+        Class::Keep => false,
+        Class::Other => false,
     }
 }
 
@@ -56,10 +118,9 @@ fn digits_end(text: &[u8], at: usize, limit: usize) -> usize
     let mut end = at;
     let mut taken = 0;
     while taken < limit {
-        let kind = class_of(at8(text, end));
-        let Class::Digit = kind else {
+        if !is_digit(class_of(at8(text, end))) {
             return end;
-        };
+        }
         end += 1;
         taken += 1;
     }
@@ -70,7 +131,7 @@ fn digits_end(text: &[u8], at: usize, limit: usize) -> usize
 fn numeral_end(text: &[u8], at: usize, limit: usize) -> usize
     ensures { λ r. ⌜ r ≡ numeralEnd limit (old text) at ⌝ }
 {
-    if at8(text, at) == 48 {
+    if is_class(text, at, Class::Zero) {
         return at + 1;
     }
     digits_end(text, at, limit)
@@ -203,13 +264,10 @@ pub fn number_at(text: &[u8], cursor: Cursor, limit: usize) -> Number
 fn ends(text: &[u8], at: usize, comma: bool) -> bool
     ensures { λ r. ⌜ r ≡ byteIs (old text) at (stopOf comma) ⌝ }
 {
-    let kind = class_of(at8(text, at));
-    match kind {
-        Class::Digit => false,
-        Class::LineEnd => !comma,
-        Class::Comma => comma,
-        Class::Other => false,
+    if comma {
+        return is_class(text, at, Class::Comma);
     }
+    is_class(text, at, Class::LineEnd)
 }
 
 // A number, and the byte that ends it.
