@@ -12,7 +12,7 @@ ghost use Rattle.format_key.specs.Key.{nodesKey, linksKey};
 ghost use Rattle.format_survey_lines.specs.Line.{edgeLines, firstsOf, secondsOf, weightsOf, testsFor, countsAt};
 ghost use Rattle.format_survey_lines.specs.Line.{groupLines, verticesTest, edgesTest, groupTest, countLine};
 ghost use Rattle.format_survey_lines.specs.Line.{groupLine, edgeLine, linesAt, wordNumbers};
-ghost use Rattle.format_survey_lines.specs.Answer.{edgeStep, countsStep, LinesStored};
+ghost use Rattle.format_survey_lines.specs.Answer.{edgeStep, countsStep};
 use base_limits::COUNT_DIGITS;
 use base_limits::ENDPOINT_DIGITS;
 use base_limits::GROUP_DIGITS;
@@ -259,6 +259,24 @@ pub fn group_lines(text: &[u8], cursor: Cursor, count: usize, groups: &mut [u8])
     Number::Value { value: 0, next }
 }
 
+// A refused line of an edge, as the answer of the lines.
+fn stopped_line(line: EdgeLine) -> Number
+    ensures { λ r. ⌜ numberStep r ≡ stopped (edgeStep line) ⌝ }
+{
+    match line {
+        EdgeLine::Refused { number, place } => Number::Refused { number, place },
+        EdgeLine::Edge {
+            first: _,
+            second: _,
+            weight: _,
+            next,
+        } => {
+            let place = next.at;
+            Number::Refused { number: 16, place }
+        }
+    }
+}
+
 // So many lines `link=u,v,price`, in the same way.
 pub fn edge_lines(
     text: &[u8],
@@ -278,21 +296,21 @@ pub fn edge_lines(
     let mut next = cursor;
     let mut edge = 0;
     while edge < count {
-        match edge_line(text, next, edge) {
-            EdgeLine::Refused { number, place } => return Number::Refused { number, place },
-            EdgeLine::Edge {
-                first,
-                second,
-                weight,
-                next: after,
-            } => {
-                store32(firsts, edge, first);
-                store32(seconds, edge, second);
-                store32(weights, edge, weight);
-                next = after;
-                edge += 1;
-            }
-        }
+        let line = edge_line(text, next, edge);
+        let EdgeLine::Edge {
+            first,
+            second,
+            weight,
+            next: after,
+        } = line
+        else {
+            return stopped_line(line);
+        };
+        store32(firsts, edge, first);
+        store32(seconds, edge, second);
+        store32(weights, edge, weight);
+        next = after;
+        edge += 1;
     }
     Number::Value { value: 0, next }
 }
@@ -311,8 +329,11 @@ pub fn survey_lines(
 ) -> Number
     ensures { λ r.
         let lines = linesAt (old text) vertices edges (cursor .at) in
-        ⌜ LinesStored lines (numberStep r) (old groups) (new groups) (old firsts) (new firsts)
-        (old seconds) (new seconds) (old weights) (new weights) ⌝ }
+        ⌜ (numberStep r ≡ lines .end)
+        × (new groups ≡ sets (old groups) 0 (lines .groups))
+        × (new firsts ≡ sets (old firsts) 0 (firstsOf (lines .edges)))
+        × (new seconds ≡ sets (old seconds) 0 (secondsOf (lines .edges)))
+        × (new weights ≡ sets (old weights) 0 (weightsOf (lines .edges))) ⌝ }
 {
     let heads = group_lines(text, cursor, vertices, groups);
     let Number::Value { value: _, next } = heads else {
