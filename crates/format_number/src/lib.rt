@@ -18,14 +18,15 @@ pub struct Cursor {
     pub at: usize,
 }
 
-// A text and how far it has been read. Each function over it takes it apart, for the function on slice and offset below.
+// A text and how far it has been read. Each function over it takes it apart, for a function on the slice and the
+// offset.
 pub struct Reader<'a> {
     pub text: &'a [u8],
     pub at: usize,
 }
 
-// The classes of bytes that tell the parts of a line apart: the digit 0 and the others, what ends a line, stands between
-// values and behind a value, and the letter with which the line of a kept track begins.
+// The classes of bytes that tell the parts of a line apart: the digit 0 and the others, what ends a line, what stands
+// between values and behind one, and the letter with which the line of a kept track begins.
 pub enum Class {
     Zero,
     Digit,

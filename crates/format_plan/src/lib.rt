@@ -137,7 +137,8 @@ fn plan_lines(
         let size = recordBytes * length (lines .duals) in
         ⌜ (numberStep r ≡ roomed lines edges (length (old marks)) (length (old records)))
         × (new marks ≡ storedIf (numberStep r) (marksOf edges (lines .kept) ++ drop edges (old marks)) (old marks))
-        × (new records ≡ storedIf (numberStep r) (dualRecords (lines .duals) ++ drop size (old records)) (old records)) ⌝ }
+        × (new records ≡
+        storedIf (numberStep r) (dualRecords (lines .duals) ++ drop size (old records)) (old records)) ⌝ }
 {
     let found = plan_body(text, cursor, edges, &mut marks[0..0], &mut records[0..0]);
     let Number::Value {
