@@ -1,6 +1,6 @@
 // Reads the bytes and numbers of a text: fixed bytes, a number with the byte that ends it, a line of a key and a
-// number. Each step answers a value with the next cursor, or a refusal. Every key and every number is taken through a
-// reader that stands where the step before it has ended.
+// number. Each step answers a value with the next cursor, or a refusal. Every key, every number and every byte between
+// them is taken through a reader that stands where the step before it has ended.
 ghost use Rattle.base_buffer.specs.Lent.{old};
 ghost use mathlib.Core.Path.{_≡_};
 ghost use Prim.Native.Nat.{_-_, _≤_, min};
@@ -72,30 +72,13 @@ fn class_number(kind: Class) -> u8
 }
 
 // A byte of this class stands at an offset.
-pub fn is_class(text: &[u8], at: usize, kind: Class) -> bool
+fn class_from(text: &[u8], at: usize, kind: Class) -> bool
     ensures { λ r. ⌜ r ≡ isClass (old text) at kind ⌝ }
 {
     if text.len() <= at {
         return false;
     }
     class_number(class_of(text[at])) == class_number(kind)
-}
-
-// A byte of this class at the cursor.
-pub fn class_step(text: &[u8], cursor: Cursor, kind: Class) -> Number
-    ensures { λ r. ⌜ numberStep r ≡ classStep kind (old text) (cursor .at) ⌝ }
-{
-    let at = cursor.at;
-    if is_class(text, at, kind) {
-        return Number::Value {
-            value: 0,
-            next: Cursor { at: at + 1 },
-        };
-    }
-    Number::Refused {
-        number: 16,
-        place: at,
-    }
 }
 
 fn is_digit(kind: Class) -> bool
@@ -132,7 +115,7 @@ fn digits_end(text: &[u8], at: usize, limit: usize) -> usize
 fn numeral_end(text: &[u8], at: usize, limit: usize) -> usize
     ensures { λ r. ⌜ r ≡ numeralEnd limit (old text) at ⌝ }
 {
-    if is_class(text, at, Class::Zero) {
+    if class_from(text, at, Class::Zero) {
         return at + 1;
     }
     digits_end(text, at, limit)
@@ -247,6 +230,12 @@ fn take_number<'a>(r: Reader<'a>, limit: usize) -> Number
     number_from(r.text, r.at, limit)
 }
 
+fn take_class<'a>(r: Reader<'a>, kind: Class) -> bool
+    ensures { λ b. ⌜ b ≡ isClass (now (r .entry .text)) (r .entry .at) kind ⌝ }
+{
+    class_from(r.text, r.at, kind)
+}
+
 // Fixed bytes at the cursor.
 pub fn fixed(text: &[u8], cursor: Cursor, bytes: &[u8]) -> Number
     ensures { λ r. ⌜ numberStep r ≡ fixedAt (old bytes) (old text) (cursor .at) ⌝ }
@@ -259,6 +248,30 @@ pub fn number_at(text: &[u8], cursor: Cursor, limit: usize) -> Number
     ensures { λ r. ⌜ numberStep r ≡ numberAt (min limit maxDigits) (old text) (cursor .at) ⌝ }
 {
     take_number(reader_at(text, cursor.at), limit)
+}
+
+// A byte of this class stands at an offset.
+pub fn is_class(text: &[u8], at: usize, kind: Class) -> bool
+    ensures { λ r. ⌜ r ≡ isClass (old text) at kind ⌝ }
+{
+    take_class(reader_at(text, at), kind)
+}
+
+// A byte of this class at the cursor.
+pub fn class_step(text: &[u8], cursor: Cursor, kind: Class) -> Number
+    ensures { λ r. ⌜ numberStep r ≡ classStep kind (old text) (cursor .at) ⌝ }
+{
+    let at = cursor.at;
+    if is_class(text, at, kind) {
+        return Number::Value {
+            value: 0,
+            next: Cursor { at: at + 1 },
+        };
+    }
+    Number::Refused {
+        number: 16,
+        place: at,
+    }
 }
 
 // The number at an offset has ended there, with a comma where one is wanted and otherwise with byte 10.

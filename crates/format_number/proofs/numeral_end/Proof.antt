@@ -13,20 +13,20 @@ use Rattle.format_number.proofs.numeral_end.Tie as tie
 add-result : tie.Need-add-result
 add-result c =
     let a = c .before .before .before .args in
-    let z = eqb-true (getD (a .text .now) (a .at) 0) 48 (sym (is-zero (a .text .now) (a .at)) ∙ sym (c .before .is-class .ensures) ∙ c .if1 .taken) in
+    let z = eqb-true (getD (a .text .now) (a .at) 0) 48 (sym (is-zero (a .text .now) (a .at)) ∙ sym (c .before .class-from .ensures) ∙ c .if1 .taken) in
     omega (arith, read-inside (a .text .now) (a .at) (omega arith))
 
 returns : tie.Need-returns
 unfolding numeralEnd
 returns c =
     let a = c .before .before .before .args in
-    simp (sym (is-zero (a .text .now) (a .at)) ∙ sym (c .before .is-class .ensures) ∙ c .if1 .taken)
+    simp (sym (is-zero (a .text .now) (a .at)) ∙ sym (c .before .class-from .ensures) ∙ c .if1 .taken)
 
 returns-2 : tie.Need-returns-2
 unfolding numeralEnd
 returns-2 c =
     let a = c .before .before .before .before .args in
-    c .digits-end .ensures ∙ sym (simp (sym (is-zero (a .text .now) (a .at)) ∙ sym (c .before .before .is-class .ensures) ∙ c .before .if1 .left))
+    c .digits-end .ensures ∙ sym (simp (sym (is-zero (a .text .now) (a .at)) ∙ sym (c .before .before .class-from .ensures) ∙ c .before .if1 .left))
 
 pub numeral-end-spec : {M : Type 1} → statement M
 numeral-end-spec =
