@@ -57,6 +57,7 @@ fn class_of(b: u8) -> Class
     }
 }
 
+// The number by which a class is compared with another.
 fn class_number(kind: Class) -> u8
     ensures { λ r. ⌜ r ≡ classNumber kind ⌝ }
 {
@@ -212,24 +213,28 @@ fn fixed_from(text: &[u8], from: usize, bytes: &[u8]) -> Number
     }
 }
 
+// A reader that stands at an offset.
 fn reader_at<'a>(text: &'a [u8], at: usize) -> Reader<'a>
     ensures { λ r. ⌜ (r .text ≡ text .entry) × (r .at ≡ at) ⌝ }
 {
     Reader { text, at }
 }
 
+// Fixed bytes where a reader stands.
 fn take_bytes<'a, 'b>(r: Reader<'a>, bytes: &'b [u8]) -> Number
     ensures { λ s. ⌜ numberStep s ≡ fixedAt (old bytes) (now (r .entry .text)) (r .entry .at) ⌝ }
 {
     fixed_from(r.text, r.at, bytes)
 }
 
+// The number of at most limit digits there.
 fn take_number<'a>(r: Reader<'a>, limit: usize) -> Number
     ensures { λ s. ⌜ numberStep s ≡ numberAt (min limit maxDigits) (now (r .entry .text)) (r .entry .at) ⌝ }
 {
     number_from(r.text, r.at, limit)
 }
 
+// A byte of this class stands there.
 fn take_class<'a>(r: Reader<'a>, kind: Class) -> bool
     ensures { λ b. ⌜ b ≡ isClass (now (r .entry .text)) (r .entry .at) kind ⌝ }
 {
