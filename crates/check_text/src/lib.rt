@@ -12,6 +12,7 @@ ghost use Rattle.format_survey.specs.Reading.{stepOutcome};
 ghost use Rattle.format_plan.specs.Answer.{planOutcome};
 ghost use Rattle.survey_core.specs.Survey.{lentSurvey};
 ghost use Rattle.check_rule.specs.Check.{checking};
+ghost use Rattle.check_core.specs.Stage.{checkedOutcome};
 ghost use Rattle.check_text.specs.Verify.{surveyLinesAt, claimsJudged, planVerified};
 ghost use Rattle.check_text.specs.Verify.{planFrom, verifiedFrom, verifying};
 ghost use Rattle.check_text.specs.Answer.{verifiedOutcome, refusedOnly};
@@ -87,6 +88,23 @@ fn stopped_plan(plan: PlanText) -> Verified
     }
 }
 
+// What the checker refuses, in the same way.
+fn stopped_check(found: Checking) -> Verified
+    ensures { λ r. ⌜ verifiedOutcome r ≡ refusedOnly (checkedOutcome found) ⌝ }
+{
+    match found {
+        Checking::Refused { number, place } => Verified::Refused { number, place },
+        Checking::Passed {
+            terminals: _,
+            cost: _,
+            bound: _,
+        } => Verified::Refused {
+            number: 16,
+            place: 0,
+        },
+    }
+}
+
 // Marks and records against a survey, then the counts that are claimed for them.
 fn judge(
     groups: &[u8],
@@ -103,37 +121,37 @@ fn judge(
         let s = lentSurvey groups firsts seconds weights in
         ⌜ verifiedOutcome r ≡ claimsJudged (checking s (old marks) (old records)) terminals cost bound ⌝ }
 {
-    match check_core::check(groups, firsts, seconds, weights, marks, records) {
-        Checking::Refused { number, place } => Verified::Refused { number, place },
-        Checking::Passed {
-            terminals: k,
-            cost: c,
-            bound: b,
-        } => {
-            if k != terminals {
-                return Verified::Refused {
-                    number: 25,
-                    place: 0,
-                };
-            }
-            if c != cost {
-                return Verified::Refused {
-                    number: 25,
-                    place: 1,
-                };
-            }
-            if b != bound {
-                return Verified::Refused {
-                    number: 25,
-                    place: 2,
-                };
-            }
-            Verified::Passed {
-                terminals: k,
-                cost: c,
-                bound: b,
-            }
-        }
+    let found = check_core::check(groups, firsts, seconds, weights, marks, records);
+    let Checking::Passed {
+        terminals: k,
+        cost: c,
+        bound: b,
+    } = found
+    else {
+        return stopped_check(found);
+    };
+    if k != terminals {
+        return Verified::Refused {
+            number: 25,
+            place: 0,
+        };
+    }
+    if c != cost {
+        return Verified::Refused {
+            number: 25,
+            place: 1,
+        };
+    }
+    if b != bound {
+        return Verified::Refused {
+            number: 25,
+            place: 2,
+        };
+    }
+    Verified::Passed {
+        terminals: k,
+        cost: c,
+        bound: b,
     }
 }
 
