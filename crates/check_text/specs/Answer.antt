@@ -8,3 +8,8 @@ use Rattle.check_text.specs.declared.Verified.the-variants.{Passed, Refu
 unfoldable pub verifiedOutcome : Verified → Outcome Checked
 verifiedOutcome (Passed k c b) = answer (record { terminals = k; cost = c; bound = b })
 verifiedOutcome (Refused number place) = refusal number place
+
+-- A refusal, whatever was asked for; nothing may follow an answer.
+unfoldable pub refusedOnly : {A B : Type 0} → Outcome A → Outcome B
+refusedOnly (refusal number place) = refusal number place
+refusedOnly (answer a) = refusal 16 0

@@ -5,11 +5,17 @@ ghost use mathlib.Core.Path.{_≡_};
 ghost use Prim.Native.Nat.{_≤_};
 ghost use lib.ListN.{length};
 ghost use Rattle.base_limits.specs.Limits.{maxVertices, maxEdges};
+ghost use Rattle.format_grammar.specs.Step.{stopped};
+ghost use Rattle.format_number.specs.Answer.{numberStep};
+ghost use Rattle.format_survey_lines.specs.Answer.{countsStep};
+ghost use Rattle.format_survey.specs.Reading.{stepOutcome};
+ghost use Rattle.format_plan.specs.Answer.{planOutcome};
 ghost use Rattle.survey_core.specs.Survey.{lentSurvey};
 ghost use Rattle.check_rule.specs.Check.{checking};
+ghost use Rattle.check_core.specs.Stage.{checkedOutcome};
 ghost use Rattle.check_text.specs.Verify.{surveyLinesAt, claimsJudged, planVerified};
 ghost use Rattle.check_text.specs.Verify.{planFrom, verifiedFrom, verifying};
-ghost use Rattle.check_text.specs.Answer.{verifiedOutcome};
+ghost use Rattle.check_text.specs.Answer.{verifiedOutcome, refusedOnly};
 use base_limits::MAX_EDGES;
 use base_limits::MAX_VERTICES;
 use base_limits::RECORD_BYTES;
@@ -33,6 +39,72 @@ pub enum Verified {
     },
 }
 
+// Refused counts, as the answer of the check.
+fn stopped_counts(head: Head) -> Verified
+    ensures { λ r. ⌜ verifiedOutcome r ≡ stepOutcome (stopped (countsStep head)) ⌝ }
+{
+    match head {
+        Head::Refused { number, place } => Verified::Refused { number, place },
+        Head::Counts {
+            vertices: _,
+            edges: _,
+            next,
+        } => {
+            let place = next.at;
+            Verified::Refused { number: 16, place }
+        }
+    }
+}
+
+// A refused line of the survey, in the same way.
+fn stopped_lines(step: Number) -> Verified
+    ensures { λ r. ⌜ verifiedOutcome r ≡ stepOutcome (stopped (numberStep step)) ⌝ }
+{
+    match step {
+        Number::Refused { number, place } => Verified::Refused { number, place },
+        Number::Value { value: _, next } => {
+            let place = next.at;
+            Verified::Refused { number: 16, place }
+        }
+    }
+}
+
+// A refused plan, in the same way.
+fn stopped_plan(plan: PlanText) -> Verified
+    ensures { λ r. ⌜ verifiedOutcome r ≡ refusedOnly (planOutcome plan) ⌝ }
+{
+    match plan {
+        PlanText::Refused { number, place } => Verified::Refused { number, place },
+        PlanText::Plan {
+            terminals: _,
+            cost: _,
+            bound: _,
+            rounds: _,
+            duals: _,
+        } => Verified::Refused {
+            number: 16,
+            place: 0,
+        },
+    }
+}
+
+// What the checker refuses, in the same way.
+fn stopped_check(found: Checking) -> Verified
+    ensures { λ r. ⌜ verifiedOutcome r ≡ refusedOnly (checkedOutcome found) ⌝ }
+{
+    match found {
+        Checking::Refused { number, place } => Verified::Refused { number, place },
+        Checking::Passed {
+            terminals: _,
+            cost: _,
+            bound: _,
+        } => Verified::Refused {
+            number: 16,
+            place: 0,
+        },
+    }
+}
+
 // Marks and records against a survey, then the counts that are claimed for them.
 fn judge(
     groups: &[u8],
@@ -49,37 +121,37 @@ fn judge(
         let s = lentSurvey groups firsts seconds weights in
         ⌜ verifiedOutcome r ≡ claimsJudged (checking s (old marks) (old records)) terminals cost bound ⌝ }
 {
-    match check_core::check(groups, firsts, seconds, weights, marks, records) {
-        Checking::Refused { number, place } => Verified::Refused { number, place },
-        Checking::Passed {
-            terminals: k,
-            cost: c,
-            bound: b,
-        } => {
-            if k != terminals {
-                return Verified::Refused {
-                    number: 25,
-                    place: 0,
-                };
-            }
-            if c != cost {
-                return Verified::Refused {
-                    number: 25,
-                    place: 1,
-                };
-            }
-            if b != bound {
-                return Verified::Refused {
-                    number: 25,
-                    place: 2,
-                };
-            }
-            Verified::Passed {
-                terminals: k,
-                cost: c,
-                bound: b,
-            }
-        }
+    let found = check_core::check(groups, firsts, seconds, weights, marks, records);
+    let Checking::Passed {
+        terminals: k,
+        cost: c,
+        bound: b,
+    } = found
+    else {
+        return stopped_check(found);
+    };
+    if k != terminals {
+        return Verified::Refused {
+            number: 25,
+            place: 0,
+        };
+    }
+    if c != cost {
+        return Verified::Refused {
+            number: 25,
+            place: 1,
+        };
+    }
+    if b != bound {
+        return Verified::Refused {
+            number: 25,
+            place: 2,
+        };
+    }
+    Verified::Passed {
+        terminals: k,
+        cost: c,
+        bound: b,
     }
 }
 
@@ -100,29 +172,29 @@ fn verify_plan(
     let mut marks = [0u8; MAX_EDGES];
     let mut records = [0u8; RECORDS_ROOM];
     let edges = firsts.len();
-    match format_plan::read_plan(text, at, edges, &mut marks, &mut records) {
-        PlanText::Refused { number, place } => Verified::Refused { number, place },
-        PlanText::Plan {
-            terminals,
-            cost,
-            bound,
-            rounds: _,
-            duals,
-        } => {
-            let size = RECORD_BYTES * duals;
-            judge(
-                groups,
-                firsts,
-                seconds,
-                weights,
-                &marks[0..edges],
-                &records[0..size],
-                terminals,
-                cost,
-                bound,
-            )
-        }
-    }
+    let plan = format_plan::read_plan(text, at, edges, &mut marks, &mut records);
+    let PlanText::Plan {
+        terminals,
+        cost,
+        bound,
+        rounds: _,
+        duals,
+    } = plan
+    else {
+        return stopped_plan(plan);
+    };
+    let size = RECORD_BYTES * duals;
+    judge(
+        groups,
+        firsts,
+        seconds,
+        weights,
+        &marks[0..edges],
+        &records[0..size],
+        terminals,
+        cost,
+        bound,
+    )
 }
 
 // The lines of a survey after its counts, and the printedWith plan behind them.
@@ -146,32 +218,32 @@ fn verify_lines(text: &[u8], cursor: Cursor, vertices: usize, edges: usize) -> V
         &mut seconds,
         &mut weights,
     );
-    match step {
-        Number::Refused { number, place } => Verified::Refused { number, place },
-        Number::Value { value: _, next } => {
-            let at = next.at;
-            verify_plan(
-                text,
-                at,
-                &groups[0..vertices],
-                &firsts[0..edges],
-                &seconds[0..edges],
-                &weights[0..edges],
-            )
-        }
-    }
+    let Number::Value { value: _, next } = step else {
+        return stopped_lines(step);
+    };
+    let at = next.at;
+    verify_plan(
+        text,
+        at,
+        &groups[0..vertices],
+        &firsts[0..edges],
+        &seconds[0..edges],
+        &weights[0..edges],
+    )
 }
 
 // Checks a survey text with a printedWith plan behind it.
 pub fn verify(text: &[u8]) -> Verified
     ensures { λ r. ⌜ verifiedOutcome r ≡ verifying (old text) ⌝ }
 {
-    match format_survey_lines::counts(text, MAX_VERTICES, MAX_EDGES, MAX_EDGES, MAX_EDGES) {
-        Head::Refused { number, place } => Verified::Refused { number, place },
-        Head::Counts {
-            vertices,
-            edges,
-            next,
-        } => verify_lines(text, next, vertices, edges),
-    }
+    let head = format_survey_lines::counts(text, MAX_VERTICES, MAX_EDGES, MAX_EDGES, MAX_EDGES);
+    let Head::Counts {
+        vertices,
+        edges,
+        next,
+    } = head
+    else {
+        return stopped_counts(head);
+    };
+    verify_lines(text, next, vertices, edges)
 }

@@ -5,10 +5,11 @@ use Prim.Native.Nat.{ℕ, zero, suc, _+_, _-_, _^_, _<_}
 use mathlib.Core.Bool.{Bool, true, false, _&&_, cond}
 use mathlib.Core.List.{List, [], _∷_, _++_}
 use lib.ListN.{length, getD, take, drop}
-use lib.Dec.{eqb, leb}
-use Rattle.format_key.specs.Key.{comma, newline}
+use lib.Dec.{eqb, ltb, leb}
+use Prim.Native.Char.{code}
+use Rattle.format_key.specs.Key.{colon, comma, newline}
 use Rattle.format_number.specs.declared.Class.{Class}
-use Rattle.format_number.specs.declared.Class.the-variants.{Digit, LineEnd, Comma, Other}
+use Rattle.format_number.specs.declared.Class.the-variants.{Zero, Digit, LineEnd, Comma, Colon, Keep, Other}
 use Rattle.format_write.specs.Decimal.{decimal, spelledAfter}
 use Rattle.format_grammar.specs.Bytes.{fixedAt}
 use Rattle.format_grammar.specs.Step.{Step, found, refused, _then_}
@@ -17,15 +18,42 @@ use Rattle.format_grammar.specs.Step.{Step, found, refused, _then_}
 abbrev pub zeroDigit : ℕ
 zeroDigit = 48
 
+-- The letter with which the line of a kept track begins, and no other line of a printed plan.
+abbrev pub keepLetter : ℕ
+keepLetter = code "k"
+
 unfoldable pub classOf : ℕ → Class
 classOf b =
-    cond (leb zeroDigit b && leb b 57) Digit (cond (eqb b newline) LineEnd (cond (eqb b comma) Comma Other))
+    cond (leb zeroDigit b && leb b 57)
+    (cond (eqb b zeroDigit) Zero Digit)
+    (cond (eqb b newline) LineEnd (cond (eqb b comma) Comma (cond (eqb b colon) Colon (cond (eqb b keepLetter) Keep Other))))
 
 unfoldable pub isDigit : Class → Bool
+isDigit Zero = true
 isDigit Digit = true
 isDigit LineEnd = false
 isDigit Comma = false
+isDigit Colon = false
+isDigit Keep = false
 isDigit Other = false
+
+-- Two classes are the same where their numbers are.
+unfoldable pub classNumber : Class → ℕ
+classNumber Zero = 0
+classNumber Digit = 1
+classNumber LineEnd = 2
+classNumber Comma = 3
+classNumber Colon = 4
+classNumber Keep = 5
+classNumber Other = 6
+
+-- A byte of this class stands at an offset.
+unfoldable pub isClass : List ℕ → (at : ℕ) → Class → Bool
+isClass t at kind = ltb at (length t) && eqb (classNumber (classOf (getD t at 0))) (classNumber kind)
+
+-- The same as a step, whose value is 0.
+unfoldable pub classStep : Class → List ℕ → (at : ℕ) → Step ℕ
+classStep kind t at = cond (isClass t at kind) (found 0 (at + 1)) (refused 16 at)
 
 -- Where the digits from offset at on end, of which at most limit are taken.
 unfoldable pub digitsEnd : (limit : ℕ) → List ℕ → (at : ℕ) → ℕ

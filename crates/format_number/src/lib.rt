@@ -1,13 +1,14 @@
 // Reads the bytes and numbers of a text: fixed bytes, a number with the byte that ends it, a line of a key and a
-// number. Each step answers a value with the next cursor, or a refusal.
+// number. Each step answers a value with the next cursor, or a refusal. Every key, every number and every byte between
+// them is taken through a reader that stands where the step before it has ended.
 ghost use Rattle.base_buffer.specs.Lent.{old};
 ghost use mathlib.Core.Path.{_≡_};
 ghost use Prim.Native.Nat.{_-_, _≤_, min};
 ghost use lib.ListN.{length};
 ghost use Rattle.base_limits.specs.Limits.{maxDigits};
 ghost use Rattle.format_write.specs.Decimal.{spelledAfter};
-ghost use Rattle.format_number.specs.Number.{classOf, digitsEnd, numeralEnd, numeralAt, numberAt, stopOf};
-ghost use Rattle.format_number.specs.Number.{numberTo, numberLine};
+ghost use Rattle.format_number.specs.Number.{classOf, isDigit, classNumber, isClass, classStep, digitsEnd};
+ghost use Rattle.format_number.specs.Number.{numeralEnd, numeralAt, numberAt, stopOf, numberTo, numberLine};
 ghost use Rattle.format_grammar.specs.Bytes.{byteIs, fixedAt};
 ghost use Rattle.format_number.specs.Answer.{numberStep};
 use base_buffer::at8;
@@ -17,11 +18,22 @@ pub struct Cursor {
     pub at: usize,
 }
 
-// The classes of bytes that tell the parts of a line apart.
+// A text and how far it has been read. Each function over it takes it apart, for a function on the slice and the
+// offset.
+pub struct Reader<'a> {
+    pub text: &'a [u8],
+    pub at: usize,
+}
+
+// The classes of bytes that tell the parts of a line apart: the digit 0 and the others, what ends a line, what stands
+// between values and behind one, and the letter with which the line of a kept track begins.
 pub enum Class {
+    Zero,
     Digit,
     LineEnd,
     Comma,
+    Colon,
+    Keep,
     Other,
 }
 
@@ -35,10 +47,52 @@ fn class_of(b: u8) -> Class
     ensures { λ r. ⌜ r ≡ classOf b ⌝ }
 {
     match b {
-        48..=57 => Class::Digit,
-        10 => Class::LineEnd,
-        44 => Class::Comma,
+        b'0' => Class::Zero,
+        b'1'..=b'9' => Class::Digit,
+        b'\n' => Class::LineEnd,
+        b',' => Class::Comma,
+        b':' => Class::Colon,
+        b'k' => Class::Keep,
         _ => Class::Other,
+    }
+}
+
+// The number by which a class is compared with another.
+fn class_number(kind: Class) -> u8
+    ensures { λ r. ⌜ r ≡ classNumber kind ⌝ }
+{
+    match kind {
+        Class::Zero => 0,
+        Class::Digit => 1,
+        Class::LineEnd => 2,
+        Class::Comma => 3,
+        Class::Colon => 4,
+        Class::Keep => 5,
+        Class::Other => 6,
+    }
+}
+
+// A byte of this class stands at an offset.
+fn class_from(text: &[u8], at: usize, kind: Class) -> bool
+    ensures { λ r. ⌜ r ≡ isClass (old text) at kind ⌝ }
+{
+    if text.len() <= at {
+        return false;
+    }
+    class_number(class_of(text[at])) == class_number(kind)
+}
+
+fn is_digit(kind: Class) -> bool
+    ensures { λ r. ⌜ r ≡ isDigit kind ⌝ }
+{
+    match kind {
+        Class::Zero => true,
+        Class::Digit => true,
+        Class::LineEnd => false,
+        Class::Comma => false,
+        Class::Colon => false,
+        Class::Keep => false,
+        Class::Other => false,
     }
 }
 
@@ -49,10 +103,9 @@ fn digits_end(text: &[u8], at: usize, limit: usize) -> usize
     let mut end = at;
     let mut taken = 0;
     while taken < limit {
-        let kind = class_of(at8(text, end));
-        let Class::Digit = kind else {
+        if !is_digit(class_of(at8(text, end))) {
             return end;
-        };
+        }
         end += 1;
         taken += 1;
     }
@@ -63,7 +116,7 @@ fn digits_end(text: &[u8], at: usize, limit: usize) -> usize
 fn numeral_end(text: &[u8], at: usize, limit: usize) -> usize
     ensures { λ r. ⌜ r ≡ numeralEnd limit (old text) at ⌝ }
 {
-    if at8(text, at) == 48 {
+    if class_from(text, at, Class::Zero) {
         return at + 1;
     }
     digits_end(text, at, limit)
@@ -114,11 +167,10 @@ fn capped(limit: usize) -> usize
     MAX_DIGITS
 }
 
-// The number of at most limit digits at the cursor.
-pub fn number_at(text: &[u8], cursor: Cursor, limit: usize) -> Number
-    ensures { λ r. ⌜ numberStep r ≡ numberAt (min limit maxDigits) (old text) (cursor .at) ⌝ }
+// The number of at most limit digits at an offset.
+fn number_from(text: &[u8], at: usize, limit: usize) -> Number
+    ensures { λ r. ⌜ numberStep r ≡ numberAt (min limit maxDigits) (old text) at ⌝ }
 {
-    let at = cursor.at;
     let part = digits(text, at, capped(limit));
     let width = part.len();
     if width == 0 {
@@ -133,45 +185,11 @@ pub fn number_at(text: &[u8], cursor: Cursor, limit: usize) -> Number
     }
 }
 
-// The number at an offset has ended there, with a comma where one is wanted and otherwise with byte 10.
-fn ends(text: &[u8], at: usize, comma: bool) -> bool
-    ensures { λ r. ⌜ r ≡ byteIs (old text) at (stopOf comma) ⌝ }
+// Fixed bytes at an offset.
+fn fixed_from(text: &[u8], from: usize, bytes: &[u8]) -> Number
+    ensures { λ r. ⌜ numberStep r ≡ fixedAt (old bytes) (old text) from ⌝ }
 {
-    let kind = class_of(at8(text, at));
-    match kind {
-        Class::Digit => false,
-        Class::LineEnd => !comma,
-        Class::Comma => comma,
-        Class::Other => false,
-    }
-}
-
-// A number, and the byte that ends it.
-pub fn number_to(text: &[u8], cursor: Cursor, limit: usize, comma: bool) -> Number
-    ensures { λ r. ⌜ numberStep r ≡ numberTo (min limit maxDigits) (stopOf comma) (old text) (cursor .at) ⌝ }
-{
-    let step = number_at(text, cursor, limit);
-    let Number::Value { value, next } = step else {
-        return step;
-    };
-    let end = next.at;
-    if ends(text, end, comma) {
-        return Number::Value {
-            value,
-            next: Cursor { at: end + 1 },
-        };
-    }
-    Number::Refused {
-        number: 16,
-        place: end,
-    }
-}
-
-// Fixed bytes.
-pub fn fixed(text: &[u8], cursor: Cursor, bytes: &[u8]) -> Number
-    ensures { λ r. ⌜ numberStep r ≡ fixedAt (old bytes) (old text) (cursor .at) ⌝ }
-{
-    let mut at = cursor.at;
+    let mut at = from;
     let mut i = 0;
     while i < bytes.len() {
         if text.len() <= at {
@@ -192,6 +210,103 @@ pub fn fixed(text: &[u8], cursor: Cursor, bytes: &[u8]) -> Number
     Number::Value {
         value: 0,
         next: Cursor { at },
+    }
+}
+
+// A reader that stands at an offset.
+fn reader_at<'a>(text: &'a [u8], at: usize) -> Reader<'a>
+    ensures { λ r. ⌜ (r .text ≡ text .entry) × (r .at ≡ at) ⌝ }
+{
+    Reader { text, at }
+}
+
+// Fixed bytes where a reader stands.
+fn take_bytes<'a, 'b>(r: Reader<'a>, bytes: &'b [u8]) -> Number
+    ensures { λ s. ⌜ numberStep s ≡ fixedAt (old bytes) (now (r .entry .text)) (r .entry .at) ⌝ }
+{
+    fixed_from(r.text, r.at, bytes)
+}
+
+// The number of at most limit digits there.
+fn take_number<'a>(r: Reader<'a>, limit: usize) -> Number
+    ensures { λ s. ⌜ numberStep s ≡ numberAt (min limit maxDigits) (now (r .entry .text)) (r .entry .at) ⌝ }
+{
+    number_from(r.text, r.at, limit)
+}
+
+// A byte of this class stands there.
+fn take_class<'a>(r: Reader<'a>, kind: Class) -> bool
+    ensures { λ b. ⌜ b ≡ isClass (now (r .entry .text)) (r .entry .at) kind ⌝ }
+{
+    class_from(r.text, r.at, kind)
+}
+
+// Fixed bytes at the cursor.
+pub fn fixed(text: &[u8], cursor: Cursor, bytes: &[u8]) -> Number
+    ensures { λ r. ⌜ numberStep r ≡ fixedAt (old bytes) (old text) (cursor .at) ⌝ }
+{
+    take_bytes(reader_at(text, cursor.at), bytes)
+}
+
+// The number of at most limit digits at the cursor.
+pub fn number_at(text: &[u8], cursor: Cursor, limit: usize) -> Number
+    ensures { λ r. ⌜ numberStep r ≡ numberAt (min limit maxDigits) (old text) (cursor .at) ⌝ }
+{
+    take_number(reader_at(text, cursor.at), limit)
+}
+
+// A byte of this class stands at an offset.
+pub fn is_class(text: &[u8], at: usize, kind: Class) -> bool
+    ensures { λ r. ⌜ r ≡ isClass (old text) at kind ⌝ }
+{
+    take_class(reader_at(text, at), kind)
+}
+
+// A byte of this class at the cursor.
+pub fn class_step(text: &[u8], cursor: Cursor, kind: Class) -> Number
+    ensures { λ r. ⌜ numberStep r ≡ classStep kind (old text) (cursor .at) ⌝ }
+{
+    let at = cursor.at;
+    if is_class(text, at, kind) {
+        return Number::Value {
+            value: 0,
+            next: Cursor { at: at + 1 },
+        };
+    }
+    Number::Refused {
+        number: 16,
+        place: at,
+    }
+}
+
+// The number at an offset has ended there, with a comma where one is wanted and otherwise with byte 10.
+fn ends(text: &[u8], at: usize, comma: bool) -> bool
+    ensures { λ r. ⌜ r ≡ byteIs (old text) at (stopOf comma) ⌝ }
+{
+    if comma {
+        return is_class(text, at, Class::Comma);
+    }
+    is_class(text, at, Class::LineEnd)
+}
+
+// A number, and the byte that ends it.
+pub fn number_to(text: &[u8], cursor: Cursor, limit: usize, comma: bool) -> Number
+    ensures { λ r. ⌜ numberStep r ≡ numberTo (min limit maxDigits) (stopOf comma) (old text) (cursor .at) ⌝ }
+{
+    let step = number_at(text, cursor, limit);
+    let Number::Value { value, next } = step else {
+        return step;
+    };
+    let end = next.at;
+    if ends(text, end, comma) {
+        return Number::Value {
+            value,
+            next: Cursor { at: end + 1 },
+        };
+    }
+    Number::Refused {
+        number: 16,
+        place: end,
     }
 }
 

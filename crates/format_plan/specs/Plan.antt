@@ -11,7 +11,7 @@ use Rattle.base_limits.specs.Limits.{recordBytes, figureDigits}
 use Rattle.base_limits.specs.Verdict.{refuseIf, Outcome, refusal, answer, outcome}
 use Rattle.base_limits.specs.declared.Verdict.{Verdict}
 use Rattle.format_key.specs.Key.{terminalsKey, costKey, boundKey, roundsKey}
-use Rattle.format_grammar.specs.Step.{Step, found, refused, _then_}
+use Rattle.format_grammar.specs.Step.{Step, found, refused, _then_, checked}
 use Rattle.format_grammar.specs.Lines.{linesAfter}
 use Rattle.format_plan_lines.specs.Lines.{keptAt, PrintedDual, dualsAt, isIn, dualRecord}
 
@@ -67,6 +67,10 @@ dualRecords (d ∷ ds) = dualRecord d ++ dualRecords ds
 -- 7 where a buffer is short, once the text is read: m marks and 40 bytes for each moat are wanted.
 unfoldable pub roomTest : (m count marks records : ℕ) → Verdict
 roomTest m count marks records = refuseIf (ltb marks m || ltb (records / recordBytes) count) 7 0
+
+-- Where the lines after the counts end, once there is room for what they say.
+unfoldable pub roomed : PlanLines → (m marks records : ℕ) → Step ℕ
+roomed b m marks records = b .end then λ count next. checked (roomTest m count marks records) count next
 
 unfoldable pub withRoom : Step PrintedPlan → (m : ℕ) (marks records : ℕ) → Outcome PrintedPlan
 withRoom (found plan next) m marks records = outcome (roomTest m (length (plan .duals)) marks records) plan

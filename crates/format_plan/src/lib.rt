@@ -2,10 +2,18 @@
 // answers a value with the next cursor, or a refusal.
 ghost use Rattle.base_buffer.specs.Lent.{old, new};
 ghost use mathlib.Core.Path.{_≡_};
+ghost use Prim.Native.Nat.{_*_};
+ghost use mathlib.Core.List.{_++_};
+ghost use lib.ListN.{length, drop};
+ghost use Rattle.base_limits.specs.Limits.{recordBytes};
 ghost use Rattle.format_number.specs.Answer.{numberStep};
-ghost use Rattle.format_grammar.specs.Step.{stopped};
-ghost use Rattle.format_plan.specs.Plan.{planLinesAt, claimsAt, cleared, planReading};
-ghost use Rattle.format_plan.specs.Answer.{PlanStored, PlanFilled, PlanRead, claimsStep, planOutcome};
+ghost use Rattle.format_grammar.specs.Step.{stopped, storedIf};
+ghost use Rattle.format_grammar.specs.Items.{puts};
+ghost use Rattle.format_survey.specs.Reading.{stepOutcome};
+ghost use Rattle.format_plan_lines.specs.Lines.{putMark, putDual};
+ghost use Rattle.format_plan.specs.Plan.{planLinesAt, claimsAt, cleared, planReading, marksOf, dualRecords};
+ghost use Rattle.format_plan.specs.Plan.{roomed, marksRead, recordsRead};
+ghost use Rattle.format_plan.specs.Answer.{claimsStep, planOutcome, readOf};
 use base_limits::FIGURE_DIGITS;
 use base_limits::RECORD_BYTES;
 use format_number::Cursor;
@@ -105,7 +113,9 @@ fn plan_body(
 ) -> Number
     ensures { λ r.
         let lines = planLinesAt (old text) edges (cursor .at) in
-        ⌜ PlanStored lines (numberStep r) (old marks) (new marks) (old records) (new records) ⌝ }
+        ⌜ (numberStep r ≡ lines .end)
+        × (new marks ≡ puts putMark (old marks) 0 (lines .kept))
+        × (new records ≡ puts putDual (old records) 0 (lines .duals)) ⌝ }
 {
     let kept = format_plan_lines::keep_lines(text, cursor, edges, marks);
     let Number::Value { value: _, next } = kept else {
@@ -124,7 +134,11 @@ fn plan_lines(
 ) -> Number
     ensures { λ r.
         let lines = planLinesAt (old text) edges (cursor .at) in
-        ⌜ PlanFilled lines edges (numberStep r) (old marks) (new marks) (old records) (new records) ⌝ }
+        let size = recordBytes * length (lines .duals) in
+        ⌜ (numberStep r ≡ roomed lines edges (length (old marks)) (length (old records)))
+        × (new marks ≡ storedIf (numberStep r) (marksOf edges (lines .kept) ++ drop edges (old marks)) (old marks))
+        × (new records ≡
+        storedIf (numberStep r) (dualRecords (lines .duals) ++ drop size (old records)) (old records)) ⌝ }
 {
     let found = plan_body(text, cursor, edges, &mut marks[0..0], &mut records[0..0]);
     let Number::Value {
@@ -165,6 +179,38 @@ pub enum PlanText {
     },
 }
 
+// Refused counts, as the answer of reading.
+fn stopped_counts(claims: Claims) -> PlanText
+    ensures { λ r. ⌜ planOutcome r ≡ stepOutcome (stopped (claimsStep claims)) ⌝ }
+{
+    match claims {
+        Claims::Refused { number, place } => PlanText::Refused { number, place },
+        Claims::Found {
+            terminals: _,
+            cost: _,
+            bound: _,
+            rounds: _,
+            next,
+        } => {
+            let place = next.at;
+            PlanText::Refused { number: 16, place }
+        }
+    }
+}
+
+// A refused line after them, in the same way.
+fn stopped_lines(step: Number) -> PlanText
+    ensures { λ r. ⌜ planOutcome r ≡ stepOutcome (stopped (numberStep step)) ⌝ }
+{
+    match step {
+        Number::Refused { number, place } => PlanText::Refused { number, place },
+        Number::Value { value: _, next } => {
+            let place = next.at;
+            PlanText::Refused { number: 16, place }
+        }
+    }
+}
+
 // Reads a printed plan for so many tracks, from an offset of the text on, into the lent buffers; a refusal writes
 // nothing.
 pub fn read_plan(
@@ -176,25 +222,30 @@ pub fn read_plan(
 ) -> PlanText
     ensures { λ r.
         let plan = planReading (old text) from edges (old marks) (old records) in
-        ⌜ PlanRead plan edges (planOutcome r) (old marks) (new marks) (old records) (new records) ⌝ }
+        ⌜ (planOutcome r ≡ readOf plan)
+        × (new marks ≡ marksRead plan edges (old marks))
+        × (new records ≡ recordsRead plan (old records)) ⌝ }
 {
-    match claim_lines(text, Cursor { at: from }) {
-        Claims::Refused { number, place } => PlanText::Refused { number, place },
-        Claims::Found {
-            terminals,
-            cost,
-            bound,
-            rounds,
-            next,
-        } => match plan_lines(text, next, edges, marks, records) {
-            Number::Refused { number, place } => PlanText::Refused { number, place },
-            Number::Value { value, next: _ } => PlanText::Plan {
-                terminals,
-                cost,
-                bound,
-                rounds,
-                duals: value as usize,
-            },
-        },
+    let claims = claim_lines(text, Cursor { at: from });
+    let Claims::Found {
+        terminals,
+        cost,
+        bound,
+        rounds,
+        next,
+    } = claims
+    else {
+        return stopped_counts(claims);
+    };
+    let lines = plan_lines(text, next, edges, marks, records);
+    let Number::Value { value, next: _ } = lines else {
+        return stopped_lines(lines);
+    };
+    PlanText::Plan {
+        terminals,
+        cost,
+        bound,
+        rounds,
+        duals: value as usize,
     }
 }

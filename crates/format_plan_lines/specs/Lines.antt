@@ -2,7 +2,6 @@
 -- storing them leaves in a buffer. A finding is 16 at the first offset whose byte no well-formed plan has there; 26 where a kept track is no
 -- track or does not rise; 27 where a moat's members are no members or do not rise; 28 for a moat too many.
 use Prim.Native.Nat.{ℕ, zero, suc, _+_, _*_, _/_}
-use Prim.Native.Char.{code}
 use mathlib.Core.Bool.{Bool, false, not, _&&_, _||_, cond}
 use mathlib.Core.List.{List, [], _∷_}
 use lib.ListN.{length, set}
@@ -16,7 +15,7 @@ use Rattle.format_key.specs.Key.{keptKey, dualKey, colon, comma, newline}
 use Rattle.format_grammar.specs.Step.{Step, found, _then_, checked}
 use Rattle.format_grammar.specs.Lines.{Lines}
 use Rattle.format_grammar.specs.Bytes.{byteIs, fixedAt}
-use Rattle.format_number.specs.Number.{numberAt, numberLine}
+use Rattle.format_number.specs.Number.{keepLetter, numberAt, numberLine}
 use Rattle.format_grammar.specs.Items.{ItemReader, itemsFrom}
 
 -- members lie below this
@@ -32,7 +31,7 @@ keepLine t m low i at = numberLine keptKey keptDigits t at then λ e p. checked 
 
 -- Keep lines stand as long as a line begins like one.
 unfoldable pub keepReader : List ℕ → (m : ℕ) → ItemReader ℕ ℕ
-keepReader t m = record { stop = λ at. not (byteIs t at (code "k")); item = keepLine t m; after = λ low e. e + 1 }
+keepReader t m = record { stop = λ at. not (byteIs t at keepLetter); item = keepLine t m; after = λ low e. e + 1 }
 
 unfoldable pub keptAt : List ℕ → (m at : ℕ) → Lines ℕ ℕ
 keptAt t m at = itemsFrom (keepReader t m) (length t) 0 0 at

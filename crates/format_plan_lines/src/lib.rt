@@ -4,7 +4,6 @@ ghost use Rattle.base_buffer.specs.Lent.{old, new};
 ghost use mathlib.Core.Path.{_≡_};
 ghost use lib.ListN.{length};
 ghost use Rattle.base_limits.specs.Limits.{recordBytes};
-ghost use Rattle.format_grammar.specs.Bytes.{byteIs};
 ghost use Rattle.format_number.specs.Answer.{numberStep};
 ghost use Rattle.format_plan_lines.specs.Lines.{keepLine, keptAt, putMark, memberStep, risen, membersAt};
 ghost use Rattle.format_plan_lines.specs.Lines.{putMember, putDual, dualHead, listedDual, dualRecord};
@@ -17,6 +16,7 @@ use base_limits::MAX_VERTICES;
 use base_limits::MEMBER_DIGITS;
 use base_limits::RECORD_BYTES;
 use base_limits::VALUE_DIGITS;
+use format_number::Class;
 use format_number::Cursor;
 use format_number::Number;
 
@@ -24,16 +24,6 @@ use format_number::Number;
 const MEMBER_NUMBERS: u64 = MAX_VERTICES as u64;
 
 const NOT_RISEN: u64 = MEMBER_NUMBERS + 1;
-
-// The byte b stands at an offset.
-fn byte_is(text: &[u8], at: usize, b: u8) -> bool
-    ensures { λ r. ⌜ r ≡ byteIs (old text) at b ⌝ }
-{
-    if text.len() <= at {
-        return false;
-    }
-    text[at] == b
-}
 
 // `keep=e`, line i of its kind: 26 where e is below low or no track.
 fn keep_line(text: &[u8], cursor: Cursor, edges: usize, low: u64, i: usize) -> Number
@@ -67,7 +57,7 @@ pub fn keep_lines(text: &[u8], cursor: Cursor, edges: usize, marks: &mut [u8]) -
     let mut i = 0;
     while i < text.len() {
         let at = next.at;
-        if !byte_is(text, at, b'k') {
+        if !format_number::is_class(text, at, Class::Keep) {
             return Number::Value { value: low, next };
         }
         let step = keep_line(text, next, edges, low, i);
@@ -90,7 +80,7 @@ fn member_at(text: &[u8], cursor: Cursor, low: u64, i: usize) -> Number
     if i == 0 {
         return format_number::number_at(text, cursor, MEMBER_DIGITS);
     }
-    let step = format_number::fixed(text, cursor, b",");
+    let step = format_number::class_step(text, cursor, Class::Comma);
     let Number::Value { value: _, next } = step else {
         return step;
     };
@@ -119,7 +109,7 @@ fn members(text: &[u8], cursor: Cursor, part: &mut [u8]) -> Number
     let mut i = 0;
     while i < text.len() {
         let at = next.at;
-        if byte_is(text, at, b'\n') {
+        if format_number::is_class(text, at, Class::LineEnd) {
             return Number::Value { value: low, next };
         }
         let step = member_at(text, next, low, i);
@@ -151,7 +141,7 @@ fn dual_head(text: &[u8], cursor: Cursor) -> Number
     else {
         return sum;
     };
-    let mark = format_number::fixed(text, b, b":");
+    let mark = format_number::class_step(text, b, Class::Colon);
     let Number::Value { value: _, next } = mark else {
         return mark;
     };

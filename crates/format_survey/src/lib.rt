@@ -1,10 +1,13 @@
 // Reads a survey text: the counts, then the lines after them, into the lent buffers.
 ghost use Rattle.base_buffer.specs.Lent.{old, new};
 ghost use mathlib.Core.Path.{_≡_};
+ghost use lib.Seq.{sets};
 ghost use Rattle.format_number.specs.Answer.{numberStep};
-ghost use Rattle.format_survey_lines.specs.Answer.{LinesStored};
-ghost use Rattle.format_survey.specs.Reading.{bodyOf, reading, filled};
-ghost use Rattle.format_survey.specs.Answer.{LinesFilled, countsOf, countsOutcome};
+ghost use Rattle.format_grammar.specs.Step.{stopped, storedIf};
+ghost use Rattle.format_survey_lines.specs.Answer.{countsStep};
+ghost use Rattle.format_survey_lines.specs.Line.{firstsOf, secondsOf, weightsOf};
+ghost use Rattle.format_survey.specs.Reading.{bodyOf, stepOutcome, reading, filled};
+ghost use Rattle.format_survey.specs.Answer.{countsOf, countsOutcome};
 use format_number::Cursor;
 use format_number::Number;
 use format_survey_lines::Head;
@@ -30,8 +33,11 @@ fn body(
 ) -> Number
     ensures { λ r.
         let lines = bodyOf (old text) vertices edges (cursor .at) in
-        ⌜ LinesStored lines (numberStep r) (old groups) (new groups) (old firsts) (new firsts)
-        (old seconds) (new seconds) (old weights) (new weights) ⌝ }
+        ⌜ (numberStep r ≡ lines .end)
+        × (new groups ≡ sets (old groups) 0 (lines .groups))
+        × (new firsts ≡ sets (old firsts) 0 (firstsOf (lines .edges)))
+        × (new seconds ≡ sets (old seconds) 0 (secondsOf (lines .edges)))
+        × (new weights ≡ sets (old weights) 0 (weightsOf (lines .edges))) ⌝ }
 {
     let lines = survey_lines(
         text,
@@ -76,8 +82,11 @@ fn read_body(
 ) -> Number
     ensures { λ r.
         let lines = bodyOf (old text) vertices edges (cursor .at) in
-        ⌜ LinesFilled lines (numberStep r) (old groups) (new groups) (old firsts) (new firsts)
-        (old seconds) (new seconds) (old weights) (new weights) ⌝ }
+        ⌜ (numberStep r ≡ lines .end)
+        × (new groups ≡ storedIf (lines .end) (sets (old groups) 0 (lines .groups)) (old groups))
+        × (new firsts ≡ storedIf (lines .end) (sets (old firsts) 0 (firstsOf (lines .edges))) (old firsts))
+        × (new seconds ≡ storedIf (lines .end) (sets (old seconds) 0 (secondsOf (lines .edges))) (old seconds))
+        × (new weights ≡ storedIf (lines .end) (sets (old weights) 0 (weightsOf (lines .edges))) (old weights)) ⌝ }
 {
     let found = body(
         text,
@@ -104,6 +113,36 @@ fn read_body(
     )
 }
 
+// Refused counts, as the answer of reading.
+fn stopped_counts(head: Head) -> Reading
+    ensures { λ r. ⌜ countsOutcome r ≡ stepOutcome (stopped (countsStep head)) ⌝ }
+{
+    match head {
+        Head::Refused { number, place } => Reading::Refused { number, place },
+        Head::Counts {
+            vertices: _,
+            edges: _,
+            next,
+        } => {
+            let place = next.at;
+            Reading::Refused { number: 16, place }
+        }
+    }
+}
+
+// A refused line after them, in the same way.
+fn stopped_lines(step: Number) -> Reading
+    ensures { λ r. ⌜ countsOutcome r ≡ stepOutcome (stopped (numberStep step)) ⌝ }
+{
+    match step {
+        Number::Refused { number, place } => Reading::Refused { number, place },
+        Number::Value { value: _, next } => {
+            let place = next.at;
+            Reading::Refused { number: 16, place }
+        }
+    }
+}
+
 // Reads a survey text into the lent buffers; a refusal writes nothing.
 pub fn read(
     text: &[u8],
@@ -127,30 +166,33 @@ pub fn read(
         let read = reading (old text) (old groups) (old firsts) (old seconds) (old weights) in
         ⌜ new weights ≡ filled read (λ s. s .weights) (old weights) ⌝ }
 {
-    match counts(
+    let head = counts(
         text,
         groups.len(),
         firsts.len(),
         seconds.len(),
         weights.len(),
-    ) {
-        Head::Refused { number, place } => Reading::Refused { number, place },
-        Head::Counts {
-            vertices,
-            edges,
-            next,
-        } => match read_body(
-            text,
-            next,
-            vertices,
-            edges,
-            groups,
-            firsts,
-            seconds,
-            weights,
-        ) {
-            Number::Refused { number, place } => Reading::Refused { number, place },
-            Number::Value { value: _, next: _ } => Reading::Survey { vertices, edges },
-        },
-    }
+    );
+    let Head::Counts {
+        vertices,
+        edges,
+        next,
+    } = head
+    else {
+        return stopped_counts(head);
+    };
+    let lines = read_body(
+        text,
+        next,
+        vertices,
+        edges,
+        groups,
+        firsts,
+        seconds,
+        weights,
+    );
+    let Number::Value { value: _, next: _ } = lines else {
+        return stopped_lines(lines);
+    };
+    Reading::Survey { vertices, edges }
 }

@@ -5,15 +5,14 @@ ghost use mathlib.Core.Path.{_≡_};
 ghost use Prim.Native.Nat.{_<_};
 ghost use lib.ListN.{set};
 ghost use lib.Seq.{sets};
-ghost use Rattle.base_limits.specs.Limits.{countDigits, groupNumbers};
-ghost use Rattle.format_number.specs.Number.{numberLine};
+ghost use Rattle.base_limits.specs.Limits.{groupNumbers};
 ghost use Rattle.format_number.specs.Answer.{numberStep};
 ghost use Rattle.format_grammar.specs.Step.{stopped};
 ghost use Rattle.format_key.specs.Key.{nodesKey, linksKey};
 ghost use Rattle.format_survey_lines.specs.Line.{edgeLines, firstsOf, secondsOf, weightsOf, testsFor, countsAt};
 ghost use Rattle.format_survey_lines.specs.Line.{groupLines, verticesTest, edgesTest, groupTest, countLine};
 ghost use Rattle.format_survey_lines.specs.Line.{groupLine, edgeLine, linesAt, wordNumbers};
-ghost use Rattle.format_survey_lines.specs.Answer.{edgeStep, countsStep, LinesStored};
+ghost use Rattle.format_survey_lines.specs.Answer.{edgeStep, countsStep};
 use base_limits::COUNT_DIGITS;
 use base_limits::ENDPOINT_DIGITS;
 use base_limits::GROUP_DIGITS;
@@ -26,13 +25,6 @@ use format_number::Number;
 use format_number::fixed;
 use format_number::number_line;
 use format_number::number_to;
-
-// The text and how far it has been read. Each function over it takes it apart, for a function on the slice and the
-// offset.
-pub struct Reader<'a> {
-    pub text: &'a [u8],
-    pub at: usize,
-}
 
 pub enum EdgeLine {
     Edge {
@@ -59,37 +51,11 @@ pub enum Head {
     },
 }
 
-fn opened<'a>(text: &'a [u8]) -> Reader<'a>
-    ensures { λ r. ⌜ (r .text ≡ text .entry) × (r .at ≡ 0) ⌝ }
-{
-    Reader { text, at: 0 }
-}
-
-// `nodes=n` at an offset.
-fn nodes_at(text: &[u8], at: usize) -> Number
-    ensures { λ r. ⌜ numberStep r ≡ numberLine nodesKey countDigits (old text) at ⌝ }
-{
-    number_line(text, Cursor { at }, &format_key::NODES, COUNT_DIGITS)
-}
-
-fn nodes_line<'a>(r: Reader<'a>) -> Number
-    ensures { λ s. ⌜ numberStep s ≡ numberLine nodesKey countDigits (now (r .entry .text)) (r .entry .at) ⌝ }
-{
-    nodes_at(r.text, r.at)
-}
-
-// The line with which a text begins.
-fn first_line(text: &[u8]) -> Number
-    ensures { λ r. ⌜ numberStep r ≡ numberLine nodesKey countDigits (old text) 0 ⌝ }
-{
-    nodes_line(opened(text))
-}
-
 // `nodes=n`: 1, then 7 where the group buffer, of length lent, is short.
 fn vertices_line(text: &[u8], lent: usize) -> Number
     ensures { λ r. ⌜ numberStep r ≡ countLine nodesKey (verticesTest lent) (old text) 0 ⌝ }
 {
-    let step = first_line(text);
+    let step = number_line(text, Cursor { at: 0 }, &format_key::NODES, COUNT_DIGITS);
     let Number::Value { value, next: _ } = step else {
         return step;
     };
@@ -293,6 +259,24 @@ pub fn group_lines(text: &[u8], cursor: Cursor, count: usize, groups: &mut [u8])
     Number::Value { value: 0, next }
 }
 
+// A refused line of an edge, as the answer of the lines.
+fn stopped_line(line: EdgeLine) -> Number
+    ensures { λ r. ⌜ numberStep r ≡ stopped (edgeStep line) ⌝ }
+{
+    match line {
+        EdgeLine::Refused { number, place } => Number::Refused { number, place },
+        EdgeLine::Edge {
+            first: _,
+            second: _,
+            weight: _,
+            next,
+        } => {
+            let place = next.at;
+            Number::Refused { number: 16, place }
+        }
+    }
+}
+
 // So many lines `link=u,v,price`, in the same way.
 pub fn edge_lines(
     text: &[u8],
@@ -312,21 +296,21 @@ pub fn edge_lines(
     let mut next = cursor;
     let mut edge = 0;
     while edge < count {
-        match edge_line(text, next, edge) {
-            EdgeLine::Refused { number, place } => return Number::Refused { number, place },
-            EdgeLine::Edge {
-                first,
-                second,
-                weight,
-                next: after,
-            } => {
-                store32(firsts, edge, first);
-                store32(seconds, edge, second);
-                store32(weights, edge, weight);
-                next = after;
-                edge += 1;
-            }
-        }
+        let line = edge_line(text, next, edge);
+        let EdgeLine::Edge {
+            first,
+            second,
+            weight,
+            next: after,
+        } = line
+        else {
+            return stopped_line(line);
+        };
+        store32(firsts, edge, first);
+        store32(seconds, edge, second);
+        store32(weights, edge, weight);
+        next = after;
+        edge += 1;
     }
     Number::Value { value: 0, next }
 }
@@ -345,8 +329,11 @@ pub fn survey_lines(
 ) -> Number
     ensures { λ r.
         let lines = linesAt (old text) vertices edges (cursor .at) in
-        ⌜ LinesStored lines (numberStep r) (old groups) (new groups) (old firsts) (new firsts)
-        (old seconds) (new seconds) (old weights) (new weights) ⌝ }
+        ⌜ (numberStep r ≡ lines .end)
+        × (new groups ≡ sets (old groups) 0 (lines .groups))
+        × (new firsts ≡ sets (old firsts) 0 (firstsOf (lines .edges)))
+        × (new seconds ≡ sets (old seconds) 0 (secondsOf (lines .edges)))
+        × (new weights ≡ sets (old weights) 0 (weightsOf (lines .edges))) ⌝ }
 {
     let heads = group_lines(text, cursor, vertices, groups);
     let Number::Value { value: _, next } = heads else {

@@ -1,25 +1,30 @@
 -- `check_text::verify` meets its contract, by the cases of the counts.
 use borrow.Author.Needs.{needs}
 use mathlib.Core.Path.{ap, _∙_}
+use Rattle.format_grammar.specs.Step.{stopped}
 use Rattle.format_survey_lines.specs.Answer.{countsStep}
-use Rattle.check_text.specs.Answer.{verifiedOutcome}
+use Rattle.format_survey.specs.Reading.{stepOutcome}
+use Rattle.check_rule.specs.Check.{Checked}
 use Rattle.check_text.specs.Laws.Verify.{verified-uncounted, verified-counted, counted-few}
 use Rattle.check_text.proofs.verify.Statement.{statement}
 use Rattle.check_text.proofs.verify.Tie as tie
 
-verify-lines-requires : tie.Need-verify-lines-requires
-unfolding countsStep
-verify-lines-requires c κs = counted-few (c .before .before .before .before .before .args .text .now) (c .before .before .before .counts .ensures) (ap countsStep (c .before .vertices .given .1))
-
 -- the counts are refused
 returns : tie.Need-returns
-unfolding verifiedOutcome countsStep
-returns c = verified-uncounted (c .before .before .before .before .before .args .text .now) (c .before .before .before .counts .ensures) (ap countsStep (c .before .number .given .1))
+unfolding countsStep stopped stepOutcome
+returns c =
+    let told = c .before .enum-told .given .1 in
+    c .stopped-counts .ensures ∙ ap (λ x. stepOutcome (stopped {B = Checked} (countsStep x))) told
+    ∙ verified-uncounted (c .before .before .before .before .before .args .text .now) (c .before .before .before .counts .ensures) (ap countsStep told)
+
+verify-lines-requires : tie.Need-verify-lines-requires
+unfolding countsStep
+verify-lines-requires c κs = counted-few (c .before .before .before .before .before .args .text .now) (c .before .before .before .counts .ensures) (ap countsStep (c .before .head .given .1))
 
 -- the lines follow
 returns-2 : tie.Need-returns-2
 unfolding countsStep
-returns-2 c = c .verify-lines .ensures ∙ verified-counted (c .before .before .before .before .before .before .args .text .now) (c .before .before .before .before .counts .ensures) (ap countsStep (c .before .before .vertices .given .1))
+returns-2 c = c .verify-lines .ensures ∙ verified-counted (c .before .before .before .before .before .before .args .text .now) (c .before .before .before .before .counts .ensures) (ap countsStep (c .before .before .head .given .1))
 
 pub verify-spec : {M : Type 1} → statement M
 verify-spec =
@@ -28,6 +33,7 @@ verify-spec =
     (λ c κs. search needs)
     (λ c. search needs)
     (λ c. search needs)
-    verify-lines-requires
+    (λ c κs. search needs)
     returns
+    verify-lines-requires
     returns-2)

@@ -2,12 +2,14 @@
 use native.Mathlib.Omega.{arith}
 use borrow.Author.Needs.{needs}
 use mathlib.Core.Path.{ap, _∙_}
+use lib.ListN.{replicate}
 use Rattle.base_limits.specs.Limits.{maxEdges, recordsRoom}
 use Rattle.survey_core.specs.Survey.{surveyFrom, edgeCount}
 use Rattle.format_plan.specs.Plan.{planReading}
 use Rattle.check_text.specs.Verify.{planFrom}
 use Rattle.format_plan.specs.Answer.{planOutcome}
-use Rattle.check_text.specs.Answer.{verifiedOutcome}
+use Rattle.check_rule.specs.Check.{Checked}
+use Rattle.check_text.specs.Answer.{refusedOnly}
 use Rattle.check_text.specs.Laws.Verify.{plan-refused, plan-judged, plan-read-room}
 use Rattle.check_text.proofs.verify_plan.Statement.{statement}
 use Rattle.check_text.proofs.verify_plan.Tie as tie
@@ -16,7 +18,7 @@ mul-size : tie.Need-mul-size
 unfolding planOutcome planReading
 mul-size c =
     let a = c .before .before .before .before .before .before .before .before .before .before .before .before .before .args in
-    let few = plan-read-room (a .text .now) (a .at) _ maxEdges recordsRoom (c .before .before .before .before .before .read-plan .ensures .answered) (ap planOutcome (c .before .terminals .given .1)) in
+    let few = plan-read-room (a .text .now) (a .at) _ maxEdges recordsRoom (c .before .before .before .before .before .read-plan .ensures .0) (ap planOutcome (c .before .plan .given .1)) in
     omega (arith, few)
 
 part-judge-end-2 : tie.Need-part-judge-end-2
@@ -24,25 +26,28 @@ unfolding planOutcome planReading
 part-judge-end-2 c =
     let far = c .before .before .before .before .before .before .before .before .before .before in
     let a = far .before .before .before .before .before .before .args in
-    let few = plan-read-room (a .text .now) (a .at) _ maxEdges recordsRoom (c .before .before .before .before .before .before .before .before .read-plan .ensures .answered) (ap planOutcome (c .before .before .before .before .terminals .given .1)) in
+    let few = plan-read-room (a .text .now) (a .at) _ maxEdges recordsRoom (c .before .before .before .before .before .before .before .before .read-plan .ensures .0) (ap planOutcome (c .before .before .before .before .plan .given .1)) in
     search (needs, few)
 
 -- the plan is refused
 returns : tie.Need-returns
-unfolding planOutcome verifiedOutcome planReading planFrom edgeCount
+unfolding planOutcome refusedOnly planReading planFrom edgeCount
 returns c =
     let a = c .before .before .before .before .before .before .before .before .before .before .before .before .before .args in
     let s = surveyFrom (a .groups .now) (a .firsts .now) (a .seconds .now) (a .weights .now) in
-    plan-refused s (planFrom (a .text .now) s (a .at)) (c .before .before .before .before .before .read-plan .ensures .answered) (ap planOutcome (c .before .number .given .1))
+    let told = c .before .enum-told .given .1 in
+    c .stopped-plan .ensures ∙ ap (λ x. refusedOnly {B = Checked} (planOutcome x)) told
+    ∙ plan-refused s (planFrom (a .text .now) s (a .at)) (c .before .before .before .before .before .read-plan .ensures .0) (ap planOutcome told)
 
--- the plan is claimsJudged
+-- what was read is judged
 returns-2 : tie.Need-returns-2
 unfolding planOutcome planReading planFrom edgeCount
 returns-2 c =
     let far = c .before .before .before .before .before .before .before .before .before .before in
     let a = far .before .before .before .before .before .before .before .before .args in
     let s = surveyFrom (a .groups .now) (a .firsts .now) (a .seconds .now) (a .weights .now) in
-    c .judge .ensures ∙ plan-judged s (planFrom (a .text .now) s (a .at)) (c .before .before .before .before .before .before .before .before .before .before .read-plan .ensures) (ap planOutcome (c .before .before .before .before .before .before .terminals .given .1))
+    let r = far .read-plan .ensures in
+    c .judge .ensures ∙ plan-judged s (planFrom (a .text .now) s (a .at)) (replicate maxEdges 0) (replicate recordsRoom 0) (r .0) (r .1) (r .2) (ap planOutcome (c .before .before .before .before .before .before .plan .given .1))
 
 pub verify-plan-spec : {M : Type 1} → statement M
 verify-plan-spec =
@@ -53,6 +58,8 @@ verify-plan-spec =
     (λ c κs. search needs)
     (λ c. search needs)
     (λ c. search needs)
+    (λ c κs. search needs)
+    returns
     mul-size
     (λ c. search needs)
     (λ c. search needs)
@@ -61,5 +68,4 @@ verify-plan-spec =
     (λ c. search needs)
     part-judge-end-2
     (λ c κs. search needs)
-    returns
     returns-2)

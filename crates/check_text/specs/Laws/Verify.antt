@@ -7,7 +7,6 @@ use mathlib.Core.List.{List, [], _∷_}
 use lib.ListN.{length, take, drop, length-map, length-append}
 use lib.Seq.{sets, take-at}
 use borrow.Author.Tests.{eq-eqb, ne-eqb}
-use Rattle.format_survey_lines.specs.Answer.{LinesStored}
 use Rattle.format_survey_lines.specs.Laws.Body.{lines-sizes}
 use Rattle.base_finite.specs.Laws.Below.{length-tabulate}
 use Rattle.base_limits.specs.Limits.{recordBytes, maxEdges, maxVertices}
@@ -22,7 +21,7 @@ use Rattle.check_rule.specs.Check.{Checked, checking}
 use Rattle.format_plan_lines.specs.Lines.{PrintedDual, dualRecord}
 use Rattle.format_plan.specs.Plan.{Claims, PrintedPlan, planAt, withRoom, marksOf, dualRecords, marksRead, recordsRead}
 use Rattle.check_text.specs.Verify.{surveyLinesAt, prefixAt, claimTest, claimsJudged, planVerified, planFrom, verifiedFrom, verifying}
-use Rattle.format_plan.specs.Answer.{Read, readOf, PlanRead}
+use Rattle.format_plan.specs.Answer.{Read, readOf}
 use Rattle.format_plan_lines.specs.Laws.Lines.{length-dual-record}
 use Rattle.format_plan.specs.Laws.Room.{room-answer, room-enough}
 
@@ -65,11 +64,11 @@ unfolding dualRecords
 length-records [] = refl
 length-records (d ∷ ds) = omega (arith, length-append (dualRecord d) (dualRecords ds), length-dual-record d, length-records ds)
 
-plan-read : (s : Survey) (o : Outcome PrintedPlan) {claims : Claims} {duals : ℕ} {marks marks′ records records′ : List ℕ}
-    → PlanRead o (edgeCount s) (answer (record { claims = claims; duals = duals })) marks marks′ records records′
+plan-read : (s : Survey) (o : Outcome PrintedPlan) (marks records : List ℕ) {claims : Claims} {duals : ℕ} {marks′ records′ : List ℕ}
+    → answer (record { claims = claims; duals = duals }) ≡ readOf o → marks′ ≡ marksRead o (edgeCount s) marks → records′ ≡ recordsRead o records
     → planVerified s o ≡ claimsJudged (checking s (take (edgeCount s) marks′) (take (recordBytes * duals) records′)) (claims .terminals) (claims .cost) (claims .bound)
 unfolding readOf marksRead recordsRead planVerified
-plan-read s o {claims} {duals} {marks} {marks′} {records} {records′} r = by-outcome o (r .answered) (r .intoMarks) (r .intoRecords)
+plan-read s o marks records {claims} {duals} {marks′} {records′} = by-outcome o
   where
     by-outcome : (x : Outcome PrintedPlan) → answer (record { claims = claims; duals = duals }) ≡ readOf x → marks′ ≡ marksRead x (edgeCount s) marks → records′ ≡ recordsRead x records
         → planVerified s x ≡ claimsJudged (checking s (take (edgeCount s) marks′) (take (recordBytes * duals) records′)) (claims .terminals) (claims .cost) (claims .bound)
@@ -83,11 +82,10 @@ plan-read s o {claims} {duals} {marks} {marks′} {records} {records′} r = by-
         rw (tm, tr, same) refl
 
 -- The same of the parts that are lent.
-pub plan-judged : (s : Survey) (o : Outcome PrintedPlan) {read : Outcome Read} {claims : Claims} {duals : ℕ} {marks marks′ records records′ : List ℕ}
-    → PlanRead o (edgeCount s) read marks marks′ records records′ → read ≡ answer (record { claims = claims; duals = duals })
+pub plan-judged : (s : Survey) (o : Outcome PrintedPlan) (marks records : List ℕ) {read : Outcome Read} {claims : Claims} {duals : ℕ} {marks′ records′ : List ℕ}
+    → read ≡ readOf o → marks′ ≡ marksRead o (edgeCount s) marks → records′ ≡ recordsRead o records → read ≡ answer (record { claims = claims; duals = duals })
     → claimsJudged (checking s (take (edgeCount s - 0) marks′) (take (recordBytes * duals - 0) records′)) (claims .terminals) (claims .cost) (claims .bound) ≡ planVerified s o
-plan-judged s o {claims = claims} {duals = duals} {marks = marks} {marks′ = marks′} {records = records} {records′ = records′} r e =
-    rw (sub-zero (edgeCount s), sub-zero (recordBytes * duals)) (sym (plan-read s o (subst (λ (x : Outcome Read). PlanRead o (edgeCount s) x marks marks′ records records′) e r)))
+plan-judged s o marks records {duals = duals} r m d e = rw (sub-zero (edgeCount s), sub-zero (recordBytes * duals)) (sym (plan-read s o marks records (sym e ∙ r) m d))
 
 -- No more moats are read than there is room for.
 pub plan-read-room : (t : List ℕ) (at m marks records : ℕ) {read : Outcome Read} {claims : Claims} {duals : ℕ} → read ≡ readOf (withRoom (planAt t m at) m marks records) → read ≡ answer (record { claims = claims; duals = duals })
@@ -118,17 +116,18 @@ record Parts (b : SurveyLines) (n m : ℕ) (groups firsts seconds weights : List
   secondsPart : take m seconds ≡ secondsOf (b .edges)
   weightsPart : take m weights ≡ weightsOf (b .edges)
 
-survey-parts : (t : List ℕ) (n m at : ℕ) {z p : ℕ} {step : Step ℕ} {groups groups′ firsts firsts′ seconds seconds′ weights weights′ : List ℕ}
-    → LinesStored (linesAt t n m at) step groups groups′ firsts firsts′ seconds seconds′ weights weights′ → step ≡ found z p
+survey-parts : (t : List ℕ) (n m at : ℕ) (groups firsts seconds weights : List ℕ) {z p : ℕ} {groups′ firsts′ seconds′ weights′ : List ℕ}
+    → linesAt t n m at .end ≡ found z p → groups′ ≡ sets groups 0 (linesAt t n m at .groups) → firsts′ ≡ sets firsts 0 (firstsOf (linesAt t n m at .edges))
+    → seconds′ ≡ sets seconds 0 (secondsOf (linesAt t n m at .edges)) → weights′ ≡ sets weights 0 (weightsOf (linesAt t n m at .edges))
     → n ≤ length groups → m ≤ length firsts → m ≤ length seconds → m ≤ length weights → Parts (linesAt t n m at) n m groups′ firsts′ seconds′ weights′
 unfolding firstsOf secondsOf weightsOf
-survey-parts t n m at {groups = groups} {firsts = firsts} {seconds = seconds} {weights = weights} s e hg hf hs hw =
-    let z = lines-sizes t n m at (sym (s .end) ∙ e) in
+survey-parts t n m at groups firsts seconds weights e g u v w hg hf hs hw =
+    let z = lines-sizes t n m at e in
     record {
-      groupsPart = take-stored _ groups n (z .groups) hg (s .intoGroups);
-      firstsPart = take-stored _ firsts m (length-map (linesAt t n m at .edges) (λ x. x .first) ∙ z .edges) hf (s .intoFirsts);
-      secondsPart = take-stored _ seconds m (length-map (linesAt t n m at .edges) (λ x. x .second) ∙ z .edges) hs (s .intoSeconds);
-      weightsPart = take-stored _ weights m (length-map (linesAt t n m at .edges) (λ x. x .weight) ∙ z .edges) hw (s .intoWeights);
+      groupsPart = take-stored _ groups n (z .groups) hg g;
+      firstsPart = take-stored _ firsts m (length-map (linesAt t n m at .edges) (λ x. x .first) ∙ z .edges) hf u;
+      secondsPart = take-stored _ seconds m (length-map (linesAt t n m at .edges) (λ x. x .second) ∙ z .edges) hs v;
+      weightsPart = take-stored _ weights m (length-map (linesAt t n m at .edges) (λ x. x .weight) ∙ z .edges) hw w;
     }
 
 -- The lines of a survey and the plan behind them: a refusal stays, and the plan is held against what was read.
@@ -137,14 +136,15 @@ module _ (t : List ℕ) (n m at : ℕ) {step : Step ℕ} where
   unfolding verifiedFrom surveyLinesAt _then_
   lines-refused s e = rw (sym s ∙ e)
 
-  pub lines-verified : {z q : ℕ} {groups groups′ firsts firsts′ seconds seconds′ weights weights′ : List ℕ} → n ≤ length groups → m ≤ length firsts → m ≤ length seconds → m ≤ length weights
-      → LinesStored (linesAt t n m at) step groups groups′ firsts firsts′ seconds seconds′ weights weights′ → step ≡ found z q
+  pub lines-verified : (groups firsts seconds weights : List ℕ) {z q : ℕ} {groups′ firsts′ seconds′ weights′ : List ℕ} → n ≤ length groups → m ≤ length firsts → m ≤ length seconds → m ≤ length weights
+      → step ≡ linesAt t n m at .end → groups′ ≡ sets groups 0 (linesAt t n m at .groups) → firsts′ ≡ sets firsts 0 (firstsOf (linesAt t n m at .edges))
+      → seconds′ ≡ sets seconds 0 (secondsOf (linesAt t n m at .edges)) → weights′ ≡ sets weights 0 (weightsOf (linesAt t n m at .edges)) → step ≡ found z q
       → planVerified (surveyFrom (take (n - 0) groups′) (take (m - 0) firsts′) (take (m - 0) seconds′) (take (m - 0) weights′)) (planFrom t (surveyFrom (take (n - 0) groups′) (take (m - 0) firsts′) (take (m - 0) seconds′) (take (m - 0) weights′)) q)
       ≡ verifiedFrom t (surveyLinesAt t (record { vertices = n; edges = m }) at)
   unfolding verifiedFrom surveyLinesAt _then_ surveyOf
-  lines-verified hg hf hs hw s e =
-      let p = survey-parts t n m at s e hg hf hs hw in
-      rw (sub-zero n, sub-zero m, sym (s .end) ∙ e, p .groupsPart, p .firstsPart, p .secondsPart, p .weightsPart) refl
+  lines-verified groups firsts seconds weights hg hf hs hw s g u v w e =
+      let p = survey-parts t n m at groups firsts seconds weights (sym s ∙ e) g u v w hg hf hs hw in
+      rw (sub-zero n, sub-zero m, sym s ∙ e, p .groupsPart, p .firstsPart, p .secondsPart, p .weightsPart) refl
 
 -- ---- the whole
 

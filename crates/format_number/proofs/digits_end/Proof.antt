@@ -4,11 +4,10 @@ use borrow.Author.Needs.{needs}
 use Prim.Native.Nat.{ℕ, _≤_, _-_}
 use native.Mathlib.Nat.{sub-zero}
 use mathlib.Core.Path.{_≡_, _∙_, sym, ap}
-use lib.ListN.{getD}
-use Rattle.format_number.specs.Number.{digitsEnd, classOf}
+use mathlib.Core.Bool.{not, Bool·not-not}
+use Rattle.format_number.specs.Number.{digitsEnd, classOf, isDigit}
 use Rattle.format_number.specs.Laws.Byte.{digit-inside}
 use Rattle.format_number.specs.Laws.Number.{digits-more, digits-stop, digits-end-zero}
-use Rattle.format_number.proofs.Tags.{no-digit}
 use Rattle.format_number.proofs.digits_end.Statement.{statement}
 use Rattle.format_number.proofs.digits_end.Tie as tie
 
@@ -21,35 +20,26 @@ abbrev μ-loop : tie.MeasureT-loop
 loop-holds : tie.Need-loop-holds Inv-loop μ-loop
 loop-holds c = (search needs, ap (λ (k : ℕ). digitsEnd k (c .before .args .text .now) (c .before .args .at)) (sub-zero _))
 
-enum-told : tie.Need-enum-told Inv-loop μ-loop
-enum-told c = search needs
-
 returns : tie.Need-returns Inv-loop μ-loop
 returns c =
-    let at-turn = c .before .before .before .before in
-    let t = at-turn .before .before .args .text .now in
-    let e = at-turn .loop .end in
-    let k : classOf (getD t e 0) ≡ c .before .class-of .result = sym (c .before .class-of .ensures ∙ ap classOf (c .before .before .at8 .ensures)) in
-    sym (digits-stop t (at-turn .before .before .args .limit) (at-turn .loop .taken) e (rw k (no-digit (c .before .class-of .result) (c .match .keys2))))
-    ∙ at-turn .loop .inv .1
+    let turn = c .before .before .before .before .before in
+    let a = turn .before .before .args in
+    let d = c .before .is-digit .ensures ∙ ap isDigit (c .before .before .class-of .ensures ∙ ap classOf (c .before .before .before .at8 .ensures)) in
+    sym (digits-stop (a .text .now) (a .limit) (turn .loop .taken) (turn .loop .end) (sym d ∙ sym (Bool·not-not _) ∙ ap not (c .if1 .taken))) ∙ turn .loop .inv .1
 
 add-end : tie.Need-add-end Inv-loop μ-loop
 add-end c =
-    let t = c .before .before .before .before .before .before .before .args .text .now in
-    omega (
-      arith,
-      digit-inside t (c .before .before .before .before .before .loop .end)
-          (ap classOf (sym (c .before .before .before .at8 .ensures)) ∙ sym (c .before .before .class-of .ensures) ∙ c .enum-told .given .1),
-    )
+    let turn = c .before .before .before .before .before in
+    let d = c .before .is-digit .ensures ∙ ap isDigit (c .before .before .class-of .ensures ∙ ap classOf (c .before .before .before .at8 .ensures)) in
+    omega (arith, digit-inside (turn .before .before .args .text .now) (turn .loop .end) (sym d ∙ sym (Bool·not-not _) ∙ ap not (c .if1 .left)))
 
 loop-again : tie.Need-loop-again Inv-loop μ-loop
 loop-again c =
-    let at-turn = c .before .before .before .before .before in
-    let t = at-turn .before .before .args .text .now in (
+    let turn = c .before .before .before .before .before in
+    let a = turn .before .before .args in
+    let d = c .before .is-digit .ensures ∙ ap isDigit (c .before .before .class-of .ensures ∙ ap classOf (c .before .before .before .at8 .ensures)) in (
       search needs,
-      sym (digits-more t (at-turn .before .before .args .limit) (at-turn .loop .taken) (at-turn .loop .end) (search needs)
-          (ap classOf (sym (c .before .before .before .at8 .ensures)) ∙ sym (c .before .before .class-of .ensures) ∙ c .enum-told .given .1))
-          ∙ at-turn .loop .inv .1,
+      sym (digits-more (a .text .now) (a .limit) (turn .loop .taken) (turn .loop .end) (search needs) (sym d ∙ sym (Bool·not-not _) ∙ ap not (c .if1 .left))) ∙ turn .loop .inv .1,
     )
 
 returns-2 : tie.Need-returns-2 Inv-loop μ-loop
@@ -67,7 +57,7 @@ digits-end-spec =
     loop-holds
     (λ c κs. search needs)
     (λ c κs. search needs)
-    enum-told
+    (λ c κs. search needs)
     returns
     add-end
     (λ c. search needs)

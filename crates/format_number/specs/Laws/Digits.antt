@@ -14,12 +14,10 @@ use Rattle.format_grammar.specs.Step.{found, refused, _then_}
 use Rattle.format_write.specs.Decimal.{spelledAfter}
 use Rattle.format_number.specs.Number.{classOf, isDigit, digitsEnd, numeralEnd, numeralAt, numberAt, numberTo}
 use Rattle.format_grammar.specs.Bytes.{fixedAt}
-use Rattle.format_number.specs.Laws.Byte.{class-facts, digit-inside}
+use Rattle.format_number.specs.Laws.Byte.{digit-facts, digit-inside}
 use Rattle.format_grammar.specs.Laws.Bytes.{read-inside}
 use Rattle.format_number.specs.Laws.Number.{digits-range, numeral-width}
 use Rattle.format_grammar.specs.Laws.Step.{then-value}
-use Rattle.format_number.specs.declared.Class.{Class}
-use Rattle.format_number.specs.declared.Class.the-variants.{Digit, LineEnd, Comma, Other}
 
 pub data Digits : List ℕ → Type 0 where
   none : Digits []
@@ -40,18 +38,16 @@ between-more t at end h k = let z : end - at ≡ suc (end - (at + 1)) = omega ar
 pub run-digits : (t : List ℕ) (limit at : ℕ) → Digits (bytesBetween t at (digitsEnd limit t at))
 unfolding digitsEnd isDigit
 run-digits t zero at = rw (between-none t at) none
-run-digits t (suc limit) at = by-class (classOf (getD t at 0)) refl (run-digits t limit (at + 1))
+run-digits t (suc limit) at = by-digit (isDigit (classOf (getD t at 0))) refl (run-digits t limit (at + 1))
   where
-    by-class : (k : Class) → classOf (getD t at 0) ≡ k → Digits (bytesBetween t (at + 1) (digitsEnd limit t (at + 1))) → Digits (bytesBetween t at (cond (isDigit k) (digitsEnd limit t (at + 1)) at))
-    by-class Digit e r =
-        let f = class-facts (getD t at 0) .digit e in
+    by-digit : (b : Bool) → isDigit (classOf (getD t at 0)) ≡ b → Digits (bytesBetween t (at + 1) (digitsEnd limit t (at + 1))) → Digits (bytesBetween t at (cond b (digitsEnd limit t (at + 1)) at))
+    by-digit true e r =
+        let f = digit-facts (getD t at 0) e in
         let h = digit-inside t at e in
         let from = digits-range t limit (at + 1) .from in
         let m : at < digitsEnd limit t (at + 1) = omega arith in
         rw (between-more t at (digitsEnd limit t (at + 1)) h m) (one (f .0) (f .1) r)
-    by-class LineEnd e r = rw (between-none t at) none
-    by-class Comma e r = rw (between-none t at) none
-    by-class Other e r = rw (between-none t at) none
+    by-digit false e r = rw (between-none t at) none
 
 pub numeral-digits : (t : List ℕ) (limit at : ℕ) → Digits (numeralAt limit t at)
 unfolding numeralAt numeralEnd bytesBetween

@@ -13,13 +13,11 @@ use borrow.Author.Tests.{eqb-true, leb-true, leb-false}
 use Rattle.format_write.specs.Decimal.{spelledAfter}
 use Rattle.format_number.specs.Number.{classOf, isDigit, digitsEnd, numeralEnd, numeralAt}
 use Rattle.format_number.specs.Laws.Byte.{digit-inside}
-use Rattle.format_number.specs.declared.Class.{Class}
-use Rattle.format_number.specs.declared.Class.the-variants.{Digit, LineEnd, Comma, Other}
 use Rattle.format_grammar.specs.Laws.Bytes.{read-inside}
 use Rattle.format_grammar.specs.Laws.Lines.{one-less}
 
 -- One turn of a loop over the digits.
-pub digits-more : (t : List ℕ) (limit i at : ℕ) → i < limit → classOf (getD t at 0) ≡ Digit → digitsEnd (limit - i) t at ≡ digitsEnd (limit - (i + 1)) t (at + 1)
+pub digits-more : (t : List ℕ) (limit i at : ℕ) → i < limit → isDigit (classOf (getD t at 0)) ≡ true → digitsEnd (limit - i) t at ≡ digitsEnd (limit - (i + 1)) t (at + 1)
 unfolding digitsEnd isDigit
 digits-more t limit i at h e = rw (one-less h, e)
 
@@ -44,20 +42,18 @@ pub record Range (t : List ℕ) (limit at end : ℕ) : Type 0 where
 pub digits-range : (t : List ℕ) (limit at : ℕ) → Range t limit at (digitsEnd limit t at)
 unfolding digitsEnd isDigit
 digits-range t zero at = record { from = omega arith; most = omega arith; inside = λ h. h }
-digits-range t (suc limit) at = by-class (classOf (getD t at 0)) refl (digits-range t limit (at + 1))
+digits-range t (suc limit) at = by-digit (isDigit (classOf (getD t at 0))) refl (digits-range t limit (at + 1))
   where
     stay : Range t (suc limit) at at
     stay = record { from = omega arith; most = omega arith; inside = λ h. h }
 
-    by-class : (k : Class) → classOf (getD t at 0) ≡ k → Range t limit (at + 1) (digitsEnd limit t (at + 1)) → Range t (suc limit) at (cond (isDigit k) (digitsEnd limit t (at + 1)) at)
-    by-class Digit e r =
+    by-digit : (b : Bool) → isDigit (classOf (getD t at 0)) ≡ b → Range t limit (at + 1) (digitsEnd limit t (at + 1)) → Range t (suc limit) at (cond b (digitsEnd limit t (at + 1)) at)
+    by-digit true e r =
         let h = digit-inside t at e in
         let p = r .from in
         let q = r .most in
         record { from = omega arith; most = omega arith; inside = λ _. r .inside (omega arith) }
-    by-class LineEnd e r = stay
-    by-class Comma e r = stay
-    by-class Other e r = stay
+    by-digit false e r = stay
 
 pub numeral-range : (t : List ℕ) (limit at : ℕ) → Range t (max 1 limit) at (numeralEnd limit t at)
 unfolding numeralEnd

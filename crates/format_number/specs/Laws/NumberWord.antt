@@ -12,12 +12,10 @@ use borrow.Author.Tests.{eq-eqb, ne-eqb, eqb-true, eqb-false}
 use Rattle.format_write.specs.Decimal.{decimal, spelledAfter}
 use Rattle.format_write.specs.Laws.Decimal.{length-decimal, decimal-small}
 use Rattle.format_number.specs.Number.{classOf, isDigit, digitsEnd, numeralEnd, numeralAt, numberAt, numberTo, numberText}
-use Rattle.format_number.specs.Laws.Byte.{class-digit, digit-inside}
+use Rattle.format_number.specs.Laws.Byte.{digit-byte, digit-inside}
 use Rattle.format_number.specs.Laws.Number.{digits-none, digits-range, numeral-range}
 use Rattle.format_number.specs.Laws.Digits.{Digits, none, one, numeral-digits, number-below}
 use Rattle.format_number.specs.Laws.Decimal.{decimal-of-digits, decimal-numeral}
-use Rattle.format_number.specs.declared.Class.{Class}
-use Rattle.format_number.specs.declared.Class.the-variants.{Digit, LineEnd, Comma, Other}
 use Rattle.format_grammar.specs.Bytes.{byteIs}
 use Rattle.format_grammar.specs.Language.{Reads, Word, Extends, read}
 use Rattle.format_grammar.specs.Laws.Bytes.{byte-is, byte-inside, stop-found, stop-refused, no-bool, byte-same, read-same}
@@ -29,17 +27,15 @@ use Rattle.format_grammar.specs.Step.{Step, found, refused}
 digits-same : (t u : List ℕ) (limit at q : ℕ) → take q t ≡ take q u → digitsEnd limit t at < q → digitsEnd limit u at ≡ digitsEnd limit t at
 unfolding digitsEnd isDigit
 digits-same t u zero at q e h = refl
-digits-same t u (suc limit) at q e h = by-class (classOf (getD t at 0)) refl (λ k. digits-same t u limit (at + 1) q e k) h
+digits-same t u (suc limit) at q e h = by-digit (isDigit (classOf (getD t at 0))) refl (λ k. digits-same t u limit (at + 1) q e k) h
   where
-    by-class : (k : Class) → classOf (getD t at 0) ≡ k → (digitsEnd limit t (at + 1) < q → digitsEnd limit u (at + 1) ≡ digitsEnd limit t (at + 1)) → cond (isDigit k) (digitsEnd limit t (at + 1)) at < q
-        → cond (isDigit (classOf (getD u at 0))) (digitsEnd limit u (at + 1)) at ≡ cond (isDigit k) (digitsEnd limit t (at + 1)) at
-    by-class Digit c ih h =
+    by-digit : (b : Bool) → isDigit (classOf (getD t at 0)) ≡ b → (digitsEnd limit t (at + 1) < q → digitsEnd limit u (at + 1) ≡ digitsEnd limit t (at + 1)) → cond b (digitsEnd limit t (at + 1)) at < q
+        → cond (isDigit (classOf (getD u at 0))) (digitsEnd limit u (at + 1)) at ≡ cond b (digitsEnd limit t (at + 1)) at
+    by-digit true c ih h =
         let f = digits-range t limit (at + 1) .from in
         let s = read-same t u q at e (omega arith) in
         rw (← s, c) (ih h)
-    by-class LineEnd c ih h = let s = read-same t u q at e h in rw (← s, c) refl
-    by-class Comma c ih h = let s = read-same t u q at e h in rw (← s, c) refl
-    by-class Other c ih h = let s = read-same t u q at e h in rw (← s, c) refl
+    by-digit false c ih h = let s = read-same t u q at e h in rw (← s, c) refl
 
 pub numeral-same : (t u : List ℕ) (limit at q : ℕ) → take q t ≡ take q u → numeralEnd limit t at < q → at < q → numeralEnd limit u at ≡ numeralEnd limit t at
 unfolding numeralEnd
@@ -60,7 +56,7 @@ run-is t limit at none s h e =
 run-is t zero at (one low high r) s h e = absurd (omega arith)
 run-is t (suc limit) at (one {d = d} {ds = ds} low high r) s h e =
     let b : getD t at 0 ≡ d = stands-head s in
-    let k : classOf (getD t at 0) ≡ Digit = ap classOf b ∙ class-digit d low high in
+    let k : isDigit (classOf (getD t at 0)) ≡ true = ap (λ (x : ℕ). isDigit (classOf x)) b ∙ digit-byte d low high in
     let z : at + 1 + length ds ≡ at + suc (length ds) = omega arith in
     let ih = run-is t limit (at + 1) r (stands-second (d ∷ []) ds s) (omega arith) (subst (λ (n : ℕ). isDigit (classOf (getD t n 0)) ≡ false) (sym z) e) in
     rw k (ih ∙ z)
@@ -132,13 +128,6 @@ digit-ends-after t (suc limit) at h e = by-zero (eqb (getD t at 0) 48)
     by-zero true = omega arith
     by-zero false = let f = digits-range t limit (at + 1) .from in rw e (omega arith)
 
-is-digit : (k : Class) → isDigit k ≡ true → k ≡ Digit
-unfolding isDigit
-is-digit Digit e = refl
-is-digit LineEnd e = no-bool (sym e)
-is-digit Comma e = no-bool (sym e)
-is-digit Other e = no-bool (sym e)
-
 numeral-decimal : (t : List ℕ) (limit at : ℕ) (w : List ℕ) → Digits w → 0 < length w → Stands t at w → numeralEnd limit t at ≡ at + length w → decimal (spelledAfter 0 w) ≡ w
 unfolding numeralEnd spelledAfter
 numeral-decimal t limit at [] g h s e = absurd (omega arith)
@@ -167,7 +156,7 @@ number-or-none t limit at h = by-digit (isDigit (classOf (getD t at 0))) refl
     by-digit : (b : Bool) → isDigit (classOf (getD t at 0)) ≡ b → NumberOrNone t limit at
     by-digit false e = absent e
     by-digit true e =
-        let i : at < length t = digit-inside t at (is-digit (classOf (getD t at 0)) e) in
+        let i : at < length t = digit-inside t at e in
         let a : at < numeralEnd limit t at = digit-ends-after t limit at h e in
         let r : numeralEnd limit t at ≤ length t = numeral-range t limit at .inside (omega arith) in
         let k : ℕ = numeralEnd limit t at - at in

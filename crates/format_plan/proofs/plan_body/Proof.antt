@@ -1,27 +1,36 @@
 -- `format_plan::plan_body` meets its contract: a refused keep line stays, and the moat lines follow the keep lines.
 use borrow.Author.Needs.{needs}
-use mathlib.Core.Path.{refl, ap, sym, _∙_}
+use mathlib.Core.Path.{ap, sym, _∙_}
+use Rattle.format_grammar.specs.Items.{puts}
 use Rattle.format_number.specs.Answer.{numberStep}
-use Rattle.format_plan.specs.Laws.Reading.{stores-stopped, stores-read}
+use Rattle.format_plan_lines.specs.Lines.{putDual}
+use Rattle.format_plan.specs.Plan.{planLinesAt}
+use Rattle.format_plan.specs.Laws.Reading.{lines-refused, lines-found}
 use Rattle.format_plan.proofs.plan_body.Statement.{statement}
 use Rattle.format_plan.proofs.plan_body.Tie as tie
 
 enum-told : tie.Need-enum-told
 enum-told c = search needs
 
+-- a keep line is refused
 returns : tie.Need-returns
-unfolding numberStep
+unfolding numberStep planLinesAt puts
 returns c =
     let a = c .before .before .before .before .before .before .before .before .before .args in
-    rw (c .enum-told .given .1)
-    (stores-stopped (a .text .now) (a .edges) (a .cursor .at) (sym (c .before .before .before .before .keep-lines .ensures .end) ∙ ap numberStep (c .enum-told .given .1)) (c .before .before .before .before .keep-lines .ensures .stored) refl)
+    let k = c .before .before .before .before .keep-lines .ensures in
+    let told = ap numberStep (c .enum-told .given .1) in
+    let l = lines-refused (a .text .now) (a .edges) (a .cursor .at) (sym (k .end) ∙ told) in
+    (told ∙ sym (l .0), k .stored, sym (ap (puts putDual (a .records .now) 0) (l .1)))
 
+-- the moat lines follow
 returns-2 : tie.Need-returns-2
-unfolding numberStep
+unfolding numberStep planLinesAt
 returns-2 c =
     let a = c .before .before .before .before .before .before .before .before .before .before .before .before .before .before .args in
-    stores-read (a .text .now) (a .edges) (a .cursor .at) (sym (c .before .before .before .before .before .before .before .before .before .keep-lines .ensures .end) ∙ ap numberStep (c .before .before .before .before .before .kept .given .1)) (c .before .before .before .before .before .before .before .before .before .keep-lines .ensures .stored)
-    (c .before .before .dual-lines .ensures .end) (c .before .before .dual-lines .ensures .stored)
+    let k = c .before .before .before .before .before .before .before .before .before .keep-lines .ensures in
+    let d = c .before .before .dual-lines .ensures in
+    let l = lines-found (a .text .now) (a .edges) (a .cursor .at) (sym (k .end) ∙ ap numberStep (c .before .before .before .before .before .kept .given .1)) in
+    (d .end ∙ sym (l .0), k .stored, d .stored ∙ sym (ap (puts putDual (a .records .now) 0) (l .1)))
 
 pub plan-body-spec : {M : Type 1} → statement M
 plan-body-spec =

@@ -3,6 +3,7 @@ use borrow.Author.Needs.{needs}
 use mathlib.Core.Path.{sym, _∙_}
 use Rattle.format_key.specs.Key.{dualKey}
 use Rattle.format_number.specs.Answer.{numberStep}
+use Rattle.format_number.specs.Laws.Byte.{colon-step}
 use Rattle.format_number.specs.Laws.Step.{refusal-stays, value-goes}
 use Rattle.format_plan_lines.specs.Lines.{dualHead}
 use Rattle.format_plan_lines.proofs.dual_head.Statement.{statement}
@@ -24,16 +25,16 @@ returns-2 c =
 returns-3 : tie.Need-returns-3
 unfolding dualHead dualKey
 returns-3 c =
-    refusal-stays _ (c .before .before .fixed2 .ensures) (c .enum-told3 .given .1)
-    ∙ sym (value-goes _ (c .before .before .before .before .before .before .before .number-at .ensures) (c .before .before .before .before .before .sum .given .1))
-    ∙ sym (value-goes _ (c .before .before .before .before .before .before .before .before .before .before .before .fixed .ensures) (c .before .before .before .before .before .before .before .before .before .key .given .1))
+    refusal-stays _ (c .before .before .class-step .ensures ∙ colon-step _ _) (c .enum-told3 .given .1)
+    ∙ sym (value-goes _ (c .before .before .before .before .before .before .number-at .ensures) (c .before .before .before .before .sum .given .1))
+    ∙ sym (value-goes _ (c .before .before .before .before .before .before .before .before .before .before .fixed .ensures) (c .before .before .before .before .before .before .before .before .key .given .1))
 
 returns-4 : tie.Need-returns-4
 unfolding dualHead dualKey numberStep
 returns-4 c =
-    sym (value-goes _ (c .before .before .before .fixed2 .ensures) (c .before .mark .given .1))
-    ∙ sym (value-goes _ (c .before .before .before .before .before .before .before .before .number-at .ensures) (c .before .before .before .before .before .before .sum .given .1))
-    ∙ sym (value-goes _ (c .before .before .before .before .before .before .before .before .before .before .before .before .fixed .ensures) (c .before .before .before .before .before .before .before .before .before .before .key .given .1))
+    sym (value-goes _ (c .before .before .before .class-step .ensures ∙ colon-step _ _) (c .before .mark .given .1))
+    ∙ sym (value-goes _ (c .before .before .before .before .before .before .before .number-at .ensures) (c .before .before .before .before .before .sum .given .1))
+    ∙ sym (value-goes _ (c .before .before .before .before .before .before .before .before .before .before .before .fixed .ensures) (c .before .before .before .before .before .before .before .before .before .key .given .1))
 
 pub dual-head-spec : {M : Type 1} → statement M
 dual-head-spec =
@@ -48,7 +49,6 @@ dual-head-spec =
     (λ c. search needs)
     (λ c. search needs)
     returns-2
-    (λ c. search needs)
     (λ c κs. search needs)
     (λ c. search needs)
     (λ c. search needs)

@@ -6,6 +6,7 @@ use mathlib.Core.Path.{ap, sym, _∙_}
 use mathlib.Core.Bool.{not}
 use lib.ListN.{length}
 use Rattle.format_number.specs.Answer.{numberStep}
+use Rattle.format_number.specs.Laws.Byte.{is-keep}
 use Rattle.format_plan_lines.specs.Lines.{keepReader, keptAt, putMark}
 use Rattle.format_grammar.specs.Laws.Items.{ItemsLeft, left-start, left-more, left-stop, left-refused, left-out, left-length}
 use Rattle.format_plan_lines.specs.Laws.Puts.{mark-length}
@@ -31,7 +32,7 @@ same-length c = left-length putMark mark-length (c .before .before .before .loop
 -- the items end
 returns : tie.Need-returns Inv-loop μ-loop
 unfolding numberStep keepReader
-returns c = left-stop _ _ _ _ _ _ _ _ _ (c .before .before .loop-test .taken) (ap not (sym (c .before .byte-is .ensures)) ∙ c .if1 .taken) (c .before .before .before .loop .inv)
+returns c = left-stop _ _ _ _ _ _ _ _ _ (c .before .before .loop-test .taken) (ap not (sym (c .before .is-class .ensures ∙ is-keep _ _)) ∙ c .if1 .taken) (c .before .before .before .loop .inv)
 
 enum-told : tie.Need-enum-told Inv-loop μ-loop
 enum-told c = search needs
@@ -44,7 +45,7 @@ returns-2 : tie.Need-returns-2 Inv-loop μ-loop
 unfolding numberStep keepReader
 returns-2 c =
     rw (c .enum-told .given .1)
-    (left-refused _ _ _ _ _ _ _ _ _ (c .before .before .before .before .before .loop-test .taken) (ap not (sym (c .before .before .before .before .byte-is .ensures)) ∙ c .before .before .before .if1 .left) (sym (c .before .before .keep-line .ensures) ∙ ap numberStep (c .enum-told .given .1)) (c .before .before .before .before .before .before .loop .inv))
+    (left-refused _ _ _ _ _ _ _ _ _ (c .before .before .before .before .before .loop-test .taken) (ap not (sym (c .before .before .before .before .is-class .ensures ∙ is-keep _ _)) ∙ c .before .before .before .if1 .left) (sym (c .before .before .keep-line .ensures) ∙ ap numberStep (c .enum-told .given .1)) (c .before .before .before .before .before .before .loop .inv))
 
 add-low : tie.Need-add-low Inv-loop μ-loop
 unfolding numberStep
@@ -58,7 +59,7 @@ loop-again : tie.Need-loop-again Inv-loop μ-loop
 unfolding numberStep keepReader
 loop-again c =
     rw (c .before .before .put8 .ensures)
-    (left-more _ putMark _ _ _ _ _ _ _ (c .before .before .before .before .before .before .before .before .before .before .loop-test .taken) (ap not (sym (c .before .before .before .before .before .before .before .before .before .byte-is .ensures)) ∙ c .before .before .before .before .before .before .before .before .if1 .left) (sym (c .before .before .before .before .before .before .before .keep-line .ensures) ∙ ap numberStep (c .before .before .before .before .before .step .given .1)) (c .before .before .before .before .before .before .before .before .before .before .before .loop .inv))
+    (left-more _ putMark _ _ _ _ _ _ _ (c .before .before .before .before .before .before .before .before .before .before .loop-test .taken) (ap not (sym (c .before .before .before .before .before .before .before .before .before .is-class .ensures ∙ is-keep _ _)) ∙ c .before .before .before .before .before .before .before .before .if1 .left) (sym (c .before .before .before .before .before .before .before .keep-line .ensures) ∙ ap numberStep (c .before .before .before .before .before .step .given .1)) (c .before .before .before .before .before .before .before .before .before .before .before .loop .inv))
 
 same-length-3 : tie.Need-same-length-3 Inv-loop μ-loop
 same-length-3 c = left-length putMark mark-length (c .before .loop .inv)

@@ -3,6 +3,7 @@ use borrow.Author.Needs.{needs}
 use mathlib.Core.Path.{sym, _∙_}
 use Rattle.format_grammar.specs.Step.{_then_}
 use Rattle.format_grammar.specs.Bytes.{fixedAt}
+use Rattle.format_number.specs.Laws.Byte.{comma-step}
 use Rattle.format_number.specs.Laws.Step.{refusal-stays, value-goes}
 use Rattle.format_plan_lines.specs.Lines.{memberStep}
 use Rattle.format_plan_lines.specs.Laws.Tests.{separator-first, separator-later}
@@ -18,11 +19,11 @@ enum-told c = search needs
 
 returns-2 : tie.Need-returns-2
 unfolding memberStep
-returns-2 c = rw (separator-later _ (c .before .before .before .before .if1 .left)) (refusal-stays _ (c .before .before .fixed .ensures) (c .enum-told .given .1))
+returns-2 c = rw (separator-later _ (c .before .before .before .if1 .left)) (refusal-stays _ (c .before .before .class-step .ensures ∙ comma-step _ _) (c .enum-told .given .1))
 
 returns-3 : tie.Need-returns-3
 unfolding memberStep
-returns-3 c = rw (separator-later _ (c .before .before .before .before .before .before .if1 .left)) (c .number-at2 .ensures ∙ sym (value-goes _ (c .before .before .before .before .fixed .ensures) (c .before .before .step .given .1)))
+returns-3 c = rw (separator-later _ (c .before .before .before .before .before .if1 .left)) (c .number-at2 .ensures ∙ sym (value-goes _ (c .before .before .before .before .class-step .ensures ∙ comma-step _ _) (c .before .before .step .given .1)))
 
 pub member-at-spec : {M : Type 1} → statement M
 member-at-spec =
@@ -30,7 +31,6 @@ member-at-spec =
     (tie.spec
     (λ c κs. search needs)
     returns
-    (λ c. search needs)
     (λ c κs. search needs)
     (λ c. search needs)
     enum-told

@@ -4,6 +4,7 @@ use Prim.Native.Nat.{_-_}
 use mathlib.Core.Path.{ap, sym, _∙_}
 use lib.ListN.{length}
 use Rattle.format_number.specs.Answer.{numberStep}
+use Rattle.format_number.specs.Laws.Byte.{is-line-end}
 use Rattle.format_plan_lines.specs.Lines.{memberReader, membersAt, putMember}
 use Rattle.format_grammar.specs.Laws.Items.{ItemsLeft, left-start, left-more, left-stop, left-refused, left-out, left-length}
 use Rattle.format_plan_lines.specs.Laws.Puts.{member-length}
@@ -28,7 +29,7 @@ same-length c = left-length putMember member-length (c .before .before .before .
 -- the items end
 returns : tie.Need-returns Inv-loop μ-loop
 unfolding numberStep memberReader
-returns c = left-stop _ _ _ _ _ _ _ _ _ (c .before .before .loop-test .taken) (sym (c .before .byte-is .ensures) ∙ c .if1 .taken) (c .before .before .before .loop .inv)
+returns c = left-stop _ _ _ _ _ _ _ _ _ (c .before .before .loop-test .taken) (sym (c .before .is-class .ensures ∙ is-line-end _ _) ∙ c .if1 .taken) (c .before .before .before .loop .inv)
 
 enum-told : tie.Need-enum-told Inv-loop μ-loop
 enum-told c = search needs
@@ -41,13 +42,13 @@ returns-2 : tie.Need-returns-2 Inv-loop μ-loop
 unfolding numberStep memberReader
 returns-2 c =
     rw (c .enum-told .given .1)
-    (left-refused _ _ _ _ _ _ _ _ _ (c .before .before .before .before .before .loop-test .taken) (sym (c .before .before .before .before .byte-is .ensures) ∙ c .before .before .before .if1 .left) (sym (c .before .before .member-at .ensures) ∙ ap numberStep (c .enum-told .given .1)) (c .before .before .before .before .before .before .loop .inv))
+    (left-refused _ _ _ _ _ _ _ _ _ (c .before .before .before .before .before .loop-test .taken) (sym (c .before .before .before .before .is-class .ensures ∙ is-line-end _ _) ∙ c .before .before .before .if1 .left) (sym (c .before .before .member-at .ensures) ∙ ap numberStep (c .enum-told .given .1)) (c .before .before .before .before .before .before .loop .inv))
 
 loop-again : tie.Need-loop-again Inv-loop μ-loop
 unfolding numberStep memberReader
 loop-again c =
     rw (c .before .before .before .add-member .ensures, c .risen-after .ensures)
-    (left-more _ putMember _ _ _ _ _ _ _ (c .before .before .before .before .before .before .before .before .before .before .before .loop-test .taken) (sym (c .before .before .before .before .before .before .before .before .before .before .byte-is .ensures) ∙ c .before .before .before .before .before .before .before .before .before .if1 .left) (sym (c .before .before .before .before .before .before .before .before .member-at .ensures) ∙ ap numberStep (c .before .before .before .before .before .before .step .given .1)) (c .before .before .before .before .before .before .before .before .before .before .before .before .loop .inv))
+    (left-more _ putMember _ _ _ _ _ _ _ (c .before .before .before .before .before .before .before .before .before .before .before .loop-test .taken) (sym (c .before .before .before .before .before .before .before .before .before .before .is-class .ensures ∙ is-line-end _ _) ∙ c .before .before .before .before .before .before .before .before .before .if1 .left) (sym (c .before .before .before .before .before .before .before .before .member-at .ensures) ∙ ap numberStep (c .before .before .before .before .before .before .step .given .1)) (c .before .before .before .before .before .before .before .before .before .before .before .before .loop .inv))
 
 same-length-3 : tie.Need-same-length-3 Inv-loop μ-loop
 same-length-3 c = left-length putMember member-length (c .before .loop .inv)

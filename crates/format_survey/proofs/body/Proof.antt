@@ -1,7 +1,10 @@
 -- `format_survey::body` meets its contract: a refusal of a line stays, and the end of the text is looked for last.
 use borrow.Author.Needs.{needs}
+use mathlib.Core.Path.{ap, sym, _∙_}
 use Rattle.format_number.specs.Answer.{numberStep}
-use Rattle.format_survey.specs.Laws.Body.{stores-refused, stores-long, stores-all}
+use Rattle.format_survey_lines.specs.Line.{linesAt}
+use Rattle.format_survey.specs.Reading.{bodyAt, bodyOf}
+use Rattle.format_survey.specs.Laws.Body.{body-refused, body-long, body-ended}
 use Rattle.format_survey.proofs.body.Statement.{statement}
 use Rattle.format_survey.proofs.body.Tie as tie
 
@@ -22,7 +25,11 @@ same-length-4 c = c .before .before .before .weights .given
 
 -- a line is refused
 returns : tie.Need-returns
-returns c = stores-refused _ _ _ _ (c .before .before .before .before .before .before .before .before .before .before .survey-lines .ensures) (c .enum-told .given .1)
+unfolding numberStep bodyOf bodyAt linesAt
+returns c =
+    let s = c .before .before .before .before .before .before .before .before .before .before .survey-lines .ensures in
+    let told = ap numberStep (c .enum-told .given .1) in
+    (told ∙ sym (body-refused _ _ _ _ (sym (s .0) ∙ told)), s .1, s .2, s .3, s .4)
 
 same-length-5 : tie.Need-same-length-5
 same-length-5 c = c .before .before .before .before .before .before .before .before .before .before .before .groups .given
@@ -38,8 +45,10 @@ same-length-8 c = c .before .before .before .before .before .weights .given
 
 -- 16: something stands behind the last line
 returns-2 : tie.Need-returns-2
-unfolding numberStep
-returns-2 c = stores-long _ _ _ _ (c .before .before .before .before .before .before .before .before .before .before .before .before .survey-lines .ensures) (c .before .before .lines .given .1) (c .if1 .taken)
+unfolding numberStep bodyOf bodyAt linesAt
+returns-2 c =
+    let s = c .before .before .before .before .before .before .before .before .before .before .before .before .survey-lines .ensures in
+    (sym (body-long _ _ _ _ (sym (s .0) ∙ ap numberStep (c .before .before .lines .given .1)) (c .if1 .taken)), s .1, s .2, s .3, s .4)
 
 same-length-9 : tie.Need-same-length-9
 same-length-9 c = c .before .before .before .before .before .before .before .before .before .before .before .groups .given
@@ -54,8 +63,10 @@ same-length-12 : tie.Need-same-length-12
 same-length-12 c = c .before .before .before .before .before .weights .given
 
 returns-3 : tie.Need-returns-3
-unfolding numberStep
-returns-3 c = stores-all _ _ _ _ (c .before .before .before .before .before .before .before .before .before .before .before .before .survey-lines .ensures) (c .before .before .lines .given .1) (c .if1 .left)
+unfolding numberStep bodyOf bodyAt linesAt
+returns-3 c =
+    let s = c .before .before .before .before .before .before .before .before .before .before .before .before .survey-lines .ensures in
+    (sym (body-ended _ _ _ _ (sym (s .0) ∙ ap numberStep (c .before .before .lines .given .1)) (c .if1 .left)), s .1, s .2, s .3, s .4)
 
 pub body-spec : {M : Type 1} → statement M
 body-spec =

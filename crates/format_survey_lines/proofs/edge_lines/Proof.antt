@@ -5,6 +5,7 @@ use Prim.Native.Nat.{ℕ, _-_}
 use mathlib.Core.Path.{_≡_, ap, sym, _∙_}
 use mathlib.Core.List.{List}
 use Rattle.base_limits.specs.Limits.{endpointDigits, weightDigits}
+use Rattle.format_grammar.specs.Step.{stopped}
 use Rattle.format_survey_lines.specs.Line.{edgeLine, edgeLines, firstsOf, secondsOf, weightsOf}
 use Rattle.format_number.specs.Answer.{numberStep}
 use Rattle.format_survey_lines.specs.Answer.{edgeStep}
@@ -46,15 +47,16 @@ same-length-2 c = stored-length (c .before .before .before .before .before .loop
 same-length-3 : tie.Need-same-length-3 Inv-loop μ-loop
 same-length-3 c = stored-length (c .before .before .before .before .before .loop .inv .three)
 
--- the items end
+-- a line is refused
 returns : tie.Need-returns Inv-loop μ-loop
-unfolding numberStep edgeStep firstsOf secondsOf weightsOf
+unfolding numberStep edgeStep stopped firstsOf secondsOf weightsOf
 returns c =
     let q = c .before .before .before in
     let l = q .before .before .loop in
     let h = q .before .loop-test .taken in
-    let e : edgeLine (q .before .before .before .before .before .before .before .args .text .now) (l .edge) (l .next .at) ≡ _ = sym (q .edge-line .ensures) ∙ ap edgeStep (c .before .number .given .1) in (
-      left-stop _ _ _ _ _ h e (l .inv .left),
+    let told = c .before .enum-told .given .1 in
+    let e : edgeLine (q .before .before .before .before .before .before .before .args .text .now) (l .edge) (l .next .at) ≡ _ = sym (q .edge-line .ensures) ∙ ap edgeStep told in (
+      c .stopped-line .ensures ∙ ap (λ x. stopped (edgeStep x)) told ∙ left-stop _ _ _ _ _ h e (l .inv .left),
       stored-stop _ _ _ _ _ _ _ _ h e (l .inv .one),
       stored-stop _ _ _ _ _ _ _ _ h e (l .inv .two),
       stored-stop _ _ _ _ _ _ _ _ h e (l .inv .three),
@@ -66,7 +68,7 @@ store32-requires c κs =
     let p = c .before .before in
     let q = p .before .before in
     let l = q .before .before .loop in
-    below-word endpointDigits (omega arith) (edge-below (q .before .before .before .before .before .before .before .args .text .now) (l .edge) (l .next .at) (sym (q .edge-line .ensures) ∙ ap edgeStep (p .first .given .1)) .first)
+    below-word endpointDigits (omega arith) (edge-below (q .before .before .before .before .before .before .before .args .text .now) (l .edge) (l .next .at) (sym (q .edge-line .ensures) ∙ ap edgeStep (p .line .given .1)) .first)
 
 store32-requires-2 : tie.Need-store32-requires-2 Inv-loop μ-loop
 unfolding edgeStep
@@ -74,7 +76,7 @@ store32-requires-2 c κs =
     let p = c .before .before .before .before .before .before in
     let q = p .before .before in
     let l = q .before .before .loop in
-    below-word endpointDigits (omega arith) (edge-below (q .before .before .before .before .before .before .before .args .text .now) (l .edge) (l .next .at) (sym (q .edge-line .ensures) ∙ ap edgeStep (p .first .given .1)) .second)
+    below-word endpointDigits (omega arith) (edge-below (q .before .before .before .before .before .before .before .args .text .now) (l .edge) (l .next .at) (sym (q .edge-line .ensures) ∙ ap edgeStep (p .line .given .1)) .second)
 
 store32-requires-3 : tie.Need-store32-requires-3 Inv-loop μ-loop
 unfolding edgeStep
@@ -82,7 +84,7 @@ store32-requires-3 c κs =
     let p = c .before .before .before .before .before .before .before .before .before .before in
     let q = p .before .before in
     let l = q .before .before .loop in
-    below-word weightDigits (omega arith) (edge-below (q .before .before .before .before .before .before .before .args .text .now) (l .edge) (l .next .at) (sym (q .edge-line .ensures) ∙ ap edgeStep (p .first .given .1)) .weight)
+    below-word weightDigits (omega arith) (edge-below (q .before .before .before .before .before .before .before .args .text .now) (l .edge) (l .next .at) (sym (q .edge-line .ensures) ∙ ap edgeStep (p .line .given .1)) .weight)
 
 loop-again : tie.Need-loop-again Inv-loop μ-loop
 unfolding edgeStep
@@ -94,7 +96,7 @@ loop-again c =
     let g = f .before .before in
     let l = g .before .before .loop in
     let h = g .before .loop-test .taken in
-    let e : edgeLine (g .before .before .before .before .before .before .before .args .text .now) (l .edge) (l .next .at) ≡ _ = sym (g .edge-line .ensures) ∙ ap edgeStep (f .first .given .1) in
+    let e : edgeLine (g .before .before .before .before .before .before .before .args .text .now) (l .edge) (l .next .at) ≡ _ = sym (g .edge-line .ensures) ∙ ap edgeStep (f .line .given .1) in
     record {
       left = left-more _ _ _ _ _ h e (l .inv .left);
       one = rw (r .store32 .ensures) (stored-more _ _ _ _ _ (λ e. e .first) _ _ h e (l .inv .one));
@@ -132,11 +134,12 @@ edge-lines-spec =
     loop-holds
     (λ c κs. search needs)
     (λ c. search needs)
+    (λ c. search needs)
+    (λ c κs. search needs)
     same-length
     same-length-2
     same-length-3
     returns
-    (λ c. search needs)
     store32-requires
     store32-requires-2
     store32-requires-3

@@ -1,28 +1,23 @@
--- Laws of the lines of a survey after its counts: what one pass over them answers and stores, and how many they are.
+-- Laws of the lines of a survey after its counts: what they are where a group line is refused, and how many they are.
 use Prim.Native.Nat.{ℕ}
 use native.Mathlib.Omega.{arith}
 use mathlib.Core.Path.{_≡_, refl}
-use mathlib.Core.List.{List}
+use mathlib.Core.List.{List, []}
 use lib.ListN.{length}
-use lib.Seq.{sets}
-use Rattle.format_survey_lines.specs.Answer.{LinesStored}
 use Rattle.format_grammar.specs.Step.{Step, found, refused}
 use Rattle.format_grammar.specs.Lines.{linesAfter}
 use Rattle.format_grammar.specs.Laws.Lines.{lines-length}
-use Rattle.format_survey_lines.specs.Line.{groupTest, groupLines, edgeLines, firstsOf, secondsOf, weightsOf, SurveyLines, linesOf, linesAt}
+use Rattle.format_survey_lines.specs.Line.{groupTest, groupLines, edgeLines, SurveyLines, linesOf, linesAt}
 
--- By where the group lines end.
-module _ (t : List ℕ) (n m at : ℕ) {groups groups′ firsts firsts′ seconds seconds′ weights weights′ : List ℕ} where
-  pub lines-stopped : {number place : ℕ} → groupLines groupTest t n at .end ≡ refused number place → groups′ ≡ sets groups 0 (groupLines groupTest t n at .values) → firsts′ ≡ firsts → seconds′ ≡ seconds → weights′ ≡ weights
-      → LinesStored (linesAt t n m at) (refused number place) groups groups′ firsts firsts′ seconds seconds′ weights weights′
-  unfolding linesAt linesOf linesAfter firstsOf secondsOf weightsOf
-  lines-stopped e a b c d = rw e record { end = refl; intoGroups = a; intoFirsts = b; intoSeconds = c; intoWeights = d }
-
-  pub lines-read : {z p : ℕ} {step : Step ℕ} → groupLines groupTest t n at .end ≡ found z p → step ≡ edgeLines t m p .end → groups′ ≡ sets groups 0 (groupLines groupTest t n at .values)
-      → firsts′ ≡ sets firsts 0 (firstsOf (edgeLines t m p .values)) → seconds′ ≡ sets seconds 0 (secondsOf (edgeLines t m p .values)) → weights′ ≡ sets weights 0 (weightsOf (edgeLines t m p .values))
-      → LinesStored (linesAt t n m at) step groups groups′ firsts firsts′ seconds seconds′ weights weights′
+-- By where the group lines end: the edge lines are not read, or follow.
+module _ (t : List ℕ) (n m at : ℕ) where
+  pub lines-refused : {number place : ℕ} → groupLines groupTest t n at .end ≡ refused number place → (linesAt t n m at .end ≡ refused number place) × (linesAt t n m at .edges ≡ [])
   unfolding linesAt linesOf linesAfter
-  lines-read e s a b c d = rw e record { end = s; intoGroups = a; intoFirsts = b; intoSeconds = c; intoWeights = d }
+  lines-refused e = rw e (refl, refl)
+
+  pub lines-found : {z p : ℕ} → groupLines groupTest t n at .end ≡ found z p → (linesAt t n m at .end ≡ edgeLines t m p .end) × (linesAt t n m at .edges ≡ edgeLines t m p .values)
+  unfolding linesAt linesOf linesAfter
+  lines-found e = rw e (refl, refl)
 
 -- Lines that are all read are as many as the counts say.
 pub record Sizes (b : SurveyLines) (n m : ℕ) : Type 0 where

@@ -1,0 +1,25 @@
+-- `format_number::class_number` meets its contract: at each arm the definition computes.
+use borrow.Author.Needs.{needs}
+use Rattle.format_number.specs.Number.{classNumber}
+use Rattle.format_number.proofs.class_number.Statement.{statement}
+use Rattle.format_number.proofs.class_number.Tie as tie
+
+pub class-number-spec : {M : Type 1} → statement M
+unfolding classNumber
+class-number-spec =
+    tie.close
+    (tie.spec
+    (λ c. search needs)
+    (λ c. search needs)
+    (λ c. search needs)
+    (λ c. search needs)
+    (λ c. search needs)
+    (λ c. search needs)
+    (λ c. search needs)
+    (λ c. search needs)
+    (λ c. search needs)
+    (λ c. search needs)
+    (λ c. search needs)
+    (λ c. search needs)
+    (λ c. search needs)
+    (λ c. search needs))
