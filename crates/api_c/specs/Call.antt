@@ -1,6 +1,5 @@
 -- What the calls from other languages answer and leave in their buffers, by the library's own definitions.
 use Prim.Native.Nat.{ℕ}
-use mathlib.Core.Path.{_≡_}
 use mathlib.Core.Bool.{cond}
 use mathlib.Core.List.{List, [], _∷_, _++_}
 use lib.ListN.{length, drop}
@@ -11,7 +10,7 @@ use Rattle.survey_core.specs.Survey.{Survey, edgeCount, problemOf}
 use Rattle.plan_duals.specs.Drawing.{recordsOver}
 use Rattle.plan_core.specs.Plan.{planRefusal, planOf, planCountsOf}
 use Rattle.check_rule.specs.Check.{checkRefusal, checkedOf}
-use Rattle.format_survey.specs.Reading.{SurveyText, reading, filled}
+use Rattle.format_survey.specs.Reading.{SurveyText, reading}
 use Rattle.format_write.specs.Text.{dualLine}
 use Rattle.format_print.specs.Print.{printRefusal, dualPrintRefusal, outAfter}
 use Rattle.format_survey_print.specs.Print.{surveyText, surveyPrintRefusal}
@@ -19,14 +18,10 @@ use Rattle.api_c.specs.Code.{
   planFigures,
   checkFigures,
   readFigures,
-  codeOf,
   withCounts,
   countsAfter,
   planFiguresOf,
   checkFiguresOf,
-  verdictOf,
-  readFiguresOf,
-  countsFor,
   withLength,
 }
 
@@ -53,15 +48,6 @@ checkCounts s marks records counts = countsAfter (checkCall s marks records coun
 -- Reading with lent counts: a buffer that is too short for them is judged as a group buffer of no length, so that 7 comes at the nodes line, after 1.
 unfoldable pub readCall : (text groups firsts seconds weights counts : List ℕ) → Outcome SurveyText
 readCall text groups firsts seconds weights counts = reading text (cond (ltb (length counts) readFigures) [] groups) firsts seconds weights
-
--- What reading answers and leaves, by its outcome.
-pub record ReadInto (read : Outcome SurveyText) (code : ℕ) (groups groups′ firsts firsts′ seconds seconds′ weights weights′ counts counts′ : List ℕ) : Type 0 where
-  pub answers : code ≡ codeOf (verdictOf read)
-  pub intoGroups : groups′ ≡ filled read (λ s. s .groups) groups
-  pub intoFirsts : firsts′ ≡ filled read (λ s. s .firsts) firsts
-  pub intoSeconds : seconds′ ≡ filled read (λ s. s .seconds) seconds
-  pub intoWeights : weights′ ≡ filled read (λ s. s .weights) weights
-  pub intoCounts : counts′ ≡ countsFor read readFiguresOf counts
 
 -- Printing a moat line: 9, then 7.
 unfoldable pub dualCall : (part out counts : List ℕ) → Verdict

@@ -1,5 +1,6 @@
 -- Calls from other languages (document 01, 'Refused surveys and plans', where a call returns one number): the answer is a number, and counts go into a lent buffer.
 use Prim.Native.Nat.{ℕ, _+_, _*_}
+use mathlib.Core.Bool.{cond}
 use mathlib.Core.List.{List, [], _∷_}
 use lib.Seq.{sets}
 use lib.Dec.{ltb}
@@ -49,6 +50,10 @@ planFiguresOf c = c .terminals ∷ c .cost ∷ c .bound ∷ c .rounds ∷ c .dua
 
 unfoldable pub checkFiguresOf : Checked → List ℕ
 checkFiguresOf c = c .terminals ∷ c .cost ∷ c .bound ∷ []
+
+-- How much of a buffer of so many entries a call lends on: nothing where its counts do not fit.
+unfoldable pub lentOn : (counts wanted whole : ℕ) → ℕ
+lentOn counts wanted whole = cond (ltb counts wanted) 0 whole
 
 -- ---- reading
 

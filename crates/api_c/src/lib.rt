@@ -10,17 +10,20 @@ ghost use Rattle.base_limits.specs.declared.Verdict.the-variants.{Refused};
 ghost use Rattle.survey_core.specs.Survey.{lentSurvey};
 ghost use Rattle.survey_core.specs.Refusal.{surveyRefusal};
 ghost use Rattle.format_write.specs.Text.{planText};
-ghost use Rattle.format_survey.specs.Reading.{reading, filled};
+ghost use Rattle.format_survey.specs.Reading.{filled};
 ghost use Rattle.api_c.specs.Code.{placeUnit, codeOf, verdictOf, readFiguresOf, countsFor};
-ghost use Rattle.api_c.specs.Code.{printedCode, printedCounts};
+ghost use Rattle.api_c.specs.Code.{lentOn, printedCode, printedCounts};
 ghost use Rattle.api_c.specs.Call.{planCall, planMarks, planRecords, planCounts, checkCall, checkCounts};
-ghost use Rattle.api_c.specs.Call.{readCall, ReadInto, dualCall, dualOut, dualCounts};
+ghost use Rattle.api_c.specs.Call.{readCall, dualCall, dualOut, dualCounts};
 ghost use Rattle.api_c.specs.Call.{textCall, textOut, textCounts, surveyCall, surveyOut, surveyCounts};
 use base_buffer::put64;
 use base_limits::Verdict;
 use check_core::Checking;
 use format_print::Printed;
+use format_print::print_dual;
+use format_print::print_plan;
 use format_survey::Reading;
+use format_survey_print::print_survey;
 use plan_core::Planned;
 
 // A refusal's place counts this many times.
@@ -150,40 +153,22 @@ pub extern "C" fn foamsickle_check(
     }
 }
 
+// How much of a buffer is lent on: nothing where the counts do not fit.
+fn lent_on(counts: usize, wanted: usize, whole: usize) -> usize
+    ensures { λ r. ⌜ r ≡ lentOn counts wanted whole ⌝ }
+{
+    if counts < wanted {
+        return 0;
+    }
+    whole
+}
+
 // n and m, at the beginning of a buffer.
 fn store_two(counts: &mut [u64], vertices: u64, edges: u64)
     ensures { λ _. ⌜ new counts ≡ sets (old counts) 0 (vertices ∷ edges ∷ []) ⌝ }
 {
     put64(counts, 0, vertices);
     put64(counts, 1, edges);
-}
-
-// Reads a survey's text, and stores the counts as far as their buffer reaches.
-fn read_into(
-    text: &[u8],
-    groups: &mut [u8],
-    firsts: &mut [u32],
-    seconds: &mut [u32],
-    weights: &mut [u32],
-    counts: &mut [u64],
-) -> u64
-    ensures { λ r.
-        let read = reading (old text) (old groups) (old firsts) (old seconds) (old weights) in
-        ⌜ ReadInto read r (old groups) (new groups) (old firsts) (new firsts)
-        (old seconds) (new seconds) (old weights) (new weights) (old counts) (new counts) ⌝ }
-{
-    let answer = format_survey::read(text, groups, firsts, seconds, weights);
-    match answer {
-        Reading::Survey { vertices, edges } => {
-            store_two(
-                counts,
-                base_buffer::wide(vertices),
-                base_buffer::wide(edges),
-            );
-            0
-        }
-        Reading::Refused { number, place } => code(number, place),
-    }
 }
 
 // Reads a survey's text. `counts` gets n and m.
@@ -215,10 +200,19 @@ pub extern "C" fn foamsickle_read(
         let read = readCall (old text) (old groups) (old firsts) (old seconds) (old weights) (old counts) in
         ⌜ new counts ≡ countsFor read readFiguresOf (old counts) ⌝ }
 {
-    if counts.len() < READ_FIGURES {
-        return read_into(text, &mut groups[0..0], firsts, seconds, weights, counts);
+    let room = lent_on(counts.len(), READ_FIGURES, groups.len());
+    let answer = format_survey::read(text, &mut groups[0..room], firsts, seconds, weights);
+    match answer {
+        Reading::Survey { vertices, edges } => {
+            store_two(
+                counts,
+                base_buffer::wide(vertices),
+                base_buffer::wide(edges),
+            );
+            0
+        }
+        Reading::Refused { number, place } => code(number, place),
     }
-    read_into(text, groups, firsts, seconds, weights, counts)
 }
 
 // What printing answered, as one number; `counts` gets the text's length.
@@ -243,15 +237,12 @@ pub extern "C" fn foamsickle_print_dual(part: &[u8], out: &mut [u8], counts: &mu
     ensures out { λ _. ⌜ new out ≡ dualOut (old part) (old out) (old counts) ⌝ }
     ensures counts { λ _. ⌜ new counts ≡ dualCounts (old part) (old out) (old counts) ⌝ }
 {
-    if counts.len() < PRINT_FIGURES {
-        let refused = format_print::print_dual(part, &mut out[0..0]);
-        return printed_code(refused, counts);
-    }
-    let answer = format_print::print_dual(part, out);
+    let room = lent_on(counts.len(), PRINT_FIGURES, out.len());
+    let answer = print_dual(part, &mut out[0..room]);
     printed_code(answer, counts)
 }
 
-// Prints a plan from its counts, marks and moat records. `counts` gets the text's length.
+// Prints a plan from its figures, marks and moat records. `counts` gets the text's length.
 #[no_mangle]
 pub extern "C" fn foamsickle_print_plan(
     terminals: u64,
@@ -273,19 +264,16 @@ pub extern "C" fn foamsickle_print_plan(
         let text = planText terminals cost bound rounds (old marks) (old records) in
         ⌜ new counts ≡ textCounts text (old out) (old counts) ⌝ }
 {
-    if counts.len() < PRINT_FIGURES {
-        let refused = format_print::print_plan(
-            terminals,
-            cost,
-            bound,
-            rounds,
-            marks,
-            records,
-            &mut out[0..0],
-        );
-        return printed_code(refused, counts);
-    }
-    let answer = format_print::print_plan(terminals, cost, bound, rounds, marks, records, out);
+    let room = lent_on(counts.len(), PRINT_FIGURES, out.len());
+    let answer = print_plan(
+        terminals,
+        cost,
+        bound,
+        rounds,
+        marks,
+        records,
+        &mut out[0..room],
+    );
     printed_code(answer, counts)
 }
 
@@ -306,16 +294,7 @@ pub extern "C" fn foamsickle_print_survey(
     ensures counts { λ _.
         ⌜ new counts ≡ surveyCounts (old groups) (old firsts) (old seconds) (old weights) (old out) (old counts) ⌝ }
 {
-    if counts.len() < PRINT_FIGURES {
-        let refused = format_survey_print::print_survey(
-            groups,
-            firsts,
-            seconds,
-            weights,
-            &mut out[0..0],
-        );
-        return printed_code(refused, counts);
-    }
-    let answer = format_survey_print::print_survey(groups, firsts, seconds, weights, out);
+    let room = lent_on(counts.len(), PRINT_FIGURES, out.len());
+    let answer = print_survey(groups, firsts, seconds, weights, &mut out[0..room]);
     printed_code(answer, counts)
 }

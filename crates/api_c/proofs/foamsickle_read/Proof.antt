@@ -1,51 +1,63 @@
--- `foamsickle_read` meets its contract: counts that fit get what `read` answers, others are judged as a group buffer of no length.
-use Prim.Native.Nat.{_<_, _≤_}
-use native.Mathlib.Omega.{arith}
-use lib.ListN.{length}
+-- `foamsickle_read` meets its contract: what `read` answers where so much of the group buffer is lent on.
 use borrow.Author.Needs.{needs}
-use Rattle.api_c.specs.Code.{readFigures}
-use Rattle.api_c.specs.Laws.Text.{read-short-into, read-long-into}
+use Rattle.api_c.specs.Laws.Text.{lent-le, read-fits, read-found, read-stopped}
 use Rattle.api_c.proofs.foamsickle_read.Statement.{statement}
 use Rattle.api_c.proofs.foamsickle_read.Tie as tie
 
--- counts that do not fit
+part-read-end : tie.Need-part-read-end
+part-read-end c = lent-le _ _ _ (c .lent-on .ensures)
+
+-- the refusal fits one number
+code-requires : tie.Need-code-requires
+code-requires c κs =
+    let called = c .before .before .before .before .before .before .before .before .before .before .before in
+    read-fits _ _ _ _ _ (called .read .ensures .0) (c .before .answer2 .given .1)
+
+-- read
 returns : tie.Need-returns
 returns c =
-    let called = c .before .before .before .before .before .before .before .before .before .before in
-    let a = called .before .before .before .before .before .before .before .before .before .before .before .before .before .args in
-    let taken = called .before .before .before .before .before .before .if1 .taken in
-    let short : length (a .counts .now) < readFigures = omega arith in
-    let into = read-short-into (a .text .now) (a .groups .now) (a .firsts .now) (a .seconds .now) (a .weights .now) (a .counts .now) short (called .read-into .ensures) in
-    (into .answers, (into .intoGroups, (into .intoFirsts, (into .intoSeconds, (into .intoWeights, into .intoCounts)))))
+    let stored = c .before .before in
+    let matched = stored .before .before .before .before .before in
+    let called = matched .before .before .before .before .before .before .before .before .before .before in
+    let lent = called .before .before .before .before .before in
+    let a = lent .before .before .before .before .before .before .before .args in
+    read-found (a .text .now) (a .groups .now) (a .firsts .now) (a .seconds .now) (a .weights .now) (a .counts .now) (lent .lent-on .ensures) _ (called .read .ensures) (matched .answer .given .1)
+    (stored .before .before .wide .ensures)
+    (stored .before .wide2 .ensures)
+    (stored .store-two .ensures)
 
--- counts that fit
+-- refused
 returns-2 : tie.Need-returns-2
 returns-2 c =
-    let called = c .before .before .before .before .before .before .before .before .before .before in
-    let a = called .before .before .before .before .before .before .before .before .before .before .before .before .before .args in
-    let left = called .before .before .before .before .before .before .if1 .left in
-    let long : readFigures ≤ length (a .counts .now) = omega arith in
-    let into = read-long-into (a .text .now) (a .groups .now) (a .firsts .now) (a .seconds .now) (a .weights .now) (a .counts .now) long (called .read-into2 .ensures) in
-    (into .answers, (into .intoGroups, (into .intoFirsts, (into .intoSeconds, (into .intoWeights, into .intoCounts)))))
+    let matched = c .before .before in
+    let called = matched .before .before .before .before .before .before .before .before .before .before in
+    let lent = called .before .before .before .before .before in
+    let a = lent .before .before .before .before .before .before .before .args in
+    read-stopped (a .text .now) (a .groups .now) (a .firsts .now) (a .seconds .now) (a .weights .now) (a .counts .now) (lent .lent-on .ensures) _ (called .read .ensures) (matched .answer2 .given .1) (c .code .ensures)
 
 pub foamsickle-read-spec : {M : Type 1} → statement M
 foamsickle-read-spec =
     tie.close
     (tie.spec
-    (λ c. search needs)
-    (λ c. search needs)
-    (λ c. search needs)
     (λ c κs. search needs)
     (λ c. search needs)
     (λ c. search needs)
+    part-read-end
+    (λ c κs. search needs)
     (λ c. search needs)
+    (λ c κs. search needs)
+    (λ c κs. search needs)
+    (λ c κs. search needs)
     (λ c. search needs)
-    (λ c. search needs)
+    code-requires
+    (λ c. c .before .before .before .before .before .before .before .before .before .before .before .before .before .before .before .before .groups .given .1)
+    (λ c. c .before .before .before .before .before .before .before .before .before .before .before .before .before .before .firsts .given)
+    (λ c. c .before .before .before .before .before .before .before .before .before .before .before .before .seconds .given)
+    (λ c. c .before .before .before .before .before .before .before .before .before .before .weights .given)
+    (λ c. c .before .counts .given)
     returns
-    (λ c κs. search needs)
-    (λ c. search needs)
-    (λ c. search needs)
-    (λ c. search needs)
-    (λ c. search needs)
-    (λ c. search needs)
+    (λ c. c .before .before .before .before .before .before .before .before .before .before .before .groups .given .1)
+    (λ c. c .before .before .before .before .before .before .before .before .before .firsts .given)
+    (λ c. c .before .before .before .before .before .before .before .seconds .given)
+    (λ c. c .before .before .before .before .before .weights .given)
     returns-2)

@@ -1,11 +1,12 @@
--- The calls that read and print texts, by cases on the length of the lent counts: long enough, they are the library's own; too short, they refuse.
-use Prim.Native.Nat.{ℕ, _+_, _*_, _<_, _≤_, _^_}
+-- The calls that read and print texts: counts that fit, and they are the library's own; too short, and a buffer of no length is lent on, which is refused.
+use Prim.Native.Nat.{ℕ, _+_, _*_, _-_, _<_, _≤_, _^_}
 use native.Mathlib.Omega.{arith}
+use native.Mathlib.Nat.{sub-zero}
 use mathlib.Core.Path.{_≡_, refl, ap, sym, _∙_}
-use mathlib.Core.Bool.{Bool, true, false, _&&_, not}
-use mathlib.Core.List.{List, [], _∷_, _++_}
-use lib.ListN.{length, set, length-append}
-use lib.Seq.{sets}
+use mathlib.Core.Bool.{Bool, true, false, _&&_, not, cond}
+use mathlib.Core.List.{List, [], _∷_, _++_, append-nil}
+use lib.ListN.{length, set, take, drop, length-append}
+use lib.Seq.{sets, take-all, drop-length}
 use lib.Dec.{eqb, ltb, lit<}
 use borrow.Author.Tests.{lt-ltb, le-ltb}
 use Rattle.base_limits.specs.Limits.{recordBytes}
@@ -30,10 +31,46 @@ use Rattle.format_survey.specs.Laws.WellFormed.{accepted-render}
 use Rattle.format_survey.specs.declared.Reading.{Reading}
 use Rattle.format_survey.specs.declared.Reading.the-variants.{Survey as SurveyFound, Refused as ReadingRefused}
 use Rattle.format_survey_print.specs.Print.{edgesFrom, surveyText, surveyPrintRefusal, surveyPrinted, surveyPrintedOut}
-use Rattle.api_c.specs.Code.{placeUnit, readFigures, printFigures, codeOf, countsAfter, verdictOf, readFiguresOf, countsFor, withLength, printedCode, printedCounts}
-use Rattle.api_c.specs.Call.{readCall, ReadInto, dualCall, dualOut, dualCounts, textCall, textOut, textCounts, surveyCall, surveyOut, surveyCounts}
+use Rattle.api_c.specs.Code.{placeUnit, readFigures, printFigures, codeOf, countsAfter, lentOn, verdictOf, readFiguresOf, countsFor, withLength, printedCode, printedCounts}
+use Rattle.api_c.specs.Call.{readCall, dualCall, dualOut, dualCounts, textCall, textOut, textCounts, surveyCall, surveyOut, surveyCounts}
 use Rattle.api_c.specs.Laws.Small.{Small, small-fits, small-refuse, small-before, fine-small}
 use Rattle.api_c.specs.Laws.Reading.{reading-small}
+
+-- ---- what is lent on
+
+pub lent-none : (counts wanted whole : ℕ) → counts < wanted → 0 ≡ lentOn counts wanted whole
+unfolding lentOn
+lent-none counts wanted whole h = rw (lt-ltb counts wanted h)
+
+pub lent-whole : (counts wanted whole : ℕ) → wanted ≤ counts → whole ≡ lentOn counts wanted whole
+unfolding lentOn
+lent-whole counts wanted whole h = rw (le-ltb counts wanted h)
+
+cond-le : (b : Bool) (n : ℕ) → cond b 0 n ≤ n
+cond-le true n = omega arith
+cond-le false n = omega arith
+
+pub lent-le : {room : ℕ} (counts wanted whole : ℕ) → room ≡ lentOn counts wanted whole → room ≤ whole
+unfolding lentOn
+lent-le counts wanted whole h = let l = cond-le (ltb counts wanted) whole in omega arith
+
+cond-take : (b : Bool) (l : List ℕ) → take (cond b 0 (length l) - 0) l ≡ cond b [] l
+cond-take true l = refl
+cond-take false l = take-all (length l - 0) l (omega arith)
+
+cond-drop : (b : Bool) (l : List ℕ) → drop (cond b 0 (length l) - 0) l ≡ cond b l []
+cond-drop true l = refl
+cond-drop false l = ap (λ (n : ℕ). drop n l) (sub-zero (length l)) ∙ drop-length l
+
+-- What is lent on of a buffer, and what stands behind it.
+module _ (wanted : ℕ) (counts l : List ℕ) {room : ℕ} (lent : room ≡ lentOn (length counts) wanted (length l)) where
+  lent-part : take (room - 0) l ≡ cond (ltb (length counts) wanted) [] l
+  unfolding lentOn
+  lent-part = ap (λ (n : ℕ). take (n - 0) l) lent ∙ cond-take (ltb (length counts) wanted) l
+
+  lent-rest : drop (room - 0) l ≡ cond (ltb (length counts) wanted) l []
+  unfolding lentOn
+  lent-rest = ap (λ (n : ℕ). drop (n - 0) l) lent ∙ cond-drop (ltb (length counts) wanted) l
 
 -- ---- reading
 
@@ -75,33 +112,6 @@ module _ (read : Outcome SurveyText) {r : Reading} (answered : countsOutcome r �
   unfolding countsFor
   read-kept h counts = sym (ap (λ (o : Outcome SurveyText). countsFor o readFiguresOf counts) (read-is h))
 
--- The arms of `read_into`: n and m, or the refusal.
-module _ (t groups firsts seconds weights : List ℕ) {r : Reading} {groups′ firsts′ seconds′ weights′ : List ℕ}
-    (read : SurveyRead t (countsOutcome r) groups groups′ firsts firsts′ seconds seconds′ weights weights′) (counts : List ℕ) where
-  pub into-found : {n m x y : ℕ} {counts′ : List ℕ} → r ≡ SurveyFound n m → x ≡ n → y ≡ m → counts′ ≡ sets counts 0 (x ∷ y ∷ [])
-      → ReadInto (reading t groups firsts seconds weights) 0 groups groups′ firsts firsts′ seconds seconds′ weights weights′ counts counts′
-  into-found {n = n} {y = y} h e f k =
-      record {
-        answers = read-code _ (read .0) h;
-        intoGroups = read .1 .0;
-        intoFirsts = read .1 .1 .0;
-        intoSeconds = read .1 .1 .1 .0;
-        intoWeights = read .1 .1 .1 .1;
-        intoCounts = read-stored _ (read .0) h counts (k ∙ ap (λ (a : ℕ). sets counts 0 (a ∷ y ∷ [])) e ∙ ap (λ (b : ℕ). sets counts 0 (n ∷ b ∷ [])) f);
-      }
-
-  pub into-refused : {number place code : ℕ} → r ≡ ReadingRefused number place → code ≡ number + placeUnit * place
-      → ReadInto (reading t groups firsts seconds weights) code groups groups′ firsts firsts′ seconds seconds′ weights weights′ counts counts
-  into-refused h k =
-      record {
-        answers = read-refused _ (read .0) h k;
-        intoGroups = read .1 .0;
-        intoFirsts = read .1 .1 .0;
-        intoSeconds = read .1 .1 .1 .0;
-        intoWeights = read .1 .1 .1 .1;
-        intoCounts = read-kept _ (read .0) h counts;
-      }
-
 pub read-fits : (t groups firsts seconds weights : List ℕ) {r : Reading} → countsOutcome r ≡ countsOf (reading t groups firsts seconds weights)
     → {number place : ℕ} → r ≡ ReadingRefused number place → number + placeUnit * place < 2 ^ 64
 read-fits t groups firsts seconds weights answered h =
@@ -123,37 +133,72 @@ no-room-refused t firsts seconds weights = by-outcome (reading t [] firsts secon
         let room = a .room .forGroups in
         absurd (omega arith)
 
-module _ (t groups firsts seconds weights counts : List ℕ) where
-  module _ (short : length counts < readFigures) where
-    pub read-short : readCall t groups firsts seconds weights counts ≡ reading t [] firsts seconds weights
-    unfolding readCall
-    read-short = rw (lt-ltb (length counts) readFigures short)
+-- Lent nothing, a buffer is as it was; lent whole, it is as it was filled.
+filled-rest : (b : Bool) (read : Outcome SurveyText) (values : SurveyText → List ℕ) (l : List ℕ) → (b ≡ true → (number place : ℕ) × (read ≡ refusal number place))
+    → filled read values (cond b [] l) ++ cond b l [] ≡ filled read values l
+unfolding filled
+filled-rest true read values l h =
+    let n = h refl in
+    ap (λ (o : Outcome SurveyText). filled o values [] ++ l) (n .2) ∙ sym (ap (λ (o : Outcome SurveyText). filled o values l) (n .2))
+filled-rest false read values l h = append-nil (filled read values l)
 
-    module _ {x : ℕ} {held firsts′ seconds′ weights′ counts′ : List ℕ} where
-      pub read-short-into : ReadInto (reading t [] firsts seconds weights) x [] held firsts firsts′ seconds seconds′ weights weights′ counts counts′
-          → ReadInto (readCall t groups firsts seconds weights counts) x groups (held ++ groups) firsts firsts′ seconds seconds′ weights weights′ counts counts′
-      unfolding filled
-      read-short-into h =
-          let n = no-room-refused t firsts seconds weights in
-          let e : held ≡ [] = h .intoGroups ∙ ap (λ (o : Outcome SurveyText). filled o (λ s. s .groups) []) (n .2) in
-          let into : ReadInto (reading t [] firsts seconds weights) x groups (held ++ groups) firsts firsts′ seconds seconds′ weights weights′ counts counts′ = record {
-            answers = h .answers;
-            intoGroups = ap (λ (l : List ℕ). l ++ groups) e ∙ sym (ap (λ (o : Outcome SurveyText). filled o (λ s. s .groups) groups) (n .2));
-            intoFirsts = h .intoFirsts;
-            intoSeconds = h .intoSeconds;
-            intoWeights = h .intoWeights;
-            intoCounts = h .intoCounts;
-          } in
-          rw read-short into
+-- What reading answers and leaves where so much of the group buffer is lent on.
+module _ (t groups firsts seconds weights counts : List ℕ) {room : ℕ} (lent : room ≡ lentOn (length counts) readFigures (length groups)) where
+  abbrev call : Outcome SurveyText
+  call = readCall t groups firsts seconds weights counts
 
-  pub read-long : readFigures ≤ length counts → readCall t groups firsts seconds weights counts ≡ reading t groups firsts seconds weights
+  lent-read : reading t (take (room - 0) groups) firsts seconds weights ≡ call
   unfolding readCall
-  read-long long = rw (le-ltb (length counts) readFigures long)
+  lent-read = ap (λ (l : List ℕ). reading t l firsts seconds weights) (lent-part readFigures counts groups lent)
 
-  pub read-long-into : readFigures ≤ length counts → {code : ℕ} {groups′ firsts′ seconds′ weights′ counts′ : List ℕ}
-      → ReadInto (reading t groups firsts seconds weights) code groups groups′ firsts firsts′ seconds seconds′ weights weights′ counts counts′
-      → ReadInto (readCall t groups firsts seconds weights counts) code groups groups′ firsts firsts′ seconds seconds′ weights weights′ counts counts′
-  read-long-into long h = rw (read-long long) h
+  short-read : ltb (length counts) readFigures ≡ true → (number place : ℕ) × (call ≡ refusal number place)
+  unfolding readCall
+  short-read h = rw h (no-room-refused t firsts seconds weights)
+
+  module _ (r : Reading) {held firsts′ seconds′ weights′ : List ℕ}
+      (read : SurveyRead t (countsOutcome r) (take (room - 0) groups) held firsts firsts′ seconds seconds′ weights weights′) where
+    answered : countsOutcome r ≡ countsOf call
+    answered = read .0 ∙ ap countsOf lent-read
+
+    -- The five clauses about buffers, but for the counts.
+    groups-left : held ++ drop (room - 0) groups ≡ filled call (λ s. s .groups) groups
+    groups-left =
+        ap (λ (l : List ℕ). l ++ drop (room - 0) groups) (read .1 .0 ∙ ap (λ (o : Outcome SurveyText). filled o (λ s. s .groups) (take (room - 0) groups)) lent-read)
+        ∙ ap (λ (l : List ℕ). filled call (λ s. s .groups) l ++ drop (room - 0) groups) (lent-part readFigures counts groups lent)
+        ∙ ap (λ (l : List ℕ). filled call (λ s. s .groups) (cond (ltb (length counts) readFigures) [] groups) ++ l) (lent-rest readFigures counts groups lent)
+        ∙ filled-rest (ltb (length counts) readFigures) call (λ s. s .groups) groups short-read
+
+    buffer-left : (values : SurveyText → List ℕ) (l : List ℕ) {l′ : List ℕ} → l′ ≡ filled (reading t (take (room - 0) groups) firsts seconds weights) values l → l′ ≡ filled call values l
+    buffer-left values l h = h ∙ ap (λ (o : Outcome SurveyText). filled o values l) lent-read
+
+    abbrev Left : (code : ℕ) (counts′ : List ℕ) → Type 0
+    Left code counts′ =
+        (code ≡ codeOf (verdictOf call))
+        × ((held ++ drop (room - 0) groups ≡ filled call (λ s. s .groups) groups)
+        × ((firsts′ ≡ filled call (λ s. s .firsts) firsts)
+        × ((seconds′ ≡ filled call (λ s. s .seconds) seconds) × ((weights′ ≡ filled call (λ s. s .weights) weights) × (counts′ ≡ countsFor call readFiguresOf counts)))))
+
+    buffers-left : {code : ℕ} {counts′ : List ℕ} → code ≡ codeOf (verdictOf call) → counts′ ≡ countsFor call readFiguresOf counts → Left code counts′
+    buffers-left h k = (
+      h,
+      (
+        groups-left,
+        (
+          buffer-left (λ s. s .firsts) firsts (read .1 .1 .0),
+          (buffer-left (λ s. s .seconds) seconds (read .1 .1 .1 .0), (buffer-left (λ s. s .weights) weights (read .1 .1 .1 .1), k)),
+        ),
+      ),
+    )
+
+    -- n and m
+    pub read-found : {n m x y : ℕ} {counts′ : List ℕ} → r ≡ SurveyFound n m → x ≡ n → y ≡ m → counts′ ≡ sets counts 0 (x ∷ y ∷ []) → Left 0 counts′
+    read-found {n = n} {y = y} h e f k =
+        buffers-left (read-code call answered h)
+        (read-stored call answered h counts (k ∙ ap (λ (a : ℕ). sets counts 0 (a ∷ y ∷ [])) e ∙ ap (λ (b : ℕ). sets counts 0 (n ∷ b ∷ [])) f))
+
+    -- a refusal
+    pub read-stopped : {number place code : ℕ} → r ≡ ReadingRefused number place → code ≡ number + placeUnit * place → Left code counts
+    read-stopped h k = buffers-left (read-refused call answered h k) (read-kept call answered h counts)
 
 -- ---- printing
 
@@ -194,38 +239,33 @@ unfolding _before_
 before-none Fine = refl
 before-none (Refused number place) = refl
 
-before-either : (v : Verdict) (b : Bool) → ((v before refuseIf b 7 0) before Refused 7 0) ≡ (v before Refused 7 0)
+before-either : (v : Verdict) (b : Bool) → (v before Refused 7 0) ≡ ((v before refuseIf b 7 0) before Refused 7 0)
 unfolding _before_ refuseIf
 before-either Fine true = refl
 before-either Fine false = refl
 before-either (Refused number place) b = refl
-
--- A refusal leaves the part of no length that was lent as it was.
-out-kept : (v : Verdict) (text out : List ℕ) → outAfter (v before Refused 7 0) text [] ++ out ≡ outAfter (v before Refused 7 0) text out
-unfolding outAfter written _before_
-out-kept Fine text out = refl
-out-kept (Refused number place) text out = refl
-
--- The verdict of a call that prints, by the length of the counts.
-length-long : (first : Verdict) (text out counts : List ℕ) → printFigures ≤ length counts
-    → withLength (first before printRefusal text out) (length counts) ≡ (first before printRefusal text out)
-unfolding withLength refuseIf
-length-long first text out counts long = rw (le-ltb (length counts) printFigures long) (before-none (first before printRefusal text out))
-
-length-short : (first : Verdict) (text out counts : List ℕ) → length counts < printFigures
-    → withLength (first before printRefusal text out) (length counts) ≡ (first before Refused 7 0)
-unfolding withLength printRefusal refuseIf
-length-short first text out counts short = rw (lt-ltb (length counts) printFigures short) (before-either first (ltb (length out) (length text)))
 
 -- A text that is not empty has no room in a buffer of no length.
 empty-refused : (first : Verdict) (text : List ℕ) → 0 < length text → (first before printRefusal text []) ≡ (first before Refused 7 0)
 unfolding printRefusal refuseIf
 empty-refused first text some = rw (lt-ltb 0 (length text) some)
 
--- The three clauses of a call that prints.
-abbrev PrintInto : (call : Verdict) (text : List ℕ) (code : ℕ) (out out′ counts counts′ : List ℕ) → Type 0
-PrintInto call text code out out′ counts counts′ =
-    (code ≡ codeOf call) × ((out′ ≡ outAfter call text out) × (counts′ ≡ countsAfter call (length text ∷ []) counts))
+-- So lending nothing on where the counts do not fit is what the call refuses.
+lent-verdict : (first : Verdict) (text out : List ℕ) (b : Bool) → 0 < length text
+    → (first before printRefusal text (cond b [] out)) ≡ ((first before printRefusal text out) before refuseIf b 7 0)
+unfolding refuseIf printRefusal
+lent-verdict first text out true some = empty-refused first text some ∙ before-either first (ltb (length out) (length text))
+lent-verdict first text out false some = sym (before-none (first before printRefusal text out))
+
+out-kept : (v : Verdict) (text out : List ℕ) → outAfter (v before Refused 7 0) text [] ++ out ≡ outAfter (v before Refused 7 0) text out
+unfolding outAfter written _before_
+out-kept Fine text out = refl
+out-kept (Refused number place) text out = refl
+
+out-rest : (first : Verdict) (text out : List ℕ) (b : Bool) → 0 < length text
+    → outAfter (first before printRefusal text (cond b [] out)) text (cond b [] out) ++ cond b out [] ≡ outAfter (first before printRefusal text (cond b [] out)) text out
+out-rest first text out true some = rw (empty-refused first text some) (out-kept first text out)
+out-rest first text out false some = append-nil (outAfter (first before printRefusal text out) text out)
 
 print-fits : (first : Verdict) (text out : List ℕ) → Small first → {r : Printed} → r ≡ answerOf (first before printRefusal text out) text → printedCode r < 2 ^ 64
 unfolding printRefusal
@@ -235,36 +275,28 @@ print-fits first text out h {r} e =
     let fits = code-fits v (small-before _ _ h λ _. small-refuse _ 7 0 (lit< tt) (lit< tt)) in
     omega arith
 
--- What is refused first, then a text and the buffer for it.
-module _ (first : Verdict) (text out counts : List ℕ) where
-  print-long : printFigures ≤ length counts → {r : Printed} {code : ℕ} {out′ counts′ : List ℕ} → r ≡ answerOf (first before printRefusal text out) text
-      → out′ ≡ outAfter (first before printRefusal text out) text out → code ≡ printedCode r → counts′ ≡ printedCounts r counts
-      → PrintInto (withLength (first before printRefusal text out) (length counts)) text code out out′ counts counts′
-  print-long long answered left coded stored =
-      let v = first before printRefusal text out in
-      let same : withLength v (length counts) ≡ v = length-long first text out counts long in (
-        coded ∙ ap printedCode answered ∙ printed-code v text ∙ sym (ap codeOf same),
+-- The three clauses of a call that prints, where so much of the buffer is lent on: what is refused first, then a text and the buffer for it.
+module _ (first : Verdict) (text out counts : List ℕ) {room : ℕ} (lent : room ≡ lentOn (length counts) printFigures (length out)) (some : 0 < length text) where
+  print-into : {r : Printed} {code : ℕ} {held counts′ : List ℕ} → r ≡ answerOf (first before printRefusal text (take (room - 0) out)) text → held ≡ outAfter (first before printRefusal text (take (room - 0) out)) text (take (room - 0) out)
+      → code ≡ printedCode r → counts′ ≡ printedCounts r counts
+      → (code ≡ codeOf (withLength (first before printRefusal text out) (length counts)))
+      × ((held ++ drop (room - 0) out ≡ outAfter (withLength (first before printRefusal text out) (length counts)) text out)
+      × (counts′ ≡ countsAfter (withLength (first before printRefusal text out) (length counts)) (length text ∷ []) counts))
+  unfolding withLength
+  print-into {r} answered left coded stored =
+      let short = ltb (length counts) printFigures in
+      let found = first before printRefusal text (cond short [] out) in
+      let call-is = lent-verdict first text out short some in
+      let part = lent-part printFigures counts out lent in
+      let answer : r ≡ answerOf found text = answered ∙ ap (λ (l : List ℕ). answerOf (first before printRefusal text l) text) part in (
+        coded ∙ ap printedCode answer ∙ printed-code found text ∙ ap codeOf call-is,
         (
-          left ∙ sym (ap (λ (w : Verdict). outAfter w text out) same),
-          stored ∙ ap (λ (p : Printed). printedCounts p counts) answered ∙ printed-counts v text counts
-              ∙ sym (ap (λ (w : Verdict). countsAfter w (length text ∷ []) counts) same),
-        ),
-      )
-
-  -- `held` is what printing leaves of the part of no length that it is lent.
-  print-short : 0 < length text → length counts < printFigures → {r : Printed} {code : ℕ} {held counts′ : List ℕ} → r ≡ answerOf (first before printRefusal text []) text
-      → held ≡ outAfter (first before printRefusal text []) text [] → code ≡ printedCode r → counts′ ≡ printedCounts r counts
-      → PrintInto (withLength (first before printRefusal text out) (length counts)) text code out (held ++ out) counts counts′
-  print-short some short answered left coded stored =
-      let v = first before printRefusal text [] in
-      let seven : v ≡ (first before Refused 7 0) = empty-refused first text some in
-      let same : withLength (first before printRefusal text out) (length counts) ≡ (first before Refused 7 0) = length-short first text out counts short in (
-        coded ∙ ap printedCode answered ∙ printed-code v text ∙ ap codeOf (seven ∙ sym same),
-        (
-          ap (λ (l : List ℕ). l ++ out) (left ∙ ap (λ (w : Verdict). outAfter w text []) seven) ∙ out-kept first text out
-              ∙ sym (ap (λ (w : Verdict). outAfter w text out) same),
-          stored ∙ ap (λ (p : Printed). printedCounts p counts) answered ∙ printed-counts v text counts
-              ∙ ap (λ (w : Verdict). countsAfter w (length text ∷ []) counts) (seven ∙ sym same),
+          ap (λ (l : List ℕ). l ++ drop (room - 0) out) (left ∙ ap (λ (l : List ℕ). outAfter (first before printRefusal text l) text l) part)
+              ∙ ap (λ (l : List ℕ). outAfter found text (cond short [] out) ++ l) (lent-rest printFigures counts out lent)
+              ∙ out-rest first text out short some
+              ∙ ap (λ (v : Verdict). outAfter v text out) call-is,
+          stored ∙ ap (λ (p : Printed). printedCounts p counts) answer ∙ printed-counts found text counts
+              ∙ ap (λ (v : Verdict). countsAfter v (length text ∷ []) counts) call-is,
         ),
       )
 
@@ -309,17 +341,11 @@ pub dual-fits : (part out : List ℕ) {r : Printed} → r ≡ dualPrinted part o
 unfolding dualPrinted dualPrintRefusal
 dual-fits part out e = print-fits (cut part) (dualLine part) out (small-refuse _ 9 0 (lit< tt) (lit< tt)) e
 
-module _ (part out counts : List ℕ) where
-  module _ {r : Printed} {code : ℕ} {out′ counts′ : List ℕ} where
-    pub dual-long : printFigures ≤ length counts → r ≡ dualPrinted part out → out′ ≡ dualPrintedOut part out → code ≡ printedCode r → counts′ ≡ printedCounts r counts
-        → (code ≡ codeOf (dualCall part out counts)) × ((out′ ≡ dualOut part out counts) × (counts′ ≡ dualCounts part out counts))
-    unfolding dualCall dualOut dualCounts dualPrinted dualPrintedOut dualPrintRefusal
-    dual-long long e o k c = print-long (cut part) (dualLine part) out counts long e o k c
-
-    pub dual-short : length counts < printFigures → r ≡ dualPrinted part [] → out′ ≡ dualPrintedOut part [] → code ≡ printedCode r → counts′ ≡ printedCounts r counts
-        → (code ≡ codeOf (dualCall part out counts)) × ((out′ ++ out ≡ dualOut part out counts) × (counts′ ≡ dualCounts part out counts))
-    unfolding dualCall dualOut dualCounts dualPrinted dualPrintedOut dualPrintRefusal
-    dual-short short e o k c = print-short (cut part) (dualLine part) out counts (some-dual part) short e o k c
+pub dual-into : (part out counts : List ℕ) {room : ℕ} {r : Printed} {code : ℕ} {held counts′ : List ℕ} → room ≡ lentOn (length counts) printFigures (length out)
+    → r ≡ dualPrinted part (take (room - 0) out) → held ≡ dualPrintedOut part (take (room - 0) out) → code ≡ printedCode r → counts′ ≡ printedCounts r counts
+    → (code ≡ codeOf (dualCall part out counts)) × ((held ++ drop (room - 0) out ≡ dualOut part out counts) × (counts′ ≡ dualCounts part out counts))
+unfolding dualCall dualOut dualCounts dualPrinted dualPrintedOut dualPrintRefusal
+dual-into part out counts lent e o k c = print-into (cut part) (dualLine part) out counts lent (some-dual part) e o k c
 
 -- ---- a plan
 
@@ -327,23 +353,18 @@ pub text-fits : (text out : List ℕ) {r : Printed} → r ≡ printed text out �
 unfolding printed _before_
 text-fits text out e = print-fits Fine text out fine-small e
 
-module _ (text out counts : List ℕ) where
-  module _ {r : Printed} {code : ℕ} {out′ counts′ : List ℕ} where
-    pub text-long : printFigures ≤ length counts → r ≡ printed text out → out′ ≡ printedOut text out → code ≡ printedCode r → counts′ ≡ printedCounts r counts
-        → (code ≡ codeOf (textCall text out counts)) × ((out′ ≡ textOut text out counts) × (counts′ ≡ textCounts text out counts))
-    unfolding textCall textOut textCounts printed printedOut _before_
-    text-long long e o k c = print-long Fine text out counts long e o k c
+text-into : (text out counts : List ℕ) → 0 < length text → {room : ℕ} {r : Printed} {code : ℕ} {held counts′ : List ℕ} → room ≡ lentOn (length counts) printFigures (length out)
+    → r ≡ printed text (take (room - 0) out) → held ≡ printedOut text (take (room - 0) out) → code ≡ printedCode r → counts′ ≡ printedCounts r counts
+    → (code ≡ codeOf (textCall text out counts)) × ((held ++ drop (room - 0) out ≡ textOut text out counts) × (counts′ ≡ textCounts text out counts))
+unfolding textCall textOut textCounts printed printedOut _before_
+text-into text out counts some lent e o k c = print-into Fine text out counts lent some e o k c
 
-    text-short : 0 < length text → length counts < printFigures → r ≡ printed text [] → out′ ≡ printedOut text [] → code ≡ printedCode r → counts′ ≡ printedCounts r counts
-        → (code ≡ codeOf (textCall text out counts)) × ((out′ ++ out ≡ textOut text out counts) × (counts′ ≡ textCounts text out counts))
-    unfolding textCall textOut textCounts printed printedOut _before_
-    text-short some short e o k c = print-short Fine text out counts some short e o k c
-
-pub plan-text-short : (k c b n : ℕ) (marks records out counts : List ℕ) {r : Printed} {code : ℕ} {out′ counts′ : List ℕ} → length counts < printFigures
-    → r ≡ printed (planText k c b n marks records) [] → out′ ≡ printedOut (planText k c b n marks records) [] → code ≡ printedCode r → counts′ ≡ printedCounts r counts
+pub plan-into : (k c b n : ℕ) (marks records out counts : List ℕ) {room : ℕ} {r : Printed} {code : ℕ} {held counts′ : List ℕ} → room ≡ lentOn (length counts) printFigures (length out)
+    → r ≡ printed (planText k c b n marks records) (take (room - 0) out) → held ≡ printedOut (planText k c b n marks records) (take (room - 0) out)
+    → code ≡ printedCode r → counts′ ≡ printedCounts r counts
     → (code ≡ codeOf (textCall (planText k c b n marks records) out counts))
-    × ((out′ ++ out ≡ textOut (planText k c b n marks records) out counts) × (counts′ ≡ textCounts (planText k c b n marks records) out counts))
-plan-text-short k c b n marks records out counts short e o x l = text-short (planText k c b n marks records) out counts (some-plan k c b n marks records) short e o x l
+    × ((held ++ drop (room - 0) out ≡ textOut (planText k c b n marks records) out counts) × (counts′ ≡ textCounts (planText k c b n marks records) out counts))
+plan-into k c b n marks records out counts lent e o x l = text-into (planText k c b n marks records) out counts (some-plan k c b n marks records) lent e o x l
 
 -- ---- a survey
 
@@ -355,18 +376,12 @@ unfolding surveyPrinted surveyPrintRefusal
 survey-fits groups firsts seconds weights out e =
     print-fits (unequal firsts seconds weights) (surveyText groups firsts seconds weights) out (small-refuse _ 2 0 (lit< tt) (lit< tt)) e
 
-module _ (groups firsts seconds weights out counts : List ℕ) where
-  module _ {r : Printed} {code : ℕ} {out′ counts′ : List ℕ} where
-    pub survey-long : printFigures ≤ length counts → r ≡ surveyPrinted groups firsts seconds weights out → out′ ≡ surveyPrintedOut groups firsts seconds weights out
-        → code ≡ printedCode r → counts′ ≡ printedCounts r counts
-        → (code ≡ codeOf (surveyCall groups firsts seconds weights out counts))
-        × ((out′ ≡ surveyOut groups firsts seconds weights out counts) × (counts′ ≡ surveyCounts groups firsts seconds weights out counts))
-    unfolding surveyCall surveyOut surveyCounts surveyPrinted surveyPrintedOut surveyPrintRefusal
-    survey-long long e o k c = print-long (unequal firsts seconds weights) (surveyText groups firsts seconds weights) out counts long e o k c
-
-    pub survey-short : length counts < printFigures → r ≡ surveyPrinted groups firsts seconds weights [] → out′ ≡ surveyPrintedOut groups firsts seconds weights []
-        → code ≡ printedCode r → counts′ ≡ printedCounts r counts
-        → (code ≡ codeOf (surveyCall groups firsts seconds weights out counts))
-        × ((out′ ++ out ≡ surveyOut groups firsts seconds weights out counts) × (counts′ ≡ surveyCounts groups firsts seconds weights out counts))
-    unfolding surveyCall surveyOut surveyCounts surveyPrinted surveyPrintedOut surveyPrintRefusal
-    survey-short short e o k c = print-short (unequal firsts seconds weights) (surveyText groups firsts seconds weights) out counts (some-survey groups firsts seconds weights) short e o k c
+pub survey-into : (groups firsts seconds weights out counts : List ℕ) {room : ℕ} {r : Printed} {code : ℕ} {held counts′ : List ℕ}
+    → room ≡ lentOn (length counts) printFigures (length out)
+    → r ≡ surveyPrinted groups firsts seconds weights (take (room - 0) out) → held ≡ surveyPrintedOut groups firsts seconds weights (take (room - 0) out)
+    → code ≡ printedCode r → counts′ ≡ printedCounts r counts
+    → (code ≡ codeOf (surveyCall groups firsts seconds weights out counts))
+    × ((held ++ drop (room - 0) out ≡ surveyOut groups firsts seconds weights out counts) × (counts′ ≡ surveyCounts groups firsts seconds weights out counts))
+unfolding surveyCall surveyOut surveyCounts surveyPrinted surveyPrintedOut surveyPrintRefusal
+survey-into groups firsts seconds weights out counts lent e o k c =
+    print-into (unequal firsts seconds weights) (surveyText groups firsts seconds weights) out counts lent (some-survey groups firsts seconds weights) e o k c
