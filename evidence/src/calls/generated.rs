@@ -8,7 +8,7 @@ use crate::print::survey_text;
 use crate::{Survey, AMOUNT_BYTES, MAX_JUNCTIONS, RECORD_BYTES};
 use Fault::*;
 
-/// What a call answers, and what its lent buffers then hold.
+/// What a call answers, and what its lent buffers then hold, with what stands behind each.
 #[derive(Debug, PartialEq, Eq)]
 pub struct Answer {
     pub code: u64,
@@ -121,6 +121,11 @@ fn sound_or_full(rng: &mut Rng) -> Survey {
     sound(rng)
 }
 
+/// A buffer with some entries behind it that are not lent.
+fn before_others<T: Copy>(buffer: &[T], other: T) -> Vec<T> {
+    [buffer, &[other; 16]].concat()
+}
+
 struct Read {
     text: Vec<u8>,
     groups: Vec<u8>,
@@ -132,9 +137,18 @@ struct Read {
 
 impl Call for Read {
     fn run(&self, library: &Library) -> Answer {
-        let (mut groups, mut first, mut second, mut prices, mut counts) =
-            (self.groups.clone(), self.first.clone(), self.second.clone(), self.prices.clone(), self.counts.clone());
-        let code = (library.read)(&self.text, &mut groups, &mut first, &mut second, &mut prices, &mut counts);
+        let mut groups = before_others(&self.groups, 0xa5);
+        let [mut first, mut second, mut prices] =
+            [&self.first, &self.second, &self.prices].map(|buffer| before_others(buffer, 0xa5a5));
+        let mut counts = before_others(&self.counts, 0xa5a5);
+        let code = (library.read)(
+            &self.text,
+            &mut groups[..self.groups.len()],
+            &mut first[..self.first.len()],
+            &mut second[..self.second.len()],
+            &mut prices[..self.prices.len()],
+            &mut counts[..self.counts.len()],
+        );
         Answer { code, bytes: vec![groups], words: vec![first, second, prices], counts }
     }
 
@@ -173,8 +187,14 @@ struct Draw {
 
 impl Call for Draw {
     fn run(&self, library: &Library) -> Answer {
-        let (mut marks, mut records, mut counts) = (self.marks.clone(), self.records.clone(), self.counts.clone());
-        let code = (library.plan)(self.survey.view(), &mut marks, &mut records, &mut counts);
+        let [mut marks, mut records] = [&self.marks, &self.records].map(|buffer| before_others(buffer, 0xa5));
+        let mut counts = before_others(&self.counts, 0xa5a5);
+        let code = (library.plan)(
+            self.survey.view(),
+            &mut marks[..self.marks.len()],
+            &mut records[..self.records.len()],
+            &mut counts[..self.counts.len()],
+        );
         Answer { code, bytes: vec![marks, records], words: Vec::new(), counts }
     }
 
@@ -208,8 +228,9 @@ struct Check {
 
 impl Call for Check {
     fn run(&self, library: &Library) -> Answer {
-        let mut counts = self.counts.clone();
-        let code = (library.check)(self.survey.view(), &self.marks, &self.records, &mut counts);
+        let mut counts = before_others(&self.counts, 0xa5a5);
+        let lent = &mut counts[..self.counts.len()];
+        let code = (library.check)(self.survey.view(), &self.marks, &self.records, lent);
         Answer { code, bytes: Vec::new(), words: Vec::new(), counts }
     }
 
@@ -243,8 +264,8 @@ struct Print<T> {
 
 impl<T: std::fmt::Debug> Call for Print<T> {
     fn run(&self, library: &Library) -> Answer {
-        let (mut out, mut counts) = (self.out.clone(), self.counts.clone());
-        let code = (self.with)(library, &self.what, &mut out, &mut counts);
+        let (mut out, mut counts) = (before_others(&self.out, 0xa5), before_others(&self.counts, 0xa5a5));
+        let code = (self.with)(library, &self.what, &mut out[..self.out.len()], &mut counts[..self.counts.len()]);
         Answer { code, bytes: vec![out], words: Vec::new(), counts }
     }
 
