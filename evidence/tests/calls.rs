@@ -300,7 +300,7 @@ fn faults_are_found() {
 fn every_pair_is_met() {
     for operation in OPERATIONS {
         let mut met: BTreeMap<(u64, u64), u64> = BTreeMap::new();
-        for case in 0..12_000 {
+        for case in 0..8_000 {
             let [one, other, both] = operation.due(1, case);
             if one != 0 && other != 0 && one != other {
                 let given = if both == one { (one, other) } else { (other, one) };

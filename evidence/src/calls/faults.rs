@@ -242,9 +242,24 @@ pub fn spoil(rng: &mut Rng, survey: &Survey, marks: &mut Vec<u8>, records: &mut 
             let again = records[record..record + RECORD_BYTES].to_vec();
             records.extend(again);
         }
-        GroupUnjoined => {
+        GroupUnjoined if rng.chance(1, 2) => {
             if let Some(mark) = marks.iter_mut().filter(|mark| **mark == KEPT).last() {
                 *mark = 1;
+            }
+        }
+        GroupUnjoined => {
+            // A site loses every track.
+            let groups = &survey.groups;
+            let site = |&v: &usize| groups[v] != 0 && groups.iter().filter(|&&group| group == groups[v]).count() > 1;
+            let sites: Vec<usize> = (0..n).filter(site).collect();
+            if sites.is_empty() {
+                return;
+            }
+            let site = rng.pick(&sites) as u32;
+            for (track, mark) in marks.iter_mut().enumerate().filter(|(_, mark)| **mark == KEPT) {
+                if [&survey.first, &survey.second].iter().any(|ends| ends.get(track) == Some(&site)) {
+                    *mark = 1;
+                }
             }
         }
         CostHigh => marks.iter_mut().for_each(|mark| *mark = KEPT),

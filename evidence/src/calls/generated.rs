@@ -1,7 +1,7 @@
 //! Generated calls: a sound input, two faults put into it, and lent buffers with any bytes in them, each from a stream of its own.
 
 use super::faults::*;
-use super::{Figures, Library, CHECK_COUNTS, PLAN_COUNTS, PRINT_COUNTS, READ_COUNTS, SECOND};
+use super::{Figures, Library, CHECK_COUNTS, PLAN_COUNTS, PRINT_COUNTS, READ_COUNTS, SECOND, SHORT};
 use crate::gen::{survey, Rng, Size};
 use crate::plan::{fast, owned, record_room};
 use crate::print::survey_text;
@@ -276,8 +276,10 @@ impl<T: std::fmt::Debug> Call for Print<T> {
 
 /// The bytes that the second implementation wants for a text.
 fn need<T>(what: &T, with: fn(&Library, &T, &mut [u8], &mut [u64]) -> u64) -> usize {
-    let (mut out, mut length) = (vec![0; 200_000], [0]);
-    with(&SECOND, what, &mut out, &mut length);
+    let (mut out, mut length) = (vec![0; 1_024], [0]);
+    while with(&SECOND, what, &mut out, &mut length) == SHORT {
+        out.resize(4 * out.len(), 0);
+    }
     length[0] as usize
 }
 
