@@ -8,7 +8,7 @@ use mathlib.Core.List.{List, [], _∷_}
 use lib.ListN.{length, take, length-take}
 use lib.Dec.{lit<, leb, eqb}
 use Rattle.base_limits.specs.Limits.{maxVertices, countDigits, groupDigits, endpointDigits, weightDigits, surveyRoom}
-use Rattle.base_limits.specs.Verdict.{refuseIf, _before_, Outcome, refusal, answer}
+use Rattle.base_limits.specs.Verdict.{refusal}
 use Rattle.base_limits.specs.declared.Verdict.{Verdict}
 use Rattle.base_limits.specs.declared.Verdict.the-variants.{Fine, Refused}
 use Rattle.format_key.specs.Key.{nodesKey, linksKey, nodeKey, linkKey, comma, newline}
@@ -20,9 +20,9 @@ use Rattle.format_grammar.specs.Laws.Lines.{lines-unfold}
 use Rattle.format_write.specs.Decimal.{spelledAfter}
 use Rattle.format_number.specs.Number.{numeralAt, numberAt, numberTo, numberLine}
 use Rattle.format_number.specs.Laws.Near.{local-tested}
-use Rattle.format_survey_lines.specs.Line.{Tests, testsFor, verticesTest, edgesTest, groupTest, countLine, groupLine, groupLines, edgeLine, edgeLines}
+use Rattle.format_survey_lines.specs.Line.{testsFor, verticesTest, edgesTest, groupTest, countLine, groupLine, groupLines, edgeLine, edgeLines}
 use Rattle.format_survey_lines.specs.Laws.Tests.{vertices-passed}
-use Rattle.format_survey.specs.Reading.{SurveyText, surveyAt, stepOutcome, reading}
+use Rattle.format_survey.specs.Reading.{surveyAt, stepOutcome, reading}
 use Rattle.format_survey.specs.Laws.Content.{contentAt, content-survey}
 use Rattle.format_survey.specs.Laws.WellFormed.{malformed-begins}
 use Rattle.format_survey.specs.Laws.Cut.{reading-first-bytes}

@@ -9,7 +9,7 @@ use lib.ListN.{length, set, take, drop, length-append}
 use lib.Seq.{sets, take-all, drop-length}
 use lib.Dec.{eqb, ltb, lit<}
 use borrow.Author.Tests.{lt-ltb, le-ltb}
-use Rattle.base_limits.specs.Limits.{recordBytes}
+use Rattle.base_limits.specs.Limits.{recordBytes, maxVertices, countDigits}
 use Rattle.base_limits.specs.Verdict.{refuseIf, _before_, written, Outcome, refusal, answer}
 use Rattle.base_limits.specs.declared.Verdict.{Verdict}
 use Rattle.base_limits.specs.declared.Verdict.the-variants.{Fine, Refused}
@@ -18,15 +18,19 @@ use Rattle.format_record.specs.Record.{valueIn}
 use Rattle.format_write.specs.Decimal.{decimal}
 use Rattle.format_write.specs.Text.{lineOf, listed, membersOf, dualLine, keptLines, dualLines, countLines, planText}
 use Rattle.format_grammar.specs.Lines.{textOf}
+use Rattle.format_grammar.specs.Step.{found, refused, checked}
+use Rattle.format_grammar.specs.Laws.Step.{then-found, then-refused}
+use Rattle.format_number.specs.Number.{numberLine}
 use Rattle.format_print.specs.Print.{answerOf, outAfter, printRefusal, printed, printedOut, dualPrintRefusal, dualPrinted, dualPrintedOut}
 use Rattle.format_print.specs.declared.Printed.{Printed}
 use Rattle.format_print.specs.declared.Printed.the-variants.{Length, Refused as PrintRefused}
-use Rattle.format_survey_lines.specs.Line.{SurveyCounts}
+use Rattle.format_survey_lines.specs.Line.{SurveyCounts, testsFor, verticesTest, countLine, countsAt}
+use Rattle.format_survey_lines.specs.Laws.Tests.{vertices-short}
 use Rattle.format_survey_lines.specs.Render.{edgeText}
 use Rattle.format_survey.specs.Reading.{SurveyText, reading, filled}
 use Rattle.format_survey.specs.Render.{render}
 use Rattle.format_survey.specs.Answer.{countsOf, countsOutcome}
-use Rattle.format_survey.specs.Laws.Reading.{SurveyRead}
+use Rattle.format_survey.specs.Laws.Reading.{SurveyRead, reading-refused}
 use Rattle.format_survey.specs.Laws.WellFormed.{accepted-render}
 use Rattle.format_survey.specs.declared.Reading.{Reading}
 use Rattle.format_survey.specs.declared.Reading.the-variants.{Survey as SurveyFound, Refused as ReadingRefused}
@@ -132,6 +136,14 @@ no-room-refused t firsts seconds weights = by-outcome (reading t [] firsts secon
         let some = a .within .some in
         let room = a .room .forGroups in
         absurd (omega arith)
+
+-- Counts that do not fit are 7 once the nodes line is complete, where its number is none that 1 refuses.
+pub read-short-seven : (t groups firsts seconds weights counts : List ℕ) (n next : ℕ) → length counts < readFigures → numberLine nodesKey countDigits t 0 ≡ found n next
+    → 0 < n → n ≤ maxVertices → readCall t groups firsts seconds weights counts ≡ refusal 7 0
+unfolding readCall countsAt countLine testsFor checked
+read-short-seven t groups firsts seconds weights counts n next short line some few =
+    let tested : checked (verticesTest 0 n) n next ≡ refused 7 0 = ap (λ (v : Verdict). checked v n next) (vertices-short 0 n (λ z. omega arith) few (omega arith)) in
+    rw (lt-ltb (length counts) readFigures short) (reading-refused t [] firsts seconds weights (then-refused _ (then-found _ line ∙ tested)))
 
 -- Lent nothing, a buffer is as it was; lent whole, it is as it was filled.
 filled-rest : (b : Bool) (read : Outcome SurveyText) (values : SurveyText → List ℕ) (l : List ℕ) → (b ≡ true → (number place : ℕ) × (read ≡ refusal number place))
@@ -340,6 +352,11 @@ cut part = refuseIf (not (eqb (length part) recordBytes)) 9 0
 pub dual-fits : (part out : List ℕ) {r : Printed} → r ≡ dualPrinted part out → printedCode r < 2 ^ 64
 unfolding dualPrinted dualPrintRefusal
 dual-fits part out e = print-fits (cut part) (dualLine part) out (small-refuse _ 9 0 (lit< tt) (lit< tt)) e
+
+-- Counts that do not fit: 9, else 7.
+pub dual-short : (part out counts : List ℕ) → length counts < printFigures → dualCall part out counts ≡ (refuseIf (not (eqb (length part) recordBytes)) 9 0 before Refused 7 0)
+unfolding dualCall dualPrintRefusal printRefusal withLength refuseIf
+dual-short part out counts short = rw (lt-ltb (length counts) printFigures short) (sym (before-either (cut part) (ltb (length out) (length (dualLine part)))))
 
 pub dual-into : (part out counts : List ℕ) {room : ℕ} {r : Printed} {code : ℕ} {held counts′ : List ℕ} → room ≡ lentOn (length counts) printFigures (length out)
     → r ≡ dualPrinted part (take (room - 0) out) → held ≡ dualPrintedOut part (take (room - 0) out) → code ≡ printedCode r → counts′ ≡ printedCounts r counts
