@@ -9,12 +9,27 @@
 //! The functions are declared below as the product's crate `api_c` has them. Where a name, an order of parameters or a
 //! form of answer differs, only this file changes; nothing else knows of them.
 
-use crate::calls::{Library, PLAN_COUNTS, SECOND};
+use crate::calls::{Figures, Library, PLAN_COUNTS};
 use crate::plan::Counts;
 use crate::{Refusal, View};
 
 // Every buffer is a pointer and a length in items. The answer is 0, or number + 256 * place of the refusal.
 extern "C" {
+    /// `counts` takes n and m.
+    fn foamsickle_read(
+        text: *const u8,
+        text_length: usize,
+        groups: *mut u8,
+        groups_length: usize,
+        first: *mut u32,
+        first_length: usize,
+        second: *mut u32,
+        second_length: usize,
+        prices: *mut u32,
+        prices_length: usize,
+        counts: *mut u64,
+        counts_length: usize,
+    ) -> u64;
     /// `counts` takes sites, cost, bound, rounds and moats.
     fn foamsickle_plan(
         groups: *const u8,
@@ -46,6 +61,45 @@ extern "C" {
         marks_length: usize,
         records: *const u8,
         records_length: usize,
+        counts: *mut u64,
+        counts_length: usize,
+    ) -> u64;
+    /// `counts` takes the length of the line.
+    fn foamsickle_print_dual(
+        record: *const u8,
+        record_length: usize,
+        out: *mut u8,
+        out_length: usize,
+        counts: *mut u64,
+        counts_length: usize,
+    ) -> u64;
+    /// `counts` takes the length of the text.
+    fn foamsickle_print_plan(
+        sites: u64,
+        cost: u64,
+        bound: u64,
+        rounds: u64,
+        marks: *const u8,
+        marks_length: usize,
+        records: *const u8,
+        records_length: usize,
+        out: *mut u8,
+        out_length: usize,
+        counts: *mut u64,
+        counts_length: usize,
+    ) -> u64;
+    /// `counts` takes the length of the text.
+    fn foamsickle_print_survey(
+        groups: *const u8,
+        groups_length: usize,
+        first: *const u32,
+        first_length: usize,
+        second: *const u32,
+        second_length: usize,
+        prices: *const u32,
+        prices_length: usize,
+        out: *mut u8,
+        out_length: usize,
         counts: *mut u64,
         counts_length: usize,
     ) -> u64;
@@ -95,11 +149,93 @@ fn check_call(survey: View, marks: &[u8], records: &[u8], counts: &mut [u64]) ->
     }
 }
 
-/// The operations that the product exports, by their names in `calls`.
-pub const EXPORTED: &[&str] = &["plan", "check"];
+fn read_call(
+    text: &[u8],
+    groups: &mut [u8],
+    first: &mut [u32],
+    second: &mut [u32],
+    prices: &mut [u32],
+    counts: &mut [u64],
+) -> u64 {
+    unsafe {
+        foamsickle_read(
+            text.as_ptr(),
+            text.len(),
+            groups.as_mut_ptr(),
+            groups.len(),
+            first.as_mut_ptr(),
+            first.len(),
+            second.as_mut_ptr(),
+            second.len(),
+            prices.as_mut_ptr(),
+            prices.len(),
+            counts.as_mut_ptr(),
+            counts.len(),
+        )
+    }
+}
 
-/// The product's operations in the form that crosses; those that it does not export are ours.
-pub const LIBRARY: Library = Library { plan: plan_call, check: check_call, ..SECOND };
+fn print_moat_call(record: &[u8], out: &mut [u8], counts: &mut [u64]) -> u64 {
+    unsafe {
+        foamsickle_print_dual(
+            record.as_ptr(),
+            record.len(),
+            out.as_mut_ptr(),
+            out.len(),
+            counts.as_mut_ptr(),
+            counts.len(),
+        )
+    }
+}
+
+fn print_plan_call(figures: Figures, marks: &[u8], records: &[u8], out: &mut [u8], counts: &mut [u64]) -> u64 {
+    let [sites, cost, bound, rounds] = figures;
+    unsafe {
+        foamsickle_print_plan(
+            sites,
+            cost,
+            bound,
+            rounds,
+            marks.as_ptr(),
+            marks.len(),
+            records.as_ptr(),
+            records.len(),
+            out.as_mut_ptr(),
+            out.len(),
+            counts.as_mut_ptr(),
+            counts.len(),
+        )
+    }
+}
+
+fn print_survey_call(survey: View, out: &mut [u8], counts: &mut [u64]) -> u64 {
+    unsafe {
+        foamsickle_print_survey(
+            survey.groups.as_ptr(),
+            survey.groups.len(),
+            survey.first.as_ptr(),
+            survey.first.len(),
+            survey.second.as_ptr(),
+            survey.second.len(),
+            survey.prices.as_ptr(),
+            survey.prices.len(),
+            out.as_mut_ptr(),
+            out.len(),
+            counts.as_mut_ptr(),
+            counts.len(),
+        )
+    }
+}
+
+/// The product's operations in the form that crosses.
+pub const LIBRARY: Library = Library {
+    read: read_call,
+    plan: plan_call,
+    check: check_call,
+    print_moat: print_moat_call,
+    print_plan: print_plan_call,
+    print_survey: print_survey_call,
+};
 
 /// The outside planner in the form of ours.
 pub fn plan(survey: View, marks: &mut [u8], records: &mut [u8]) -> Result<Counts, Refusal> {

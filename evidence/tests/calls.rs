@@ -1,9 +1,13 @@
 //! The comparison of single calls finds faults: libraries with one fault each, among them changes of order that a definition and its code could make
-//! together, are told from the second implementation.
+//! together, are told from the second implementation; and every pair of refusals that can be due together is met.
 
-use evidence::calls::{code, Library, OPERATIONS, PLAN_COUNTS, SECOND};
+use evidence::calls::document;
+use evidence::calls::generated::OPERATIONS;
+use evidence::calls::{code, Figures, Library, PLAN_COUNTS, READ_COUNTS, SECOND};
 use evidence::check::check;
+use evidence::read::{parse, Lengths};
 use evidence::{refuse, Refusal, View, MAX_TRACKS, RECORD_BYTES};
+use std::collections::BTreeMap;
 
 fn plan(survey: View, marks: &mut [u8], records: &mut [u8], counts: &mut [u64]) -> u64 {
     (SECOND.plan)(survey, marks, records, counts)
@@ -85,6 +89,103 @@ fn nine_before_seven(survey: View, marks: &[u8], records: &[u8], counts: &mut [u
     }
 }
 
+/// A reader with a fault: what it is lent, and the fault.
+macro_rules! reader {
+    ($name:ident, |$text:ident, $groups:ident, $first:ident, $second:ident, $prices:ident, $counts:ident| $body:expr) => {
+        fn $name(
+            $text: &[u8],
+            $groups: &mut [u8],
+            $first: &mut [u32],
+            $second: &mut [u32],
+            $prices: &mut [u32],
+            $counts: &mut [u64],
+        ) -> u64 {
+            $body
+        }
+    };
+}
+
+/// The refusal of a text that is read into buffers with room for all.
+fn roomy(text: &[u8]) -> u64 {
+    parse(text, Lengths::ENOUGH).map_or_else(code, |_| 0)
+}
+
+reader!(seven_before_one, |text, groups, first, second, prices, counts| {
+    let counted = text.strip_prefix(b"nodes=").and_then(|rest| rest.split(|&byte| byte == b'\n').next());
+    let wanted = counted.and_then(|digits| std::str::from_utf8(digits).ok()).and_then(|digits| digits.parse().ok());
+    match (roomy(text), wanted) {
+        (1, Some(wanted)) if groups.len() < wanted => 7,
+        _ => (SECOND.read)(text, groups, first, second, prices, counts),
+    }
+});
+
+reader!(seven_before_three, |text, groups, first, second, prices, counts| {
+    match (SECOND.read)(text, groups, first, second, prices, counts) {
+        3 if first.len() <= MAX_TRACKS => 7,
+        other => other,
+    }
+});
+
+reader!(seven_at_the_end, |text, groups, first, second, prices, counts| {
+    match (SECOND.read)(text, groups, first, second, prices, counts) {
+        7 if roomy(text) != 0 => roomy(text),
+        other => other,
+    }
+});
+
+reader!(short_counts_at_the_end, |text, groups, first, second, prices, counts| {
+    if counts.len() >= READ_COUNTS {
+        return (SECOND.read)(text, groups, first, second, prices, counts);
+    }
+    let lengths = Lengths { groups: groups.len(), first: first.len(), second: second.len(), prices: prices.len() };
+    parse(text, lengths).map_or_else(code, |_| 7)
+});
+
+reader!(sixteen_before_seventeen, |text, groups, first, second, prices, counts| {
+    let answer = (SECOND.read)(text, groups, first, second, prices, counts);
+    if answer % 256 == 17 && text.last() != Some(&b'\n') {
+        return 16 + 256 * text.len() as u64;
+    }
+    answer
+});
+
+reader!(read_place_cut, |text, groups, first, second, prices, counts| {
+    (SECOND.read)(text, groups, first, second, prices, counts) % 65_536
+});
+
+reader!(groups_on_refusal, |text, groups, first, second, prices, counts| {
+    let answer = (SECOND.read)(text, groups, first, second, prices, counts);
+    if answer % 256 == 17 {
+        groups[0] = groups[0].wrapping_add(1);
+    }
+    answer
+});
+
+reader!(later_groups_zeroed, |text, groups, first, second, prices, counts| {
+    let answer = (SECOND.read)(text, groups, first, second, prices, counts);
+    if answer == 0 {
+        groups[counts[0] as usize..].fill(0);
+    }
+    answer
+});
+
+reader!(n_and_m_swapped, |text, groups, first, second, prices, counts| {
+    let answer = (SECOND.read)(text, groups, first, second, prices, counts);
+    if answer == 0 {
+        counts.swap(0, 1);
+    }
+    answer
+});
+
+reader!(prices_for_ends, |text, groups, first, second, prices, counts| {
+    let answer = (SECOND.read)(text, groups, first, second, prices, counts);
+    if answer == 0 {
+        let m = counts[1] as usize;
+        second[..m].copy_from_slice(&prices[..m]);
+    }
+    answer
+});
+
 fn seven_before_nine(record: &[u8], out: &mut [u8], counts: &mut [u64]) -> u64 {
     if record.len() != RECORD_BYTES && out.len() < 7 {
         return 7;
@@ -92,32 +193,68 @@ fn seven_before_nine(record: &[u8], out: &mut [u8], counts: &mut [u64]) -> u64 {
     (SECOND.print_moat)(record, out, counts)
 }
 
-fn ends_swapped(survey: View, out: &mut [u8], counts: &mut [u64]) -> u64 {
-    (SECOND.print_survey)(View { first: survey.second, second: survey.first, ..survey }, out, counts)
+fn short_counts_before_nine(record: &[u8], out: &mut [u8], counts: &mut [u64]) -> u64 {
+    if counts.is_empty() {
+        return 7;
+    }
+    (SECOND.print_moat)(record, out, counts)
 }
 
-fn groups_on_refusal(
-    text: &[u8],
-    groups: &mut [u8],
-    first: &mut [u32],
-    second: &mut [u32],
-    prices: &mut [u32],
-    counts: &mut [u64],
-) -> u64 {
-    let answer = (SECOND.read)(text, groups, first, second, prices, counts);
-    if answer % 256 == 17 {
-        groups[0] = groups[0].wrapping_add(1);
+fn room_for_one_more(record: &[u8], out: &mut [u8], counts: &mut [u64]) -> u64 {
+    let end = out.len().saturating_sub(1);
+    (SECOND.print_moat)(record, &mut out[..end], counts)
+}
+
+fn written_as_far_as_it_fits(record: &[u8], out: &mut [u8], counts: &mut [u64]) -> u64 {
+    let answer = (SECOND.print_moat)(record, out, counts);
+    if answer == 7 && !out.is_empty() {
+        out[0] = b'm';
     }
     answer
 }
 
+fn later_bytes_zeroed(record: &[u8], out: &mut [u8], counts: &mut [u64]) -> u64 {
+    let answer = (SECOND.print_moat)(record, out, counts);
+    if answer == 0 {
+        out[counts[0] as usize..].fill(0);
+    }
+    answer
+}
+
+fn bound_for_cost(figures: Figures, marks: &[u8], records: &[u8], out: &mut [u8], counts: &mut [u64]) -> u64 {
+    let [sites, _, bound, rounds] = figures;
+    (SECOND.print_plan)([sites, bound, bound, rounds], marks, records, out, counts)
+}
+
+fn dropped_printed(figures: Figures, marks: &[u8], records: &[u8], out: &mut [u8], counts: &mut [u64]) -> u64 {
+    let marks: Vec<u8> = marks.iter().map(|&mark| if mark == 1 { 2 } else { mark }).collect();
+    (SECOND.print_plan)(figures, &marks, records, out, counts)
+}
+
+fn ends_swapped(survey: View, out: &mut [u8], counts: &mut [u64]) -> u64 {
+    (SECOND.print_survey)(View { first: survey.second, second: survey.first, ..survey }, out, counts)
+}
+
+fn seven_before_two(survey: View, out: &mut [u8], counts: &mut [u64]) -> u64 {
+    if out.is_empty() || counts.is_empty() {
+        return 7;
+    }
+    (SECOND.print_survey)(survey, out, counts)
+}
+
 fn differs(library: &Library) -> bool {
-    OPERATIONS.iter().any(|(_, run)| (0..4000).any(|case| run(library, 1, case).is_err()))
+    (0..4000).any(|case| OPERATIONS.iter().any(|operation| operation.compare(library, 1, case).is_err()))
 }
 
 #[test]
 fn no_difference_with_itself() {
     assert!(!differs(&SECOND));
+}
+
+#[test]
+fn cases_are_as_written() {
+    let passed = document::cases(&SECOND).expect("the second implementation answers as document 01 says");
+    assert!(passed > 100, "{passed}");
 }
 
 #[test]
@@ -133,11 +270,48 @@ fn faults_are_found() {
         ("records written on 8", Library { plan: records_on_refusal, ..SECOND }),
         ("10 before 9", Library { check: ten_before_nine, ..SECOND }),
         ("9 before 7", Library { check: nine_before_seven, ..SECOND }),
-        ("7 before 9", Library { print_moat: seven_before_nine, ..SECOND }),
-        ("ends swapped", Library { print_survey: ends_swapped, ..SECOND }),
+        ("7 before 1 in reading", Library { read: seven_before_one, ..SECOND }),
+        ("7 before 3 in reading", Library { read: seven_before_three, ..SECOND }),
+        ("7 after all else in reading", Library { read: seven_at_the_end, ..SECOND }),
+        ("short counts after all else in reading", Library { read: short_counts_at_the_end, ..SECOND }),
+        ("a later 16 before 17", Library { read: sixteen_before_seventeen, ..SECOND }),
+        ("a place cut in reading", Library { read: read_place_cut, ..SECOND }),
         ("groups written on 17", Library { read: groups_on_refusal, ..SECOND }),
+        ("groups past the last zeroed", Library { read: later_groups_zeroed, ..SECOND }),
+        ("n and m swapped", Library { read: n_and_m_swapped, ..SECOND }),
+        ("prices stored for second ends", Library { read: prices_for_ends, ..SECOND }),
+        ("7 before 9", Library { print_moat: seven_before_nine, ..SECOND }),
+        ("short counts before 9", Library { print_moat: short_counts_before_nine, ..SECOND }),
+        ("7 for a line that just fits", Library { print_moat: room_for_one_more, ..SECOND }),
+        ("a line written as far as it fits", Library { print_moat: written_as_far_as_it_fits, ..SECOND }),
+        ("bytes past a line zeroed", Library { print_moat: later_bytes_zeroed, ..SECOND }),
+        ("the bound printed for the cost", Library { print_plan: bound_for_cost, ..SECOND }),
+        ("dropped tracks printed as kept", Library { print_plan: dropped_printed, ..SECOND }),
+        ("ends swapped", Library { print_survey: ends_swapped, ..SECOND }),
+        ("7 before 2", Library { print_survey: seven_before_two, ..SECOND }),
     ];
     for (name, library) in faulty {
         assert!(differs(&library), "{name} is not found");
+    }
+}
+
+/// Each fault alone is refused, the one with x and the other with y, and both together with x: for every pair (x, y) of an operation's list.
+#[test]
+fn every_pair_is_met() {
+    for operation in OPERATIONS {
+        let mut met: BTreeMap<(u64, u64), u64> = BTreeMap::new();
+        for case in 0..8_000 {
+            let [one, other, both] = operation.due(1, case);
+            if one != 0 && other != 0 && one != other {
+                let given = if both == one { (one, other) } else { (other, one) };
+                if both == given.0 {
+                    *met.entry(given).or_default() += 1;
+                }
+            }
+        }
+        let listed: Vec<(u64, u64)> =
+            operation.pairs.iter().flat_map(|&(first, then)| then.iter().map(move |&second| (first, second))).collect();
+        let missing: Vec<_> = listed.iter().filter(|pair| !met.contains_key(pair)).collect();
+        assert!(missing.is_empty(), "{}: {missing:?} are never due together", operation.name);
     }
 }

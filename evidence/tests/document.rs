@@ -1,5 +1,6 @@
 //! Every example and figure of document 01.
 
+use evidence::calls::document::PLANS;
 use evidence::check::{check, Passed};
 use evidence::gen::WORKED;
 use evidence::plan::{fast, growth, owned, record_room, reference, Plan, Planner};
@@ -27,68 +28,17 @@ fn moats(plan: &Plan) -> Vec<(u64, Vec<usize>)> {
         .collect()
 }
 
-struct Expected {
-    sites: u64,
-    cost: u64,
-    bound: u64,
-    rounds: u64,
-    marks: &'static [u8],
-    moats: &'static [(u64, &'static [usize])],
-}
-
-/// P1 to P11. What 01 leaves unsaid of a survey is worked out by hand the same way.
-const PLANS: [Expected; 11] = [
-    Expected { sites: 0, cost: 0, bound: 0, rounds: 0, marks: &[], moats: &[] },
-    Expected { sites: 2, cost: 5, bound: 10, rounds: 1, marks: &[2], moats: &[(5, &[0]), (5, &[1])] },
-    Expected { sites: 2, cost: 7, bound: 14, rounds: 2, marks: &[2, 2], moats: &[(6, &[0]), (7, &[2]), (1, &[0, 1])] },
-    Expected { sites: 3, cost: 2, bound: 3, rounds: 2, marks: &[2, 2, 0], moats: &[(1, &[0]), (1, &[1]), (1, &[2])] },
-    Expected {
-        sites: 2,
-        cost: 3,
-        bound: 6,
-        rounds: 3,
-        marks: &[2, 1, 1],
-        moats: &[(2, &[0]), (3, &[1]), (1, &[0, 2, 3])],
-    },
-    Expected { sites: 2, cost: 5, bound: 10, rounds: 1, marks: &[2, 0], moats: &[(5, &[0]), (5, &[1])] },
-    Expected { sites: 0, cost: 0, bound: 0, rounds: 0, marks: &[0], moats: &[] },
-    Expected { sites: 2, cost: 0, bound: 0, rounds: 1, marks: &[2], moats: &[] },
-    Expected {
-        sites: 3,
-        cost: 10,
-        bound: 15,
-        rounds: 2,
-        marks: &[0, 0, 0, 2, 2, 0],
-        moats: &[(5, &[1]), (5, &[2]), (5, &[3])],
-    },
-    Expected {
-        sites: 4,
-        cost: 10,
-        bound: 14,
-        rounds: 3,
-        marks: &[2, 2, 2],
-        moats: &[(4, &[0]), (2, &[1]), (2, &[2]), (4, &[3]), (2, &[1, 2])],
-    },
-    Expected {
-        sites: 4,
-        cost: 7,
-        bound: 12,
-        rounds: 3,
-        marks: &[2, 2, 2],
-        moats: &[(1, &[0]), (1, &[1]), (5, &[2]), (5, &[3])],
-    },
-];
-
 #[test]
 fn surveys_worked_by_hand() {
     for (i, expected) in PLANS.iter().enumerate() {
         for planner in PLANNERS {
             let plan = owned(planner, worked(i + 1).view()).expect("finished");
             let of = format!("P{}", i + 1);
-            assert_eq!(plan.counts.sites, expected.sites, "{of}");
-            assert_eq!(plan.counts.cost, expected.cost, "{of}");
-            assert_eq!(plan.counts.bound, expected.bound, "{of}");
-            assert_eq!(plan.counts.rounds, expected.rounds, "{of}");
+            let [sites, cost, bound, rounds] = expected.figures;
+            assert_eq!(plan.counts.sites, sites, "{of}");
+            assert_eq!(plan.counts.cost, cost, "{of}");
+            assert_eq!(plan.counts.bound, bound, "{of}");
+            assert_eq!(plan.counts.rounds, rounds, "{of}");
             assert_eq!(plan.counts.moats, expected.moats.len() as u64, "{of}");
             assert_eq!(plan.marks, expected.marks, "{of}");
             let drawn = moats(&plan);
@@ -97,11 +47,7 @@ fn surveys_worked_by_hand() {
                 assert_eq!((drawn.0, &drawn.1[..]), *expected, "{of}");
             }
             let passed = check(worked(i + 1).view(), &plan.marks, &plan.records);
-            assert_eq!(
-                passed,
-                Ok(Passed { sites: expected.sites, cost: expected.cost, bound: expected.bound }),
-                "{of}"
-            );
+            assert_eq!(passed, Ok(Passed { sites, cost, bound }), "{of}");
         }
     }
 }

@@ -1,2 +1,4 @@
 pub mod Small
 pub mod Call
+pub mod Reading
+pub mod Text

@@ -2,21 +2,34 @@
 //!
 //!     calls [--count N] [--seed S]
 //!
-//! N calls of each operation that the library exports. Prints how often each refusal came, and the first difference, if
-//! there is one.
+//! First the cases whose answers are written out, then N generated calls of each operation. Prints how often each
+//! refusal came, and the first difference, if there is one.
 
-#[cfg(not(feature = "native"))]
-use evidence::calls::Library;
-use evidence::calls::OPERATIONS;
+use evidence::calls::document;
+use evidence::calls::generated::OPERATIONS;
 use std::collections::BTreeMap;
 use std::process::ExitCode;
 
 #[cfg(feature = "native")]
-use evidence::native::{EXPORTED, LIBRARY};
+use evidence::native::LIBRARY;
 #[cfg(not(feature = "native"))]
-const LIBRARY: Library = evidence::calls::SECOND;
-#[cfg(not(feature = "native"))]
-const EXPORTED: &[&str] = &["read", "plan", "check", "print_moat", "print_survey"];
+const LIBRARY: evidence::calls::Library = evidence::calls::SECOND;
+
+fn compare(count: u64, seed: u64) -> Result<(), String> {
+    println!("{} cases are as written", document::cases(&LIBRARY)?);
+    for operation in OPERATIONS {
+        let mut came: BTreeMap<u64, u64> = BTreeMap::new();
+        for case in 0..count {
+            let number = operation
+                .compare(&LIBRARY, seed, case)
+                .map_err(|trouble| format!("seed {seed} case {case}, {trouble}"))?;
+            *came.entry(number).or_default() += 1;
+        }
+        let came: Vec<String> = came.iter().map(|(number, many)| format!("{number}: {many}")).collect();
+        println!("{}: {}", operation.name, came.join(", "));
+    }
+    Ok(())
+}
 
 fn main() -> ExitCode {
     let (mut count, mut seed) = (20_000, 1);
@@ -35,21 +48,15 @@ fn main() -> ExitCode {
     if !cfg!(feature = "native") {
         println!("without the feature native the second implementation is held against itself");
     }
-    for (name, run) in OPERATIONS.into_iter().filter(|(name, _)| EXPORTED.contains(name)) {
-        let mut came: BTreeMap<u64, u64> = BTreeMap::new();
-        for case in 0..count {
-            match run(&LIBRARY, seed, case) {
-                Ok(number) => *came.entry(number).or_default() += 1,
-                Err(trouble) => {
-                    println!("seed {seed} case {case}, {trouble}");
-                    println!("{} compared, 1 differ", case + 1);
-                    return ExitCode::FAILURE;
-                }
-            }
+    match compare(count, seed) {
+        Ok(()) => {
+            println!("{} compared, 0 differ", count * OPERATIONS.len() as u64);
+            ExitCode::SUCCESS
         }
-        let came: Vec<String> = came.iter().map(|(number, many)| format!("{number}: {many}")).collect();
-        println!("{name}: {}", came.join(", "));
+        Err(trouble) => {
+            println!("{trouble}");
+            println!("1 differs");
+            ExitCode::FAILURE
+        }
     }
-    println!("{} compared, 0 differ", count * EXPORTED.len() as u64);
-    ExitCode::SUCCESS
 }

@@ -2,7 +2,7 @@
 use Prim.Native.Nat.{ℕ, _+_, _*_, _<_, _^_, _/_, _%_}
 use native.Mathlib.Omega.{arith}
 use mathlib.Core.Path.{_≡_, refl}
-use mathlib.Core.Bool.{Bool, _||_, not}
+use mathlib.Core.Bool.{Bool, false, _||_, not}
 use mathlib.Core.List.{List}
 use lib.ListN.{length}
 use lib.Dec.{lit<, ltb, eqb}
@@ -32,14 +32,18 @@ small-fits v h number place e =
     let b : place < 2 ^ 32 = h .place-small number place e in
     omega arith
 
-small-refuse : (t : Bool) (number place : ℕ) → number < 2 ^ 8 → place < 2 ^ 32 → Small (refuseIf t number place)
+pub small-refuse : (t : Bool) (number place : ℕ) → number < 2 ^ 8 → place < 2 ^ 32 → Small (refuseIf t number place)
 small-refuse t number place a b =
     record {
       number-small = λ n p e. let x = refused-refuse t number place n p e .1 .0 in omega arith;
       place-small = λ n p e. let x = refused-refuse t number place n p e .1 .1 in omega arith;
     }
 
-small-before : (v w : Verdict) → Small v → (v ≡ Fine → Small w) → Small (v before w)
+pub fine-small : Small Fine
+unfolding refuseIf
+fine-small = small-refuse false 0 0 (lit< tt) (lit< tt)
+
+pub small-before : (v w : Verdict) → Small v → (v ≡ Fine → Small w) → Small (v before w)
 unfolding _before_
 small-before Fine w h k = k refl
 small-before (Refused a b) w h k = h

@@ -1,0 +1,328 @@
+//! Single calls with their answers written out: what document 01 says of P1 to P12 and of the limits, and small cases beside them, of reading, checking
+//! and printing, whose answers were worked out by hand from its sentences.
+
+use super::{Library, CHECK_COUNTS, PLAN_COUNTS, PRINT_COUNTS, READ_COUNTS};
+use crate::gen::WORKED;
+use crate::plan::record_room;
+use crate::{Survey, MAX_AMOUNT, MAX_JUNCTIONS, MAX_PRICE, MAX_RECORDS, MAX_TRACKS, RECORD_BYTES};
+
+/// An amount and members.
+pub type Moat = (u64, &'static [usize]);
+
+/// The record of a moat.
+pub fn record((amount, members): Moat) -> Vec<u8> {
+    let mut record = amount.to_le_bytes().to_vec();
+    record.resize(RECORD_BYTES, 0);
+    for v in members {
+        record[8 + v / 8] |= 1 << (v % 8);
+    }
+    record
+}
+
+/// A plan: sites, cost, bound, rounds, a mark for each track, and the moats.
+pub struct Expected {
+    pub figures: [u64; 4],
+    pub marks: &'static [u8],
+    pub moats: &'static [Moat],
+}
+
+/// P1 to P11. What document 01 leaves unsaid of a survey is worked out by hand the same way.
+pub const PLANS: [Expected; 11] = [
+    Expected { figures: [0, 0, 0, 0], marks: &[], moats: &[] },
+    Expected { figures: [2, 5, 10, 1], marks: &[2], moats: &[(5, &[0]), (5, &[1])] },
+    Expected { figures: [2, 7, 14, 2], marks: &[2, 2], moats: &[(6, &[0]), (7, &[2]), (1, &[0, 1])] },
+    Expected { figures: [3, 2, 3, 2], marks: &[2, 2, 0], moats: &[(1, &[0]), (1, &[1]), (1, &[2])] },
+    Expected { figures: [2, 3, 6, 3], marks: &[2, 1, 1], moats: &[(2, &[0]), (3, &[1]), (1, &[0, 2, 3])] },
+    Expected { figures: [2, 5, 10, 1], marks: &[2, 0], moats: &[(5, &[0]), (5, &[1])] },
+    Expected { figures: [0, 0, 0, 0], marks: &[0], moats: &[] },
+    Expected { figures: [2, 0, 0, 1], marks: &[2], moats: &[] },
+    Expected { figures: [3, 10, 15, 2], marks: &[0, 0, 0, 2, 2, 0], moats: &[(5, &[1]), (5, &[2]), (5, &[3])] },
+    Expected {
+        figures: [4, 10, 14, 3],
+        marks: &[2, 2, 2],
+        moats: &[(4, &[0]), (2, &[1]), (2, &[2]), (4, &[3]), (2, &[1, 2])],
+    },
+    Expected { figures: [4, 7, 12, 3], marks: &[2, 2, 2], moats: &[(1, &[0]), (1, &[1]), (5, &[2]), (5, &[3])] },
+];
+
+/// Groups, and tracks (end, end, price).
+type Tracks = (&'static [u8], &'static [(u32, u32, u32)]);
+
+/// Number and place of a refusal.
+type Refused = (u64, u64);
+
+/// P3's text, and its plan as document 01 prints it.
+pub const P3: &str = "nodes=3\nlinks=2\nnode=1\nnode=0\nnode=1\nlink=0,1,3\nlink=1,2,4\n";
+pub const P3_PLAN: &str = "sites=2\ncost=7\nbound=14\nrounds=2\nkeep=0\nkeep=1\nmoat=6:0\nmoat=7:2\nmoat=1:0,1\n";
+
+/// Texts, read into buffers that hold every survey.
+const TEXTS: [(&str, Result<Tracks, Refused>); 21] = [
+    (P3, Ok((&[1, 0, 1], &[(0, 1, 3), (1, 2, 4)]))),
+    ("nodes=1\nlinks=0\nnode=0\n", Ok((&[0], &[]))),
+    // 4, 5 and 6 wait for planning.
+    ("nodes=2\nlinks=1\nnode=255\nnode=1\nlink=0,9999999,1000001\n", Ok((&[255, 1], &[(0, 9_999_999, 1_000_001)]))),
+    ("", Err((16, 0))),
+    ("nodes=03", Err((16, 7))),
+    ("nodes=300", Err((16, 9))),
+    ("nodes=300x", Err((16, 9))),
+    ("nodes=10000000", Err((16, 13))),
+    ("nodes=9999999\n", Err((1, 0))),
+    ("nodes=257\nlinks=0\n", Err((1, 0))),
+    ("nodes=0\n", Err((1, 0))),
+    ("nodes=1\nlinks=2049\n", Err((3, 0))),
+    ("nodes=1\nlinks=2049", Err((16, 18))),
+    ("nodes=1\nlinks=0\nnode=256\n", Err((17, 0))),
+    ("nodes=1\nlinks=0\nnode=256", Err((16, 24))),
+    ("nodes=1\nlinks=0\nnode=0\n\n", Err((16, 23))),
+    ("nodes=1\nlinks=0\nnode=0\nx", Err((16, 23))),
+    ("nodes=2\nlinks=1\nnode=1\nnode=1\nlink=0,1\n", Err((16, 38))),
+    ("nodes=2\nlinks=1\nnode=1\nnode=1\nlink=0,1,00\n", Err((16, 40))),
+    ("nodes=1\r\nlinks=0\nnode=0\n", Err((16, 7))),
+    ("nodes=256\nlinks=2048\nx", Err((16, 21))),
+];
+
+/// Texts, read into a group buffer of one byte and edge buffers of one entry, one and none.
+const TEXTS_SHORT: [(&str, Result<Tracks, Refused>); 3] = [
+    ("nodes=1\nlinks=0\nnode=0\n", Ok((&[0], &[]))),
+    ("nodes=2\nlinks=9999", Err((7, 0))),
+    ("nodes=1\nlinks=1\nnode=300\n", Err((7, 0))),
+];
+
+/// Marks and moats for the survey of P1 to P11: sites, cost and bound, or the refusal.
+type Checked = (usize, &'static [u8], &'static [Moat], Result<[u64; 3], Refused>);
+
+const CHECKED: [Checked; 17] = [
+    (9, &[2, 2, 2, 0, 0, 0], &[(5, &[1]), (5, &[2]), (5, &[3])], Ok([3, 9, 15])),
+    (10, &[2, 1, 2], &[(4, &[0]), (2, &[1]), (2, &[2]), (4, &[3]), (2, &[1, 2])], Err((14, 1))),
+    (10, &[2, 2, 1], &[(4, &[0]), (2, &[1]), (2, &[2]), (4, &[3]), (2, &[1, 2])], Err((14, 2))),
+    (2, &[2, 2], &[(5, &[0]), (5, &[1])], Err((9, 0))),
+    (6, &[2, 3], &[(5, &[0]), (5, &[1])], Err((10, 1))),
+    (6, &[2, 2], &[(5, &[0]), (5, &[1])], Err((15, 0))),
+    (2, &[2], &[(5, &[0]), (0, &[1])], Err((11, 1))),
+    (2, &[2], &[(5, &[0]), (5, &[2])], Err((11, 1))),
+    (3, &[2, 2], &[(6, &[0]), (7, &[2]), (1, &[1])], Err((12, 2))),
+    (2, &[2], &[(1, &[0, 1])], Err((12, 0))),
+    (7, &[0], &[(1, &[0])], Err((12, 0))),
+    // A moat that occurs twice: the amounts add.
+    (2, &[2], &[(2, &[0]), (5, &[1]), (3, &[0])], Ok([2, 5, 10])),
+    (2, &[2], &[(2, &[0]), (5, &[1]), (4, &[0])], Err((13, 0))),
+    (3, &[2, 2], &[(6, &[0]), (8, &[2]), (1, &[0, 1])], Err((13, 1))),
+    (2, &[1], &[(5, &[0]), (5, &[1])], Err((14, 1))),
+    (2, &[2], &[(5, &[0]), (4, &[1])], Err((15, 0))),
+    (7, &[2], &[], Err((15, 0))),
+];
+
+/// Moats, the length of the buffer for the line, and the line or the refusal.
+const LINES: [(Moat, usize, Result<&str, Refused>); 4] = [
+    ((u64::MAX, &[]), 1_024, Ok("moat=18446744073709551615:\n")),
+    ((10, &[9, 255]), 14, Ok("moat=10:9,255\n")),
+    ((10, &[9, 255]), 13, Err((7, 0))),
+    ((0, &[]), 7, Err((7, 0))),
+];
+
+/// What the buffers hold before.
+const BEFORE: u8 = 9;
+
+/// The cases that came out as written, or the first that did not.
+pub struct Cases<'a> {
+    library: &'a Library,
+    passed: usize,
+}
+
+fn one_number(refused: Refused) -> u64 {
+    refused.0 + 256 * refused.1
+}
+
+fn worked(p: usize) -> Survey {
+    Survey::new(WORKED[p - 1].0, WORKED[p - 1].1)
+}
+
+impl Cases<'_> {
+    fn same<T: std::fmt::Debug + PartialEq>(&mut self, what: &str, came: T, want: T) -> Result<(), String> {
+        if came != want {
+            return Err(format!("{what}: {want:?} is expected, {came:?} came"));
+        }
+        self.passed += 1;
+        Ok(())
+    }
+
+    fn read(&mut self, text: &str, room: [usize; 4], want: Result<Tracks, Refused>) -> Result<(), String> {
+        let before = (vec![BEFORE; room[0]], [room[1], room[2], room[3]].map(|length| vec![u32::from(BEFORE); length]));
+        let (mut groups, [mut first, mut second, mut prices]) = before.clone();
+        let mut counts = [7; READ_COUNTS];
+        let code = (self.library.read)(text.as_bytes(), &mut groups, &mut first, &mut second, &mut prices, &mut counts);
+        let (mut want_groups, mut tracks) = before;
+        let (want_code, want_counts) = match want {
+            Err(refused) => (one_number(refused), [7; READ_COUNTS]),
+            Ok((g, t)) => {
+                want_groups[..g.len()].copy_from_slice(g);
+                for (i, &(u, v, price)) in t.iter().enumerate() {
+                    (tracks[0][i], tracks[1][i], tracks[2][i]) = (u, v, price);
+                }
+                (0, [g.len() as u64, t.len() as u64])
+            }
+        };
+        let [want_first, want_second, want_prices] = tracks;
+        self.same(
+            &format!("reading {text:?}"),
+            (code, counts, groups, first, second, prices),
+            (want_code, want_counts, want_groups, want_first, want_second, want_prices),
+        )
+    }
+
+    fn reading(&mut self) -> Result<(), String> {
+        let enough = [MAX_JUNCTIONS, MAX_TRACKS, MAX_TRACKS, MAX_TRACKS];
+        for (text, want) in TEXTS {
+            self.read(text, enough, want)?;
+        }
+        // Every text that stops early is refused at its length.
+        for length in 0..P3.len() {
+            self.read(&P3[..length], [3, 2, 2, 2], Err((16, length as u64)))?;
+        }
+        for (text, want) in TEXTS_SHORT {
+            self.read(text, [1, 1, 1, 0], want)?;
+        }
+        Ok(())
+    }
+
+    /// The code and counts of planning, the marks, and the records that were written.
+    fn plan(&self, survey: &Survey) -> (u64, [u64; PLAN_COUNTS], Vec<u8>, Vec<u8>) {
+        let (mut marks, mut records) =
+            (vec![BEFORE; survey.first.len()], vec![BEFORE; record_room(survey.groups.len().max(1))]);
+        let mut counts = [0; PLAN_COUNTS];
+        let code = (self.library.plan)(survey.view(), &mut marks, &mut records, &mut counts);
+        (code, counts, marks, records)
+    }
+
+    fn planning(&mut self) -> Result<(), String> {
+        for (i, want) in PLANS.iter().enumerate() {
+            let (code, counts, marks, records) = self.plan(&worked(i + 1));
+            let drawn: Vec<u8> = want.moats.iter().flat_map(|&moat| record(moat)).collect();
+            let kept = vec![BEFORE; records.len() - drawn.len()];
+            let [sites, cost, bound, rounds] = want.figures;
+            self.same(
+                &format!("planning P{}", i + 1),
+                (code, counts, marks, records),
+                (0, [sites, cost, bound, rounds, want.moats.len() as u64], want.marks.to_vec(), [drawn, kept].concat()),
+            )?;
+        }
+        self.same("planning P12", self.plan(&worked(12)).0, one_number((8, 1)))?;
+        for (what, survey, want) in [
+            ("price 1,000,000", Survey::new(&[1, 1], &[(0, 1, MAX_PRICE)]), 0),
+            ("price 1,000,001", Survey::new(&[1, 1], &[(0, 1, MAX_PRICE + 1)]), 6),
+            ("256 junctions", Survey::new(&[0; MAX_JUNCTIONS], &[]), 0),
+            ("257 junctions", Survey::new(&[0; MAX_JUNCTIONS + 1], &[]), 1),
+            ("2,048 tracks", Survey::new(&[1, 1], &[(0, 1, 3); MAX_TRACKS]), 0),
+            ("2,049 tracks", Survey::new(&[1, 1], &[(0, 1, 3); MAX_TRACKS + 1]), 3),
+        ] {
+            self.same(what, self.plan(&survey).0, want)?;
+        }
+        Ok(())
+    }
+
+    fn check(
+        &mut self,
+        what: &str,
+        survey: &Survey,
+        marks: &[u8],
+        records: &[u8],
+        want: Result<[u64; CHECK_COUNTS], Refused>,
+    ) -> Result<(), String> {
+        let mut counts = [7; CHECK_COUNTS];
+        let code = (self.library.check)(survey.view(), marks, records, &mut counts);
+        let want = want.map_or_else(|refused| (one_number(refused), [7; CHECK_COUNTS]), |counts| (0, counts));
+        self.same(what, (code, counts), want)
+    }
+
+    fn checking(&mut self) -> Result<(), String> {
+        for (i, plan) in PLANS.iter().enumerate() {
+            let records: Vec<u8> = plan.moats.iter().flat_map(|&moat| record(moat)).collect();
+            let [sites, cost, bound, _] = plan.figures;
+            let what = format!("checking P{}", i + 1);
+            self.check(&what, &worked(i + 1), plan.marks, &records, Ok([sites, cost, bound]))?;
+        }
+        for (p, marks, moats, want) in CHECKED {
+            let records: Vec<u8> = moats.iter().flat_map(|&moat| record(moat)).collect();
+            self.check(&format!("checking P{p} with {marks:?} {moats:?}"), &worked(p), marks, &records, want)?;
+        }
+        let p4 = PLANS[3].moats.iter().flat_map(|&moat| record(moat)).collect::<Vec<_>>();
+        self.check("checking P4 with all kept", &worked(4), &[2, 2, 2], &p4, Err((15, 0)))?;
+        let pair = worked(2);
+        self.check("a byte short of two records", &pair, &[2], &[0; 2 * RECORD_BYTES - 1], Err((9, 0)))?;
+        self.check("512 records", &pair, &[2], &[0; (MAX_RECORDS + 1) * RECORD_BYTES], Err((9, 0)))?;
+        self.check("511 records", &pair, &[2], &[0; MAX_RECORDS * RECORD_BYTES], Err((11, 0)))?;
+        let dear = Survey::new(&[1, 1], &[(0, 1, MAX_PRICE)]);
+        let passed = Ok([2, u64::from(MAX_PRICE), MAX_AMOUNT]);
+        self.check("the largest amount", &dear, &[2], &record((MAX_AMOUNT, &[0])), passed)?;
+        self.check("an amount too large", &dear, &[2], &record((MAX_AMOUNT + 1, &[0])), Err((11, 0)))
+    }
+
+    /// A printed text at the beginning of a buffer of so many bytes, or the refusal.
+    fn print(
+        &mut self,
+        what: &str,
+        room: usize,
+        call: impl Fn(&Library, &mut [u8], &mut [u64]) -> u64,
+        want: Result<&str, Refused>,
+    ) -> Result<(), String> {
+        let (mut out, mut counts) = (vec![BEFORE; room], [7; PRINT_COUNTS]);
+        let code = call(self.library, &mut out, &mut counts);
+        let (mut want_out, mut want_counts, mut want_code) = (vec![BEFORE; room], [7; PRINT_COUNTS], 0);
+        match want {
+            Err(refused) => want_code = one_number(refused),
+            Ok(text) => {
+                want_out[..text.len()].copy_from_slice(text.as_bytes());
+                want_counts[0] = text.len() as u64;
+            }
+        }
+        self.same(what, (code, counts, out), (want_code, want_counts, want_out))
+    }
+
+    fn printing(&mut self) -> Result<(), String> {
+        for (moat, room, want) in LINES {
+            self.print(
+                &format!("printing {moat:?}"),
+                room,
+                |library, out, counts| (library.print_moat)(&record(moat), out, counts),
+                want,
+            )?;
+        }
+        for length in [0, RECORD_BYTES - 1, RECORD_BYTES + 1] {
+            self.print(
+                &format!("printing a record of {length} bytes"),
+                1_024,
+                |library, out, counts| (library.print_moat)(&vec![0; length], out, counts),
+                Err((9, 0)),
+            )?;
+        }
+        let p3 = worked(3);
+        let text =
+            |library: &Library, out: &mut [u8], counts: &mut [u64]| (library.print_survey)(p3.view(), out, counts);
+        self.print("printing P3's survey", 1_024, text, Ok(P3))?;
+        self.print("printing P3's survey, a byte short", P3.len() - 1, text, Err((7, 0)))?;
+        let mut torn = p3.clone();
+        torn.prices.pop();
+        self.print(
+            "printing a survey with a price too few",
+            1_024,
+            |library, out, counts| (library.print_survey)(torn.view(), out, counts),
+            Err((2, 0)),
+        )?;
+        let moats: Vec<u8> = PLANS[2].moats.iter().flat_map(|&moat| record(moat)).collect();
+        let plan = |library: &Library, out: &mut [u8], counts: &mut [u64]| {
+            (library.print_plan)(PLANS[2].figures, PLANS[2].marks, &moats, out, counts)
+        };
+        self.print("printing P3's plan", 1_024, plan, Ok(P3_PLAN))?;
+        self.print("printing P3's plan, a byte short", P3_PLAN.len() - 1, plan, Err((7, 0)))
+    }
+}
+
+/// How many cases came out as written, or what the first did instead that did not.
+pub fn cases(library: &Library) -> Result<usize, String> {
+    let mut cases = Cases { library, passed: 0 };
+    cases.reading()?;
+    cases.planning()?;
+    cases.checking()?;
+    cases.printing()?;
+    Ok(cases.passed)
+}

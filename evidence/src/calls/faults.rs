@@ -1,0 +1,304 @@
+//! What an input of a call can have wrong, for each operation a row of it, and how it is put in.
+
+use crate::gen::Rng;
+use crate::plan::KEPT;
+use crate::{
+    Survey, AMOUNT_BYTES, MAX_AMOUNT, MAX_GROUP, MAX_INPUT, MAX_JUNCTIONS, MAX_PRICE, MAX_RECORDS, MAX_TRACKS,
+    RECORD_BYTES,
+};
+
+/// Two at a time are put into each input; `Nothing` leaves room for one alone, and for none.
+#[derive(Clone, Copy, Debug, PartialEq, Eq)]
+pub enum Fault {
+    Nothing,
+    NoJunction,
+    ManyJunctions,
+    SecondUnequal,
+    PricesUnequal,
+    ManyTracks,
+    EndOut,
+    EndsEqual,
+    PriceHigh,
+    Unjoinable,
+    MarksShort,
+    RecordsShort,
+    CountsShort,
+    MarksUnequal,
+    RecordsRagged,
+    RecordsMany,
+    MarkHigh,
+    AmountZero,
+    AmountHigh,
+    MemberOut,
+    MoatWhole,
+    MoatsHeavy,
+    GroupUnjoined,
+    CostHigh,
+    ZeroNodes,
+    ManyNodes,
+    ManyLinks,
+    GroupHigh,
+    ByteChanged,
+    TextCut,
+    TextLonger,
+    GroupsShort,
+    FirstShort,
+    SecondShort,
+    PricesShort,
+    RecordLength,
+    OutShort,
+}
+
+use Fault::*;
+
+/// The faults of each operation; every pair of a row is tried.
+pub const READ_FAULTS: &[Fault] = &[
+    Nothing,
+    ZeroNodes,
+    ManyNodes,
+    ManyLinks,
+    GroupHigh,
+    ByteChanged,
+    TextCut,
+    TextLonger,
+    GroupsShort,
+    FirstShort,
+    SecondShort,
+    PricesShort,
+    CountsShort,
+];
+pub const PLAN_FAULTS: &[Fault] = &[
+    Nothing,
+    NoJunction,
+    ManyJunctions,
+    SecondUnequal,
+    PricesUnequal,
+    ManyTracks,
+    EndOut,
+    EndsEqual,
+    PriceHigh,
+    MarksShort,
+    RecordsShort,
+    CountsShort,
+    Unjoinable,
+];
+pub const CHECK_FAULTS: &[Fault] = &[
+    Nothing,
+    NoJunction,
+    ManyJunctions,
+    SecondUnequal,
+    PricesUnequal,
+    ManyTracks,
+    EndOut,
+    EndsEqual,
+    PriceHigh,
+    CountsShort,
+    MarksUnequal,
+    RecordsRagged,
+    RecordsMany,
+    MarkHigh,
+    AmountZero,
+    AmountHigh,
+    MemberOut,
+    MoatWhole,
+    MoatsHeavy,
+    GroupUnjoined,
+    CostHigh,
+];
+pub const PRINT_MOAT_FAULTS: &[Fault] = &[Nothing, RecordLength, OutShort, CountsShort];
+pub const PRINT_PLAN_FAULTS: &[Fault] = &[Nothing, OutShort, CountsShort];
+pub const PRINT_SURVEY_FAULTS: &[Fault] = &[Nothing, SecondUnequal, PricesUnequal, OutShort, CountsShort];
+
+/// The refusals that can be due together in one call: each with those before which it is given. Where two stand in both orders the place decides: of
+/// tracks the lower, and in a text what is complete first.
+pub type Pairs = &'static [(u64, &'static [u64])];
+
+pub const READ_PAIRS: Pairs =
+    &[(1, &[3, 7, 16, 17]), (3, &[7, 16, 17]), (7, &[3, 16, 17]), (16, &[1, 3, 7, 17]), (17, &[16])];
+pub const PLAN_PAIRS: Pairs = &[
+    (1, &[2, 3, 4, 5, 6, 7, 8]),
+    (2, &[3, 4, 5, 6, 7, 8]),
+    (3, &[4, 5, 6, 7, 8]),
+    (4, &[5, 6, 7, 8]),
+    (5, &[4, 6, 7, 8]),
+    (6, &[4, 5, 7, 8]),
+    (7, &[8]),
+];
+pub const CHECK_PAIRS: Pairs = &[
+    (1, &[2, 3, 4, 5, 6, 7, 9, 10, 11, 12, 13, 14, 15]),
+    (2, &[3, 4, 5, 6, 7, 9, 10, 11, 12, 13, 14, 15]),
+    (3, &[4, 5, 6, 7, 9, 10, 11, 12, 13, 14, 15]),
+    (4, &[5, 6, 7, 9, 10, 11, 12, 13, 14, 15]),
+    (5, &[4, 6, 7, 9, 10, 11, 12, 13, 14, 15]),
+    (6, &[4, 5, 7, 9, 10, 11, 12, 13, 14, 15]),
+    (7, &[9, 10, 11, 12, 13, 14, 15]),
+    (9, &[10, 11, 12, 13, 14, 15]),
+    (10, &[11, 12, 13, 14, 15]),
+    (11, &[12, 13, 14, 15]),
+    (12, &[13, 14, 15]),
+    (13, &[14, 15]),
+    (14, &[15]),
+];
+pub const PRINT_MOAT_PAIRS: Pairs = &[(9, &[7])];
+pub const PRINT_PLAN_PAIRS: Pairs = &[];
+pub const PRINT_SURVEY_PAIRS: Pairs = &[(2, &[7])];
+
+/// The pair of a case: all pairs of a row in turn, and after every third a case with no fault.
+pub fn pair(faults: &[Fault], case: u64) -> [Fault; 2] {
+    if case % 4 == 3 {
+        return [Nothing; 2];
+    }
+    let (turn, many) = ((case - case / 4) as usize, faults.len());
+    [faults[turn % many], faults[turn / many % many]]
+}
+
+/// Puts a fault into a survey, if it is one of surveys.
+pub fn harm(rng: &mut Rng, survey: &mut Survey, fault: Fault) {
+    let (n, m) = (survey.groups.len(), survey.first.len());
+    match fault {
+        NoJunction => survey.groups.clear(),
+        ManyJunctions => survey.groups.resize(MAX_JUNCTIONS + rng.between(1, 3), 0),
+        SecondUnequal if rng.chance(1, 2) => survey.second.push(0),
+        SecondUnequal => drop(survey.second.pop()),
+        PricesUnequal if rng.chance(1, 2) => survey.prices.push(0),
+        PricesUnequal => drop(survey.prices.pop()),
+        ManyTracks => {
+            for buffer in [&mut survey.first, &mut survey.second, &mut survey.prices] {
+                let end = MAX_TRACKS + 1 + (buffer.len() - m.min(buffer.len()));
+                while buffer.len() < end {
+                    buffer.push(buffer.get(buffer.len() % m.max(1)).copied().unwrap_or(0));
+                }
+            }
+        }
+        EndOut if m > 0 => {
+            let track = rng.below(m);
+            let end = (n + rng.pick(&[0, 0, 1, 200])) as u32;
+            if rng.chance(1, 2) || survey.second.len() <= track {
+                survey.first[track] = end;
+            } else {
+                survey.second[track] = end;
+            }
+        }
+        EndsEqual if m > 0 => {
+            let track = rng.below(m);
+            if let Some(second) = survey.second.get_mut(track) {
+                *second = survey.first[track];
+            }
+        }
+        PriceHigh if m > 0 => {
+            let track = rng.below(m);
+            if let Some(price) = survey.prices.get_mut(track) {
+                *price = MAX_PRICE + rng.pick(&[1, 1, 2, 1_000_000]);
+            }
+        }
+        Unjoinable if n < MAX_JUNCTIONS => {
+            let group = rng.between(1, MAX_GROUP as usize) as u8;
+            let member = rng.below(n.max(1));
+            if let Some(own) = survey.groups.get_mut(member) {
+                *own = group;
+                survey.groups.push(group);
+            }
+        }
+        _ => {}
+    }
+}
+
+/// Puts a fault into a plan, if it is one of plans.
+pub fn spoil(rng: &mut Rng, survey: &Survey, marks: &mut Vec<u8>, records: &mut Vec<u8>, fault: Fault) {
+    let (n, moats) = (survey.groups.len(), records.len() / RECORD_BYTES);
+    let record = RECORD_BYTES * rng.below(moats.max(1));
+    match fault {
+        MarksUnequal if rng.chance(1, 2) => marks.push(0),
+        MarksUnequal => drop(marks.pop()),
+        RecordsRagged => records.extend(vec![1; rng.between(1, RECORD_BYTES - 1)]),
+        RecordsMany => {
+            let one = if moats > 0 { records[..RECORD_BYTES].to_vec() } else { vec![1; RECORD_BYTES] };
+            while records.len() <= MAX_RECORDS * RECORD_BYTES {
+                records.extend(&one);
+            }
+        }
+        MarkHigh if !marks.is_empty() => {
+            let track = rng.below(marks.len());
+            marks[track] = rng.pick(&[3, 3, 4, 255]);
+        }
+        AmountZero if moats > 0 => records[record..record + AMOUNT_BYTES].fill(0),
+        AmountHigh if moats > 0 => {
+            let amount = MAX_AMOUNT + rng.pick(&[1, 1, 1 << 40]);
+            records[record..record + AMOUNT_BYTES].copy_from_slice(&amount.to_le_bytes());
+        }
+        MemberOut if moats > 0 && n < MAX_JUNCTIONS => {
+            let v = rng.between(n, MAX_JUNCTIONS - 1);
+            records[record + AMOUNT_BYTES + v / 8] |= 1 << (v % 8);
+        }
+        MoatWhole if moats > 0 => {
+            records[record + AMOUNT_BYTES..record + RECORD_BYTES].fill(0);
+            if rng.chance(1, 2) {
+                for v in 0..n.min(MAX_JUNCTIONS) {
+                    records[record + AMOUNT_BYTES + v / 8] |= 1 << (v % 8);
+                }
+            }
+        }
+        MoatsHeavy if moats > 0 => {
+            let again = records[record..record + RECORD_BYTES].to_vec();
+            records.extend(again);
+        }
+        GroupUnjoined if rng.chance(1, 2) => {
+            if let Some(mark) = marks.iter_mut().filter(|mark| **mark == KEPT).last() {
+                *mark = 1;
+            }
+        }
+        GroupUnjoined => {
+            // A site loses every track.
+            let groups = &survey.groups;
+            let site = |&v: &usize| groups[v] != 0 && groups.iter().filter(|&&group| group == groups[v]).count() > 1;
+            let sites: Vec<usize> = (0..n).filter(site).collect();
+            if sites.is_empty() {
+                return;
+            }
+            let site = rng.pick(&sites) as u32;
+            for (track, mark) in marks.iter_mut().enumerate().filter(|(_, mark)| **mark == KEPT) {
+                if [&survey.first, &survey.second].iter().any(|ends| ends.get(track) == Some(&site)) {
+                    *mark = 1;
+                }
+            }
+        }
+        CostHigh => marks.iter_mut().for_each(|mark| *mark = KEPT),
+        _ => {}
+    }
+}
+
+/// The text of a survey with a fault in it, if it is one of texts.
+pub fn damage(rng: &mut Rng, text: &mut Vec<u8>, fault: Fault) {
+    let line =
+        |text: &[u8], from: usize| text[from..].iter().position(|&b| b == b'\n').map_or(text.len(), |k| from + k);
+    let value = |text: &mut Vec<u8>, key: &[u8], nth: usize, new: &str| {
+        let places: Vec<usize> =
+            (0..text.len()).filter(|&k| text[k..].starts_with(key) && (k == 0 || text[k - 1] == b'\n')).collect();
+        if let Some(&at) = places.get(nth) {
+            let end = line(text, at);
+            text.splice(at + key.len()..end, new.bytes());
+        }
+    };
+    match fault {
+        ZeroNodes => value(text, b"nodes=", 0, "0"),
+        ManyNodes => value(text, b"nodes=", 0, &(MAX_JUNCTIONS + rng.pick(&[1, 1, 9_999_743])).to_string()),
+        ManyLinks => value(text, b"links=", 0, &(MAX_TRACKS + rng.pick(&[1, 1, 9_997_951])).to_string()),
+        GroupHigh => {
+            let nth = rng.below(3);
+            value(text, b"node=", nth, &(MAX_GROUP as usize + rng.pick(&[1, 1, 9_999_744])).to_string());
+        }
+        ByteChanged if !text.is_empty() => {
+            let at = rng.below(text.len());
+            text[at] = rng.pick(b"0123456789,=:\n\r nlx");
+        }
+        TextCut => text.truncate(rng.below(text.len() + 1)),
+        TextLonger => {
+            let more = rng.pick(&[&b"\n"[..], b"node=1\n", b"x", b"link=0,1,1\n"]);
+            text.extend(more);
+            if rng.chance(1, 16) {
+                text.resize(MAX_INPUT + rng.below(9_999), b'\n');
+            }
+        }
+        _ => {}
+    }
+}

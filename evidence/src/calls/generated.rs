@@ -1,0 +1,375 @@
+//! Generated calls: a sound input, two faults put into it, and lent buffers with any bytes in them, each from a stream of its own.
+
+use super::faults::*;
+use super::{Figures, Library, CHECK_COUNTS, PLAN_COUNTS, PRINT_COUNTS, READ_COUNTS, SECOND, SHORT};
+use crate::gen::{survey, Rng, Size};
+use crate::plan::{fast, owned, record_room};
+use crate::print::survey_text;
+use crate::{Survey, AMOUNT_BYTES, MAX_JUNCTIONS, RECORD_BYTES};
+use Fault::*;
+
+/// What a call answers, and what its lent buffers then hold, with what stands behind each.
+#[derive(Debug, PartialEq, Eq)]
+pub struct Answer {
+    pub code: u64,
+    pub bytes: Vec<Vec<u8>>,
+    pub words: Vec<Vec<u32>>,
+    pub counts: Vec<u64>,
+}
+
+/// A call with all that it is lent.
+pub trait Call {
+    fn run(&self, library: &Library) -> Answer;
+    fn says(&self) -> String;
+}
+
+/// An operation: its faults, the pairs of refusals that can be due in it, and its input of a case with two faults.
+pub struct Operation {
+    pub name: &'static str,
+    pub faults: &'static [Fault],
+    pub pairs: Pairs,
+    input: fn(&Streams, [Fault; 2]) -> Box<dyn Call>,
+}
+
+/// The random numbers of a case: a stream for each part of an input, so that a fault alone is the same as beside another.
+struct Streams {
+    seed: u64,
+    case: u64,
+}
+
+impl Streams {
+    fn of(&self, part: u64) -> Rng {
+        Rng::of_case(self.seed ^ part << 32, self.case)
+    }
+
+    fn base(&self) -> Rng {
+        self.of(0)
+    }
+
+    fn buffers(&self) -> Rng {
+        self.of(1)
+    }
+
+    fn fault(&self, i: usize) -> Rng {
+        self.of(2 + i as u64)
+    }
+}
+
+impl Operation {
+    fn call(&self, seed: u64, case: u64, faults: [Fault; 2]) -> Box<dyn Call> {
+        (self.input)(&Streams { seed, case }, faults)
+    }
+
+    /// Holds a library against the second implementation on one case: the refusal that came, or what differs.
+    pub fn compare(&self, library: &Library, seed: u64, case: u64) -> Result<u64, String> {
+        let faults = pair(self.faults, case);
+        let call = self.call(seed, case, faults);
+        let (ours, theirs) = (call.run(&SECOND), call.run(library));
+        if ours != theirs {
+            return Err(format!(
+                "{} of {} with {faults:?}: the second implementation has {ours:?}, the library {theirs:?}",
+                self.name,
+                call.says()
+            ));
+        }
+        Ok(ours.code % 256)
+    }
+
+    /// The refusals that each fault of a case brings alone, and that of both.
+    pub fn due(&self, seed: u64, case: u64) -> [u64; 3] {
+        let [one, other] = pair(self.faults, case);
+        [[one, Nothing], [Nothing, other], [one, other]]
+            .map(|faults| self.call(seed, case, faults).run(&SECOND).code % 256)
+    }
+}
+
+fn bytes(rng: &mut Rng, length: usize) -> Vec<u8> {
+    (0..length).map(|_| rng.word() as u8).collect()
+}
+
+fn words(rng: &mut Rng, length: usize) -> Vec<u32> {
+    (0..length).map(|_| rng.word() as u32).collect()
+}
+
+/// A buffer's length for a need: short by one or more, or just enough, or longer.
+fn room(rng: &mut Rng, need: usize, short: bool) -> usize {
+    match (short, rng.below(3)) {
+        (true, 0) => rng.below(need.max(1)).min(need.saturating_sub(1)),
+        (true, _) => need.saturating_sub(1),
+        (false, 0) => need + rng.between(1, 60),
+        (false, _) => need,
+    }
+}
+
+/// Any numbers in a buffer for so many counts, which has fewer entries where the counts are to be short.
+fn counts(rng: &mut Rng, need: usize, faults: [Fault; 2]) -> Vec<u64> {
+    let length = room(rng, need, faults.contains(&CountsShort));
+    (0..length).map(|_| rng.word()).collect()
+}
+
+/// A sound survey, mostly small.
+fn sound(rng: &mut Rng) -> Survey {
+    let size = rng.pick(&[Size::Tiny, Size::Tiny, Size::Small, Size::Middle]);
+    survey(rng, size)
+}
+
+/// The same, rarely as large as can be.
+fn sound_or_full(rng: &mut Rng) -> Survey {
+    if rng.chance(1, 200) {
+        return survey(rng, Size::Full);
+    }
+    sound(rng)
+}
+
+/// A buffer with some entries behind it that are not lent.
+fn before_others<T: Copy>(buffer: &[T], other: T) -> Vec<T> {
+    [buffer, &[other; 16]].concat()
+}
+
+struct Read {
+    text: Vec<u8>,
+    groups: Vec<u8>,
+    first: Vec<u32>,
+    second: Vec<u32>,
+    prices: Vec<u32>,
+    counts: Vec<u64>,
+}
+
+impl Call for Read {
+    fn run(&self, library: &Library) -> Answer {
+        let mut groups = before_others(&self.groups, 0xa5);
+        let [mut first, mut second, mut prices] =
+            [&self.first, &self.second, &self.prices].map(|buffer| before_others(buffer, 0xa5a5));
+        let mut counts = before_others(&self.counts, 0xa5a5);
+        let code = (library.read)(
+            &self.text,
+            &mut groups[..self.groups.len()],
+            &mut first[..self.first.len()],
+            &mut second[..self.second.len()],
+            &mut prices[..self.prices.len()],
+            &mut counts[..self.counts.len()],
+        );
+        Answer { code, bytes: vec![groups], words: vec![first, second, prices], counts }
+    }
+
+    fn says(&self) -> String {
+        format!("{:?}", String::from_utf8_lossy(&self.text))
+    }
+}
+
+fn read_input(streams: &Streams, faults: [Fault; 2]) -> Box<dyn Call> {
+    let survey = sound_or_full(&mut streams.base());
+    let (n, m) = (survey.groups.len(), survey.first.len());
+    let mut text = survey_text(&survey);
+    for (i, fault) in faults.into_iter().enumerate() {
+        damage(&mut streams.fault(i), &mut text, fault);
+    }
+    let rng = &mut streams.buffers();
+    let groups = room(rng, n, faults.contains(&GroupsShort));
+    let [first, second, prices] =
+        [FirstShort, SecondShort, PricesShort].map(|fault| room(rng, m, faults.contains(&fault)));
+    Box::new(Read {
+        text,
+        groups: bytes(rng, groups),
+        first: words(rng, first),
+        second: words(rng, second),
+        prices: words(rng, prices),
+        counts: counts(rng, READ_COUNTS, faults),
+    })
+}
+
+struct Draw {
+    survey: Survey,
+    marks: Vec<u8>,
+    records: Vec<u8>,
+    counts: Vec<u64>,
+}
+
+impl Call for Draw {
+    fn run(&self, library: &Library) -> Answer {
+        let [mut marks, mut records] = [&self.marks, &self.records].map(|buffer| before_others(buffer, 0xa5));
+        let mut counts = before_others(&self.counts, 0xa5a5);
+        let code = (library.plan)(
+            self.survey.view(),
+            &mut marks[..self.marks.len()],
+            &mut records[..self.records.len()],
+            &mut counts[..self.counts.len()],
+        );
+        Answer { code, bytes: vec![marks, records], words: Vec::new(), counts }
+    }
+
+    fn says(&self) -> String {
+        format!("{:?}", self.survey)
+    }
+}
+
+fn plan_input(streams: &Streams, faults: [Fault; 2]) -> Box<dyn Call> {
+    let mut survey = sound(&mut streams.base());
+    for (i, fault) in faults.into_iter().enumerate() {
+        harm(&mut streams.fault(i), &mut survey, fault);
+    }
+    let rng = &mut streams.buffers();
+    let marks = room(rng, survey.first.len(), faults.contains(&MarksShort));
+    let records = room(rng, record_room(survey.groups.len().max(1)), faults.contains(&RecordsShort));
+    Box::new(Draw {
+        survey,
+        marks: bytes(rng, marks),
+        records: bytes(rng, records),
+        counts: counts(rng, PLAN_COUNTS, faults),
+    })
+}
+
+struct Check {
+    survey: Survey,
+    marks: Vec<u8>,
+    records: Vec<u8>,
+    counts: Vec<u64>,
+}
+
+impl Call for Check {
+    fn run(&self, library: &Library) -> Answer {
+        let mut counts = before_others(&self.counts, 0xa5a5);
+        let lent = &mut counts[..self.counts.len()];
+        let code = (library.check)(self.survey.view(), &self.marks, &self.records, lent);
+        Answer { code, bytes: Vec::new(), words: Vec::new(), counts }
+    }
+
+    fn says(&self) -> String {
+        format!("{:?} {:?} {:?}", self.survey, self.marks, self.records)
+    }
+}
+
+fn check_input(streams: &Streams, faults: [Fault; 2]) -> Box<dyn Call> {
+    let mut survey = sound(&mut streams.base());
+    let (mut marks, mut records) = match owned(fast, survey.view()) {
+        Ok(plan) => (plan.marks, plan.records),
+        Err(_) => (vec![0; survey.first.len()], Vec::new()),
+    };
+    for (i, fault) in faults.into_iter().enumerate() {
+        let rng = &mut streams.fault(i);
+        spoil(rng, &survey, &mut marks, &mut records, fault);
+        harm(rng, &mut survey, fault);
+    }
+    let counts = counts(&mut streams.buffers(), CHECK_COUNTS, faults);
+    Box::new(Check { survey, marks, records, counts })
+}
+
+/// A call that prints, with the buffer for its text.
+struct Print<T> {
+    what: T,
+    out: Vec<u8>,
+    counts: Vec<u64>,
+    with: fn(&Library, &T, &mut [u8], &mut [u64]) -> u64,
+}
+
+impl<T: std::fmt::Debug> Call for Print<T> {
+    fn run(&self, library: &Library) -> Answer {
+        let (mut out, mut counts) = (before_others(&self.out, 0xa5), before_others(&self.counts, 0xa5a5));
+        let code = (self.with)(library, &self.what, &mut out[..self.out.len()], &mut counts[..self.counts.len()]);
+        Answer { code, bytes: vec![out], words: Vec::new(), counts }
+    }
+
+    fn says(&self) -> String {
+        format!("{:?}", self.what)
+    }
+}
+
+/// The bytes that the second implementation wants for a text.
+fn need<T>(what: &T, with: fn(&Library, &T, &mut [u8], &mut [u64]) -> u64) -> usize {
+    let (mut out, mut length) = (vec![0; 1_024], [0]);
+    while with(&SECOND, what, &mut out, &mut length) == SHORT {
+        out.resize(4 * out.len(), 0);
+    }
+    length[0] as usize
+}
+
+/// Puts the buffers to it: `need` is that of the text without a fault.
+fn print<T: std::fmt::Debug + 'static>(
+    streams: &Streams,
+    faults: [Fault; 2],
+    need: usize,
+    what: T,
+    with: fn(&Library, &T, &mut [u8], &mut [u64]) -> u64,
+) -> Box<dyn Call> {
+    let rng = &mut streams.buffers();
+    let out = room(rng, need, faults.contains(&OutShort));
+    Box::new(Print { what, out: bytes(rng, out), counts: counts(rng, PRINT_COUNTS, faults), with })
+}
+
+/// A record of any amount and members: none, all, any, and small amounts.
+fn any_record(rng: &mut Rng) -> Vec<u8> {
+    let mut record = bytes(rng, RECORD_BYTES);
+    match rng.below(4) {
+        0 => record[AMOUNT_BYTES..].fill(0),
+        1 => record[AMOUNT_BYTES..].fill(0xff),
+        2 => record[4..AMOUNT_BYTES].fill(0),
+        _ => {}
+    }
+    record
+}
+
+fn print_moat_input(streams: &Streams, faults: [Fault; 2]) -> Box<dyn Call> {
+    let with = |library: &Library, record: &Vec<u8>, out: &mut [u8], counts: &mut [u64]| {
+        (library.print_moat)(record, out, counts)
+    };
+    let mut record = any_record(&mut streams.base());
+    let need = need(&record, with);
+    if faults.contains(&RecordLength) {
+        let length = streams.fault(0).pick(&[0, 1, RECORD_BYTES - 1, RECORD_BYTES + 1, 2 * RECORD_BYTES]);
+        record.resize(length, 1);
+    }
+    print(streams, faults, need, record, with)
+}
+
+fn print_plan_input(streams: &Streams, faults: [Fault; 2]) -> Box<dyn Call> {
+    type Lent = (Figures, Vec<u8>, Vec<u8>);
+    let with = |library: &Library, (figures, marks, records): &Lent, out: &mut [u8], counts: &mut [u64]| {
+        (library.print_plan)(*figures, marks, records, out, counts)
+    };
+    let rng = &mut streams.base();
+    let figures = [0; 4].map(|_: u64| rng.word() >> rng.below(64));
+    let marks = (0..rng.below(60)).map(|_| rng.pick(&[0, 1, 2, 2, 3, 255])).collect();
+    let mut records: Vec<u8> = (0..rng.below(6)).flat_map(|_| any_record(rng)).collect();
+    if rng.chance(1, 8) {
+        // What is no whole record is no line.
+        records.truncate(records.len().saturating_sub(rng.between(1, RECORD_BYTES - 1)));
+    }
+    let lent = (figures, marks, records);
+    print(streams, faults, need(&lent, with), lent, with)
+}
+
+fn print_survey_input(streams: &Streams, faults: [Fault; 2]) -> Box<dyn Call> {
+    let with = |library: &Library, survey: &Survey, out: &mut [u8], counts: &mut [u64]| {
+        (library.print_survey)(survey.view(), out, counts)
+    };
+    let rng = &mut streams.base();
+    let mut survey = sound_or_full(rng);
+    if rng.chance(1, 3) {
+        // Printing looks at lengths alone.
+        for buffer in [&mut survey.first, &mut survey.second, &mut survey.prices] {
+            *buffer = words(rng, buffer.len());
+        }
+    }
+    if rng.chance(1, 16) {
+        survey.groups.resize(MAX_JUNCTIONS + 44, 7);
+    }
+    let need = need(&survey, with);
+    for (i, fault) in faults.into_iter().enumerate() {
+        harm(&mut streams.fault(i), &mut survey, fault);
+    }
+    print(streams, faults, need, survey, with)
+}
+
+pub const OPERATIONS: [Operation; 6] = [
+    Operation { name: "read", faults: READ_FAULTS, pairs: READ_PAIRS, input: read_input },
+    Operation { name: "plan", faults: PLAN_FAULTS, pairs: PLAN_PAIRS, input: plan_input },
+    Operation { name: "check", faults: CHECK_FAULTS, pairs: CHECK_PAIRS, input: check_input },
+    Operation { name: "print_moat", faults: PRINT_MOAT_FAULTS, pairs: PRINT_MOAT_PAIRS, input: print_moat_input },
+    Operation { name: "print_plan", faults: PRINT_PLAN_FAULTS, pairs: PRINT_PLAN_PAIRS, input: print_plan_input },
+    Operation {
+        name: "print_survey",
+        faults: PRINT_SURVEY_FAULTS,
+        pairs: PRINT_SURVEY_PAIRS,
+        input: print_survey_input,
+    },
+];
