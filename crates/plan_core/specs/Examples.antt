@@ -1,4 +1,4 @@
--- The surveys worked by hand (document 01), P1 to P12: one list, and one claim about it, proved by computation. The claim is about the definitions that
+-- The surveys worked by hand (document 01), P1 to P12, and two with pairs (document 02, No. 2): one list, and one claim about it, proved by computation. The claim is about the definitions that
 -- the contract of `plan` cites: `counting`, `marksAfter` and `recordsAfter`, for a call whose buffers are just long enough.
 use Prim.Native.Nat.{ℕ, _+_, _*_, _-_, _^_}
 use mathlib.Core.Path.{_≡_, refl}
@@ -18,6 +18,8 @@ use Rattle.theory_steiner.specs.Problem.{allUsable, joined, cost, separates, te
 use Rattle.theory_steiner.specs.Growth.{start, active, numbers, load, slack, delayOf, delay, better, winnerBelow, winner, pick, advance, stateAt, grown, activeEnds, delayFor}
 use Rattle.theory_steiner.specs.Dual.{dualsOf as grownDuals}
 use Rattle.theory_steiner.specs.Pruning.{needed, picked, kept, markOf, mark, dualBound}
+use Rattle.survey_core.specs.Lists.{isPaired, inList, sameList}
+use Rattle.survey_core.specs.Pairs.{isRising, pairRefusal, pairsRefusal}
 use Rattle.survey_core.specs.Survey.{Survey, vertexCount, edgeCount, member, sameGroup, problemOf, groupJoined, componentsOf}
 use Rattle.survey_core.specs.Refusal.{edgeRefusal, surveyRefusal, groupRefusal}
 use Rattle.plan_duals.specs.Drawing.{recordsOf, recordsOver}
@@ -53,8 +55,14 @@ pub record SetFigures : Type 0 where
   pub joins : Bool
   pub set-cost : ℕ
 
+-- One pair (v, g) of document 02, No. 2.
+pub record ExamplePair : Type 0 where
+  pub pair-vertex : ℕ
+  pub pair-group : ℕ
+
 pub record Example : Type 0 where
   pub groups : List ℕ
+  pub pairs : List ExamplePair
   pub example-edges : List ExampleEdge
   pub expected : Outcome Figures
   pub sets : List SetFigures
@@ -68,8 +76,15 @@ dual value members = record { value = value; members = members }
 abbrev joining : List ℕ → ℕ → SetFigures
 joining edges c = record { set-edges = edges; joins = true; set-cost = c }
 
+abbrev pair : ℕ → ℕ → ExamplePair
+pair v g = record { pair-vertex = v; pair-group = g }
+
+-- Without pairs, and with.
 abbrev example : List ℕ → List ExampleEdge → Outcome Figures → List SetFigures → Example
-example groups edges expected sets = record { groups = groups; example-edges = edges; expected = expected; sets = sets }
+example groups edges expected sets = record { groups = groups; pairs = []; example-edges = edges; expected = expected; sets = sets }
+
+abbrev exampleWith : List ℕ → List ExamplePair → List ExampleEdge → Outcome Figures → List SetFigures → Example
+exampleWith groups pairs edges expected sets = record { groups = groups; pairs = pairs; example-edges = edges; expected = expected; sets = sets }
 
 -- k, cost, bound, rounds; k times cost, k - 1 times bound; marks, moats
 abbrev finished : ℕ → ℕ → ℕ → ℕ → ℕ → ℕ → List ℕ → List DualFigures → Outcome Figures
@@ -83,6 +98,8 @@ exampleSurvey x =
       firsts = map (λ e. e .first-end) (x .example-edges);
       seconds = map (λ e. e .second-end) (x .example-edges);
       weights = map (λ e. e .edge-weight) (x .example-edges);
+      owners = map (λ i. i .pair-vertex) (x .pairs);
+      others = map (λ i. i .pair-group) (x .pairs);
     }
 
 unfoldable pub examples : List Example
@@ -155,6 +172,15 @@ examples =
     []
     -- P12
     ∷ example (1 ∷ 1 ∷ []) [] (refusal 8 1) []
+    -- No. 2: the lists {0}, {0, 1} and {1, 2} become one; after round 1 {0, 1} and {2} part the third
+    ∷ exampleWith
+    (1 ∷ 2 ∷ 3 ∷ [])
+    (pair 0 2 ∷ pair 1 3 ∷ [])
+    (edge 0 1 2 ∷ edge 1 2 4 ∷ [])
+    (finished 3 6 10 2 18 20 (2 ∷ 2 ∷ []) (dual 2 (0 ∷ []) ∷ dual 2 (1 ∷ []) ∷ dual 4 (2 ∷ []) ∷ dual 2 (0 ∷ 1 ∷ []) ∷ []))
+    []
+    -- No. 2: the lists 2 and 5 share junction 1; list 2 is joined, list 5 is not
+    ∷ exampleWith (2 ∷ 2 ∷ 5 ∷ []) (pair 1 5 ∷ []) (edge 0 1 1 ∷ []) (refusal 8 5) []
     ∷ []
 
 -- ---- a call
@@ -241,7 +267,7 @@ pub examples-hold :
 unfolding counted sumBelow countBelow anyBelow allBelow thoseBelow tabulate lookup memo without merged components refuseIf _before_ lowestBelow outcome written
     byteOf bytesOf lowBytes recordOf
     allUsable joined cost separates terminal terminals start active numbers load slack delayOf activeEnds delayFor delay better winnerBelow winner pick advance stateAt grown grownDuals
-    needed picked kept markOf mark dualBound vertexCount edgeCount member sameGroup problemOf groupJoined componentsOf edgeRefusal surveyRefusal
+    needed picked kept markOf mark dualBound vertexCount edgeCount isPaired inList sameList member sameGroup problemOf groupJoined componentsOf edgeRefusal isRising pairRefusal pairsRefusal surveyRefusal
     groupRefusal recordsOf recordsOver planOf planRefusal planCountsOf counting marksAfter recordsAfter
     lentMarks lentRecords ruleSides among setFigures callOf bitsOf dualBytes dualsBytes expectedCall exampleSurvey examples
 examples-hold = refl

@@ -38,7 +38,7 @@ planOf p =
       duals = grownDuals p s;
     }
 
--- 1, 2, 3, then 4, 5, 6 by track, then 7, then 8. The lengths are those of the buffers lent for marks and records.
+-- 1, 2, 3, then 4, 5, 6 by track, then 18 by pair, then 7, then 8. The lengths are those of the buffers lent for marks and records.
 unfoldable pub planRefusal : Survey → (marksLength recordsLength : ℕ) → Verdict
 planRefusal s marksLength recordsLength =
     surveyRefusal s

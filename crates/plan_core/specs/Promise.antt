@@ -18,14 +18,14 @@ use Rattle.survey_core.specs.Sound.{SurveySound}
 use Rattle.check_rule.specs.Check.{checking}
 use Rattle.plan_core.specs.Plan.{PlanCounts, planCountsOf, planOf, marksAfter, recordsAfter}
 
--- None of 1 to 8 applies: the survey is sound (1 to 6), the two buffers are long enough (7), and all tracks together join every group (8).
+-- None of 1 to 8 and 18 applies: the survey is sound (1 to 6, 18), the two buffers are long enough (7), and all tracks together join every group (8).
 pub record Ready (s : Survey) (marksLength recordsLength : ℕ) : Type 0 where
   pub survey : SurveySound s
   pub marks-fit : edgeCount s ≤ marksLength
   pub records-fit : recordBytes * dualsFor (vertexCount s) ≤ recordsLength
   pub joinable : Joins (problemOf s) (allUsable (problemOf s))
 
--- 8 applies with place g: none of 1 to 7 does, and g is the lowest group that no set of tracks joins.
+-- 8 applies with place g: none of 1 to 7 and 18 does, and g is the lowest group that no set of tracks joins.
 pub record Unjoinable (s : Survey) (marksLength recordsLength g : ℕ) : Type 0 where
   pub survey : SurveySound s
   pub marks-fit : edgeCount s ≤ marksLength
@@ -53,7 +53,7 @@ pub record FinishedPlan (s : Survey) (marks records : List ℕ) (c : PlanCounts)
 
 -- What a call answers, for any survey and any buffers.
 pub record Promises (s : Survey) (marks records : List ℕ) (o : Outcome PlanCounts) : Type 0 where
-  -- demand 1: finished exactly if none of 1 to 8 applies
+  -- demand 1: finished exactly if none of 1 to 8 and 18 applies
   pub finished : (c : PlanCounts) → o ≡ answer c → FinishedPlan s marks records c
   pub finishes : Ready s (length marks) (length records) → o ≡ answer (planCountsOf (planOf (problemOf s)))
   -- demand 2: 8 exactly if no set of tracks joins some group, and then the lowest

@@ -8,7 +8,7 @@ ghost use lib.ListN.{length, drop};
 ghost use lib.Dec.{ltb};
 ghost use Rattle.base_limits.specs.Limits.{maxVertices, recordBytes, dualsFor};
 ghost use Rattle.base_limits.specs.Verdict.{refuseIf, answer};
-ghost use Rattle.survey_core.specs.Survey.{surveyFrom, lentSurvey, problemOf};
+ghost use Rattle.survey_core.specs.Survey.{surveyFrom, lentSurvey, lentWith, problemOf};
 ghost use Rattle.plan_duals.specs.Drawing.{recordsOver};
 ghost use Rattle.plan_core.specs.Plan.{planRefusal, planOf, planCountsOf, counting, marksAfter, recordsAfter};
 ghost use Rattle.plan_core.specs.Answer.{plannedOutcome};
@@ -55,18 +55,20 @@ fn room_refusal(n: usize, m: usize, marks: usize, records: usize) -> Verdict
     Verdict::Fine
 }
 
-// 1, 2, 3, then 4, 5, 6 by track, then 7, then 8.
+// 1, 2, 3, then 4, 5, 6 by track, then 18 by pair, then 7, then 8.
 fn plan_refusal(
     groups: &[u8],
     firsts: &[u32],
     seconds: &[u32],
     weights: &[u32],
+    owners: &[u32],
+    others: &[u8],
     marks: usize,
     records: usize,
 ) -> Verdict
-    ensures { λ r. ⌜ r ≡ planRefusal (lentSurvey groups firsts seconds weights) marks records ⌝ }
+    ensures { λ r. ⌜ r ≡ planRefusal (lentWith groups firsts seconds weights owners others) marks records ⌝ }
 {
-    let unsound = survey_core::survey_refusal(groups, firsts, seconds, weights);
+    let unsound = survey_lists::survey_refusal(groups, firsts, seconds, weights, owners, others);
     let Verdict::Fine = unsound else {
         return unsound;
     };
@@ -74,7 +76,17 @@ fn plan_refusal(
     let Verdict::Fine = short else {
         return short;
     };
-    survey_components::group_refusal(groups, firsts, seconds, weights, Chosen::All, &[], 8)
+    survey_lists::group_refusal(
+        groups,
+        firsts,
+        seconds,
+        weights,
+        owners,
+        others,
+        Chosen::All,
+        &[],
+        8,
+    )
 }
 
 // The plan of a survey that no refusal stops: growing, dropping, drawing, and the counts. What growing leaves is a forest
@@ -127,29 +139,46 @@ fn finish(
     }
 }
 
-// Plans a survey into lent buffers for marks and moat records. Finished exactly if none of 1 to 8 applies; 8 exactly if
-// no set of tracks joins some group, and then the lowest; a finished plan passes the checker and is within the accuracy
-// rule.
+// Plans a survey into lent buffers for marks and moat records. Finished exactly if none of 1 to 8 and 18 applies; 8
+// exactly if no set of tracks joins some group, and then the lowest; a finished plan passes the checker and is within
+// the accuracy rule. Lists that share a member are poured together, which changes nothing but the place of 8.
 pub fn plan(
     groups: &[u8],
     firsts: &[u32],
     seconds: &[u32],
     weights: &[u32],
+    owners: &[u32],
+    others: &[u8],
     marks: &mut [u8],
     records: &mut [u8],
 ) -> Planned
     ensures { λ r.
-        let s = lentSurvey groups firsts seconds weights in
+        let s = lentWith groups firsts seconds weights owners others in
         ⌜ plannedOutcome r ≡ counting s (length (old marks)) (length (old records)) ⌝ }
-    ensures { λ _. ⌜ new marks ≡ marksAfter (lentSurvey groups firsts seconds weights) (old marks) (old records) ⌝ }
-    ensures { λ _. ⌜ new records ≡ recordsAfter (lentSurvey groups firsts seconds weights) (old marks) (old records) ⌝ }
+    ensures { λ _.
+        let s = lentWith groups firsts seconds weights owners others in
+        ⌜ new marks ≡ marksAfter s (old marks) (old records) ⌝ }
+    ensures { λ _.
+        let s = lentWith groups firsts seconds weights owners others in
+        ⌜ new records ≡ recordsAfter s (old marks) (old records) ⌝ }
     ensures promises { λ r.
-        let s = lentSurvey groups firsts seconds weights in
+        let s = lentWith groups firsts seconds weights owners others in
         ⌜ Promises s (old marks) (old records) (plannedOutcome r) ⌝ }
 {
-    let found = plan_refusal(groups, firsts, seconds, weights, marks.len(), records.len());
+    let found = plan_refusal(
+        groups,
+        firsts,
+        seconds,
+        weights,
+        owners,
+        others,
+        marks.len(),
+        records.len(),
+    );
     if let Verdict::Refused { number, place } = found {
         return Planned::Refused { number, place };
     }
-    finish(groups, firsts, seconds, weights, marks, records)
+    let poured = survey_lists::pour(groups, owners, others);
+    let n = groups.len();
+    finish(&poured[0..n], firsts, seconds, weights, marks, records)
 }

@@ -3,7 +3,7 @@ use mathlib.Core.Path.{refl, ap, sym, _∙_}
 use lib.ListN.{length}
 use Rattle.base_finite.specs.Laws.Below.{length-tabulate}
 use Rattle.base_limits.specs.Limits.{maxVertices}
-use Rattle.plan_core.specs.Laws.Finish.{picks-fit, finish-plan}
+use Rattle.plan_core.specs.Laws.Finish.{picks-fit, finish-plan, plan-terminals}
 use Rattle.check_marks.specs.Cost.{kept-cost-all}
 use borrow.Author.Needs.{needs}
 use Rattle.plan_core.proofs.finish.Statement.{statement}
@@ -24,7 +24,7 @@ returns c =
     let growth = pruned .before .before .before .before .before .before .before in
     let entry = growth .before .before .before .before .before .before .before in
     finish-plan (entry .pre) (growth .grow .ensures) _ _ refl refl (pruned .prune .ensures .1) (drawn .draw .ensures .0) (drawn .draw .ensures .1)
-    (c .before .before .before .before .terminals .ensures) (kept-cost-all _ _ _ (entry .pre .survey .edges-few) (c .before .before .kept-cost .ensures)) (c .before .wide .ensures)
+    (c .before .before .before .before .terminals .ensures ∙ plan-terminals _ _ _ _) (kept-cost-all _ _ _ (entry .pre .survey .edges-few) (c .before .before .kept-cost .ensures)) (c .before .wide .ensures)
     (c .wide2 .ensures)
 
 pub finish-spec : {M : Type 1} → statement M

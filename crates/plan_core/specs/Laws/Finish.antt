@@ -14,17 +14,18 @@ use Rattle.base_finite.specs.Below.{counted, tabulate}
 use Rattle.base_finite.specs.Laws.Test.{not-true-false}
 use Rattle.base_finite.specs.Laws.Below.{sum-cong, length-tabulate, getD-tabulate, lt-or-ge, counted-true}
 use Rattle.base_limits.specs.Limits.{maxVertices, maxEdges, recordBytes, dualsFor}
-use Rattle.base_limits.specs.Verdict.{answer, written}
+use Rattle.base_limits.specs.Verdict.{Outcome, answer, written}
 use Rattle.base_limits.specs.declared.Verdict.the-variants.{Fine}
 use Rattle.theory_graph.specs.Path.{Forest}
-use Rattle.theory_steiner.specs.Problem.{Problem, Sound, Joins, terminal, terminals, cost}
+use Rattle.theory_steiner.specs.Problem.{Problem, Sound, Joins, allUsable, terminal, terminals, cost}
 use Rattle.theory_steiner.specs.Growth.{edge, winner, stateAt, grown}
 use Rattle.theory_steiner.specs.Laws.Finish.{picked-joins}
 use Rattle.theory_steiner.specs.Pruning.{needed, picked, kept, markOf, mark}
 use Rattle.theory_steiner.specs.Laws.Rounds.{rounds-lt, grown-reached}
 use Rattle.theory_steiner.specs.Laws.Partition.{picked-usable, picked-forest}
-use Rattle.survey_core.specs.Survey.{Survey, surveyFrom, groupsAlone, vertexCount, edgeCount, member, sameGroup, problemOf}
+use Rattle.survey_core.specs.Survey.{Survey, surveyFrom, listsOf, groupsAlone, vertexCount, edgeCount, member, sameGroup, problemOf}
 use Rattle.survey_core.specs.Refusal.{surveyRefusal}
+use Rattle.survey_core.specs.Sound.{SurveySound}
 use Rattle.survey_core.specs.Laws.Refusal.{survey-fine, survey-sound}
 use Rattle.base_buffer.specs.Store.{remade}
 use Rattle.base_buffer.specs.Laws.Store.{tabulate-cong, length-remade, remade-passed, remade-ahead}
@@ -44,7 +45,11 @@ use Rattle.plan_core.specs.Laws.Passes.{marks-cost}
 use Rattle.plan_duals.specs.Drawing.{recordsOver}
 use Rattle.plan_core.specs.declared.Planned.the-variants.{Finished}
 use Rattle.plan_core.specs.Answer.{plannedOutcome}
-use Rattle.plan_core.specs.Plan.{planOf, planCountsOf}
+use Rattle.survey_lists.specs.Pouring.{pouredGroups, pouredSurvey}
+use Rattle.survey_lists.specs.Laws.Pouring.{length-poured}
+use Rattle.survey_lists.specs.Laws.Plan.{poured-sound, poured-plan, poured-joins}
+use Rattle.plan_core.specs.Plan.{Plan, PlanCounts, planOf, planCountsOf}
+use Rattle.plan_core.specs.Laws.Ready.{all-bounded}
 
 -- A buffer whose first m places were made anew.
 pub remade-front : (f : ℕ → ℕ → ℕ) (m : ℕ) (l : List ℕ) → m ≤ length l → remade f m l ≡ tabulate m (λ k. f k (getD l k 0)) ++ drop m l
@@ -129,10 +134,6 @@ module _ (s : Survey) where
       ∙ ap (λ l. l ++ drop (length (s .firsts)) marks)
       (tabulate-cong (length (s .firsts)) _ _ (λ e b. ap (λ G. markOf (G e) (needed (problemOf s) G e)) same))
 
-  plan-terminals : terminals (problemOf (groupsAlone (s .groups))) ≡ planOf p .terminals
-  unfolding planOf terminals terminal problemOf sameGroup member vertexCount
-  plan-terminals = refl
-
   -- The plan's marks in front of other bytes cost what they cost.
   front-cost : (rest : List ℕ) → cost (problemOf (surveyFrom [] (s .firsts) [] (s .weights))) (keptBy (planOf p .marks ++ rest)) ≡ cost p (keptBy (planOf p .marks))
   unfolding cost keptBy planOf problemOf edgeCount
@@ -143,6 +144,11 @@ module _ (s : Survey) where
       _
       _
       (λ e b. ap (λ x. counted (eqb x 2) (getD (s .weights) e 0)) (List·getD-append (tabulate (length (s .firsts)) (mark (problemOf s))) rest 0 e (omega arith)))
+
+-- k does not depend on the tracks.
+pub plan-terminals : (groups firsts seconds weights : List ℕ) → terminals (problemOf (groupsAlone groups)) ≡ planOf (problemOf (surveyFrom groups firsts seconds weights)) .terminals
+unfolding planOf terminals terminal problemOf sameGroup member vertexCount
+plan-terminals groups firsts seconds weights = refl
 
 -- ---- after growing
 
@@ -226,12 +232,12 @@ module _ {s : Survey} {marksLength recordsLength : ℕ} (ready : Ready s marksLe
   pub finish-plan : (marks records : List ℕ) {marked drawn : List ℕ} {count k c rounds duals : ℕ} → length marks ≡ marksLength → length records ≡ recordsLength →
       marked ≡ marksPruned s picks marks →
       count ≡ length (drawnDuals trace (length records)) → drawn ≡ recordsOver (drawnDuals trace (length records)) records →
-      k ≡ terminals (problemOf (groupsAlone (s .groups))) → c ≡ cost (problemOf (surveyFrom [] (s .firsts) [] (s .weights))) (keptBy marked) → rounds ≡ g .rounds → duals ≡ count →
+      k ≡ planOf P .terminals → c ≡ cost (problemOf (surveyFrom [] (s .firsts) [] (s .weights))) (keptBy marked) → rounds ≡ g .rounds → duals ≡ count →
       (plannedOutcome (Finished k c (g .bound) rounds duals) ≡ answer (planCountsOf (planOf P)))
       × ((marked ≡ planOf P .marks ++ drop (length (s .firsts)) marks) × (drawn ≡ recordsOver (planOf P .duals) records))
   unfolding plannedOutcome planCountsOf
   finish-plan marks records {marked} {k = k} {c = c} {rounds = rounds} {duals = duals} long room h-marks h-count h-drawn h-k h-c h-rounds h-duals = (
-    rw (h-k ∙ plan-terminals s, c-is, bound-plan, h-rounds ∙ rounds-plan, h-duals ∙ h-count ∙ ap length (duals-plan records room)),
+    rw (h-k, c-is, bound-plan, h-rounds ∙ rounds-plan, h-duals ∙ h-count ∙ ap length (duals-plan records room)),
     (marks-are, h-drawn ∙ ap (λ d. recordsOver d records) (duals-plan records room)),
   )
     where
@@ -244,3 +250,52 @@ module _ {s : Survey} {marksLength recordsLength : ℕ} (ready : Ready s marksLe
           ∙ ap (λ l. cost (problemOf (surveyFrom [] (s .firsts) [] (s .weights))) (keptBy l)) marks-are
           ∙ front-cost s (drop (length (s .firsts)) marks)
           ∙ marks-cost s (ready .survey) (ready .joinable)
+
+-- ---- lists and poured groups
+
+module _ (s : Survey) (sound : SurveySound s) {part : List ℕ} (part-is : part ≡ pouredGroups (listsOf s)) where
+  abbrev into : Survey
+  into = surveyFrom part (s .firsts) (s .seconds) (s .weights)
+
+  into-is : into ≡ pouredSurvey s
+  into-is = ap (λ (groups : List ℕ). surveyFrom groups (s .firsts) (s .seconds) (s .weights)) part-is
+
+  same-plan : planOf (problemOf s) ≡ planOf (problemOf (pouredSurvey s))
+  unfolding planOf
+  same-plan =
+      let p = poured-plan s (sound .pairs) in
+      λ i.
+      record {
+        terminals = p .same-terminals i;
+        cost = p .same-cost i;
+        bound = p .same-bound i;
+        rounds = p .same-rounds i;
+        marks = p .same-marks i;
+        duals = p .same-duals i;
+      }
+
+  -- The poured groups have the plan of the lists.
+  pub plan-poured : planOf (problemOf into) ≡ planOf (problemOf s)
+  plan-poured = ap (λ (q : Survey). planOf (problemOf q)) into-is ∙ sym same-plan
+
+  pub poured-counts : {o : Outcome PlanCounts} → o ≡ answer (planCountsOf (planOf (problemOf into))) → o ≡ answer (planCountsOf (planOf (problemOf s)))
+  poured-counts h = h ∙ ap (λ (q : Plan). answer (planCountsOf q)) plan-poured
+
+  pub poured-marks : (rest : List ℕ) {marked : List ℕ} → marked ≡ planOf (problemOf into) .marks ++ rest → marked ≡ planOf (problemOf s) .marks ++ rest
+  poured-marks rest h = h ∙ ap (λ (q : Plan). q .marks ++ rest) plan-poured
+
+  pub poured-records : (records : List ℕ) {drawn : List ℕ} → drawn ≡ recordsOver (planOf (problemOf into) .duals) records → drawn ≡ recordsOver (planOf (problemOf s) .duals) records
+  poured-records records h = h ∙ ap (λ (q : Plan). recordsOver (q .duals) records) plan-poured
+
+-- Where nothing stops the lists, nothing stops the poured groups.
+pub ready-poured : (s : Survey) {marksLength recordsLength : ℕ} (ready : Ready s marksLength recordsLength) {part : List ℕ} → part ≡ pouredGroups (listsOf s)
+    → Ready (surveyFrom part (s .firsts) (s .seconds) (s .weights)) marksLength recordsLength
+unfolding vertexCount edgeCount problemOf allUsable
+ready-poured s {marksLength} {recordsLength} ready part-is =
+    subst (λ (q : Survey). Ready q marksLength recordsLength) (sym (into-is s (ready .survey) part-is))
+    (record {
+      survey = poured-sound s (ready .survey);
+      marks-fit = ready .marks-fit;
+      records-fit = rw (length-poured (listsOf s)) (ready .records-fit);
+      joinable = poured-joins s (ready .survey .pairs) (allUsable (problemOf s)) (all-bounded s) .0 (ready .joinable);
+    })

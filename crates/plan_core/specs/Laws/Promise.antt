@@ -9,7 +9,7 @@ use mathlib.Core.List.{List, _++_}
 use native.Mathlib.Omega.{arith}
 use lib.ListN.{length, take, drop}
 use lib.Seq.{take-at}
-use lib.Dec.{ltb, lit≤}
+use lib.Dec.{ltb}
 use borrow.Author.Tests.{ltb-false}
 use Rattle.base_finite.specs.Laws.Test.{or-false-left, or-false-right, not-of-false, not-true-false}
 use Rattle.base_finite.specs.Below.{countBelow}
@@ -24,12 +24,13 @@ use Rattle.theory_steiner.specs.Growth.{active, stateAt, grown}
 use Rattle.theory_steiner.specs.Pruning.{picked}
 use Rattle.theory_steiner.specs.Rounds.{boundOfRounds, TakesRounds}
 use Rattle.theory_steiner.specs.Laws.Rounds.{rounds-lt, takes-rounds, grown-reached, picked-count, bound-of-rounds}
-use Rattle.survey_core.specs.Survey.{Survey, vertexCount, edgeCount, problemOf, groupJoined, componentsOf}
+use Rattle.survey_core.specs.Survey.{Survey, listsOf, vertexCount, edgeCount, problemOf, groupJoined, componentsOf}
 use Rattle.survey_core.specs.Refusal.{edgeRefusal, surveyRefusal, groupRefusal, LowestUnjoined}
 use Rattle.survey_core.specs.Laws.Refusal.{survey-fine, fine-survey, survey-sound}
 use Rattle.survey_core.specs.Sound.{ByteGroups}
-use Rattle.survey_core.specs.Laws.Group.{group-joined-elim, group-joined-intro, group-refused, unjoinable-iff}
-use Rattle.survey_core.specs.Laws.Member.{member-elim}
+use Rattle.survey_core.specs.Lists.{Lists}
+use Rattle.survey_core.specs.Pairs.{pairRefusal, pairsRefusal}
+use Rattle.survey_core.specs.Laws.Group.{member-byte, group-joined-elim, group-joined-intro, group-refused, unjoinable-iff}
 use Rattle.theory_steiner.specs.Laws.Finish.{allUsable-edges, grown-resting}
 use Rattle.plan_duals.specs.Drawing.{recordsOf, recordsOver}
 use Rattle.plan_duals.specs.Laws.Drawing.{length-records}
@@ -45,31 +46,41 @@ unfolding _before_
 before-cases Fine w h = inr (refl, h)
 before-cases (Refused a b) w h = inl h
 
--- No refusal above k comes of it.
-record AtMost (k : ℕ) (v : Verdict) : Type 0 where
-  bounded : (number place : ℕ) → v ≡ Refused number place → number ≤ k
+-- The refusal k does not come of it.
+record Never (k : ℕ) (v : Verdict) : Type 0 where
+  other : (number place : ℕ) → v ≡ Refused number place → number ≡ k → ⊥
 
-refuse-at-most : (t : Bool) (k a b : ℕ) → a ≤ k → AtMost k (refuseIf t a b)
-refuse-at-most t k a b le = record { bounded = λ number place h. let e = refused-refuse t a b number place h .1 .0 in omega arith }
+refuse-never : (t : Bool) (k a b : ℕ) → (a ≡ k → ⊥) → Never k (refuseIf t a b)
+refuse-never t k a b d = record { other = λ number place h q. d (refused-refuse t a b number place h .1 .0 ∙ q) }
 
-before-at-most : (k : ℕ) (v w : Verdict) → AtMost k v → AtMost k w → AtMost k (v before w)
-before-at-most k v w x y =
-    record { bounded = λ number place h. ⊎-elim (x .bounded number place) (λ p. y .bounded number place (p .1)) (before-cases v w h) }
+before-never : (k : ℕ) (v w : Verdict) → Never k v → Never k w → Never k (v before w)
+before-never k v w x y =
+    record { other = λ number place h. ⊎-elim (x .other number place) (λ p. y .other number place (p .1)) (before-cases v w h) }
 
-lowest-at-most : (k n : ℕ) (f : ℕ → Verdict) → ((i : ℕ) → AtMost k (f i)) → AtMost k (lowestBelow n f)
-lowest-at-most k n f x =
-    record { bounded = λ number place h. let l : Lowest n f number place = lowest-elim n f number place h in x (l .at) .bounded number place (l .found) }
+lowest-never : (k n : ℕ) (f : ℕ → Verdict) → ((i : ℕ) → Never k (f i)) → Never k (lowestBelow n f)
+lowest-never k n f x =
+    record { other = λ number place h. let l : Lowest n f number place = lowest-elim n f number place h in x (l .at) .other number place (l .found) }
 
-survey-at-most : (s : Survey) → AtMost 6 (surveyRefusal s)
-unfolding surveyRefusal edgeRefusal
-survey-at-most s =
-    before-at-most 6 _ _ (refuse-at-most _ 6 1 0 (lit≤ tt))
-    (before-at-most 6 _ _ (refuse-at-most _ 6 2 0 (lit≤ tt))
-    (before-at-most 6 _ _ (refuse-at-most _ 6 3 0 (lit≤ tt))
-    (lowest-at-most 6 (edgeCount s) (edgeRefusal s)
+-- 1 to 6 and 18 are not 8.
+pair-never : (l : Lists) (i : ℕ) → Never 8 (pairRefusal l i)
+unfolding pairRefusal
+pair-never l i =
+    let no : (t : Bool) → Never 8 (refuseIf t 18 i) = λ t. refuse-never t 8 18 i (λ e. omega arith) in
+    before-never 8 _ _ (no _) (before-never 8 _ _ (no _) (before-never 8 _ _ (no _) (before-never 8 _ _ (no _) (no _))))
+
+survey-never : (s : Survey) → Never 8 (surveyRefusal s)
+unfolding surveyRefusal edgeRefusal pairsRefusal
+survey-never s =
+    before-never 8 _ _ (refuse-never _ 8 1 0 (λ e. omega arith))
+    (before-never 8 _ _ (refuse-never _ 8 2 0 (λ e. omega arith))
+    (before-never 8 _ _ (refuse-never _ 8 2 0 (λ e. omega arith))
+    (before-never 8 _ _ (refuse-never _ 8 3 0 (λ e. omega arith))
+    (before-never 8 _ _
+    (lowest-never 8 (edgeCount s) (edgeRefusal s)
     (λ e.
-    before-at-most 6 _ _ (refuse-at-most _ 6 4 e (lit≤ tt))
-    (before-at-most 6 _ _ (refuse-at-most _ 6 5 e (lit≤ tt)) (refuse-at-most _ 6 6 e (lit≤ tt)))))))
+    before-never 8 _ _ (refuse-never _ 8 4 e (λ q. omega arith))
+    (before-never 8 _ _ (refuse-never _ 8 5 e (λ q. omega arith)) (refuse-never _ 8 6 e (λ q. omega arith)))))
+    (lowest-never 8 (length (s .owners)) (pairRefusal (listsOf s)) (pair-never (listsOf s)))))))
 
 -- ---- 8
 
@@ -88,7 +99,7 @@ module _ (s : Survey) (marksLength recordsLength : ℕ) where
 
       first-stage : (surveyRefusal s ≡ Refused 8 g) ⊎ ((surveyRefusal s ≡ Fine) × (Rest ≡ Refused 8 g)) →
           (surveyRefusal s ≡ Fine) × (refuseIf short 7 0 ≡ Fine) × (groupRefusal s 8 (allUsable (problemOf s)) ≡ Refused 8 g)
-      first-stage (inl k) = absurd (let b = survey-at-most s .bounded 8 g k in omega arith)
+      first-stage (inl k) = absurd (survey-never s .other 8 g k refl)
       first-stage (inr k) = second-stage (before-cases _ _ (k .1))
         where
           second-stage : (refuseIf short 7 0 ≡ Refused 8 g) ⊎ ((refuseIf short 7 0 ≡ Fine) × (groupRefusal s 8 (allUsable (problemOf s)) ≡ Refused 8 g)) →
@@ -133,7 +144,7 @@ module _ (s : Survey) (marksLength recordsLength : ℕ) where
           (λ out.
           absurd
           (u .none-joins (allUsable (problemOf s)) (allUsable-edges (problemOf s))
-          (λ a b ba bb ma mb. absurd (let n = numbered a in let e = member-elim s g a ma .same in omega arith))))
+          (λ a b ba bb ma mb. absurd (let n = member-byte s numbered g a ma in omega arith))))
           (lt-or-ge g groupNumbers)
 
 -- ---- rounds, checker and accuracy
