@@ -1,4 +1,5 @@
-// Component labels in a lent buffer: one relabelling for each edge that joins two components.
+// Component labels in a lent buffer: one relabelling for each edge that joins two components. What they decide: groups
+// that a set of tracks leaves apart, and tracks that close a loop.
 ghost use Rattle.base_buffer.specs.Lent.{old, new};
 ghost use mathlib.Core.Path.{_≡_};
 ghost use Prim.Native.Nat.{ℕ, _<_};

@@ -9,15 +9,16 @@ use Rattle.theory_steiner.specs.Growth.{State, active, numbers, Winner, 
 unfoldable pub activeCount : Problem → State → ℕ
 activeCount p s = countBelow (numbers p s) (active p (s .label))
 
--- The delay of round r + 1, or 0 where there is none.
+-- The delay of a round by its winner; 0 where there is none.
 unfoldable pub delayOrZero : Winner → ℕ
 delayOrZero nobody = 0
 delayOrZero (edge e d) = d
 
+-- That of the round after r rounds.
 unfoldable pub roundDelay : Problem → ℕ → ℕ
 roundDelay p r = delayOrZero (winner p (stateAt p r))
 
--- Document 01's second reading of the bound: over the first r rounds, the sum of the wait times the number of growing components.
+-- Document 01's other figure for the bound: over the first r rounds, the sum of the wait times the number of growing components.
 unfoldable pub boundOfRounds : Problem → ℕ → ℕ
 boundOfRounds p r = sumBelow r (λ i. roundDelay p i * activeCount p (stateAt p i))
 
