@@ -1,6 +1,6 @@
 -- `format_number::class_from` meets its contract: past the end no byte stands, and classes are compared by their numbers.
 use borrow.Author.Needs.{needs}
-use mathlib.Core.Path.{refl, sym}
+use mathlib.Core.Path.{sym}
 use borrow.Author.Tests.{le-ltb, lt-ltb}
 use Rattle.format_number.specs.Number.{isClass}
 use Rattle.format_number.proofs.class_from.Statement.{statement}

@@ -2,19 +2,15 @@
 use native.Mathlib.Omega.{arith}
 use borrow.Author.Needs.{needs}
 use mathlib.Core.Path.{sym, _∙_}
-use lib.ListN.{getD}
-use borrow.Author.Tests.{eqb-true}
 use Rattle.format_number.specs.Number.{numeralEnd}
-use Rattle.format_number.specs.Laws.Byte.{is-zero}
-use Rattle.format_grammar.specs.Laws.Bytes.{read-inside}
+use Rattle.format_number.specs.Laws.Byte.{is-zero, class-inside}
 use Rattle.format_number.proofs.numeral_end.Statement.{statement}
 use Rattle.format_number.proofs.numeral_end.Tie as tie
 
 add-result : tie.Need-add-result
 add-result c =
     let a = c .before .before .before .args in
-    let z = eqb-true (getD (a .text .now) (a .at) 0) 48 (sym (is-zero (a .text .now) (a .at)) ∙ sym (c .before .class-from .ensures) ∙ c .if1 .taken) in
-    omega (arith, read-inside (a .text .now) (a .at) (omega arith))
+    omega (arith, class-inside (a .text .now) (a .at) _ (sym (c .before .class-from .ensures) ∙ c .if1 .taken))
 
 returns : tie.Need-returns
 unfolding numeralEnd
