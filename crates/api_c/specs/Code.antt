@@ -11,7 +11,7 @@ use Rattle.survey_core.specs.Survey.{Survey}
 use Rattle.survey_core.specs.Refusal.{surveyRefusal}
 use Rattle.plan_core.specs.Plan.{PlanCounts}
 use Rattle.check_rule.specs.Check.{Checked}
-use Rattle.format_survey.specs.Reading.{SurveyText}
+use Rattle.format_survey_lines.specs.Line.{SurveyCounts}
 use Rattle.format_print.specs.declared.Printed.{Printed}
 use Rattle.format_print.specs.declared.Printed.the-variants.{Length, Refused as RefusedPrint}
 
@@ -62,8 +62,8 @@ unfoldable pub verdictOf : {A : Type 0} → Outcome A → Verdict
 verdictOf (refusal number place) = Refused number place
 verdictOf (answer a) = Fine
 
-unfoldable pub readFiguresOf : SurveyText → List ℕ
-readFiguresOf s = s .vertices ∷ s .edges ∷ []
+unfoldable pub readFiguresOf : SurveyCounts → List ℕ
+readFiguresOf c = c .vertices ∷ c .edges ∷ []
 
 -- The lent counts after an outcome; a refusal writes nothing.
 unfoldable pub countsFor : {A : Type 0} → Outcome A → (figures : A → List ℕ) → (counts : List ℕ) → List ℕ

@@ -11,6 +11,7 @@ ghost use Rattle.survey_core.specs.Survey.{lentSurvey};
 ghost use Rattle.survey_core.specs.Refusal.{surveyRefusal};
 ghost use Rattle.format_write.specs.Text.{planText};
 ghost use Rattle.format_survey.specs.Reading.{filled};
+ghost use Rattle.format_survey.specs.Answer.{countsOf, countsOutcome};
 ghost use Rattle.api_c.specs.Code.{placeUnit, codeOf, verdictOf, readFiguresOf, countsFor};
 ghost use Rattle.api_c.specs.Code.{lentOn, printedCode, printedCounts};
 ghost use Rattle.api_c.specs.Call.{planCall, planMarks, planRecords, planCounts, checkCall, checkCounts};
@@ -171,6 +172,25 @@ fn store_two(counts: &mut [u64], vertices: u64, edges: u64)
     put64(counts, 1, edges);
 }
 
+// What reading answered, as one number; `counts` gets n and m.
+fn read_code(answer: Reading, counts: &mut [u64]) -> u64
+    requires { ⌜ codeOf (verdictOf (countsOutcome answer)) < 2 ^ 64 ⌝ }
+    ensures { λ r. ⌜ r ≡ codeOf (verdictOf (countsOutcome answer)) ⌝ }
+    ensures { λ _. ⌜ new counts ≡ countsFor (countsOutcome answer) readFiguresOf (old counts) ⌝ }
+{
+    match answer {
+        Reading::Survey { vertices, edges } => {
+            store_two(
+                counts,
+                base_buffer::wide(vertices),
+                base_buffer::wide(edges),
+            );
+            0
+        }
+        Reading::Refused { number, place } => code(number, place),
+    }
+}
+
 // Reads a survey's text. `counts` gets n and m.
 #[no_mangle]
 pub extern "C" fn foamsickle_read(
@@ -198,21 +218,11 @@ pub extern "C" fn foamsickle_read(
         ⌜ new weights ≡ filled read (λ s. s .weights) (old weights) ⌝ }
     ensures counts { λ _.
         let read = readCall (old text) (old groups) (old firsts) (old seconds) (old weights) (old counts) in
-        ⌜ new counts ≡ countsFor read readFiguresOf (old counts) ⌝ }
+        ⌜ new counts ≡ countsFor (countsOf read) readFiguresOf (old counts) ⌝ }
 {
     let room = lent_on(counts.len(), READ_FIGURES, groups.len());
     let answer = format_survey::read(text, &mut groups[0..room], firsts, seconds, weights);
-    match answer {
-        Reading::Survey { vertices, edges } => {
-            store_two(
-                counts,
-                base_buffer::wide(vertices),
-                base_buffer::wide(edges),
-            );
-            0
-        }
-        Reading::Refused { number, place } => code(number, place),
-    }
+    read_code(answer, counts)
 }
 
 // What printing answered, as one number; `counts` gets the text's length.

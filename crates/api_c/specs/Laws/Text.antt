@@ -78,51 +78,45 @@ module _ (wanted : ℕ) (counts l : List ℕ) {room : ℕ} (lent : room ≡ lent
 
 -- ---- reading
 
--- What the library's answer says of the outcome.
-counts-answer : (read : Outcome SurveyText) {counts : SurveyCounts} → answer counts ≡ countsOf read → (s : SurveyText) × (read ≡ answer s) × (counts ≡ record { vertices = s .vertices; edges = s .edges })
-unfolding countsOf
-counts-answer (answer s) e = (s, refl, cc)
-counts-answer (refusal number place) e = let z : _≡_ {A = ℕ} 0 1 = cc in absurd (omega arith)
+-- The arms of `read_code`.
+module _ {p : Reading} where
+  pub read-refused-fits : {number place : ℕ} → codeOf (verdictOf (countsOutcome p)) < 2 ^ 64 → p ≡ ReadingRefused number place → number + placeUnit * place < 2 ^ 64
+  unfolding codeOf verdictOf countsOutcome
+  read-refused-fits h e = let same = ap (λ (q : Reading). codeOf (verdictOf (countsOutcome q))) e in omega arith
 
-counts-refusal : (read : Outcome SurveyText) {number place : ℕ} → refusal number place ≡ countsOf read → read ≡ refusal number place
-unfolding countsOf
-counts-refusal (answer s) e = let z : _≡_ {A = ℕ} 0 1 = cc in absurd (omega arith)
-counts-refusal (refusal i j) {number} {place} e = let a : number ≡ i = cc in let b : place ≡ j = cc in cc
+  pub read-refused-answers : {number place code : ℕ} (counts : List ℕ) → p ≡ ReadingRefused number place → code ≡ number + placeUnit * place
+      → (code ≡ codeOf (verdictOf (countsOutcome p))) × (counts ≡ countsFor (countsOutcome p) readFiguresOf counts)
+  unfolding codeOf verdictOf countsOutcome countsFor
+  read-refused-answers counts e h =
+      (h ∙ sym (ap (λ (q : Reading). codeOf (verdictOf (countsOutcome q))) e), sym (ap (λ (q : Reading). countsFor (countsOutcome q) readFiguresOf counts) e))
 
-module _ (read : Outcome SurveyText) {r : Reading} (answered : countsOutcome r ≡ countsOf read) where
-  read-code : {n m : ℕ} → r ≡ SurveyFound n m → 0 ≡ codeOf (verdictOf read)
-  unfolding countsOutcome codeOf verdictOf
-  read-code h =
-      let found = counts-answer read (ap countsOutcome (sym h) ∙ answered) in
-      sym (ap (λ (o : Outcome SurveyText). codeOf (verdictOf o)) (found .1))
+  pub read-answers : {n m x y : ℕ} {counts′ : List ℕ} (counts : List ℕ) → p ≡ SurveyFound n m → x ≡ n → y ≡ m → counts′ ≡ sets counts 0 (x ∷ y ∷ [])
+      → (0 ≡ codeOf (verdictOf (countsOutcome p))) × (counts′ ≡ countsFor (countsOutcome p) readFiguresOf counts)
+  unfolding codeOf verdictOf countsOutcome countsFor readFiguresOf
+  read-answers {n = n} {y = y} counts e f g h = (
+    sym (ap (λ (q : Reading). codeOf (verdictOf (countsOutcome q))) e),
+    h ∙ ap (λ (a : ℕ). sets counts 0 (a ∷ y ∷ [])) f ∙ ap (λ (b : ℕ). sets counts 0 (n ∷ b ∷ [])) g
+        ∙ sym (ap (λ (q : Reading). countsFor (countsOutcome q) readFiguresOf counts) e),
+  )
 
-  read-stored : {n m : ℕ} → r ≡ SurveyFound n m → (counts : List ℕ) {stored : List ℕ} → stored ≡ sets counts 0 (n ∷ m ∷ [])
-      → stored ≡ countsFor read readFiguresOf counts
-  unfolding countsOutcome countsFor readFiguresOf
-  read-stored h counts k =
-      let found = counts-answer read (ap countsOutcome (sym h) ∙ answered) in
-      k ∙ ap (λ (c : SurveyCounts). sets counts 0 (c .vertices ∷ c .edges ∷ [])) (found .2)
-      ∙ sym (ap (λ (o : Outcome SurveyText). countsFor o readFiguresOf counts) (found .1))
+pub read-fits : (t groups firsts seconds weights : List ℕ) {counts : Outcome SurveyCounts} → counts ≡ countsOf (reading t groups firsts seconds weights)
+    → codeOf (verdictOf counts) < 2 ^ 64
+unfolding codeOf verdictOf countsOf
+read-fits t groups firsts seconds weights {counts} same = by-outcome (reading t groups firsts seconds weights) refl
+  where
+    by-outcome : (read : Outcome SurveyText) → reading t groups firsts seconds weights ≡ read → codeOf (verdictOf counts) < 2 ^ 64
+    by-outcome (refusal number place) e =
+        let is = ap (λ (o : Outcome SurveyCounts). codeOf (verdictOf o)) (same ∙ ap countsOf e) in
+        let s = reading-small t groups firsts seconds weights e in
+        let a = s .0 in
+        let b = s .1 in
+        omega arith
+    by-outcome (answer s) e = let is = ap (λ (o : Outcome SurveyCounts). codeOf (verdictOf o)) (same ∙ ap countsOf e) in omega arith
 
-  read-is : {number place : ℕ} → r ≡ ReadingRefused number place → read ≡ refusal number place
-  unfolding countsOutcome
-  read-is h = counts-refusal read (ap countsOutcome (sym h) ∙ answered)
-
-  read-refused : {number place x : ℕ} → r ≡ ReadingRefused number place → x ≡ number + placeUnit * place → x ≡ codeOf (verdictOf read)
-  unfolding codeOf verdictOf
-  read-refused h k = k ∙ sym (ap (λ (o : Outcome SurveyText). codeOf (verdictOf o)) (read-is h))
-
-  read-kept : {number place : ℕ} → r ≡ ReadingRefused number place → (counts : List ℕ) → counts ≡ countsFor read readFiguresOf counts
-  unfolding countsFor
-  read-kept h counts = sym (ap (λ (o : Outcome SurveyText). countsFor o readFiguresOf counts) (read-is h))
-
-pub read-fits : (t groups firsts seconds weights : List ℕ) {r : Reading} → countsOutcome r ≡ countsOf (reading t groups firsts seconds weights)
-    → {number place : ℕ} → r ≡ ReadingRefused number place → number + placeUnit * place < 2 ^ 64
-read-fits t groups firsts seconds weights answered h =
-    let s = reading-small t groups firsts seconds weights (read-is (reading t groups firsts seconds weights) answered h) in
-    let a = s .0 in
-    let b = s .1 in
-    omega arith
+verdict-counts : (read : Outcome SurveyText) → verdictOf (countsOf read) ≡ verdictOf read
+unfolding verdictOf countsOf
+verdict-counts (refusal number place) = refl
+verdict-counts (answer s) = refl
 
 -- Without room for a group there is no answer.
 pub no-room-refused : (t firsts seconds weights : List ℕ) → (number place : ℕ) × (reading t [] firsts seconds weights ≡ refusal number place)
@@ -167,12 +161,8 @@ module _ (t groups firsts seconds weights counts : List ℕ) {room : ℕ} (lent 
   unfolding readCall
   short-read h = rw h (no-room-refused t firsts seconds weights)
 
-  module _ (r : Reading) {held firsts′ seconds′ weights′ : List ℕ}
-      (read : SurveyRead t (countsOutcome r) (take (room - 0) groups) held firsts firsts′ seconds seconds′ weights weights′) where
-    answered : countsOutcome r ≡ countsOf call
-    answered = read .0 ∙ ap countsOf lent-read
-
-    -- The five clauses about buffers, but for the counts.
+  module _ {held firsts′ seconds′ weights′ : List ℕ} {found : Outcome SurveyCounts}
+      (read : SurveyRead t found (take (room - 0) groups) held firsts firsts′ seconds seconds′ weights weights′) where
     groups-left : held ++ drop (room - 0) groups ≡ filled call (λ s. s .groups) groups
     groups-left =
         ap (λ (l : List ℕ). l ++ drop (room - 0) groups) (read .1 .0 ∙ ap (λ (o : Outcome SurveyText). filled o (λ s. s .groups) (take (room - 0) groups)) lent-read)
@@ -183,34 +173,29 @@ module _ (t groups firsts seconds weights counts : List ℕ) {room : ℕ} (lent 
     buffer-left : (values : SurveyText → List ℕ) (l : List ℕ) {l′ : List ℕ} → l′ ≡ filled (reading t (take (room - 0) groups) firsts seconds weights) values l → l′ ≡ filled call values l
     buffer-left values l h = h ∙ ap (λ (o : Outcome SurveyText). filled o values l) lent-read
 
-    abbrev Left : (code : ℕ) (counts′ : List ℕ) → Type 0
-    Left code counts′ =
-        (code ≡ codeOf (verdictOf call))
+    pub read-into : {code : ℕ} {counts′ : List ℕ} → code ≡ codeOf (verdictOf found) → counts′ ≡ countsFor found readFiguresOf counts
+        → (code ≡ codeOf (verdictOf call))
         × ((held ++ drop (room - 0) groups ≡ filled call (λ s. s .groups) groups)
         × ((firsts′ ≡ filled call (λ s. s .firsts) firsts)
-        × ((seconds′ ≡ filled call (λ s. s .seconds) seconds) × ((weights′ ≡ filled call (λ s. s .weights) weights) × (counts′ ≡ countsFor call readFiguresOf counts)))))
-
-    buffers-left : {code : ℕ} {counts′ : List ℕ} → code ≡ codeOf (verdictOf call) → counts′ ≡ countsFor call readFiguresOf counts → Left code counts′
-    buffers-left h k = (
-      h,
-      (
-        groups-left,
-        (
-          buffer-left (λ s. s .firsts) firsts (read .1 .1 .0),
-          (buffer-left (λ s. s .seconds) seconds (read .1 .1 .1 .0), (buffer-left (λ s. s .weights) weights (read .1 .1 .1 .1), k)),
-        ),
-      ),
-    )
-
-    -- n and m
-    pub read-found : {n m x y : ℕ} {counts′ : List ℕ} → r ≡ SurveyFound n m → x ≡ n → y ≡ m → counts′ ≡ sets counts 0 (x ∷ y ∷ []) → Left 0 counts′
-    read-found {n = n} {y = y} h e f k =
-        buffers-left (read-code call answered h)
-        (read-stored call answered h counts (k ∙ ap (λ (a : ℕ). sets counts 0 (a ∷ y ∷ [])) e ∙ ap (λ (b : ℕ). sets counts 0 (n ∷ b ∷ [])) f))
-
-    -- a refusal
-    pub read-stopped : {number place code : ℕ} → r ≡ ReadingRefused number place → code ≡ number + placeUnit * place → Left code counts
-    read-stopped h k = buffers-left (read-refused call answered h k) (read-kept call answered h counts)
+        × ((seconds′ ≡ filled call (λ s. s .seconds) seconds)
+        × ((weights′ ≡ filled call (λ s. s .weights) weights) × (counts′ ≡ countsFor (countsOf call) readFiguresOf counts)))))
+    read-into h k =
+        let same : found ≡ countsOf call = read .0 ∙ ap countsOf lent-read in (
+          h ∙ ap (λ (o : Outcome SurveyCounts). codeOf (verdictOf o)) same ∙ ap codeOf (verdict-counts call),
+          (
+            groups-left,
+            (
+              buffer-left (λ s. s .firsts) firsts (read .1 .1 .0),
+              (
+                buffer-left (λ s. s .seconds) seconds (read .1 .1 .1 .0),
+                (
+                  buffer-left (λ s. s .weights) weights (read .1 .1 .1 .1),
+                  k ∙ ap (λ (o : Outcome SurveyCounts). countsFor o readFiguresOf counts) same,
+                ),
+              ),
+            ),
+          ),
+        )
 
 -- ---- printing
 
