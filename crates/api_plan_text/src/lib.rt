@@ -33,7 +33,16 @@ fn plan_survey(
     let mut marks = [0u8; MAX_EDGES];
     let mut records = [0u8; RECORDS_ROOM];
     let edges = firsts.len();
-    match plan_core::plan(groups, firsts, seconds, weights, &mut marks, &mut records) {
+    match plan_core::plan(
+        groups,
+        firsts,
+        seconds,
+        weights,
+        &[],
+        &[],
+        &mut marks,
+        &mut records,
+    ) {
         Planned::Refused { number, place } => format_print::print_refusal(number, place, out),
         Planned::Finished {
             terminals,

@@ -121,7 +121,7 @@ fn judge(
         let s = lentSurvey groups firsts seconds weights in
         ⌜ verifiedOutcome r ≡ claimsJudged (checking s (old marks) (old records)) terminals cost bound ⌝ }
 {
-    let found = check_core::check(groups, firsts, seconds, weights, marks, records);
+    let found = check_core::check(groups, firsts, seconds, weights, &[], &[], marks, records);
     let Checking::Passed {
         terminals: k,
         cost: c,
