@@ -19,6 +19,7 @@ use Rattle.format_grammar.specs.Laws.Step.{then-value}
 use Rattle.format_survey_lines.specs.Laws.Tests.{group-below}
 use Rattle.survey_core.specs.Survey.{edgeCount}
 use Rattle.survey_core.specs.Sound.{ByteGroups}
+use Rattle.survey_core.specs.Laws.Group.{plain-bytes}
 use Rattle.check_rule.specs.Check.{Checked, checking}
 use Rattle.check_rule.specs.Laws.Accuracy.{checking-accurate}
 use Rattle.format_plan.specs.Plan.{Claims, PrintedPlan, marksOf, dualRecords}
@@ -44,7 +45,7 @@ prefix-numbered a b c d t {s} {at} e =
     let two = then-value (linesAt t (one .0 .vertices) (one .0 .edges) (one .1) .end) _ (one .3) in
     let body = linesAt t (one .0 .vertices) (one .0 .edges) (one .1) in
     let same : surveyOf (one .0) (body .groups) (body .edges) ≡ s = cc (two .3) in
-    subst (λ x. ByteGroups (surveyIn x)) same (λ v. groups-below t (one .0 .vertices) 0 (one .1) v)
+    subst (λ x. ByteGroups (surveyIn x)) same (plain-bytes _ _ _ _ (λ v. groups-below t (one .0 .vertices) 0 (one .1) v))
 
 judged-answer : (o : Outcome Checked) (k c b : ℕ) {x : Checked} → claimsJudged o k c b ≡ answer x → o ≡ answer x
 unfolding claimsJudged outcome
