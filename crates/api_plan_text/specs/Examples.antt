@@ -8,6 +8,8 @@ use Rattle.theory_steiner.specs.Problem.{allUsable, joined, cost, separates, te
 use Rattle.theory_steiner.specs.Growth.{start, active, numbers, load, slack, delayOf, activeEnds, delayFor, delay, better, winnerBelow, winner, pick, advance, stateAt, grown}
 use Rattle.theory_steiner.specs.Dual.{dualsOf}
 use Rattle.theory_steiner.specs.Pruning.{needed, picked, kept, markOf, mark, dualBound}
+use Rattle.survey_core.specs.Lists.{isPaired, inList, sameList}
+use Rattle.survey_core.specs.Pairs.{pairsRefusal}
 use Rattle.survey_core.specs.Survey.{vertexCount, edgeCount, member, sameGroup, problemOf, groupJoined, componentsOf}
 use Rattle.survey_core.specs.Refusal.{edgeRefusal, surveyRefusal, groupRefusal}
 use Rattle.plan_duals.specs.Drawing.{recordsOf}
@@ -29,7 +31,7 @@ pub p3-output : planOutput (ascii "nodes=3\nlinks=2\nnode=1\nnode=0\nnode=1\nlin
     ≡ ascii "sites=2\ncost=7\nbound=14\nrounds=2\nkeep=0\nkeep=1\nmoat=6:0\nmoat=7:2\nmoat=1:0,1\n"
 unfolding counted sumBelow countBelow anyBelow allBelow thoseBelow tabulate lookup memo refuseIf _before_ lowestBelow outcome without merged components
     allUsable joined cost separates terminal terminals start active numbers load slack delayOf activeEnds delayFor delay better winnerBelow winner pick advance stateAt grown dualsOf
-    needed picked kept markOf mark dualBound vertexCount edgeCount member sameGroup problemOf groupJoined componentsOf edgeRefusal surveyRefusal groupRefusal
+    needed picked kept markOf mark dualBound vertexCount edgeCount isPaired inList sameList pairsRefusal member sameGroup problemOf groupJoined componentsOf edgeRefusal surveyRefusal groupRefusal
     recordsOf planOf planRefusal planning bitAt byteOf bytesOf memberAt lowBytes numberOf recordOf valueIn memberIn recordAt
     terminalsKey costKey boundKey roundsKey keptKey dualKey digitsWithin decimal spelledAfter lineOf listed membersOf dualLine textBelow keptLine keptLines dualLines countLines planText
     byteIs fixedAt endAt _then_ checked following linesFrom linesAfter classOf isDigit digitsEnd numeralEnd numeralAt numberAt numberTo numberLine

@@ -45,6 +45,9 @@ planRefusal s marksLength recordsLength =
     before refuseIf (ltb marksLength (edgeCount s) || ltb recordsLength (recordBytes * dualsFor (vertexCount s))) 7 0
     before groupRefusal s 8 (allUsable (problemOf s))
 
+unfoldable pub planning : Survey → (marksLength recordsLength : ℕ) → Outcome Plan
+planning s marksLength recordsLength = outcome (planRefusal s marksLength recordsLength) (planOf (problemOf s))
+
 -- What the call answers in numbers: k, cost, bound, rounds and the number of moats.
 pub record PlanCounts : Type 0 where
   pub terminals : ℕ
