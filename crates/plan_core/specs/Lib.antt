@@ -1,4 +1,5 @@
 pub mod Plan
+pub mod Poured
 pub mod Promise
 pub mod Answer
 pub mod Examples

@@ -260,7 +260,7 @@ module _ (s : Survey) (sound : SurveySound s) {part : List ℕ} (part-is : part 
   into-is : into ≡ pouredSurvey s
   into-is = ap (λ (groups : List ℕ). surveyFrom groups (s .firsts) (s .seconds) (s .weights)) part-is
 
-  same-plan : planOf (problemOf s) ≡ planOf (problemOf (pouredSurvey s))
+  pub same-plan : planOf (problemOf s) ≡ planOf (problemOf (pouredSurvey s))
   unfolding planOf
   same-plan =
       let p = poured-plan s (sound .pairs) in
