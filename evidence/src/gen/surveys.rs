@@ -303,6 +303,7 @@ fn assemble(rng: &mut Rng, n: usize, mut ends: Ends) -> Survey {
         first: ends.iter().map(|track| track.0).collect(),
         second: ends.iter().map(|track| track.1).collect(),
         prices,
+        ..Survey::default()
     }
 }
 
