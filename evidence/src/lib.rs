@@ -1,5 +1,6 @@
-//! Track planning by moats, a second time: every operation of document 01 ("01" below), written from that paper
-//! alone, in its words and its order. The product is held against what stands here.
+//! Track planning by moats, a second time: every operation of document 01 ("01" below), with request No. 2 of document
+//! 02 ("No. 2": groups as lists that may overlap), written from those papers alone, in their words and their order. The
+//! product is held against what stands here.
 //!
 //! | module  | what it answers |
 //! |---------|-----------------|
@@ -28,6 +29,8 @@ pub const MAX_JUNCTIONS: usize = 256;
 pub const MAX_TRACKS: usize = 2_048;
 /// 01, refusal 6: a higher price is refused.
 pub const MAX_PRICE: u32 = 1_000_000;
+/// No. 2, refusal 18: more pairs are refused.
+pub const MAX_PAIRS: usize = 256;
 /// 01, refusal 11: a larger amount is refused.
 pub const MAX_AMOUNT: u64 = 2_000_000;
 /// 01, refusal 9: more records are refused.
@@ -55,13 +58,16 @@ pub fn refuse<T>(number: u32, place: usize) -> Result<T, Refusal> {
     Err(Refusal { number, place: place as u64 })
 }
 
-/// The buffers that describe a survey in a call; n is the length of `groups`, m that of `first`.
+/// The buffers that describe a survey in a call; n is the length of `groups`, m that of `first`. A pair is an owner and
+/// the number of another list that it belongs to.
 #[derive(Clone, Copy, Debug, PartialEq, Eq)]
 pub struct View<'a> {
     pub groups: &'a [u8],
     pub first: &'a [u32],
     pub second: &'a [u32],
     pub prices: &'a [u32],
+    pub owners: &'a [u32],
+    pub others: &'a [u8],
 }
 
 /// A survey that owns its buffers.
@@ -71,21 +77,40 @@ pub struct Survey {
     pub first: Vec<u32>,
     pub second: Vec<u32>,
     pub prices: Vec<u32>,
+    pub owners: Vec<u32>,
+    pub others: Vec<u8>,
 }
 
 impl Survey {
-    /// A survey from its groups and its tracks (end, end, price).
+    /// A survey from its groups and its tracks (end, end, price), without pairs.
     pub fn new(groups: &[u8], tracks: &[(u32, u32, u32)]) -> Survey {
         Survey {
             groups: groups.to_vec(),
             first: tracks.iter().map(|t| t.0).collect(),
             second: tracks.iter().map(|t| t.1).collect(),
             prices: tracks.iter().map(|t| t.2).collect(),
+            ..Survey::default()
+        }
+    }
+
+    /// The same survey with these pairs (v, g).
+    pub fn with_pairs(self, pairs: &[(u32, u8)]) -> Survey {
+        Survey {
+            owners: pairs.iter().map(|pair| pair.0).collect(),
+            others: pairs.iter().map(|pair| pair.1).collect(),
+            ..self
         }
     }
 
     pub fn view(&self) -> View<'_> {
-        View { groups: &self.groups, first: &self.first, second: &self.second, prices: &self.prices }
+        View {
+            groups: &self.groups,
+            first: &self.first,
+            second: &self.second,
+            prices: &self.prices,
+            owners: &self.owners,
+            others: &self.others,
+        }
     }
 }
 
@@ -100,13 +125,14 @@ impl View<'_> {
         self.first.len()
     }
 
-    /// Refusals 1 to 6: the counts and lengths, then the tracks rising, each with 4, 5, 6 in that order.
+    /// Refusals 1 to 6, then 18: the counts and lengths, then the tracks rising, each with 4, 5, 6 in that order, then
+    /// the pairs rising.
     pub fn sound(&self) -> Result<(), Refusal> {
         let (n, m) = (self.n(), self.m());
         if n == 0 || n > MAX_JUNCTIONS {
             return refuse(1, 0);
         }
-        if self.second.len() != m || self.prices.len() != m {
+        if self.second.len() != m || self.prices.len() != m || self.owners.len() != self.others.len() {
             return refuse(2, 0);
         }
         if m > MAX_TRACKS {
@@ -123,17 +149,44 @@ impl View<'_> {
                 return refuse(6, t);
             }
         }
-        Ok(())
+        match (0..self.owners.len()).find(|&i| self.is_bad_pair(i)) {
+            Some(pair) => refuse(18, pair),
+            None => Ok(()),
+        }
     }
 
-    /// The members of a group, rising.
+    /// What 18 is about: v at n or above, g 0 or v's own group, out of rising order, past the 256th.
+    fn is_bad_pair(&self, i: usize) -> bool {
+        let pair = |i: usize| (self.owners[i], self.others[i]);
+        let (v, g) = pair(i);
+        v as usize >= self.n()
+            || g == 0
+            || g == self.groups[v as usize]
+            || (i > 0 && pair(i - 1) >= pair(i))
+            || i >= MAX_PAIRS
+    }
+
+    /// The members of a group, rising: by their own group or by a pair.
     pub fn members(&self, group: u8) -> Vec<usize> {
-        (0..self.n()).filter(|&v| self.groups[v] == group).collect()
+        let mut members: Vec<usize> = (0..self.n()).filter(|&v| self.groups[v] == group).collect();
+        let pairs = self.owners.iter().zip(self.others);
+        members.extend(pairs.filter(|(_, &g)| g == group).map(|(&v, _)| v as usize));
+        members.sort_unstable();
+        members.dedup();
+        members
     }
 
-    /// The sites: the members of groups with two or more members. Group 0 is no group.
+    /// The groups with two or more members. Group 0 is no group.
+    pub fn lists(&self) -> Vec<Vec<usize>> {
+        (1..=255u8).map(|g| self.members(g)).filter(|members| members.len() >= 2).collect()
+    }
+
+    /// The number of sites, which are the members of groups with two or more members, each counted once.
     pub fn sites(&self) -> u64 {
-        (1..=255u8).map(|g| self.members(g).len() as u64).filter(|&members| members >= 2).sum()
+        let mut sites = self.lists().concat();
+        sites.sort_unstable();
+        sites.dedup();
+        sites.len() as u64
     }
 
     /// For each junction the lowest junction that tracks of the set link with it, each walked either way.

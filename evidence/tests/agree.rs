@@ -2,7 +2,7 @@
 //! finished plan.
 
 use evidence::check::{check, Passed};
-use evidence::gen::{refused_survey, survey, text_case, tiny, Rng, Size};
+use evidence::gen::{overlap, refused_survey, survey, text_case, tiny, Rng, Size};
 use evidence::plan::{fast, growth, owned, record_room, reference, Workspace, KEPT};
 use evidence::print::program;
 use evidence::{brute, Survey};
@@ -40,6 +40,8 @@ fn many(size: Size, count: u64) {
     for case in 0..count {
         let mut rng = Rng::of_case(21, case);
         let mut survey = survey(&mut rng, size);
+        planners_agree(&survey, &mut workspace);
+        overlap(&mut rng, &mut survey);
         planners_agree(&survey, &mut workspace);
         refused_survey(&mut rng, &mut survey);
         planners_agree(&survey, &mut workspace);

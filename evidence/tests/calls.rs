@@ -2,11 +2,13 @@
 //! together, are told from the second implementation; and every pair of refusals that can be due together is met.
 
 use evidence::calls::document;
+use evidence::calls::faults::{pair, Fault, PAIR_FAULTS};
 use evidence::calls::generated::OPERATIONS;
 use evidence::calls::{code, Figures, Library, PLAN_COUNTS, READ_COUNTS, SECOND};
 use evidence::check::check;
 use evidence::read::{parse, Lengths};
-use evidence::{refuse, Refusal, View, MAX_TRACKS, RECORD_BYTES};
+use evidence::{refuse, Refusal, View, MAX_PAIRS, MAX_TRACKS, RECORD_BYTES};
+use std::cell::RefCell;
 use std::collections::BTreeMap;
 
 fn plan(survey: View, marks: &mut [u8], records: &mut [u8], counts: &mut [u64]) -> u64 {
@@ -72,6 +74,126 @@ fn records_on_refusal(survey: View, marks: &mut [u8], records: &mut [u8], counts
         records[0] = !records[0];
     }
     answer
+}
+
+/// The survey without its pairs.
+fn plain(survey: View) -> View {
+    View { owners: &[], others: &[], ..survey }
+}
+
+fn pairs_ignored(survey: View, marks: &mut [u8], records: &mut [u8], counts: &mut [u64]) -> u64 {
+    match survey.sound() {
+        Ok(()) => plan(plain(survey), marks, records, counts),
+        _ => plan(survey, marks, records, counts),
+    }
+}
+
+/// 18 of a survey that has no other fault of its own but 6.
+fn eighteen_before_six(survey: View, marks: &mut [u8], records: &mut [u8], counts: &mut [u64]) -> u64 {
+    let cheap = vec![0; survey.prices.len()];
+    match (View { prices: &cheap, ..survey }).sound() {
+        Err(refusal) if refusal.number == 18 => code(refusal),
+        _ => plan(survey, marks, records, counts),
+    }
+}
+
+fn eighteen_after_seven(survey: View, marks: &mut [u8], records: &mut [u8], counts: &mut [u64]) -> u64 {
+    match survey.sound() {
+        Err(Refusal { number: 18, .. }) if counts.len() < PLAN_COUNTS || marks.len() < survey.m() => 7,
+        _ => plan(survey, marks, records, counts),
+    }
+}
+
+fn eighteen_after_eight(survey: View, marks: &mut [u8], records: &mut [u8], counts: &mut [u64]) -> u64 {
+    match (survey.sound(), joined(plain(survey))) {
+        (Err(Refusal { number: 18, .. }), Err(refusal)) if counts.len() >= PLAN_COUNTS => code(refusal),
+        _ => plan(survey, marks, records, counts),
+    }
+}
+
+/// The pairs without those that `leaves` names; 18 then names a pair of the rest.
+fn pairs_left_out(survey: View, leaves: impl Fn(usize) -> bool, then: impl Fn(View) -> u64) -> u64 {
+    if survey.owners.len() != survey.others.len() {
+        return then(survey);
+    }
+    let kept: Vec<usize> = (0..survey.owners.len()).filter(|&i| !leaves(i)).collect();
+    let owners: Vec<u32> = kept.iter().map(|&i| survey.owners[i]).collect();
+    let others: Vec<u8> = kept.iter().map(|&i| survey.others[i]).collect();
+    then(View { owners: &owners, others: &others, ..survey })
+}
+
+fn is_repeated(survey: View, i: usize) -> bool {
+    i > 0 && (survey.owners[i - 1], survey.others[i - 1]) == (survey.owners[i], survey.others[i])
+}
+
+fn equal_pair_accepted(survey: View, marks: &mut [u8], records: &mut [u8], counts: &mut [u64]) -> u64 {
+    let (marks, records, counts) = (RefCell::new(marks), RefCell::new(records), RefCell::new(counts));
+    let then = |rest: View| plan(rest, &mut marks.borrow_mut(), &mut records.borrow_mut(), &mut counts.borrow_mut());
+    pairs_left_out(survey, |i| is_repeated(survey, i), then)
+}
+
+fn later_pairs_ignored(survey: View, marks: &mut [u8], records: &mut [u8], counts: &mut [u64]) -> u64 {
+    let (marks, records, counts) = (RefCell::new(marks), RefCell::new(records), RefCell::new(counts));
+    let then = |rest: View| plan(rest, &mut marks.borrow_mut(), &mut records.borrow_mut(), &mut counts.borrow_mut());
+    pairs_left_out(survey, |i| i >= MAX_PAIRS, then)
+}
+
+/// 300 equal pairs are refused for their number, at 256.
+fn number_of_pairs_first(survey: View, marks: &mut [u8], records: &mut [u8], counts: &mut [u64]) -> u64 {
+    match plan(survey, marks, records, counts) {
+        answer if answer % 256 == 18 && survey.owners.len() > MAX_PAIRS => 18 + 256 * MAX_PAIRS as u64,
+        answer => answer,
+    }
+}
+
+/// Lists that share a member are one, and 8 names the lowest of them.
+fn eight_by_class(survey: View, marks: &mut [u8], records: &mut [u8], counts: &mut [u64]) -> u64 {
+    let answer = plan(survey, marks, records, counts);
+    if answer % 256 != 8 {
+        return answer;
+    }
+    let mut class = vec![(answer / 256) as u8];
+    let mut looked = 0;
+    while looked < class.len() {
+        let members = survey.members(class[looked]);
+        for group in 1..=255u8 {
+            if !class.contains(&group) && survey.members(group).iter().any(|v| members.contains(v)) {
+                class.push(group);
+            }
+        }
+        looked += 1;
+    }
+    8 + 256 * u64::from(class.into_iter().min().unwrap_or(0))
+}
+
+fn sites_by_list(survey: View, marks: &mut [u8], records: &mut [u8], counts: &mut [u64]) -> u64 {
+    let answer = plan(survey, marks, records, counts);
+    if answer == 0 {
+        counts[0] = survey.lists().concat().len() as u64;
+    }
+    answer
+}
+
+fn counts_on_eighteen(survey: View, marks: &mut [u8], records: &mut [u8], counts: &mut [u64]) -> u64 {
+    let answer = plan(survey, marks, records, counts);
+    if answer % 256 == 18 {
+        counts.fill(0);
+    }
+    answer
+}
+
+fn check_pairs_ignored(survey: View, marks: &[u8], records: &[u8], counts: &mut [u64]) -> u64 {
+    match survey.sound() {
+        Ok(()) => (SECOND.check)(plain(survey), marks, records, counts),
+        _ => (SECOND.check)(survey, marks, records, counts),
+    }
+}
+
+fn eighteen_after_nine(survey: View, marks: &[u8], records: &[u8], counts: &mut [u64]) -> u64 {
+    match (survey.sound(), check(plain(survey), marks, records)) {
+        (Err(Refusal { number: 18, .. }), Err(refusal)) if refusal.number == 9 && counts.len() >= 3 => code(refusal),
+        _ => (SECOND.check)(survey, marks, records, counts),
+    }
 }
 
 fn ten_before_nine(survey: View, marks: &[u8], records: &[u8], counts: &mut [u64]) -> u64 {
@@ -268,6 +390,18 @@ fn faults_are_found() {
         ("marks past the last zeroed", Library { plan: later_marks_zeroed, ..SECOND }),
         ("counts lost", Library { plan: counts_lost, ..SECOND }),
         ("records written on 8", Library { plan: records_on_refusal, ..SECOND }),
+        ("pairs ignored", Library { plan: pairs_ignored, ..SECOND }),
+        ("18 before 6", Library { plan: eighteen_before_six, ..SECOND }),
+        ("7 before 18", Library { plan: eighteen_after_seven, ..SECOND }),
+        ("8 before 18", Library { plan: eighteen_after_eight, ..SECOND }),
+        ("an equal pair accepted", Library { plan: equal_pair_accepted, ..SECOND }),
+        ("pairs past the 256th ignored", Library { plan: later_pairs_ignored, ..SECOND }),
+        ("18 for the number of pairs first", Library { plan: number_of_pairs_first, ..SECOND }),
+        ("8 at the lowest of lists poured together", Library { plan: eight_by_class, ..SECOND }),
+        ("a site counted once for each list", Library { plan: sites_by_list, ..SECOND }),
+        ("counts written on 18", Library { plan: counts_on_eighteen, ..SECOND }),
+        ("pairs ignored in checking", Library { check: check_pairs_ignored, ..SECOND }),
+        ("9 before 18", Library { check: eighteen_after_nine, ..SECOND }),
         ("10 before 9", Library { check: ten_before_nine, ..SECOND }),
         ("9 before 7", Library { check: nine_before_seven, ..SECOND }),
         ("7 before 1 in reading", Library { read: seven_before_one, ..SECOND }),
@@ -313,5 +447,29 @@ fn every_pair_is_met() {
             operation.pairs.iter().flat_map(|&(first, then)| then.iter().map(move |&second| (first, second))).collect();
         let missing: Vec<_> = listed.iter().filter(|pair| !met.contains_key(pair)).collect();
         assert!(missing.is_empty(), "{}: {missing:?} are never due together", operation.name);
+    }
+}
+
+/// Every fault of pairs is due alone, and beside each refusal that can stand before or behind it: 2 of pairs of unequal length, else 18.
+#[test]
+fn every_fault_of_pairs_is_met() {
+    for operation in OPERATIONS.iter().filter(|operation| operation.faults.contains(&Fault::PairsUnequal)) {
+        for &fault in PAIR_FAULTS.iter().chain(&[Fault::PairsUnequal]) {
+            let number = if fault == Fault::PairsUnequal { 2 } else { 18 };
+            let mut beside: BTreeMap<u64, u64> = BTreeMap::new();
+            for case in (0..16_000).filter(|&case| pair(operation.faults, case)[0] == fault) {
+                let [one, other, both] = operation.due(1, case);
+                if one == number && (both == one || both == other) {
+                    *beside.entry(other).or_default() += 1;
+                }
+            }
+            let of = |pairs: &[(u64, &[u64])]| -> Vec<u64> {
+                let behind = pairs.iter().filter(|row| row.0 == number).flat_map(|row| row.1.iter().copied());
+                let before = pairs.iter().filter(|row| row.1.contains(&number)).map(|row| row.0);
+                behind.chain(before).chain([0]).collect()
+            };
+            let missing: Vec<u64> = of(operation.pairs).into_iter().filter(|n| !beside.contains_key(n)).collect();
+            assert!(missing.is_empty(), "{}: {fault:?} is never due with {missing:?}", operation.name);
+        }
     }
 }

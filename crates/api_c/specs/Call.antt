@@ -25,7 +25,7 @@ use Rattle.api_c.specs.Code.{
   withLength,
 }
 
--- Planning with lent counts: 1 to 6, 7, 8.
+-- Planning with lent counts: 1 to 6, 18, 7, 8.
 unfoldable pub planCall : Survey → (marks records counts : List ℕ) → Verdict
 planCall s marks records counts = withCounts s planFigures (length counts) (planRefusal s (length marks) (length records))
 
@@ -38,7 +38,7 @@ planRecords s marks records counts = written (planCall s marks records counts) (
 unfoldable pub planCounts : Survey → (marks records counts : List ℕ) → List ℕ
 planCounts s marks records counts = countsAfter (planCall s marks records counts) (planFiguresOf (planCountsOf (planOf (problemOf s)))) counts
 
--- Checking with lent counts: 1 to 6, 7, 9 to 15.
+-- Checking with lent counts: 1 to 6, 18, 7, 9 to 15.
 unfoldable pub checkCall : Survey → (marks records counts : List ℕ) → Verdict
 checkCall s marks records counts = withCounts s checkFigures (length counts) (checkRefusal s marks records)
 

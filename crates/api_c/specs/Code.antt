@@ -37,7 +37,7 @@ unfoldable pub codeOf : Verdict → ℕ
 codeOf Fine = 0
 codeOf (Refused number place) = number + placeUnit * place
 
--- A buffer that is too short for the counts is 7, after 1 to 6 and before all else.
+-- A buffer that is too short for the counts is 7, after 1 to 6 and 18 and before all else.
 unfoldable pub withCounts : Survey → (wanted counts : ℕ) → Verdict → Verdict
 withCounts s wanted counts rest = surveyRefusal s before refuseIf (ltb counts wanted) 7 0 before rest
 

@@ -7,7 +7,7 @@ ghost use lib.Seq.{sets};
 ghost use Rattle.base_buffer.specs.Lent.{old, new};
 ghost use Rattle.base_limits.specs.Verdict.{_before_};
 ghost use Rattle.base_limits.specs.declared.Verdict.the-variants.{Refused};
-ghost use Rattle.survey_core.specs.Survey.{lentSurvey};
+ghost use Rattle.survey_core.specs.Survey.{lentWith};
 ghost use Rattle.survey_core.specs.Refusal.{surveyRefusal};
 ghost use Rattle.format_write.specs.Text.{planText};
 ghost use Rattle.format_survey.specs.Reading.{filled};
@@ -47,11 +47,20 @@ fn code(number: u64, place: usize) -> u64
     number + PLACE_UNIT * base_buffer::wide(place)
 }
 
-// The answer of a call whose counts do not fit: 1 to 6, else 7.
-fn short_counts(groups: &[u8], firsts: &[u32], seconds: &[u32], weights: &[u32]) -> u64
-    ensures { λ r. ⌜ r ≡ codeOf (surveyRefusal (lentSurvey groups firsts seconds weights) before Refused 7 0) ⌝ }
+// The answer of a call whose counts do not fit: 1 to 6, 18, else 7.
+fn short_counts(
+    groups: &[u8],
+    firsts: &[u32],
+    seconds: &[u32],
+    weights: &[u32],
+    owners: &[u32],
+    others: &[u8],
+) -> u64
+    ensures { λ r.
+        let s = lentWith groups firsts seconds weights owners others in
+        ⌜ r ≡ codeOf (surveyRefusal s before Refused 7 0) ⌝ }
 {
-    let found = survey_core::survey_refusal(groups, firsts, seconds, weights);
+    let found = survey_lists::survey_refusal(groups, firsts, seconds, weights, owners, others);
     match found {
         Verdict::Refused { number, place } => code(number, place),
         Verdict::Fine => 7,
@@ -76,34 +85,45 @@ fn store_five(counts: &mut [u64], terminals: u64, cost: u64, bound: u64, rounds:
     put64(counts, 4, duals);
 }
 
-// Plans a survey. `counts` gets k, cost, bound, rounds and the number of moats.
+// Plans a survey with pairs (owners, others). `counts` gets k, cost, bound, rounds and the number of moats.
 #[no_mangle]
 pub extern "C" fn foamsickle_plan(
     groups: &[u8],
     firsts: &[u32],
     seconds: &[u32],
     weights: &[u32],
+    owners: &[u32],
+    others: &[u8],
     marks: &mut [u8],
     records: &mut [u8],
     counts: &mut [u64],
 ) -> u64
     ensures code { λ r.
-        let s = lentSurvey groups firsts seconds weights in
+        let s = lentWith groups firsts seconds weights owners others in
         ⌜ r ≡ codeOf (planCall s (old marks) (old records) (old counts)) ⌝ }
     ensures marks { λ _.
-        let s = lentSurvey groups firsts seconds weights in
+        let s = lentWith groups firsts seconds weights owners others in
         ⌜ new marks ≡ planMarks s (old marks) (old records) (old counts) ⌝ }
     ensures records { λ _.
-        let s = lentSurvey groups firsts seconds weights in
+        let s = lentWith groups firsts seconds weights owners others in
         ⌜ new records ≡ planRecords s (old marks) (old records) (old counts) ⌝ }
     ensures counts { λ _.
-        let s = lentSurvey groups firsts seconds weights in
+        let s = lentWith groups firsts seconds weights owners others in
         ⌜ new counts ≡ planCounts s (old marks) (old records) (old counts) ⌝ }
 {
     if counts.len() < PLAN_FIGURES {
-        return short_counts(groups, firsts, seconds, weights);
+        return short_counts(groups, firsts, seconds, weights, owners, others);
     }
-    let answer = plan_core::plan(groups, firsts, seconds, weights, marks, records);
+    let answer = plan_core::plan(
+        groups,
+        firsts,
+        seconds,
+        weights,
+        owners,
+        others,
+        marks,
+        records,
+    );
     match answer {
         Planned::Finished {
             terminals,
@@ -119,28 +139,39 @@ pub extern "C" fn foamsickle_plan(
     }
 }
 
-// Checks marks and moat records against a survey. `counts` gets k, the kept cost and the bound.
+// Checks marks and moat records against a survey with pairs. `counts` gets k, the kept cost and the bound.
 #[no_mangle]
 pub extern "C" fn foamsickle_check(
     groups: &[u8],
     firsts: &[u32],
     seconds: &[u32],
     weights: &[u32],
+    owners: &[u32],
+    others: &[u8],
     marks: &[u8],
     records: &[u8],
     counts: &mut [u64],
 ) -> u64
     ensures code { λ r.
-        let s = lentSurvey groups firsts seconds weights in
+        let s = lentWith groups firsts seconds weights owners others in
         ⌜ r ≡ codeOf (checkCall s (old marks) (old records) (old counts)) ⌝ }
     ensures counts { λ _.
-        let s = lentSurvey groups firsts seconds weights in
+        let s = lentWith groups firsts seconds weights owners others in
         ⌜ new counts ≡ checkCounts s (old marks) (old records) (old counts) ⌝ }
 {
     if counts.len() < CHECK_FIGURES {
-        return short_counts(groups, firsts, seconds, weights);
+        return short_counts(groups, firsts, seconds, weights, owners, others);
     }
-    let answer = check_core::check(groups, firsts, seconds, weights, marks, records);
+    let answer = check_core::check(
+        groups,
+        firsts,
+        seconds,
+        weights,
+        owners,
+        others,
+        marks,
+        records,
+    );
     match answer {
         Checking::Passed {
             terminals,

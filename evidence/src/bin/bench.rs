@@ -1,5 +1,5 @@
 //! Nanoseconds per plan on seeded surveys of 64, 128 and 256 junctions with 2,048 tracks, and of 256 junctions with
-//! fewer tracks:
+//! fewer tracks; then the same surveys with up to 256 pairs that leave the plan as it is:
 //!
 //!     bench [--seed S] [--surveys N] [--repeats R]
 //!
@@ -7,11 +7,14 @@
 //! a busy machine the least times are the steadier ones. With the feature `native` the outside planner is timed in turn
 //! with ours, on the same surveys, after its answer has been compared.
 
-use evidence::gen::{timed, Rng};
+use evidence::gen::{shadowed, timed, Rng};
 use evidence::plan::{owned, record_room, reference, Counts, Workspace};
 use evidence::{Refusal, Survey, View};
 use std::process::ExitCode;
 use std::time::Instant;
+
+/// Planners that are timed: our own, and the outside one where there is one.
+const PLANNERS: usize = if cfg!(feature = "native") { 2 } else { 1 };
 
 type Timed<'a> = &'a mut dyn FnMut(View, &mut [u8], &mut [u8]) -> Result<Counts, Refusal>;
 
@@ -67,31 +70,36 @@ fn main() -> ExitCode {
     let mut outside = evidence::native::plan;
 
     for (n, m) in [(64, 2048), (128, 2048), (256, 2048), (256, 1024), (256, 512)] {
-        let mut sums: Vec<[u64; 2]> = Vec::new();
+        let mut sums = vec![[0; 2]; 2 * PLANNERS];
         let mut rounds = 0;
         for i in 0..surveys {
-            let survey = timed(&mut Rng::of_case(seed, (1_000 * n + i) as u64), n, m, i);
-            let mut planners: Vec<Timed> = vec![&mut ours];
-            #[cfg(feature = "native")]
-            planners.push(&mut outside);
-            for planner in planners.iter_mut() {
-                if !sound(&survey, planner) {
+            let plain = timed(&mut Rng::of_case(seed, (1_000 * n + i) as u64), n, m, i);
+            let mut paired = plain.clone();
+            shadowed(&mut paired);
+            rounds += owned(reference, plain.view()).expect("it can be joined").counts.rounds;
+            for (survey, sums) in [&plain, &paired].into_iter().zip(sums.chunks_exact_mut(PLANNERS)) {
+                let mut planners: Vec<Timed> = vec![&mut ours];
+                #[cfg(feature = "native")]
+                planners.push(&mut outside);
+                if planners.iter_mut().any(|planner| !sound(survey, planner)) {
                     println!("a planner differs on {survey:?}");
                     return ExitCode::FAILURE;
                 }
-            }
-            rounds += owned(reference, survey.view()).expect("it can be joined").counts.rounds;
-            let times = times(&survey, &mut planners, repeats);
-            sums.resize(times.len(), [0; 2]);
-            for (sum, time) in sums.iter_mut().zip(times) {
-                *sum = [sum[0] + time[0], sum[1] + time[1]];
+                for (sum, time) in sums.iter_mut().zip(times(survey, &mut planners, repeats)) {
+                    *sum = [sum[0] + time[0], sum[1] + time[1]];
+                }
             }
         }
         let mean: Vec<[u64; 2]> = sums.iter().map(|sum| sum.map(|time| time / surveys as u64)).collect();
         let line = |name: &str, [median, least]: [u64; 2]| format!("{name} {median} ns per plan (least {least})");
-        print!("{n} junctions, {m} tracks, {} rounds: {}", rounds / surveys as u64, line("fast", mean[0]));
-        if let Some(outside) = mean.get(1) {
-            print!(", {}, {:.2} times", line("native", *outside), outside[1] as f64 / mean[0][1] as f64);
+        let (plain, paired) = mean.split_at(PLANNERS);
+        print!("{n} junctions, {m} tracks, {} rounds: {}", rounds / surveys as u64, line("fast", plain[0]));
+        if let Some(outside) = plain.get(1) {
+            print!(", {}, {:.2} times", line("native", *outside), outside[1] as f64 / plain[0][1] as f64);
+        }
+        print!("; with pairs: {}", line("fast", paired[0]));
+        if let Some(outside) = paired.get(1) {
+            print!(", {}, {:.3} times without", line("native", *outside), outside[1] as f64 / plain[1][1] as f64);
         }
         println!();
     }

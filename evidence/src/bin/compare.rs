@@ -12,8 +12,9 @@
 //! `--self` holds the fast planner against the plain one, with no program; `--native` does so with the planner that the
 //! feature `native` links.
 
+use evidence::calls::faults::{harm, PAIR_FAULTS};
 use evidence::check::{check, Passed};
-use evidence::gen::{directed_texts, plan_text_case, refused_survey, survey, text_case, Rng, Size};
+use evidence::gen::{directed_texts, overlap, plan_text_case, refused_survey, survey, text_case, Rng, Size};
 use evidence::plan::{fast, owned, record_room, reference, Counts, Plan, Planner, DROPPED};
 use evidence::print::{answer, plan_lines, refusal_lines};
 use evidence::{Refusal, Survey, AMOUNT_BYTES, RECORD_BYTES};
@@ -286,6 +287,13 @@ fn planner_case(planner: Planner, seed: u64, case: u64) -> Result<(), String> {
     let rng = &mut Rng::of_case(!seed, case);
     let size = rng.pick(&[Size::Tiny, Size::Small, Size::Small, Size::Middle]);
     let mut survey = survey(rng, size);
+    if rng.chance(1, 2) {
+        overlap(rng, &mut survey);
+    }
+    if rng.chance(1, 16) {
+        let fault = rng.pick(PAIR_FAULTS);
+        harm(rng, &mut survey, fault);
+    }
     if rng.chance(1, 8) {
         refused_survey(rng, &mut survey);
     }

@@ -42,7 +42,7 @@ fn answer<const N: usize>(answer: Result<[u64; N], Refusal>) -> String {
 }
 
 fn fields(survey: &Survey) -> String {
-    let Survey { groups, first, second, prices } = survey;
+    let Survey { groups, first, second, prices, .. } = survey;
     format!("groups={} first={} second={} prices={}", hex(groups), list(first), list(second), list(prices))
 }
 

@@ -1,10 +1,10 @@
-//! Single calls with their answers written out: what document 01 says of P1 to P12 and of the limits, and small cases beside them, of reading, checking
-//! and printing, whose answers were worked out by hand from its sentences.
+//! Single calls with their answers written out: what document 01 says of P1 to P12 and of the limits, and small cases beside them, of reading, checking,
+//! printing and pairs, whose answers were worked out by hand from the papers' sentences.
 
 use super::{Library, CHECK_COUNTS, PLAN_COUNTS, PRINT_COUNTS, READ_COUNTS};
 use crate::gen::WORKED;
 use crate::plan::record_room;
-use crate::{Survey, MAX_AMOUNT, MAX_JUNCTIONS, MAX_PRICE, MAX_RECORDS, MAX_TRACKS, RECORD_BYTES};
+use crate::{Survey, MAX_AMOUNT, MAX_JUNCTIONS, MAX_PAIRS, MAX_PRICE, MAX_RECORDS, MAX_TRACKS, RECORD_BYTES};
 
 /// An amount and members.
 pub type Moat = (u64, &'static [usize]);
@@ -112,6 +112,62 @@ const CHECKED: [Checked; 17] = [
     (7, &[2], &[], Err((15, 0))),
 ];
 
+/// Surveys with pairs (v, g), and their plans.
+type Listed = (&'static str, Tracks, &'static [(u32, u8)], Expected);
+
+/// Two lists that share junction 1.
+const SHARED: Tracks = (&[1, 1, 2], &[(0, 1, 3), (1, 2, 4)]);
+const SHARED_PAIRS: &[(u32, u8)] = &[(1, 2)];
+const SHARED_PLAN: Expected =
+    Expected { figures: [3, 7, 11, 2], marks: &[2, 2], moats: &[(3, &[0]), (3, &[1]), (4, &[2]), (1, &[0, 1])] };
+
+const LISTED: [Listed; 6] = [
+    ("two lists that share a member, which is one site", SHARED, SHARED_PAIRS, SHARED_PLAN),
+    ("no group of its own, and two pairs", (&[1, 0, 2], &[(0, 1, 3), (1, 2, 4)]), &[(1, 1), (1, 2)], SHARED_PLAN),
+    (
+        "a chain of three lists",
+        (&[1, 1, 2, 3], &[(0, 1, 2), (1, 2, 2), (2, 3, 2)]),
+        &[(1, 2), (2, 3)],
+        Expected { figures: [4, 6, 8, 3], marks: &[2, 2, 2], moats: &[(2, &[0]), (2, &[1]), (2, &[2]), (2, &[3])] },
+    ),
+    (
+        "two lists with the same members",
+        (&[1, 1], &[(0, 1, 5)]),
+        &[(0, 7), (1, 7)],
+        Expected { figures: [2, 5, 10, 1], marks: &[2], moats: &[(5, &[0]), (5, &[1])] },
+    ),
+    ("lone members", (&[1, 0], &[(0, 1, 4)]), &[(1, 2)], Expected { figures: [0, 0, 0, 0], marks: &[0], moats: &[] }),
+    (
+        "a lone member that is in another list by a pair",
+        (&[1, 2], &[(0, 1, 4)]),
+        &[(0, 2)],
+        Expected { figures: [2, 4, 8, 1], marks: &[2], moats: &[(4, &[0]), (4, &[1])] },
+    ),
+];
+
+/// Pairs for the survey with two lists, and the pair that is refused with 18.
+const PAIRS_REFUSED: [(&[(u32, u8)], u64); 8] = [
+    (&[(3, 1)], 0),
+    (&[(0, 2), (1, 2), (u32::MAX, 1)], 2),
+    (&[(1, 0)], 0),
+    (&[(0, 2), (1, 1)], 1),
+    (&[(1, 2), (1, 2)], 1),
+    (&[(1, 3), (1, 2)], 1),
+    (&[(1, 2), (0, 2)], 1),
+    (&[(1, 2); 300], 1),
+];
+
+/// Marks and moats for that survey.
+const SHARED_CHECKED: [(&[u8], &[Moat], Result<[u64; 3], Refused>); 6] = [
+    (&[2, 2], SHARED_PLAN.moats, Ok([3, 7, 11])),
+    (&[2, 1], SHARED_PLAN.moats, Err((14, 2))),
+    (&[1, 2], SHARED_PLAN.moats, Err((14, 1))),
+    // List 2 alone is parted by the last moat.
+    (&[2, 2], &[(3, &[0]), (3, &[1]), (4, &[2]), (1, &[0, 1])], Ok([3, 7, 11])),
+    (&[2, 2], &[(3, &[0]), (1, &[0, 1, 2])], Err((12, 1))),
+    (&[2, 2], &[(3, &[0]), (3, &[1]), (4, &[2])], Err((15, 0))),
+];
+
 /// Moats, the length of the buffer for the line, and the line or the refusal.
 const LINES: [(Moat, usize, Result<&str, Refused>); 4] = [
     ((u64::MAX, &[]), 1_024, Ok("moat=18446744073709551615:\n")),
@@ -194,17 +250,22 @@ impl Cases<'_> {
         (code, counts, marks, records)
     }
 
+    /// A finished plan: its figures, marks and moats, and what stood behind the moats.
+    fn planned(&mut self, what: &str, survey: &Survey, want: &Expected) -> Result<(), String> {
+        let (code, counts, marks, records) = self.plan(survey);
+        let drawn: Vec<u8> = want.moats.iter().flat_map(|&moat| record(moat)).collect();
+        let kept = vec![BEFORE; records.len() - drawn.len()];
+        let [sites, cost, bound, rounds] = want.figures;
+        self.same(
+            &format!("planning {what}"),
+            (code, counts, marks, records),
+            (0, [sites, cost, bound, rounds, want.moats.len() as u64], want.marks.to_vec(), [drawn, kept].concat()),
+        )
+    }
+
     fn planning(&mut self) -> Result<(), String> {
         for (i, want) in PLANS.iter().enumerate() {
-            let (code, counts, marks, records) = self.plan(&worked(i + 1));
-            let drawn: Vec<u8> = want.moats.iter().flat_map(|&moat| record(moat)).collect();
-            let kept = vec![BEFORE; records.len() - drawn.len()];
-            let [sites, cost, bound, rounds] = want.figures;
-            self.same(
-                &format!("planning P{}", i + 1),
-                (code, counts, marks, records),
-                (0, [sites, cost, bound, rounds, want.moats.len() as u64], want.marks.to_vec(), [drawn, kept].concat()),
-            )?;
+            self.planned(&format!("P{}", i + 1), &worked(i + 1), want)?;
         }
         self.same("planning P12", self.plan(&worked(12)).0, one_number((8, 1)))?;
         for (what, survey, want) in [
@@ -255,6 +316,67 @@ impl Cases<'_> {
         let passed = Ok([2, u64::from(MAX_PRICE), MAX_AMOUNT]);
         self.check("the largest amount", &dear, &[2], &record((MAX_AMOUNT, &[0])), passed)?;
         self.check("an amount too large", &dear, &[2], &record((MAX_AMOUNT + 1, &[0])), Err((11, 0)))
+    }
+
+    fn pairs(&mut self) -> Result<(), String> {
+        for (what, (groups, tracks), pairs, want) in LISTED {
+            self.planned(what, &Survey::new(groups, tracks).with_pairs(pairs), &want)?;
+        }
+        let shared = Survey::new(SHARED.0, SHARED.1);
+        for (pairs, at) in PAIRS_REFUSED {
+            let came = self.plan(&shared.clone().with_pairs(pairs));
+            let untouched = (one_number((18, at)), [0; PLAN_COUNTS], vec![BEFORE; 2], vec![BEFORE; record_room(3)]);
+            self.same(&format!("planning with {pairs:?}"), came, untouched)?;
+        }
+        for (marks, moats, want) in SHARED_CHECKED {
+            let records: Vec<u8> = moats.iter().flat_map(|&moat| record(moat)).collect();
+            let survey = shared.clone().with_pairs(SHARED_PAIRS);
+            self.check(&format!("checking two lists with {marks:?} {moats:?}"), &survey, marks, &records, want)?;
+        }
+        self.pairs_many()?;
+        self.pairs_order()
+    }
+
+    /// 256 rising pairs, and 257.
+    fn pairs_many(&mut self) -> Result<(), String> {
+        let all = (0..2).flat_map(|v| (2..=255).map(move |group| (v, group)));
+        let rising: Vec<(u32, u8)> = all.take(MAX_PAIRS + 1).collect();
+        let survey = Survey::new(&[1, 1], &[(0, 1, 3)]);
+        for (many, want) in [(MAX_PAIRS, 0), (MAX_PAIRS + 1, one_number((18, 256)))] {
+            let paired = survey.clone().with_pairs(&rising[..many]);
+            self.same(&format!("planning with {many} pairs"), self.plan(&paired).0, want)?;
+            let plan = [record((3, &[0])), record((3, &[1]))].concat();
+            let want = if want == 0 { Ok([2, 3, 6]) } else { Err((18, 256)) };
+            self.check(&format!("checking with {many} pairs"), &paired, &[2], &plan, want)?;
+        }
+        Ok(())
+    }
+
+    /// Which of two refusals comes, and which list cannot be joined.
+    fn pairs_order(&mut self) -> Result<(), String> {
+        let survey = |groups: &[u8], tracks: &[(u32, u32, u32)], pairs: &[(u32, u8)]| {
+            Survey::new(groups, tracks).with_pairs(pairs)
+        };
+        let uneven = |mut survey: Survey| {
+            survey.others.push(1);
+            survey
+        };
+        for (what, survey, want) in [
+            ("6 before 18", survey(&[1, 1], &[(0, 1, MAX_PRICE + 1)], &[(0, 0)]), (6, 0)),
+            ("18 before 8", survey(&[1, 1], &[], &[(0, 2), (0, 2)]), (18, 1)),
+            ("pairs of unequal length", uneven(survey(&[1, 1], &[(0, 1, 3)], &[(0, 2)])), (2, 0)),
+            ("pairs of unequal length, and no junction", uneven(survey(&[], &[], &[])), (1, 0)),
+            ("pairs of unequal length before 3", uneven(survey(&[1, 1], &[(0, 1, 3); MAX_TRACKS + 1], &[])), (2, 0)),
+            ("pairs of unequal length before 4", uneven(survey(&[1, 1], &[(0, 2, 3)], &[])), (2, 0)),
+            ("3 before 18", survey(&[1, 1], &[(0, 1, 3); MAX_TRACKS + 1], &[(2, 1)]), (3, 0)),
+            ("a list that shares a member with a lower one", survey(SHARED.0, &[(0, 1, 3)], SHARED_PAIRS), (8, 2)),
+        ] {
+            self.same(what, self.plan(&survey).0, one_number(want))?;
+        }
+        let bad = survey(SHARED.0, SHARED.1, &[(1, 1)]);
+        let short = (self.library.plan)(bad.view(), &mut [], &mut [], &mut []);
+        self.same("18 before 7", short, one_number((18, 0)))?;
+        self.check("18 before 9", &bad, &[], &[0; 7], Err((18, 0)))
     }
 
     /// A printed text at the beginning of a buffer of so many bytes, or the refusal.
@@ -323,6 +445,7 @@ pub fn cases(library: &Library) -> Result<usize, String> {
     cases.reading()?;
     cases.planning()?;
     cases.checking()?;
+    cases.pairs()?;
     cases.printing()?;
     Ok(cases.passed)
 }

@@ -3,8 +3,8 @@
 use crate::gen::Rng;
 use crate::plan::KEPT;
 use crate::{
-    Survey, AMOUNT_BYTES, MAX_AMOUNT, MAX_GROUP, MAX_INPUT, MAX_JUNCTIONS, MAX_PRICE, MAX_RECORDS, MAX_TRACKS,
-    RECORD_BYTES,
+    Survey, AMOUNT_BYTES, MAX_AMOUNT, MAX_GROUP, MAX_INPUT, MAX_JUNCTIONS, MAX_PAIRS, MAX_PRICE, MAX_RECORDS,
+    MAX_TRACKS, RECORD_BYTES,
 };
 
 /// Two at a time are put into each input; `Nothing` leaves room for one alone, and for none.
@@ -15,11 +15,19 @@ pub enum Fault {
     ManyJunctions,
     SecondUnequal,
     PricesUnequal,
+    PairsUnequal,
     ManyTracks,
     EndOut,
     EndsEqual,
     PriceHigh,
+    PairOut,
+    PairNone,
+    PairOwn,
+    PairsFall,
+    PairTwice,
+    ManyPairs,
     Unjoinable,
+    PairUnjoinable,
     MarksShort,
     RecordsShort,
     CountsShort,
@@ -73,14 +81,22 @@ pub const PLAN_FAULTS: &[Fault] = &[
     ManyJunctions,
     SecondUnequal,
     PricesUnequal,
+    PairsUnequal,
     ManyTracks,
     EndOut,
     EndsEqual,
     PriceHigh,
+    PairOut,
+    PairNone,
+    PairOwn,
+    PairsFall,
+    PairTwice,
+    ManyPairs,
     MarksShort,
     RecordsShort,
     CountsShort,
     Unjoinable,
+    PairUnjoinable,
 ];
 pub const CHECK_FAULTS: &[Fault] = &[
     Nothing,
@@ -88,10 +104,17 @@ pub const CHECK_FAULTS: &[Fault] = &[
     ManyJunctions,
     SecondUnequal,
     PricesUnequal,
+    PairsUnequal,
     ManyTracks,
     EndOut,
     EndsEqual,
     PriceHigh,
+    PairOut,
+    PairNone,
+    PairOwn,
+    PairsFall,
+    PairTwice,
+    ManyPairs,
     CountsShort,
     MarksUnequal,
     RecordsRagged,
@@ -105,6 +128,8 @@ pub const CHECK_FAULTS: &[Fault] = &[
     GroupUnjoined,
     CostHigh,
 ];
+/// The faults of pairs that are 18.
+pub const PAIR_FAULTS: &[Fault] = &[PairOut, PairNone, PairOwn, PairsFall, PairTwice, ManyPairs];
 pub const PRINT_MOAT_FAULTS: &[Fault] = &[Nothing, RecordLength, OutShort, CountsShort];
 pub const PRINT_PLAN_FAULTS: &[Fault] = &[Nothing, OutShort, CountsShort];
 pub const PRINT_SURVEY_FAULTS: &[Fault] = &[Nothing, SecondUnequal, PricesUnequal, OutShort, CountsShort];
@@ -116,21 +141,23 @@ pub type Pairs = &'static [(u64, &'static [u64])];
 pub const READ_PAIRS: Pairs =
     &[(1, &[3, 7, 16, 17]), (3, &[7, 16, 17]), (7, &[3, 16, 17]), (16, &[1, 3, 7, 17]), (17, &[16])];
 pub const PLAN_PAIRS: Pairs = &[
-    (1, &[2, 3, 4, 5, 6, 7, 8]),
-    (2, &[3, 4, 5, 6, 7, 8]),
-    (3, &[4, 5, 6, 7, 8]),
-    (4, &[5, 6, 7, 8]),
-    (5, &[4, 6, 7, 8]),
-    (6, &[4, 5, 7, 8]),
+    (1, &[2, 3, 4, 5, 6, 18, 7, 8]),
+    (2, &[3, 4, 5, 6, 18, 7, 8]),
+    (3, &[4, 5, 6, 18, 7, 8]),
+    (4, &[5, 6, 18, 7, 8]),
+    (5, &[4, 6, 18, 7, 8]),
+    (6, &[4, 5, 18, 7, 8]),
+    (18, &[7, 8]),
     (7, &[8]),
 ];
 pub const CHECK_PAIRS: Pairs = &[
-    (1, &[2, 3, 4, 5, 6, 7, 9, 10, 11, 12, 13, 14, 15]),
-    (2, &[3, 4, 5, 6, 7, 9, 10, 11, 12, 13, 14, 15]),
-    (3, &[4, 5, 6, 7, 9, 10, 11, 12, 13, 14, 15]),
-    (4, &[5, 6, 7, 9, 10, 11, 12, 13, 14, 15]),
-    (5, &[4, 6, 7, 9, 10, 11, 12, 13, 14, 15]),
-    (6, &[4, 5, 7, 9, 10, 11, 12, 13, 14, 15]),
+    (1, &[2, 3, 4, 5, 6, 18, 7, 9, 10, 11, 12, 13, 14, 15]),
+    (2, &[3, 4, 5, 6, 18, 7, 9, 10, 11, 12, 13, 14, 15]),
+    (3, &[4, 5, 6, 18, 7, 9, 10, 11, 12, 13, 14, 15]),
+    (4, &[5, 6, 18, 7, 9, 10, 11, 12, 13, 14, 15]),
+    (5, &[4, 6, 18, 7, 9, 10, 11, 12, 13, 14, 15]),
+    (6, &[4, 5, 18, 7, 9, 10, 11, 12, 13, 14, 15]),
+    (18, &[7, 9, 10, 11, 12, 13, 14, 15]),
     (7, &[9, 10, 11, 12, 13, 14, 15]),
     (9, &[10, 11, 12, 13, 14, 15]),
     (10, &[11, 12, 13, 14, 15]),
@@ -199,7 +226,65 @@ pub fn harm(rng: &mut Rng, survey: &mut Survey, fault: Fault) {
                 survey.groups.push(group);
             }
         }
+        PairUnjoinable if n > 0 && n < MAX_JUNCTIONS && survey.owners.len() < MAX_PAIRS => {
+            let group = rng.between(1, MAX_GROUP as usize) as u8;
+            let member = rng.below(n);
+            if survey.groups[member] == 0 {
+                survey.groups[member] = group;
+            }
+            let group = survey.groups[member];
+            survey.groups.push(0);
+            survey.owners.push(n as u32);
+            survey.others.push(group);
+        }
+        PairsUnequal => match rng.below(3) {
+            0 => survey.owners.push(0),
+            1 => survey.others.push(1),
+            _ => drop(survey.owners.pop().map_or_else(|| survey.others.push(1), |_| ())),
+        },
+        _ if n > 0 && PAIR_FAULTS.contains(&fault) => harm_pairs(rng, survey, fault),
         _ => {}
+    }
+}
+
+/// Puts a fault into the pairs of a survey.
+fn harm_pairs(rng: &mut Rng, survey: &mut Survey, fault: Fault) {
+    let n = survey.groups.len();
+    let foreign = |v: usize, survey: &Survey| if survey.groups[v] == 9 { 10 } else { 9 };
+    let add = |survey: &mut Survey, v: usize, group: u8| {
+        survey.owners.push(v as u32);
+        survey.others.push(group);
+    };
+    if survey.owners.is_empty() || survey.others.is_empty() || (fault == PairOut && rng.chance(1, 2)) {
+        let v = if fault == PairOut { n } else { rng.below(n) };
+        let group = if fault == PairOut { 1 } else { foreign(v, survey) };
+        add(survey, v, group);
+    }
+    let pair = rng.below(survey.owners.len().min(survey.others.len()));
+    let v = (survey.owners[pair] as usize).min(n - 1);
+    match fault {
+        PairOut => survey.owners[pair] = (n as u32).saturating_add(rng.pick(&[0, 0, 1, u32::MAX])),
+        PairNone => survey.others[pair] = 0,
+        PairOwn => survey.others[pair] = survey.groups[v],
+        PairsFall => {
+            let lower = if v > 0 && rng.chance(1, 2) { v - 1 } else { v };
+            let group = if lower < v { foreign(lower, survey) } else { survey.others[pair].saturating_sub(1) };
+            survey.owners.insert(pair + 1, lower as u32);
+            survey.others.insert(pair + 1, group);
+        }
+        PairTwice => {
+            let many = rng.pick(&[1, 1, 1, 299]);
+            survey.owners.splice(pair..pair, vec![survey.owners[pair]; many]);
+            survey.others.splice(pair..pair, vec![survey.others[pair]; many]);
+        }
+        _ => {
+            let all = (0..n).flat_map(|v| (1..=255u8).map(move |group| (v, group)));
+            let rising: Vec<(usize, u8)> = all.filter(|&(v, group)| survey.groups[v] != group).collect();
+            let many = MAX_PAIRS + rng.pick(&[1, 1, 2, 44]);
+            let first = rng.below(rising.len().saturating_sub(many) + 1);
+            (survey.owners, survey.others) =
+                rising[first..].iter().take(many).map(|&(v, group)| (v as u32, group)).unzip();
+        }
     }
 }
 
@@ -249,9 +334,7 @@ pub fn spoil(rng: &mut Rng, survey: &Survey, marks: &mut Vec<u8>, records: &mut 
         }
         GroupUnjoined => {
             // A site loses every track.
-            let groups = &survey.groups;
-            let site = |&v: &usize| groups[v] != 0 && groups.iter().filter(|&&group| group == groups[v]).count() > 1;
-            let sites: Vec<usize> = (0..n).filter(site).collect();
+            let sites = survey.view().lists().concat();
             if sites.is_empty() {
                 return;
             }

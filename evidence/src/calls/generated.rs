@@ -2,7 +2,7 @@
 
 use super::faults::*;
 use super::{Figures, Library, CHECK_COUNTS, PLAN_COUNTS, PRINT_COUNTS, READ_COUNTS, SECOND, SHORT};
-use crate::gen::{survey, Rng, Size};
+use crate::gen::{overlap, survey, Rng, Size};
 use crate::plan::{fast, owned, record_room};
 use crate::print::survey_text;
 use crate::{Survey, AMOUNT_BYTES, MAX_JUNCTIONS, RECORD_BYTES};
@@ -113,7 +113,16 @@ fn sound(rng: &mut Rng) -> Survey {
     survey(rng, size)
 }
 
-/// The same, rarely as large as can be.
+/// The same, half of them with pairs.
+fn sound_lists(rng: &mut Rng) -> Survey {
+    let mut survey = sound(rng);
+    if rng.chance(1, 2) {
+        overlap(rng, &mut survey);
+    }
+    survey
+}
+
+/// A sound survey without pairs, rarely as large as can be.
 fn sound_or_full(rng: &mut Rng) -> Survey {
     if rng.chance(1, 200) {
         return survey(rng, Size::Full);
@@ -204,7 +213,7 @@ impl Call for Draw {
 }
 
 fn plan_input(streams: &Streams, faults: [Fault; 2]) -> Box<dyn Call> {
-    let mut survey = sound(&mut streams.base());
+    let mut survey = sound_lists(&mut streams.base());
     for (i, fault) in faults.into_iter().enumerate() {
         harm(&mut streams.fault(i), &mut survey, fault);
     }
@@ -240,7 +249,7 @@ impl Call for Check {
 }
 
 fn check_input(streams: &Streams, faults: [Fault; 2]) -> Box<dyn Call> {
-    let mut survey = sound(&mut streams.base());
+    let mut survey = sound_lists(&mut streams.base());
     let (mut marks, mut records) = match owned(fast, survey.view()) {
         Ok(plan) => (plan.marks, plan.records),
         Err(_) => (vec![0; survey.first.len()], Vec::new()),

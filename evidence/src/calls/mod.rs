@@ -3,7 +3,7 @@
 //! with lent buffers of every length that matters and any bytes in them before.
 //!
 //! That a short buffer for counts is 7 is document 01's rule for buffers to be written; at which place of the order it comes is the product's own
-//! decision (with planning's other 7s; in checking after 6; in reading at the nodes line, after 1; in printing with the other 7).
+//! decision (with planning's other 7s; in checking after 18; in reading at the nodes line, after 1; in printing with the other 7).
 
 pub mod document;
 pub mod faults;
@@ -133,6 +133,7 @@ fn print_survey_call(survey: View, out: &mut [u8], counts: &mut [u64]) -> u64 {
         first: survey.first.to_vec(),
         second: survey.second.to_vec(),
         prices: survey.prices.to_vec(),
+        ..Survey::default()
     });
     printed(&text, out, counts)
 }

@@ -7,5 +7,5 @@ mod texts;
 
 pub use plans::{damaged_plan, damaged_plan_of, moat_case, plan_text_case, Damage, PlanCase, DAMAGES};
 pub use rng::Rng;
-pub use surveys::{full, refused_survey, survey, timed, tiny, Size, WORKED};
+pub use surveys::{full, overlap, refused_survey, shadowed, survey, timed, tiny, Size, WORKED};
 pub use texts::{directed_texts, text_case};

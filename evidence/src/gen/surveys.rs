@@ -1,7 +1,8 @@
-//! Surveys: a shape gives the ends, a scheme the prices, another the groups.
+//! Surveys: a shape gives the ends, a scheme the prices, another the groups, and a further one the pairs, where there are any.
 
 use super::Rng;
-use crate::{Survey, MAX_JUNCTIONS, MAX_PRICE, MAX_TRACKS};
+use crate::{Survey, MAX_JUNCTIONS, MAX_PAIRS, MAX_PRICE, MAX_TRACKS};
+use std::collections::BTreeSet;
 
 /// Groups by junction, then tracks (end, end, price).
 pub type Worked = (&'static [u8], &'static [(u32, u32, u32)]);
@@ -303,6 +304,7 @@ fn assemble(rng: &mut Rng, n: usize, mut ends: Ends) -> Survey {
         first: ends.iter().map(|track| track.0).collect(),
         second: ends.iter().map(|track| track.1).collect(),
         prices,
+        ..Survey::default()
     }
 }
 
@@ -330,10 +332,90 @@ fn any_survey(rng: &mut Rng, size: Size) -> Survey {
     assemble(rng, n, ends)
 }
 
-/// A tiny survey whose groups can all be joined: the first that comes.
+/// Puts pairs to a survey without any, so that its lists overlap. None of them is refused.
+pub fn overlap(rng: &mut Rng, survey: &mut Survey) {
+    let n = survey.groups.len();
+    let (used, fresh): (Vec<u8>, Vec<u8>) = (1..=255).partition(|group| survey.groups.contains(group));
+    let list = |rng: &mut Rng| {
+        if rng.chance(3, 4) && !used.is_empty() {
+            rng.pick(&used)
+        } else {
+            rng.between(1, 255) as u8
+        }
+    };
+    let mut pairs: BTreeSet<(u32, u8)> = BTreeSet::new();
+    match rng.below(8) {
+        // Some junctions in one more list.
+        0..=2 => {
+            for _ in 0..rng.between(1, n.div_ceil(2)) {
+                pairs.insert((rng.below(n) as u32, list(rng)));
+            }
+        }
+        // A chain of three lists.
+        3 => {
+            for lists in [list(rng), list(rng), list(rng)].windows(2) {
+                let v = rng.below(n) as u32;
+                pairs.extend(lists.iter().map(|&group| (v, group)));
+            }
+        }
+        // A list with the members of another, and seldom one more.
+        4 if !used.is_empty() && !fresh.is_empty() => {
+            let (group, twin) = (rng.pick(&used), rng.pick(&fresh));
+            pairs.extend(survey.view().members(group).iter().map(|&v| (v as u32, twin)));
+            if rng.chance(1, 3) {
+                pairs.insert((rng.below(n) as u32, twin));
+            }
+        }
+        // Lone members.
+        5 => {
+            for &group in fresh.iter().take(rng.between(1, n)) {
+                pairs.insert((rng.below(n) as u32, group));
+            }
+        }
+        // No group of their own, and two pairs.
+        6 => {
+            for _ in 0..rng.between(1, n.min(4)) {
+                let v = rng.below(n);
+                survey.groups[v] = 0;
+                pairs.extend([(v as u32, list(rng)), (v as u32, list(rng))]);
+            }
+        }
+        // As many as there may be, or fewer.
+        _ => {
+            for _ in 0..rng.between(1, 2 * MAX_PAIRS) {
+                pairs.insert((rng.below(n) as u32, list(rng)));
+            }
+        }
+    }
+    pairs.retain(|&(v, group)| survey.groups[v as usize] != group);
+    while pairs.len() > MAX_PAIRS {
+        pairs.pop_last();
+    }
+    (survey.owners, survey.others) = pairs.into_iter().unzip();
+}
+
+/// Puts up to 256 pairs to a survey, each in a list inside a group of the survey: the plan stays the same.
+pub fn shadowed(survey: &mut Survey) {
+    let fresh: Vec<u8> = (1..=255).filter(|group| !survey.groups.contains(group)).collect();
+    let used: Vec<u8> = (1..=255).filter(|group| survey.groups.contains(group)).collect();
+    let mut pairs: BTreeSet<(u32, u8)> = BTreeSet::new();
+    for (&shadow, &group) in fresh.iter().zip(used.iter().cycle()) {
+        for v in survey.view().members(group) {
+            if pairs.len() < MAX_PAIRS {
+                pairs.insert((v as u32, shadow));
+            }
+        }
+    }
+    (survey.owners, survey.others) = pairs.into_iter().unzip();
+}
+
+/// A tiny survey whose groups can all be joined: the first that comes. Half of them have pairs.
 pub fn tiny(rng: &mut Rng) -> Survey {
     loop {
-        let survey = survey(rng, Size::Tiny);
+        let mut survey = survey(rng, Size::Tiny);
+        if rng.chance(1, 2) {
+            overlap(rng, &mut survey);
+        }
         if survey.view().unjoined(|_| true).is_none() {
             return survey;
         }

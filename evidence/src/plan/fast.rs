@@ -29,6 +29,34 @@ fn state(load: u32, grows: bool, component: usize) -> State {
     u64::from(load) | u64::from(grows) << GROWS | (component as u64) << COMPONENT
 }
 
+/// The lists of each junction of a sound survey: its own group, 0 for none, and the groups of its pairs, which stand in
+/// a run.
+struct Lists<'a> {
+    groups: &'a [u8],
+    others: &'a [u8],
+    /// Junction v's pairs begin here and end where those of v + 1 begin.
+    from: [u16; MAX_JUNCTIONS + 1],
+}
+
+impl<'a> Lists<'a> {
+    fn of(survey: View<'a>) -> Lists<'a> {
+        let mut from = [0; MAX_JUNCTIONS + 1];
+        for &v in survey.owners {
+            from[v as usize + 1] += 1;
+        }
+        for v in 0..MAX_JUNCTIONS {
+            from[v + 1] += from[v];
+        }
+        Lists { groups: survey.groups, others: survey.others, from }
+    }
+
+    /// By junction; group 0 may be among them.
+    fn of_junction(&self, v: usize) -> impl Iterator<Item = usize> + 'a {
+        let further = &self.others[self.from[v] as usize..self.from[v + 1] as usize];
+        std::iter::once(self.groups[v] as usize).chain(further.iter().map(|&group| group as usize))
+    }
+}
+
 /// All that a call needs beside the lent buffers.
 pub struct Workspace {
     live: [Live; MAX_TRACKS],
@@ -85,19 +113,20 @@ impl Workspace {
         admitted(survey, marks.len(), records.len())?;
         let (n, m) = (survey.n(), survey.m());
         self.total.fill(0);
-        for &group in survey.groups {
+        let lists = Lists::of(survey);
+        for &group in survey.groups.iter().chain(survey.others) {
             self.total[group as usize] += 1;
         }
         self.total[0] = 0;
-        self.joinable(survey)?;
+        self.joinable(survey, &lists)?;
 
-        let sites = self.total.iter().filter(|&&members| members >= 2).map(|&members| u64::from(members)).sum();
+        let sites = (0..n).filter(|&v| self.is_site(&lists, v)).count() as u64;
         let mut counts = Counts { sites, ..Counts::default() };
-        let rounds = self.grow(survey, &mut counts.bound);
+        let rounds = self.grow(survey, &lists, &mut counts.bound);
         counts.rounds = rounds as u64;
 
         marks[..m].fill(NOT_PICKED);
-        self.prune(survey, rounds, marks);
+        self.prune(survey, &lists, rounds, marks);
         for &track in &self.picked[..rounds] {
             if marks[track as usize] == KEPT {
                 counts.cost += u64::from(survey.prices[track as usize]);
@@ -118,8 +147,13 @@ impl Workspace {
         Ok(counts)
     }
 
+    /// Is the junction in a list with another member?
+    fn is_site(&self, lists: &Lists, v: usize) -> bool {
+        lists.of_junction(v).any(|group| self.total[group] >= 2)
+    }
+
     /// Refusal 8, by a union of all tracks.
-    fn joinable(&mut self, survey: View) -> Result<(), Refusal> {
+    fn joinable(&mut self, survey: View, lists: &Lists) -> Result<(), Refusal> {
         let n = survey.n();
         for v in 0..n {
             self.root[v] = v as u8;
@@ -139,19 +173,20 @@ impl Workspace {
         let mut root_of = [NONE; MAX_JUNCTIONS];
         let mut lowest = 0;
         for v in 0..n {
-            let group = survey.groups[v];
             let root = u16::from(self.find(v as u8));
-            let seen = &mut root_of[group as usize];
-            if *seen == NONE {
-                *seen = root;
-            } else if group != 0 && *seen != root && (lowest == 0 || group < lowest) {
-                lowest = group;
+            for group in lists.of_junction(v) {
+                let seen = &mut root_of[group];
+                if *seen == NONE {
+                    *seen = root;
+                } else if group != 0 && *seen != root && (lowest == 0 || group < lowest) {
+                    lowest = group;
+                }
             }
         }
         if lowest == 0 {
             Ok(())
         } else {
-            Err(Refusal { number: 8, place: u64::from(lowest) })
+            Err(Refusal { number: 8, place: lowest as u64 })
         }
     }
 
@@ -165,11 +200,11 @@ impl Workspace {
     }
 
     /// All rounds; answers with their number and adds up the bound.
-    fn grow(&mut self, survey: View, bound: &mut u64) -> usize {
+    fn grow(&mut self, survey: View, lists: &Lists, bound: &mut u64) -> usize {
         let (n, m) = (survey.n(), survey.m());
         let mut growing = 0;
         for v in 0..n {
-            let grows = self.total[survey.groups[v] as usize] >= 2;
+            let grows = self.is_site(lists, v);
             self.state[v] = state(0, grows, v);
             self.amount[v] = 0;
             self.members[v] = [0; 4];
@@ -199,7 +234,7 @@ impl Workspace {
                 *state += (*state >> GROWS & 1) * u64::from(wait);
             }
 
-            // The two components become one, which grows if some group is inside and outside it. No other
+            // The two components become one, which grows if some list is inside and outside it. No other
             // component starts or stops growing.
             let one = (self.state[survey.first[track as usize] as usize] >> COMPONENT) as u16;
             let other = (self.state[survey.second[track as usize] as usize] >> COMPONENT) as u16;
@@ -210,12 +245,12 @@ impl Workspace {
             self.amount[merged] = 0;
             self.inside.fill(0);
             for v in members(&self.members[merged]) {
-                self.inside[survey.groups[v] as usize] += 1;
+                for group in lists.of_junction(v) {
+                    self.inside[group] += 1;
+                }
             }
-            let grows = members(&self.members[merged]).any(|v| {
-                let group = survey.groups[v] as usize;
-                self.inside[group] < self.total[group]
-            });
+            let grows = members(&self.members[merged])
+                .any(|v| lists.of_junction(v).any(|group| self.inside[group] < self.total[group]));
             for v in members(&self.members[merged]) {
                 self.state[v] = state(self.state[v] as u32, grows, merged);
             }
@@ -257,8 +292,8 @@ impl Workspace {
     }
 
     /// Marks the picked tracks. A walk from the lowest junction of each tree numbers the junctions so that what hangs
-    /// on a track is a run of numbers; the track is kept if a group with a member in the run reaches below or above it.
-    fn prune(&mut self, survey: View, rounds: usize, marks: &mut [u8]) {
+    /// on a track is a run of numbers; the track is kept if a list with a member in the run reaches below or above it.
+    fn prune(&mut self, survey: View, lists: &Lists, rounds: usize, marks: &mut [u8]) {
         let n = survey.n();
         self.chain[..n].fill(NONE);
         for i in 0..rounds {
@@ -283,7 +318,7 @@ impl Workspace {
             }
             self.by[start] = NONE;
             let mut at = start;
-            self.enter(at, &mut walked, survey);
+            self.enter(at, &mut walked, lists);
             loop {
                 let half = self.chain[at];
                 if half != NONE {
@@ -297,7 +332,7 @@ impl Workspace {
                     self.above[next] = at as u16;
                     self.by[next] = pick;
                     at = next;
-                    self.enter(at, &mut walked, survey);
+                    self.enter(at, &mut walked, lists);
                 } else {
                     self.end[at] = walked;
                     if self.by[at] == NONE {
@@ -310,12 +345,11 @@ impl Workspace {
 
         // Backwards, so that a junction's run is summed up before the junction it hangs on.
         for number in 0..n {
-            let group = survey.groups[self.order[number] as usize] as usize;
             let v = self.order[number] as usize;
-            if group == 0 {
-                (self.low[v], self.high[v]) = (NONE, 0);
-            } else {
-                (self.low[v], self.high[v]) = (self.group_low[group], self.group_high[group]);
+            (self.low[v], self.high[v]) = (NONE, 0);
+            for group in lists.of_junction(v).filter(|&group| group != 0) {
+                self.low[v] = self.low[v].min(self.group_low[group]);
+                self.high[v] = self.high[v].max(self.group_high[group]);
             }
         }
         for number in (0..n).rev() {
@@ -333,11 +367,12 @@ impl Workspace {
     }
 
     /// Gives a junction its number in the walk.
-    fn enter(&mut self, v: usize, walked: &mut u16, survey: View) {
-        let group = survey.groups[v] as usize;
+    fn enter(&mut self, v: usize, walked: &mut u16, lists: &Lists) {
         self.order[*walked as usize] = v as u8;
-        self.group_low[group] = self.group_low[group].min(*walked);
-        self.group_high[group] = self.group_high[group].max(*walked);
+        for group in lists.of_junction(v) {
+            self.group_low[group] = self.group_low[group].min(*walked);
+            self.group_high[group] = self.group_high[group].max(*walked);
+        }
         *walked += 1;
         self.end[v] = *walked;
     }

@@ -29,18 +29,15 @@ pub struct Growth {
     pub moats: Vec<Moat>,
 }
 
-/// Is the set growing: has some group members inside and outside?
-fn is_growing(survey: View, holds: &[bool]) -> bool {
-    (0..survey.n()).any(|inside| {
-        survey.groups[inside] != 0
-            && holds[inside]
-            && (0..survey.n()).any(|outside| !holds[outside] && survey.groups[outside] == survey.groups[inside])
-    })
+/// Is the set growing: has some list members inside and outside?
+fn is_growing(lists: &[Vec<usize>], holds: &[bool]) -> bool {
+    lists.iter().any(|members| members.iter().any(|&v| holds[v]) && members.iter().any(|&v| !holds[v]))
 }
 
 /// The rounds of a survey whose groups can all be joined.
 pub fn growth(survey: View) -> Growth {
     let (n, m) = (survey.n(), survey.m());
+    let lists = survey.lists();
     let single = |v: usize| Moat { holds: (0..n).map(|w| w == v).collect(), amount: 0 };
     let mut moats: Vec<Moat> = (0..n).map(single).collect();
     let mut rounds: Vec<Round> = Vec::new();
@@ -49,7 +46,7 @@ pub fn growth(survey: View) -> Growth {
         // `component[v]` is the lowest junction of v's component.
         let component = survey.components(|t| picked[t]);
         let set_of = |c: usize| -> Vec<bool> { (0..n).map(|v| component[v] == c).collect() };
-        let growing: Vec<bool> = (0..n).map(|c| component[c] == c && is_growing(survey, &set_of(c))).collect();
+        let growing: Vec<bool> = (0..n).map(|c| component[c] == c && is_growing(&lists, &set_of(c))).collect();
         if !growing.contains(&true) {
             return Growth { rounds, picked, moats };
         }

@@ -4,7 +4,7 @@ use Rattle.api_c.specs.Laws.Call.{check-short-code, check-short-counts, 
 use Rattle.api_c.proofs.foamsickle_check.Statement.{statement}
 use Rattle.api_c.proofs.foamsickle_check.Tie as tie
 
--- 1 to 6, or 7
+-- 1 to 6, 18, or 7
 returns : tie.Need-returns
 returns c =
     let short = c .before .if1 .taken in

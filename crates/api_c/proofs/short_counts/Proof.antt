@@ -11,7 +11,7 @@ code-requires c κs = short-fits _ (c .before .before .before .survey-refusal .e
 enum-told : tie.Need-enum-told
 enum-told c = search needs
 
--- 1 to 6
+-- 1 to 6, or 18
 returns : tie.Need-returns
 returns c = short-refused _ (c .before .before .before .before .survey-refusal .ensures) _ _ (c .before .before .found .given .1) (c .code .ensures)
 

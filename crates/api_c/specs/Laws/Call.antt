@@ -1,4 +1,4 @@
--- The calls from other languages, by cases on the length of the lent counts: long enough, they are the library's own; too short, 1 to 6 and then 7.
+-- The calls from other languages, by cases on the length of the lent counts: long enough, they are the library's own; too short, 1 to 6, 18 and then 7.
 use Prim.Native.Nat.{ℕ, _+_, _*_, _<_, _≤_, _^_}
 use mathlib.Core.Path.{_≡_, refl, ap, sym, _∙_}
 use mathlib.Core.List.{List, [], _∷_, _++_}

@@ -1,20 +1,23 @@
 -- Refusals of surveys, plans and checks fit one number of 64 bits: each number is below 256 and each place below 2^32.
-use Prim.Native.Nat.{ℕ, _+_, _*_, _<_, _^_, _/_, _%_}
+use Prim.Native.Nat.{ℕ, _+_, _*_, _<_, _≤_, _^_, _/_, _%_}
 use native.Mathlib.Omega.{arith}
 use mathlib.Core.Path.{_≡_, refl}
-use mathlib.Core.Bool.{Bool, false, _||_, not}
+use mathlib.Core.Bool.{Bool, true, false, _||_, not}
 use mathlib.Core.List.{List}
 use lib.ListN.{length}
 use lib.Dec.{lit<, ltb, eqb}
-use borrow.Author.Tests.{ltb-false}
+use borrow.Author.Tests.{ltb-true, ltb-false}
 use Rattle.base_finite.specs.Laws.Test.{or-false-right}
-use Rattle.base_limits.specs.Limits.{maxEdges, maxDuals, groupNumbers, recordBytes}
+use Rattle.base_limits.specs.Limits.{maxEdges, maxPairs, maxDuals, groupNumbers, recordBytes}
 use Rattle.base_limits.specs.Verdict.{refuseIf, _before_, lowestBelow}
 use Rattle.base_limits.specs.declared.Verdict.{Verdict}
 use Rattle.base_limits.specs.declared.Verdict.the-variants.{Fine, Refused}
 use Rattle.base_limits.specs.Laws.Verdict.{Lowest, lowest-elim, refused-refuse, fine-refuse}
-use Rattle.survey_core.specs.Survey.{Survey, edgeCount}
+use Rattle.survey_core.specs.Survey.{Survey, edgeCount, listsOf}
+use Rattle.survey_core.specs.Lists.{Lists}
+use Rattle.survey_core.specs.Pairs.{pairRefusal, pairsRefusal}
 use Rattle.survey_core.specs.Refusal.{edgeRefusal, surveyRefusal, groupRefusal}
+use Rattle.survey_core.specs.Laws.Pairs.{fine-pair}
 use Rattle.survey_core.specs.Laws.Refusal.{fine-survey}
 use Rattle.check_rule.specs.Check.{checkRefusal, shapeRefusal, dualRefusal, ruleRefusal}
 use Rattle.plan_core.specs.Plan.{planRefusal}
@@ -48,25 +51,56 @@ unfolding _before_
 small-before Fine w h k = k refl
 small-before (Refused a b) w h k = h
 
-small-lowest : (n : ℕ) (f : ℕ → Verdict) → ((i : ℕ) → i < n → Small (f i)) → Small (lowestBelow n f)
-small-lowest n f h =
+-- Of the lowest finding it is known that there is none before it.
+small-first : (n : ℕ) (f : ℕ → Verdict) → ((i : ℕ) → i < n → ((j : ℕ) → j < i → f j ≡ Fine) → Small (f i)) → Small (lowestBelow n f)
+small-first n f h =
     record {
-      number-small = λ number place e. let l : Lowest n f number place = lowest-elim n f number place e in h (l .at) (l .below) .number-small number place (l .found);
-      place-small = λ number place e. let l : Lowest n f number place = lowest-elim n f number place e in h (l .at) (l .below) .place-small number place (l .found);
+      number-small = λ number place e.
+          let l : Lowest n f number place = lowest-elim n f number place e in
+          h (l .at) (l .below) (l .none-before) .number-small number place (l .found);
+      place-small = λ number place e.
+          let l : Lowest n f number place = lowest-elim n f number place e in
+          h (l .at) (l .below) (l .none-before) .place-small number place (l .found);
     }
+
+small-lowest : (n : ℕ) (f : ℕ → Verdict) → ((i : ℕ) → i < n → Small (f i)) → Small (lowestBelow n f)
+small-lowest n f h = small-first n f λ i b none. h i b
 
 edge-small : (s : Survey) (e : ℕ) → e < 2 ^ 32 → Small (edgeRefusal s e)
 unfolding edgeRefusal
 edge-small s e b =
     small-before _ _ (small-refuse _ 4 e (lit< tt) b) λ _. small-before _ _ (small-refuse _ 5 e (lit< tt) b) λ _. small-refuse _ 6 e (lit< tt) b
 
+-- 18 comes at the pair past the last that may be, if not before, however many are lent.
+pair-few : (l : Lists) (i : ℕ) → ((j : ℕ) → j < i → pairRefusal l j ≡ Fine) → i ≤ maxPairs
+pair-few l i none = by (ltb maxPairs i) refl
+  where
+    by : (t : Bool) → ltb maxPairs i ≡ t → i ≤ maxPairs
+    by false h = ltb-false maxPairs i h
+    by true h = let b = fine-pair l maxPairs (none maxPairs (ltb-true maxPairs i h)) .few in omega arith
+
+pair-small : (l : Lists) (i : ℕ) → i < 2 ^ 32 → Small (pairRefusal l i)
+unfolding pairRefusal
+pair-small l i b =
+    small-before _ _ (small-refuse _ 18 i (lit< tt) b) λ _.
+    small-before _ _ (small-refuse _ 18 i (lit< tt) b) λ _.
+    small-before _ _ (small-refuse _ 18 i (lit< tt) b) λ _.
+    small-before _ _ (small-refuse _ 18 i (lit< tt) b) λ _.
+    small-refuse _ 18 i (lit< tt) b
+
+pairs-small : (l : Lists) → Small (pairsRefusal l)
+unfolding pairsRefusal
+pairs-small l = small-first (length (l .owners)) (pairRefusal l) λ i b none. pair-small l i (let few = pair-few l i none in omega arith)
+
 pub survey-small : (s : Survey) → Small (surveyRefusal s)
 unfolding surveyRefusal
 survey-small s =
     small-before _ _ (small-refuse _ 1 0 (lit< tt) (lit< tt)) λ _.
     small-before _ _ (small-refuse _ 2 0 (lit< tt) (lit< tt)) λ _.
+    small-before _ _ (small-refuse _ 2 0 (lit< tt) (lit< tt)) λ _.
     small-before _ _ (small-refuse _ 3 0 (lit< tt) (lit< tt)) λ few.
-    small-lowest (edgeCount s) (edgeRefusal s) λ e b. edge-small s e (below few b)
+    small-before _ _ (small-lowest (edgeCount s) (edgeRefusal s) λ e b. edge-small s e (below few b)) λ _.
+    pairs-small (listsOf s)
   where
     below : {e : ℕ} → refuseIf (ltb maxEdges (edgeCount s)) 3 0 ≡ Fine → e < edgeCount s → e < 2 ^ 32
     below few b = let l = ltb-false maxEdges (edgeCount s) (fine-refuse _ 3 0 few) in omega arith

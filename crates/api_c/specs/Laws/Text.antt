@@ -30,7 +30,7 @@ use Rattle.format_survey_lines.specs.Render.{edgeText}
 use Rattle.format_survey.specs.Reading.{SurveyText, reading, filled}
 use Rattle.format_survey.specs.Render.{render}
 use Rattle.format_survey.specs.Answer.{countsOf, countsOutcome}
-use Rattle.format_survey.specs.Laws.Reading.{SurveyRead, reading-refused}
+use Rattle.format_survey.specs.Laws.Reading.{reading-refused}
 use Rattle.format_survey.specs.Laws.WellFormed.{accepted-render}
 use Rattle.format_survey.specs.declared.Reading.{Reading}
 use Rattle.format_survey.specs.declared.Reading.the-variants.{Survey as SurveyFound, Refused as ReadingRefused}
@@ -147,6 +147,14 @@ filled-rest true read values l h =
     let n = h refl in
     ap (λ (o : Outcome SurveyText). filled o values [] ++ l) (n .2) ∙ sym (ap (λ (o : Outcome SurveyText). filled o values l) (n .2))
 filled-rest false read values l h = append-nil (filled read values l)
+
+-- What `read` ensures, of buffers by their content before and after.
+abbrev pub SurveyRead : (t : List ℕ) (counts : Outcome SurveyCounts) (groups groups′ firsts firsts′ seconds seconds′ weights weights′ : List ℕ) → Type 0
+SurveyRead t counts groups groups′ firsts firsts′ seconds seconds′ weights weights′ =
+    let read = reading t groups firsts seconds weights in
+    (counts ≡ countsOf read)
+    × ((groups′ ≡ filled read (λ s. s .groups) groups)
+    × ((firsts′ ≡ filled read (λ s. s .firsts) firsts) × ((seconds′ ≡ filled read (λ s. s .seconds) seconds) × (weights′ ≡ filled read (λ s. s .weights) weights))))
 
 -- What reading answers and leaves where so much of the group buffer is lent on.
 module _ (t groups firsts seconds weights counts : List ℕ) {room : ℕ} (lent : room ≡ lentOn (length counts) readFigures (length groups)) where
