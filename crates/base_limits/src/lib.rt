@@ -59,12 +59,10 @@ pub const LONGEST_MEMBERS: usize = 4 * MAX_VERTICES - 111;
 
 pub const LONGEST_DUAL: usize = 7 + WORD_DIGITS + LONGEST_MEMBERS;
 
-// Bytes that hold every dual line, every plan within the limits, every refusal.
+// Bytes that hold every dual line, every plan within the limits.
 pub const DUAL_ROOM: usize = 1024;
 
 pub const PLAN_ROOM: usize = 24 + 4 * (WORD_DIGITS + 1) + 10 * MAX_EDGES + LONGEST_DUAL * MAX_DUALS;
-
-pub const REFUSAL_ROOM: usize = 16 + 2 * WORD_DIGITS;
 
 // Bytes that the programs `plan` and `verify` read, at most: every survey's text, and every survey's text with a plan's
 // behind it.

@@ -2,13 +2,12 @@
 ghost use Rattle.base_buffer.specs.Lent.{old, new};
 ghost use mathlib.Core.Path.{_≡_};
 ghost use lib.ListN.{length};
-ghost use Rattle.base_limits.specs.Limits.{dualRoom, planRoom, refusalRoom};
+ghost use Rattle.base_limits.specs.Limits.{dualRoom, planRoom};
 ghost use Rattle.format_write.specs.Text.{countLines, planText, refusalText};
 ghost use Rattle.format_print.specs.Print.{printed, printedOut, dualPrinted, dualPrintedOut};
 ghost use Rattle.format_write.specs.Wrote.{Wrote};
 use base_limits::DUAL_ROOM;
 use base_limits::PLAN_ROOM;
-use base_limits::REFUSAL_ROOM;
 use format_write::put_dual;
 use format_write::put_duals;
 use format_write::put_line;
@@ -31,12 +30,6 @@ pub fn plan_buffer() -> [u8; PLAN_ROOM]
     ensures { λ r. ⌜ length r ≡ planRoom ⌝ }
 {
     [0; PLAN_ROOM]
-}
-
-pub fn refusal_buffer() -> [u8; REFUSAL_ROOM]
-    ensures { λ r. ⌜ length r ≡ refusalRoom ⌝ }
-{
-    [0; REFUSAL_ROOM]
 }
 
 // Writes the four lines of counts.

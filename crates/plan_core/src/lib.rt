@@ -89,8 +89,8 @@ fn plan_refusal(
     )
 }
 
-// The plan of a survey that no refusal stops: growing, dropping, drawing, and the counts. What growing leaves is a forest
-// that joins every group, so dropping refuses nothing.
+// The plan of a survey that no refusal stops: growing, dropping, drawing, and the counts. What growing leaves is a
+// forest that joins every group, so dropping refuses nothing.
 fn finish(
     groups: &[u8],
     firsts: &[u32],
