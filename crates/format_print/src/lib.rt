@@ -19,7 +19,7 @@ pub enum Printed {
     Refused { number: u64, place: usize },
 }
 
-// Buffers that hold every dual line, every plan within the limits, and every refusal (laws in specs/Laws/Room.antt).
+// Buffers that hold every dual line, and every plan within the limits (laws in specs/Laws/Room.antt).
 pub fn dual_buffer() -> [u8; DUAL_ROOM]
     ensures { λ r. ⌜ length r ≡ dualRoom ⌝ }
 {
