@@ -1,5 +1,6 @@
 //! Nanoseconds per plan on seeded surveys of 64, 128 and 256 junctions with 2,048 tracks, and of 256 junctions with
-//! fewer tracks; then the same surveys with up to 256 pairs that leave the plan as it is:
+//! fewer tracks; then the same surveys with up to 256 pairs that leave the plan as it is, beside the own groups, and in
+//! place of them:
 //!
 //!     bench [--seed S] [--surveys N] [--repeats R]
 //!
@@ -18,16 +19,19 @@ const PLANNERS: usize = if cfg!(feature = "native") { 2 } else { 1 };
 
 type Timed<'a> = &'a mut dyn FnMut(View, &mut [u8], &mut [u8]) -> Result<Counts, Refusal>;
 
-/// The median and the least of R timings of each planner, in turn, in nanoseconds.
-fn times(survey: &Survey, planners: &mut [Timed], repeats: usize) -> Vec<[u64; 2]> {
-    let (mut marks, mut records) = (vec![0; survey.first.len()], vec![0; record_room(survey.groups.len())]);
-    let mut times = vec![Vec::with_capacity(repeats); planners.len()];
+/// The median and the least of R timings of each planner on each survey, in turn, in nanoseconds. All surveys have the
+/// same counts.
+fn times(surveys: &[&Survey], planners: &mut [Timed], repeats: usize) -> Vec<[u64; 2]> {
+    let (mut marks, mut records) = (vec![0; surveys[0].first.len()], vec![0; record_room(surveys[0].groups.len())]);
+    let mut times = vec![Vec::with_capacity(repeats); surveys.len() * planners.len()];
     for _ in 0..repeats {
-        for (planner, times) in planners.iter_mut().zip(times.iter_mut()) {
-            let start = Instant::now();
-            let answer = planner(std::hint::black_box(survey.view()), &mut marks, &mut records);
-            times.push(start.elapsed().as_nanos() as u64);
-            assert!(std::hint::black_box(answer).is_ok());
+        for (survey, times) in surveys.iter().zip(times.chunks_exact_mut(planners.len())) {
+            for (planner, times) in planners.iter_mut().zip(times) {
+                let start = Instant::now();
+                let answer = planner(std::hint::black_box(survey.view()), &mut marks, &mut records);
+                times.push(start.elapsed().as_nanos() as u64);
+                assert!(std::hint::black_box(answer).is_ok());
+            }
         }
     }
     times
@@ -70,24 +74,26 @@ fn main() -> ExitCode {
     let mut outside = evidence::native::plan;
 
     for (n, m) in [(64, 2048), (128, 2048), (256, 2048), (256, 1024), (256, 512)] {
-        let mut sums = vec![[0; 2]; 2 * PLANNERS];
+        let mut sums = vec![[0; 2]; 3 * PLANNERS];
         let mut rounds = 0;
         for i in 0..surveys {
             let plain = timed(&mut Rng::of_case(seed, (1_000 * n + i) as u64), n, m, i);
-            let mut paired = plain.clone();
-            shadowed(&mut paired);
+            let (mut beside, mut instead) = (plain.clone(), plain.clone());
+            shadowed(&mut beside, true);
+            shadowed(&mut instead, false);
+            let forms = [&plain, &beside, &instead];
             rounds += owned(reference, plain.view()).expect("it can be joined").counts.rounds;
-            for (survey, sums) in [&plain, &paired].into_iter().zip(sums.chunks_exact_mut(PLANNERS)) {
-                let mut planners: Vec<Timed> = vec![&mut ours];
-                #[cfg(feature = "native")]
-                planners.push(&mut outside);
+            let mut planners: Vec<Timed> = vec![&mut ours];
+            #[cfg(feature = "native")]
+            planners.push(&mut outside);
+            for survey in forms {
                 if planners.iter_mut().any(|planner| !sound(survey, planner)) {
                     println!("a planner differs on {survey:?}");
                     return ExitCode::FAILURE;
                 }
-                for (sum, time) in sums.iter_mut().zip(times(survey, &mut planners, repeats)) {
-                    *sum = [sum[0] + time[0], sum[1] + time[1]];
-                }
+            }
+            for (sum, time) in sums.iter_mut().zip(times(&forms, &mut planners, repeats)) {
+                *sum = [sum[0] + time[0], sum[1] + time[1]];
             }
         }
         let mean: Vec<[u64; 2]> = sums.iter().map(|sum| sum.map(|time| time / surveys as u64)).collect();
@@ -97,9 +103,11 @@ fn main() -> ExitCode {
         if let Some(outside) = plain.get(1) {
             print!(", {}, {:.2} times", line("native", *outside), outside[1] as f64 / plain[0][1] as f64);
         }
-        print!("; with pairs: {}", line("fast", paired[0]));
-        if let Some(outside) = paired.get(1) {
-            print!(", {}, {:.3} times without", line("native", *outside), outside[1] as f64 / plain[1][1] as f64);
+        for (name, paired) in ["with pairs", "with pairs alone"].iter().zip(paired.chunks_exact(PLANNERS)) {
+            print!("; {name}: {}", line("fast", paired[0]));
+            if let Some(outside) = paired.get(1) {
+                print!(", {}, {:.3} times without", line("native", *outside), outside[1] as f64 / plain[1][1] as f64);
+            }
         }
         println!();
     }

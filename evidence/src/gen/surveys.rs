@@ -394,15 +394,21 @@ pub fn overlap(rng: &mut Rng, survey: &mut Survey) {
     (survey.owners, survey.others) = pairs.into_iter().unzip();
 }
 
-/// Puts up to 256 pairs to a survey, each in a list inside a group of the survey: the plan stays the same.
-pub fn shadowed(survey: &mut Survey) {
-    let fresh: Vec<u8> = (1..=255).filter(|group| !survey.groups.contains(group)).collect();
-    let used: Vec<u8> = (1..=255).filter(|group| survey.groups.contains(group)).collect();
+/// Puts up to 256 pairs to a survey, each in a list inside a group of the survey: the plan stays the same. Without
+/// `own` its groups are pairs too, and no junction has one of its own.
+pub fn shadowed(survey: &mut Survey, own: bool) {
+    let (used, fresh): (Vec<u8>, Vec<u8>) = (1..=255).partition(|group| survey.groups.contains(group));
     let mut pairs: BTreeSet<(u32, u8)> = BTreeSet::new();
+    let groups = survey.groups.clone();
+    if !own {
+        let paired = (0..).zip(&groups).filter(|(_, &group)| group != 0);
+        pairs.extend(paired.map(|(v, &group)| (v, group)));
+        survey.groups.fill(0);
+    }
     for (&shadow, &group) in fresh.iter().zip(used.iter().cycle()) {
-        for v in survey.view().members(group) {
+        for (v, _) in (0..).zip(&groups).filter(|(_, &g)| g == group) {
             if pairs.len() < MAX_PAIRS {
-                pairs.insert((v as u32, shadow));
+                pairs.insert((v, shadow));
             }
         }
     }
