@@ -3,8 +3,8 @@
 ghost use Rattle.base_buffer.specs.Lent.{old, new};
 ghost use mathlib.Core.Path.{_≡_};
 ghost use Prim.Native.Nat.{ℕ, _+_};
-ghost use mathlib.Core.Bool.{cond, _||_};
-ghost use lib.ListN.{getD, length};
+ghost use mathlib.Core.Bool.{cond, _&&_, _||_};
+ghost use lib.ListN.{getD, length, set};
 ghost use lib.Dec.{eqb, ltb};
 ghost use Rattle.base_finite.specs.Below.{tabulate};
 ghost use Rattle.base_limits.specs.Verdict.{refuseIf, _before_};
@@ -176,31 +176,6 @@ fn home(groups: &[u8], owners: &[u32], others: &[u8], v: usize) -> u8
     0
 }
 
-// The list of pair i and the home of its vertex become one.
-fn join_pair(groups: &[u8], owners: &[u32], others: &[u8], labels: &mut [u32], i: usize)
-    ensures { λ r. let first = home (lentLists groups owners others) (getD (old owners) i 0) in
-        ⌜ new labels ≡ endsJoined first (getD (old others) i 0) (old labels) ⌝ }
-{
-    let first = home(groups, owners, others, index32(at32(owners, i)));
-    let second = at8(others, i);
-    let z = at32(labels, index8(first));
-    survey_components::merge(labels, first as u32, second as u32, z);
-}
-
-// Labels of the lists: those that are poured together have one.
-fn label_lists(groups: &[u8], owners: &[u32], others: &[u8]) -> [u32; GROUP_NUMBERS]
-    ensures { λ r. ⌜ r ≡ tabulate groupNumbers (pouredLabel (lentLists groups owners others)) ⌝ }
-{
-    let mut labels = [0u32; GROUP_NUMBERS];
-    survey_components::own_labels(&mut labels);
-    let mut i = 0;
-    while i < owners.len() {
-        join_pair(groups, owners, others, &mut labels, i);
-        i += 1;
-    }
-    labels
-}
-
 // The own groups.
 fn own_groups(groups: &[u8]) -> [u8; MAX_VERTICES]
     ensures { λ r. ⌜ r ≡ roomOf (length (old groups)) (λ v. getD (old groups) v 0) ⌝ }
@@ -214,12 +189,92 @@ fn own_groups(groups: &[u8]) -> [u8; MAX_VERTICES]
     room
 }
 
+// A list for v, if it has none yet.
+fn note_home(homes: &mut [u8], v: usize, group: u8)
+    ensures { λ r. let none = ltb v maxVertices && eqb (getD (old homes) v 0) 0 in
+        ⌜ new homes ≡ cond none (set (old homes) v group) (old homes) ⌝ }
+{
+    if MAX_VERTICES <= v {
+        return;
+    }
+    if at8(homes, v) != 0 {
+        return;
+    }
+    put8(homes, v, group);
+}
+
+// The homes of all vertices that a survey may have, in one pass over the pairs.
+fn homes(groups: &[u8], owners: &[u32], others: &[u8]) -> [u8; MAX_VERTICES]
+    ensures { λ r. ⌜ r ≡ tabulate maxVertices (home (lentLists groups owners others)) ⌝ }
+{
+    let mut housed = own_groups(groups);
+    let mut i = 0;
+    while i < owners.len() {
+        note_home(&mut housed, index32(at32(owners, i)), at8(others, i));
+        i += 1;
+    }
+    housed
+}
+
+// The home of any vertex, from the table where that reaches.
+fn home_at(homes: &[u8], groups: &[u8], owners: &[u32], others: &[u8], v: usize) -> u8
+    requires { ⌜ now homes ≡ tabulate maxVertices (home (listsFrom (now groups) (now owners) (now others))) ⌝ }
+    ensures { λ r. ⌜ r ≡ home (lentLists groups owners others) v ⌝ }
+{
+    if v < MAX_VERTICES {
+        return at8(homes, v);
+    }
+    home(groups, owners, others, v)
+}
+
+// The list of pair i and the home of its vertex become one.
+fn join_pair(
+    homes: &[u8],
+    groups: &[u8],
+    owners: &[u32],
+    others: &[u8],
+    labels: &mut [u32],
+    i: usize,
+)
+    requires { ⌜ now homes ≡ tabulate maxVertices (home (listsFrom (now groups) (now owners) (now others))) ⌝ }
+    ensures { λ r. let first = home (lentLists groups owners others) (getD (old owners) i 0) in
+        ⌜ new labels ≡ endsJoined first (getD (old others) i 0) (old labels) ⌝ }
+{
+    let first = home_at(homes, groups, owners, others, index32(at32(owners, i)));
+    let second = at8(others, i);
+    let z = at32(labels, index8(first));
+    survey_components::merge(labels, first as u32, second as u32, z);
+}
+
+// Labels of the lists: those that are poured together have one.
+fn label_lists(homes: &[u8], groups: &[u8], owners: &[u32], others: &[u8]) -> [u32; GROUP_NUMBERS]
+    requires { ⌜ now homes ≡ tabulate maxVertices (home (listsFrom (now groups) (now owners) (now others))) ⌝ }
+    ensures { λ r. ⌜ r ≡ tabulate groupNumbers (pouredLabel (lentLists groups owners others)) ⌝ }
+{
+    let mut labels = [0u32; GROUP_NUMBERS];
+    survey_components::own_labels(&mut labels);
+    let mut i = 0;
+    while i < owners.len() {
+        join_pair(homes, groups, owners, others, &mut labels, i);
+        i += 1;
+    }
+    labels
+}
+
 // The poured group of v, by the labels of the lists.
-fn poured_group(groups: &[u8], owners: &[u32], others: &[u8], labels: &[u32], v: usize) -> u8
+fn poured_group(
+    homes: &[u8],
+    groups: &[u8],
+    owners: &[u32],
+    others: &[u8],
+    labels: &[u32],
+    v: usize,
+) -> u8
+    requires { ⌜ now homes ≡ tabulate maxVertices (home (listsFrom (now groups) (now owners) (now others))) ⌝ }
     requires { ⌜ now labels ≡ tabulate groupNumbers (pouredLabel (listsFrom (now groups) (now owners) (now others))) ⌝ }
     ensures { λ r. ⌜ r ≡ poured (lentLists groups owners others) v ⌝ }
 {
-    let list = home(groups, owners, others, v);
+    let list = home_at(homes, groups, owners, others, v);
     at32(labels, index8(list)) as u8
 }
 
@@ -227,14 +282,15 @@ fn poured_group(groups: &[u8], owners: &[u32], others: &[u8], labels: &[u32], v:
 fn poured_groups(groups: &[u8], owners: &[u32], others: &[u8]) -> [u8; MAX_VERTICES]
     ensures { λ r. ⌜ r ≡ roomOf (length (old groups)) (poured (lentLists groups owners others)) ⌝ }
 {
-    let labels = label_lists(groups, owners, others);
+    let housed = homes(groups, owners, others);
+    let labels = label_lists(&housed, groups, owners, others);
     let mut room = [0u8; MAX_VERTICES];
     let mut v = 0;
     while v < groups.len() {
         put8(
             &mut room,
             v,
-            poured_group(groups, owners, others, &labels, v),
+            poured_group(&housed, groups, owners, others, &labels, v),
         );
         v += 1;
     }

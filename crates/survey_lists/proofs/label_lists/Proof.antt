@@ -12,16 +12,19 @@ use Rattle.survey_lists.proofs.label_lists.Statement.{statement}
 use Rattle.survey_lists.proofs.label_lists.Tie as tie
 
 abbrev Inv-loop : tie.InvT-loop
-Inv-loop groups owners others labels₀ i₀ labels i = Labelled (listsFrom groups owners others) i labels
+Inv-loop homes groups owners others labels₀ i₀ labels i = Labelled (listsFrom groups owners others) i labels
 
 abbrev μ-loop : tie.MeasureT-loop
-μ-loop groups owners others labels₀ i₀ labels i = length owners - i
+μ-loop homes groups owners others labels₀ i₀ labels i = length owners - i
 
 loop-holds : tie.Need-loop-holds Inv-loop μ-loop
 loop-holds c = labelled-start _ (replicate groupNumbers 0) (length-replicate {A = ℕ} groupNumbers 0) (c .before .own-labels .ensures)
 
 slice-aggregate-join-pair : tie.Need-slice-aggregate-join-pair Inv-loop μ-loop
 slice-aggregate-join-pair c = sym (ap length (c .before .before .loop .inv .made) ∙ length-tabulate groupNumbers _)
+
+join-pair-requires : tie.Need-join-pair-requires Inv-loop μ-loop
+join-pair-requires c κs = c .before .before .before .before .before .before .before .before .before .before .pre
 
 loop-less : tie.Need-loop-less Inv-loop μ-loop
 loop-less c = omega arith
@@ -32,8 +35,8 @@ loop-again c =
     let known = at .before .before .before .before .before in
     labelled-turn
     _
-    (λ v. omega (arith, known .before .before .shared-slice-known .given v))
-    (λ i. omega (arith, known .shared-slice-known3 .given i))
+    (λ v. omega (arith, known .before .before .shared-slice-known2 .given v))
+    (λ i. omega (arith, known .shared-slice-known4 .given i))
     (at .before .loop .inv)
     (at .loop-test .taken)
     (c .before .join-pair .ensures)
@@ -51,7 +54,7 @@ label-lists-spec =
     (λ c κs. search needs)
     loop-holds
     slice-aggregate-join-pair
-    (λ c κs. search needs)
+    join-pair-requires
     (λ c. search needs)
     loop-less
     loop-again

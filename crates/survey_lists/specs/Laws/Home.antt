@@ -15,15 +15,15 @@ use Rattle.survey_lists.specs.Pouring.{homeBelow, home}
 use Rattle.survey_core.specs.Laws.Lists.{PairAt, Listed, by-own, by-pair, in-list-some, in-list-elim, in-list-intro}
 
 module _ (l : Lists) (v : ℕ) where
-  home-stays : (i : ℕ) → (homeBelow l v i ≡ 0 → ⊥) → homeBelow l v (suc i) ≡ homeBelow l v i
+  pub home-stays : (i : ℕ) → (homeBelow l v i ≡ 0 → ⊥) → homeBelow l v (suc i) ≡ homeBelow l v i
   unfolding homeBelow
   home-stays i some = rw (ne-eqb (homeBelow l v i) 0 some)
 
-  home-passed : (i : ℕ) → (owner l i ≡ v → ⊥) → homeBelow l v (suc i) ≡ homeBelow l v i
+  pub home-passed : (i : ℕ) → (owner l i ≡ v → ⊥) → homeBelow l v (suc i) ≡ homeBelow l v i
   unfolding homeBelow
   home-passed i d = rw (ne-eqb (owner l i) v d, and-false (eqb (homeBelow l v i) 0))
 
-  home-taken : (i : ℕ) → homeBelow l v i ≡ 0 → owner l i ≡ v → homeBelow l v (suc i) ≡ other l i
+  pub home-taken : (i : ℕ) → homeBelow l v i ≡ 0 → owner l i ≡ v → homeBelow l v (suc i) ≡ other l i
   unfolding homeBelow
   home-taken i none e = rw (eq-eqb (homeBelow l v i) 0 none, eq-eqb (owner l i) v e)
 

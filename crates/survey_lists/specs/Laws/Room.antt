@@ -1,15 +1,17 @@
 -- What the loops of pouring leave in their buffers: the labels of the lists, and the poured groups in a buffer for every survey.
-use Prim.Native.Nat.{ℕ, _+_, _-_, _<_, _≤_}
+use Prim.Native.Nat.{ℕ, suc, _+_, _-_, _<_, _≤_}
 use native.Mathlib.Omega.{arith}
 use native.Mathlib.Nat.{sub-zero}
-use mathlib.Core.Path.{_≡_, refl, ap, sym, _∙_}
+use native.Mathlib.Numerals.{add-one}
+use native.Mathlib.Decide.{ℕ-discrete}
+use mathlib.Core.Path.{_≡_, refl, ap, sym, _∙_, subst}
 use mathlib.Core.Logic.{_⊎_, inl, inr}
-use mathlib.Core.Bool.{true}
+use mathlib.Core.Bool.{true, _&&_, cond}
 use mathlib.Core.List.{List}
-use lib.ListN.{length, getD, set, take, replicate}
+use lib.ListN.{length, getD, set, take, replicate, List·getD-eq-default}
 use lib.Seq.{ext-getD, length-take-le, getD-take}
-use lib.Dec.{ltb}
-use borrow.Author.Tests.{lt-ltb, le-ltb}
+use lib.Dec.{eqb, ltb}
+use borrow.Author.Tests.{eq-eqb, ne-eqb, lt-ltb, le-ltb}
 use Rattle.base_finite.specs.Below.{counted, tabulate}
 use Rattle.base_finite.specs.Laws.Below.{lt-or-ge, counted-true, counted-false, length-tabulate, getD-tabulate}
 use Rattle.base_limits.specs.Limits.{maxVertices, groupNumbers}
@@ -20,7 +22,7 @@ use Rattle.survey_components.specs.Labels.{relabelled, endsJoined}
 use Rattle.survey_components.specs.Laws.Labels.{components-more, components-none, components-end}
 use Rattle.survey_core.specs.Lists.{Lists, own, owner, other}
 use Rattle.survey_lists.specs.Pouring.{homeBelow, home, pouredLabel, poured, pouredGroups, roomOf}
-use Rattle.survey_lists.specs.Laws.Home.{home-below}
+use Rattle.survey_lists.specs.Laws.Home.{home-below, home-stays, home-passed, home-taken}
 
 -- Each place of a buffer numbered, by a loop at least as long.
 pub numbered : (n N : ℕ) (labels : List ℕ) {after : List ℕ} → n ≤ N → length labels ≡ n → after ≡ remade (λ v x. v) N labels → after ≡ tabulate n (λ v. v)
@@ -130,6 +132,103 @@ module _ (f : ℕ → ℕ) (n : ℕ) where
 
   pub filled-end : {i : ℕ} {room : List ℕ} → Filled f n i room → n ≤ i → room ≡ roomOf n f
   filled-end {i} h c = let w : i ≤ n = h .within in let e : n ≡ i = omega arith in rw e (h .made)
+
+-- ---- the homes of all vertices
+
+-- One more pair, as a call leaves the homes.
+module _ (homes : List ℕ) (v group : ℕ) where
+  abbrev noted : List ℕ
+  noted = cond (ltb v maxVertices && eqb (getD homes v 0) 0) (set homes v group) homes
+
+  pub home-past : maxVertices ≤ v → homes ≡ noted
+  home-past h = rw (le-ltb v maxVertices h)
+
+  pub home-kept : v < maxVertices → (getD homes v 0 ≡ 0 → ⊥) → homes ≡ noted
+  home-kept h k = rw (lt-ltb v maxVertices h, ne-eqb (getD homes v 0) 0 k)
+
+  pub home-noted : v < maxVertices → getD homes v 0 ≡ 0 → set homes v group ≡ noted
+  home-noted h k = rw (lt-ltb v maxVertices h, eq-eqb (getD homes v 0) 0 k)
+
+-- The homes by the first i pairs.
+pub record Housed (l : Lists) (i : ℕ) (homes : List ℕ) : Type 0 where
+  pub within : i ≤ length (l .owners)
+  pub made : homes ≡ tabulate maxVertices (λ v. homeBelow l v i)
+
+module _ (l : Lists) where
+  pub housed-start : {homes : List ℕ} → homes ≡ roomOf (length (l .groups)) (own l) → Housed l 0 homes
+  unfolding roomOf homeBelow
+  housed-start h =
+      record {
+        within = omega arith;
+        made =
+            h
+            ∙ tabulate-cong maxVertices (λ v. counted (ltb v (length (l .groups))) (own l v)) (λ v. own l v)
+            (λ v b. by v (lt-or-ge v (length (l .groups))));
+      }
+    where
+      by : (v : ℕ) → (v < length (l .groups)) ⊎ (length (l .groups) ≤ v) → counted (ltb v (length (l .groups))) (own l v) ≡ own l v
+      by v (inl b) = counted-true (lt-ltb v (length (l .groups)) b) (own l v)
+      by v (inr b) = counted-false (le-ltb v (length (l .groups)) b) (own l v) ∙ sym (List·getD-eq-default (l .groups) 0 b)
+
+  module _ {i : ℕ} {homes after : List ℕ} {v g : ℕ} (h : Housed l i homes) (b : i < length (l .owners)) (v-is : v ≡ owner l i) (g-is : g ≡ other l i)
+      (is : after ≡ cond (ltb v maxVertices && eqb (getD homes v 0) 0) (set homes v g) homes) where
+    below : (x : ℕ) → ℕ
+    below x = homeBelow l x i
+
+    above : (x : ℕ) → ℕ
+    above x = homeBelow l x (suc i)
+
+    -- Every vertex but the pair's keeps its home.
+    others-keep : (x : ℕ) → (x ≡ v → ⊥) → below x ≡ above x
+    unfolding below above
+    others-keep x d = sym (home-passed l x i (λ e. d (sym e ∙ sym v-is)))
+
+    after-is : after ≡ tabulate maxVertices above
+    unfolding below above
+    after-is = by (lt-or-ge v maxVertices) (ℕ-discrete (homeBelow l v i) 0)
+      where
+        at : v < maxVertices → getD homes v 0 ≡ homeBelow l v i
+        at c = ap (λ t. getD t v 0) (h .made) ∙ getD-tabulate maxVertices (λ x. homeBelow l x i) v 0 c
+
+        stays : (homeBelow l v i ≡ homeBelow l v (suc i)) → homes ≡ tabulate maxVertices (λ x. homeBelow l x (suc i))
+        stays e =
+            h .made
+            ∙ tabulate-cong maxVertices (λ x. homeBelow l x i) (λ x. homeBelow l x (suc i))
+            (λ x _. each x e (ℕ-discrete x v))
+          where
+            each : (x : ℕ) → (homeBelow l v i ≡ homeBelow l v (suc i)) → Dec (x ≡ v) → homeBelow l x i ≡ homeBelow l x (suc i)
+            each x e (yes q) = subst (λ y. homeBelow l y i ≡ homeBelow l y (suc i)) (sym q) e
+            each x e (no d) = others-keep x d
+
+        out : maxVertices ≤ v → homes ≡ tabulate maxVertices (λ x. homeBelow l x (suc i))
+        out c =
+            h .made
+            ∙ tabulate-cong maxVertices (λ x. homeBelow l x i) (λ x. homeBelow l x (suc i))
+            (λ x bx. others-keep x (λ q. omega arith))
+
+        by : (v < maxVertices) ⊎ (maxVertices ≤ v) → Dec (homeBelow l v i ≡ 0) → after ≡ tabulate maxVertices (λ x. homeBelow l x (suc i))
+        by (inr c) d = is ∙ sym (home-past homes v g c) ∙ out c
+        by (inl c) (no d) = is ∙ sym (home-kept homes v g c (λ z. d (sym (at c) ∙ z))) ∙ stays (sym (home-stays l v i d))
+        by (inl c) (yes none) =
+            is ∙ sym (home-noted homes v g c (at c ∙ none))
+            ∙ ap (λ (t : List ℕ). set t v g) (h .made)
+            ∙ set-table maxVertices (λ x. homeBelow l x i) (λ x. homeBelow l x (suc i)) v g
+            (g-is ∙ sym (home-taken l v i none (sym v-is)))
+            (λ x d. others-keep x d)
+
+    pub housed-turn : Housed l (i + 1) after
+    unfolding below above
+    housed-turn = record { within = omega arith; made = rw (add-one i) after-is }
+
+  pub housed-end : {i : ℕ} {homes : List ℕ} → Housed l i homes → length (l .owners) ≤ i → homes ≡ tabulate maxVertices (home l)
+  unfolding home
+  housed-end {i} h c =
+      let w : i ≤ length (l .owners) = h .within in
+      let e : i ≡ length (l .owners) = omega arith in
+      h .made ∙ ap (λ (k : ℕ). tabulate maxVertices (λ v. homeBelow l v k)) e
+
+  pub home-read : {homes : List ℕ} {v found : ℕ} → homes ≡ tabulate maxVertices (home l) → v < maxVertices → found ≡ getD homes v 0 → found ≡ home l v
+  home-read {homes} {v} h b is = is ∙ ap (λ t. getD t v 0) h ∙ getD-tabulate maxVertices (home l) v 0 b
 
 -- The front of a room, as it is lent.
 pub take-room : (n : ℕ) (f : ℕ → ℕ) → n ≤ maxVertices → take (n - 0) (roomOf n f) ≡ tabulate n f
