@@ -87,3 +87,32 @@ checkCall b marks records result = raggedRefusal b before checkWith (surveyIn b)
 unfoldable pub checkResult : Slices → (marks records result : List ℕ) → List ℕ
 checkResult b marks records result =
     resultAfter (checkCall b marks records result) (checkFiguresOf (checkedOf (surveyIn b) marks records)) result
+
+-- ---- planning
+
+-- A survey in numbers: 1 to 6, 18, then 7 for any buffer that is too short, then 8.
+unfoldable pub planWith : Survey → (marks records result : List ℕ) → Verdict
+planWith s marks records result =
+    surveyRefusal s before refuseIf (ltb (length result) planBytes) 7 0 before planRefusal s (length marks) (length records)
+
+-- The plan's marks and records, with what stood behind them, and its counts.
+unfoldable pub drawnMarks : Survey → List ℕ → List ℕ
+drawnMarks s marks = planOf (problemOf s) .marks ++ drop (edgeCount s) marks
+
+unfoldable pub drawnRecords : Survey → List ℕ → List ℕ
+drawnRecords s records = recordsOver (planOf (problemOf s) .duals) records
+
+unfoldable pub drawnFigures : Survey → List ℕ
+drawnFigures s = planFiguresOf (planCountsOf (planOf (problemOf s)))
+
+unfoldable pub planCall : Slices → (marks records result : List ℕ) → Verdict
+planCall b marks records result = raggedRefusal b before planWith (surveyIn b) marks records result
+
+unfoldable pub planMarks : Slices → (marks records result : List ℕ) → List ℕ
+planMarks b marks records result = written (planCall b marks records result) (drawnMarks (surveyIn b) marks) marks
+
+unfoldable pub planRecords : Slices → (marks records result : List ℕ) → List ℕ
+planRecords b marks records result = written (planCall b marks records result) (drawnRecords (surveyIn b) records) records
+
+unfoldable pub planResult : Slices → (marks records result : List ℕ) → List ℕ
+planResult b marks records result = resultAfter (planCall b marks records result) (drawnFigures (surveyIn b)) result

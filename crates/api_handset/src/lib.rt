@@ -8,17 +8,19 @@ ghost use lib.Seq.{sets};
 ghost use Rattle.base_finite.specs.Below.{tabulate};
 ghost use Rattle.base_buffer.specs.Lent.{old, new};
 ghost use Rattle.base_limits.specs.Limits.{maxEdges, maxPairs};
-ghost use Rattle.base_limits.specs.Verdict.{_before_};
+ghost use Rattle.base_limits.specs.Verdict.{_before_, written};
 ghost use Rattle.base_limits.specs.declared.Verdict.the-variants.{Refused};
 ghost use Rattle.format_record.specs.Bits.{lowBytes};
 ghost use Rattle.survey_core.specs.Survey.{lentWith};
 ghost use Rattle.survey_core.specs.Refusal.{surveyRefusal};
 ghost use Rattle.check_rule.specs.Check.{checkedOf};
 ghost use Rattle.api_handset.specs.Words.{wordAt, isRagged};
-ghost use Rattle.api_handset.specs.Code.{placeUnit, figureBytes, checkBytes};
+ghost use Rattle.api_handset.specs.Code.{placeUnit, figureBytes, checkBytes, planBytes};
 ghost use Rattle.api_handset.specs.Code.{codeOf, spelled, resultAfter, checkFiguresOf};
 ghost use Rattle.api_handset.specs.Call.{lentSlices, anyRagged, areUneven, lengthsRefusal, pairsSeen};
 ghost use Rattle.api_handset.specs.Call.{checkWith, checkCall, checkResult};
+ghost use Rattle.api_handset.specs.Call.{planWith, drawnMarks, drawnRecords, drawnFigures};
+ghost use Rattle.api_handset.specs.Call.{planCall, planMarks, planRecords, planResult};
 use base_buffer::put32;
 use base_limits::MAX_EDGES;
 use base_limits::MAX_PAIRS;
@@ -26,6 +28,7 @@ use base_limits::MAX_VERTICES;
 use base_limits::VALUE_BYTES;
 use base_limits::Verdict;
 use check_core::Checking;
+use plan_core::Planned;
 
 // A refusal's place counts this many times.
 const PLACE_UNIT: u64 = 256;
@@ -35,8 +38,10 @@ const WORD_BYTES: usize = 4;
 
 const PAIRS_SEEN: usize = MAX_PAIRS + 1;
 
-// Bytes of the counts of checking.
+// Bytes of the counts of checking and of planning.
 const CHECK_BYTES: usize = 3 * VALUE_BYTES;
+
+const PLAN_BYTES: usize = 5 * VALUE_BYTES;
 
 // A byte as a wider number, 0 past the end.
 fn byte(bytes: &[u8], i: usize) -> u32
@@ -225,6 +230,16 @@ fn write_three(result: &mut [u8], terminals: u64, cost: u64, bound: u64)
     write_figure(result, 2 * VALUE_BYTES, bound);
 }
 
+// k, cost, bound, rounds and the number of moats.
+fn write_five(result: &mut [u8], terminals: u64, cost: u64, bound: u64, rounds: u64, duals: u64)
+    requires { ⌜ planBytes ≤ length (now result) ⌝ }
+    ensures { λ _. ⌜ new result ≡ sets (old result) 0 (spelled (terminals ∷ cost ∷ bound ∷ rounds ∷ duals ∷ [])) ⌝ }
+{
+    write_three(result, terminals, cost, bound);
+    write_figure(result, CHECK_BYTES, rounds);
+    write_figure(result, 4 * VALUE_BYTES, duals);
+}
+
 // Checks a plan against a survey in numbers.
 fn check_words(
     groups: &[u8],
@@ -307,6 +322,114 @@ pub extern "C" fn foamsickle_handset_check(
     let m = firsts.len() / WORD_BYTES;
     let p = pairs_seen(others.len());
     check_words(
+        groups,
+        &first_words[0..m],
+        &second_words[0..m],
+        &weight_words[0..m],
+        &owner_words[0..p],
+        &others[0..p],
+        marks,
+        records,
+        result,
+    )
+}
+
+// Plans a survey in numbers.
+fn plan_words(
+    groups: &[u8],
+    firsts: &[u32],
+    seconds: &[u32],
+    weights: &[u32],
+    owners: &[u32],
+    others: &[u8],
+    marks: &mut [u8],
+    records: &mut [u8],
+    result: &mut [u8],
+) -> u64
+    ensures { λ r. let s = lentWith groups firsts seconds weights owners others in
+        ⌜ r ≡ codeOf (planWith s (old marks) (old records) (old result)) ⌝ }
+    ensures { λ _. let s = lentWith groups firsts seconds weights owners others in
+        let v = planWith s (old marks) (old records) (old result) in
+        ⌜ new marks ≡ written v (drawnMarks s (old marks)) (old marks) ⌝ }
+    ensures { λ _. let s = lentWith groups firsts seconds weights owners others in
+        let v = planWith s (old marks) (old records) (old result) in
+        ⌜ new records ≡ written v (drawnRecords s (old records)) (old records) ⌝ }
+    ensures { λ _. let s = lentWith groups firsts seconds weights owners others in
+        let v = planWith s (old marks) (old records) (old result) in
+        ⌜ new result ≡ resultAfter v (drawnFigures s) (old result) ⌝ }
+{
+    if result.len() < PLAN_BYTES {
+        return short_result(groups, firsts, seconds, weights, owners, others);
+    }
+    let answer = plan_core::plan(
+        groups,
+        firsts,
+        seconds,
+        weights,
+        owners,
+        others,
+        marks,
+        records,
+    );
+    match answer {
+        Planned::Finished {
+            terminals,
+            cost,
+            bound,
+            rounds,
+            duals,
+        } => {
+            write_five(result, terminals, cost, bound, rounds, duals);
+            0
+        }
+        Planned::Refused { number, place } => code(number, place),
+    }
+}
+
+// Plans a survey. `result` gets k, cost, bound, rounds and the number of moats.
+#[no_mangle]
+pub extern "C" fn foamsickle_handset_plan(
+    groups: &[u8],
+    firsts: &[u8],
+    seconds: &[u8],
+    weights: &[u8],
+    owners: &[u8],
+    others: &[u8],
+    marks: &mut [u8],
+    records: &mut [u8],
+    result: &mut [u8],
+) -> u64
+    ensures code { λ r.
+        let b = lentSlices groups firsts seconds weights owners others in
+        ⌜ r ≡ codeOf (planCall b (old marks) (old records) (old result)) ⌝ }
+    ensures marks { λ _.
+        let b = lentSlices groups firsts seconds weights owners others in
+        ⌜ new marks ≡ planMarks b (old marks) (old records) (old result) ⌝ }
+    ensures records { λ _.
+        let b = lentSlices groups firsts seconds weights owners others in
+        ⌜ new records ≡ planRecords b (old marks) (old records) (old result) ⌝ }
+    ensures result { λ _.
+        let b = lentSlices groups firsts seconds weights owners others in
+        ⌜ new result ≡ planResult b (old marks) (old records) (old result) ⌝ }
+{
+    let odd = lengths_refusal(
+        groups.len(),
+        firsts.len(),
+        seconds.len(),
+        weights.len(),
+        owners.len(),
+        others.len(),
+    );
+    if let Verdict::Refused { number, place } = odd {
+        return code(number, place);
+    }
+    let first_words = edge_words(firsts);
+    let second_words = edge_words(seconds);
+    let weight_words = edge_words(weights);
+    let owner_words = pair_words(owners);
+    let m = firsts.len() / WORD_BYTES;
+    let p = pairs_seen(others.len());
+    plan_words(
         groups,
         &first_words[0..m],
         &second_words[0..m],

@@ -16,11 +16,16 @@ use Rattle.check_rule.specs.Check.{checkRefusal, checking, checkedOf}
 use Rattle.check_core.specs.Stage.{checkedOutcome as checkOutcome}
 use Rattle.check_core.specs.declared.Checking.{Checking}
 use Rattle.check_core.specs.declared.Checking.the-variants.{Passed, Refused as CheckRefused}
+use Rattle.plan_core.specs.Plan.{planRefusal, planOf, planCountsOf, counting, marksAfter, recordsAfter}
+use Rattle.plan_core.specs.Answer.{plannedOutcome as planOutcome}
+use Rattle.plan_core.specs.declared.Planned.{Planned}
+use Rattle.plan_core.specs.declared.Planned.the-variants.{Finished, Refused as PlanRefused}
 use Rattle.api_handset.specs.Code.{placeUnit, planBytes, checkBytes, codeOf, spelled, resultAfter, planFiguresOf, checkFiguresOf}
 use Rattle.api_handset.specs.Call.{Slices, surveyIn, raggedRefusal, checkWith, checkCall, checkResult}
+use Rattle.api_handset.specs.Call.{planWith, drawnMarks, drawnRecords, drawnFigures, planCall, planMarks, planRecords, planResult}
 use Rattle.api_handset.specs.Laws.Lengths.{lengthsOf, lengths-refused, lengths-whole}
 use Rattle.api_handset.specs.Laws.Pairs.{Seen, seen-call, seen-written}
-use Rattle.api_handset.specs.Laws.Small.{small-fits, survey-small, check-small}
+use Rattle.api_handset.specs.Laws.Small.{small-fits, survey-small, check-small, plan-small}
 
 -- ---- a result that is long enough, and one that is not
 
@@ -137,6 +142,64 @@ module _ (s : Survey) (marks records result : List ℕ) where
     unfolding checking checkOutcome
     check-kept number place h figures = refused-result (check-long long) _ number place (sym answered ∙ ap checkOutcome h) figures result
 
+-- ---- planning a survey in numbers
+
+pub plan-fits : (s : Survey) (marks records : ℕ) {r : Planned} → planOutcome r ≡ counting s marks records → (number place : ℕ) → r ≡ PlanRefused number place
+    → number + placeUnit * place < 2 ^ 64
+unfolding counting planOutcome
+plan-fits s marks records answered number place h =
+    small-fits (planRefusal s marks records) (plan-small s marks records) number place
+    (refusal-found (planRefusal s marks records) _ (sym answered ∙ ap planOutcome h))
+
+module _ (s : Survey) (marks records result : List ℕ) where
+  plan-long : planBytes ≤ length result → planWith s marks records result ≡ planRefusal s (length marks) (length records)
+  unfolding planWith planRefusal
+  plan-long h = result-long (surveyRefusal s) planBytes (length result) _ h
+
+  plan-short : length result < planBytes → planWith s marks records result ≡ (surveyRefusal s before Refused 7 0)
+  unfolding planWith
+  plan-short h = result-short (surveyRefusal s) planBytes (length result) _ h
+
+  module _ (short : length result < planBytes) where
+    pub plan-short-code : {r : ℕ} → r ≡ codeOf (surveyRefusal s before Refused 7 0) → r ≡ codeOf (planWith s marks records result)
+    plan-short-code = short-code (surveyRefusal s) (plan-short short)
+
+    pub plan-short-kept : (new old : List ℕ) → old ≡ written (planWith s marks records result) new old
+    plan-short-kept new old = short-kept (surveyRefusal s) (plan-short short) new old
+
+    pub plan-short-result : (figures : List ℕ) → result ≡ resultAfter (planWith s marks records result) figures result
+    unfolding resultAfter
+    plan-short-result figures = plan-short-kept _ result
+
+  module _ (long : planBytes ≤ length result) where
+    pub plan-marks : {l : List ℕ} → l ≡ marksAfter s marks records → l ≡ written (planWith s marks records result) (drawnMarks s marks) marks
+    unfolding marksAfter drawnMarks
+    plan-marks h = h ∙ sym (ap (λ y. written y (drawnMarks s marks) marks) (plan-long long))
+
+    pub plan-records : {l : List ℕ} → l ≡ recordsAfter s marks records → l ≡ written (planWith s marks records result) (drawnRecords s records) records
+    unfolding recordsAfter drawnRecords
+    plan-records h = h ∙ sym (ap (λ y. written y (drawnRecords s records) records) (plan-long long))
+
+    module _ {r : Planned} (answered : planOutcome r ≡ counting s (length marks) (length records)) where
+      pub plan-finished : (k c b n d : ℕ) → r ≡ Finished k c b n d → 0 ≡ codeOf (planWith s marks records result)
+      unfolding counting planOutcome
+      plan-finished k c b n d h = finished-code (plan-long long) _ (sym answered ∙ ap planOutcome h)
+
+      pub plan-stored : (k c b n d : ℕ) → r ≡ Finished k c b n d → {l : List ℕ} → l ≡ sets result 0 (spelled (k ∷ c ∷ b ∷ n ∷ d ∷ []))
+          → l ≡ resultAfter (planWith s marks records result) (drawnFigures s) result
+      unfolding counting planOutcome drawnFigures planFiguresOf
+      plan-stored k c b n d h e = finished-result (plan-long long) _ (sym answered ∙ ap planOutcome h) planFiguresOf result e
+
+      pub plan-refused : (number place : ℕ) → r ≡ PlanRefused number place → {x : ℕ} → x ≡ number + placeUnit * place
+          → x ≡ codeOf (planWith s marks records result)
+      unfolding counting planOutcome
+      plan-refused number place h = refused-code (plan-long long) _ number place (sym answered ∙ ap planOutcome h)
+
+      pub plan-kept : (number place : ℕ) → r ≡ PlanRefused number place → (figures : List ℕ)
+          → result ≡ resultAfter (planWith s marks records result) figures result
+      unfolding counting planOutcome
+      plan-kept number place h figures = refused-result (plan-long long) _ number place (sym answered ∙ ap planOutcome h) figures result
+
 -- ---- bytes
 
 -- The call is refused for its lengths.
@@ -179,3 +242,43 @@ module _ (b : Slices) (marks records result : List ℕ) where
     check-even-result k =
         even-written b fine seen (λ s. refuseIf (ltb (length result) checkBytes) 7 0 before checkRefusal s marks records)
         (λ s. sets result 0 (spelled (checkFiguresOf (checkedOf s marks records)))) result k
+
+  pub plan-odd-code : {number place r : ℕ} → lengthsOf b ≡ Refused number place → r ≡ number + placeUnit * place → r ≡ codeOf (planCall b marks records result)
+  unfolding planCall planWith
+  plan-odd-code h k = odd-code b h _ k
+
+  module _ {number place : ℕ} (h : lengthsOf b ≡ Refused number place) where
+    pub plan-odd-marks : marks ≡ planMarks b marks records result
+    unfolding planMarks planCall planWith
+    plan-odd-marks = odd-kept b h _ _ marks
+
+    pub plan-odd-records : records ≡ planRecords b marks records result
+    unfolding planRecords planCall planWith
+    plan-odd-records = odd-kept b h _ _ records
+
+    pub plan-odd-result : result ≡ planResult b marks records result
+    unfolding planResult resultAfter planCall planWith
+    plan-odd-result = odd-kept b h _ _ result
+
+  module _ {t : Survey} (fine : lengthsOf b ≡ Fine) (seen : Seen (surveyIn b) t) where
+    abbrev rest : Survey → Verdict
+    rest s = refuseIf (ltb (length result) planBytes) 7 0 before planRefusal s (length marks) (length records)
+
+    pub plan-even-code : {r : ℕ} → r ≡ codeOf (planWith t marks records result) → r ≡ codeOf (planCall b marks records result)
+    unfolding planCall planWith
+    plan-even-code k = even-code b fine seen rest k
+
+    pub plan-even-marks : {after : List ℕ} → after ≡ written (planWith t marks records result) (drawnMarks t marks) marks
+        → after ≡ planMarks b marks records result
+    unfolding planMarks planCall planWith
+    plan-even-marks k = even-written b fine seen rest (λ s. drawnMarks s marks) marks k
+
+    pub plan-even-records : {after : List ℕ} → after ≡ written (planWith t marks records result) (drawnRecords t records) records
+        → after ≡ planRecords b marks records result
+    unfolding planRecords planCall planWith
+    plan-even-records k = even-written b fine seen rest (λ s. drawnRecords s records) records k
+
+    pub plan-even-result : {after : List ℕ} → after ≡ resultAfter (planWith t marks records result) (drawnFigures t) result
+        → after ≡ planResult b marks records result
+    unfolding planResult resultAfter planCall planWith
+    plan-even-result k = even-written b fine seen rest (λ s. sets result 0 (spelled (drawnFigures s))) result k

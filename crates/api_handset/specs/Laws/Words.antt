@@ -127,3 +127,18 @@ three-spelled l x y z =
     spelled-more (sets (sets l 0 (lowBytes figureBytes x)) figureBytes (lowBytes figureBytes y)) (2 * figureBytes) z []
     ∙ spelled-more (sets l 0 (lowBytes figureBytes x)) figureBytes y (z ∷ [])
     ∙ spelled-more l 0 x (y ∷ z ∷ [])
+
+pub five-spelled : (l : List ℕ) (x y z v w : ℕ)
+    → sets (sets (sets l 0 (spelled (x ∷ y ∷ z ∷ []))) (3 * figureBytes) (lowBytes figureBytes v)) (4 * figureBytes) (lowBytes figureBytes w)
+    ≡ sets l 0 (spelled (x ∷ y ∷ z ∷ v ∷ w ∷ []))
+unfolding spelled
+five-spelled l x y z v w =
+    let one = sets l 0 (lowBytes figureBytes x) in
+    let two = sets one figureBytes (lowBytes figureBytes y) in
+    let three = sets two (2 * figureBytes) (lowBytes figureBytes z) in
+    ap (λ m. sets (sets m (3 * figureBytes) (lowBytes figureBytes v)) (4 * figureBytes) (lowBytes figureBytes w)) (sym (three-spelled l x y z))
+    ∙ spelled-more (sets three (3 * figureBytes) (lowBytes figureBytes v)) (4 * figureBytes) w []
+    ∙ spelled-more three (3 * figureBytes) v (w ∷ [])
+    ∙ spelled-more two (2 * figureBytes) z (v ∷ w ∷ [])
+    ∙ spelled-more one figureBytes y (z ∷ v ∷ w ∷ [])
+    ∙ spelled-more l 0 x (y ∷ z ∷ v ∷ w ∷ [])
