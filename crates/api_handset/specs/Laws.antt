@@ -1,0 +1,5 @@
+pub mod Words
+pub mod Lengths
+pub mod Pairs
+pub mod Small
+pub mod Call

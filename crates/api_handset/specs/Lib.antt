@@ -1,0 +1,4 @@
+pub mod Words
+pub mod Code
+pub mod Call
+pub mod Laws
