@@ -3,3 +3,4 @@ pub mod Lengths
 pub mod Pairs
 pub mod Small
 pub mod Call
+pub mod Crossing

@@ -1,4 +1,5 @@
 pub mod Words
 pub mod Code
 pub mod Call
+pub mod Crossing
 pub mod Laws

@@ -1,5 +1,4 @@
 -- `check_words` meets its contract: a result that is long enough gets what `check` finds, another is 7 after the survey's refusals.
-use native.Mathlib.Omega.{arith}
 use borrow.Author.Needs.{needs}
 use Rattle.api_handset.specs.Laws.Call.{check-short-code, check-short-kept, check-passed, check-stored, check-fits, check-refused, check-kept}
 use Rattle.api_handset.proofs.check_words.Statement.{statement}

@@ -1,6 +1,5 @@
 -- `write_five` meets its contract: two counts behind the first three.
 use Prim.Native.Nat.{_*_}
-use native.Mathlib.Omega.{arith}
 use mathlib.Core.Path.{ap, _∙_}
 use lib.Seq.{sets}
 use borrow.Author.Needs.{needs}

@@ -1,8 +1,8 @@
 -- The calls from the handset: a result that is long enough gets the library's counts; too short, 1 to 6, 18 and then 7. From numbers to bytes by what is seen of the pairs.
 use Prim.Native.Nat.{ℕ, _+_, _*_, _<_, _≤_, _^_}
 use mathlib.Core.Path.{_≡_, refl, ap, sym, _∙_}
-use mathlib.Core.List.{List, [], _∷_, _++_}
-use lib.ListN.{length, drop}
+use mathlib.Core.List.{List, [], _∷_}
+use lib.ListN.{length}
 use lib.Dec.{ltb}
 use lib.Seq.{sets}
 use borrow.Author.Tests.{lt-ltb, le-ltb}
@@ -16,7 +16,7 @@ use Rattle.check_rule.specs.Check.{checkRefusal, checking, checkedOf}
 use Rattle.check_core.specs.Stage.{checkedOutcome as checkOutcome}
 use Rattle.check_core.specs.declared.Checking.{Checking}
 use Rattle.check_core.specs.declared.Checking.the-variants.{Passed, Refused as CheckRefused}
-use Rattle.plan_core.specs.Plan.{planRefusal, planOf, planCountsOf, counting, marksAfter, recordsAfter}
+use Rattle.plan_core.specs.Plan.{planRefusal, counting, marksAfter, recordsAfter}
 use Rattle.plan_core.specs.Answer.{plannedOutcome as planOutcome}
 use Rattle.plan_core.specs.declared.Planned.{Planned}
 use Rattle.plan_core.specs.declared.Planned.the-variants.{Finished, Refused as PlanRefused}

@@ -1,9 +1,9 @@
 -- What the six lengths are refused for is what the call is refused for; where nothing is wrong with them, the slices spell even counts.
 use Prim.Native.Nat.{ℕ, _/_, _≤_, _<_}
-use mathlib.Core.Path.{_≡_, refl, ap, sym, _∙_}
+use mathlib.Core.Path.{_≡_, refl, sym, _∙_}
 use mathlib.Core.Bool.{Bool, true, false, _&&_, _||_, not}
 use lib.ListN.{length}
-use lib.Dec.{eqb, ltb}
+use lib.Dec.{eqb}
 use borrow.Author.Tests.{ltb-false, eqb-true, eq-eqb, ne-eqb, lt-ltb, le-ltb}
 use Rattle.base_finite.specs.Laws.Test.{and-left, and-right, or-false-left, or-false-right}
 use Rattle.base_limits.specs.Limits.{maxVertices, maxEdges}

@@ -1,11 +1,11 @@
 -- Laws of numbers that cross as bytes: four bytes read one by one, a table of numbers, and counts written one after the other.
-use Prim.Native.Nat.{ℕ, zero, suc, _+_, _*_, _-_, _/_, _≤_, _<_}
+use Prim.Native.Nat.{ℕ, suc, _+_, _*_, _-_, _/_, _≤_, _<_}
 use native.Mathlib.Omega.{arith}
 use native.Mathlib.Nat.{sub-zero}
 use mathlib.Core.Path.{_≡_, refl, ap, ap₂, sym, _∙_}
-use mathlib.Core.List.{List, [], _∷_, _++_, append-nil, append-assoc}
+use mathlib.Core.List.{List, [], _∷_, _++_, append-assoc}
 use lib.ListN.{length, getD, take, drop, set, length-set, length-drop}
-use lib.Seq.{sets, sets-eq, length-sets, length-take-le, getD-drop, getD-take, ext-getD, drop-drop}
+use lib.Seq.{sets, sets-eq, length-take-le, getD-drop, getD-take, ext-getD, drop-drop}
 use Rattle.base_finite.specs.Below.{tabulate}
 use Rattle.base_finite.specs.Laws.Below.{length-tabulate, getD-tabulate}
 use Rattle.base_buffer.specs.Store.{remade}
