@@ -1,0 +1,4 @@
+pub mod Pair
+pub mod Render
+pub mod Answer
+pub mod Laws
