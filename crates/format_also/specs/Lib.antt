@@ -1,4 +1,5 @@
 pub mod Pair
 pub mod Render
+pub mod WellFormed
 pub mod Answer
 pub mod Laws
