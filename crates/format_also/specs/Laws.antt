@@ -1,3 +1,5 @@
 pub mod Tests
 pub mod Turn
 pub mod Word
+pub mod Accepted
+pub mod Reading
