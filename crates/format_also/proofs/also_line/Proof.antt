@@ -1,6 +1,9 @@
 -- `format_also::also_line` meets its contract: a line past the last is malformed, another is read and then tested.
+use native.Mathlib.Omega.{arith}
 use borrow.Author.Needs.{needs}
+use Prim.Native.Nat.{_≤_}
 use mathlib.Core.Path.{ap, sym, _∙_}
+use Rattle.base_limits.specs.Limits.{maxPairs}
 use Rattle.format_also.specs.Answer.{pairStep}
 use Rattle.format_also.specs.Laws.Tests.{pair-digits, line-past, line-malformed, line-refused, line-fine}
 use Rattle.format_also.proofs.also_line.Statement.{statement}
@@ -11,7 +14,9 @@ returns : tie.Need-returns
 unfolding pairStep
 returns c =
     let a = c .before .before .before .args in
-    sym (line-past (a .text .now) (a .groups .now) (a .room) (a .low) (a .i) (a .cursor .at) (c .if1 .taken))
+    let h = c .if1 .taken in
+    let many : maxPairs ≤ a .i = omega arith in
+    sym (line-past (a .text .now) (a .groups .now) (a .room) (a .low) (a .i) (a .cursor .at) many)
 
 enum-told : tie.Need-enum-told
 enum-told c = search needs

@@ -1,8 +1,9 @@
 -- `format_also::pair_test` meets its contract: each test decides a case of the definition.
+use native.Mathlib.Omega.{arith}
 use borrow.Author.Needs.{needs}
 use Prim.Native.Nat.{ℕ, _≤_, _<_}
 use mathlib.Core.Path.{sym, _∙_, subst}
-use Rattle.format_also.specs.Pair.{Pair, pairOf}
+use Rattle.format_also.specs.Pair.{pairOf, rank}
 use Rattle.format_also.specs.Laws.Tests.{also-high, also-out, also-none, also-own, also-falls, also-full, also-fine}
 use Rattle.format_also.proofs.pair_test.Statement.{statement}
 use Rattle.format_also.proofs.pair_test.Tie as tie
@@ -37,7 +38,10 @@ returns-5 : tie.Need-returns-5
 returns-5 c =
     let a = c .before .before .before .before .before .before .before .before .before .args in
     let own = c .before .before .before .before .before .before .wide8 .ensures ∙ c .before .before .before .before .before .before .before .at8 .ensures in
-    sym (also-falls (a .groups .now) (a .room) (a .low) (a .i) (pairOf (a .owner) (a .other)) (c .before .before .before .before .if1 .left) (c .before .before .before .if2 .left) (c .before .before .if3 .left) (λ e. c .before .if4 .left (e ∙ sym own)) (subst (λ (k : ℕ). k ≤ a .low) (c .before .before .before .before .before .rank .ensures) (c .if5 .taken)))
+    let h = c .if5 .taken in
+    let e = c .before .before .before .before .before .rank .ensures in
+    let falls : rank (pairOf (a .owner) (a .other)) ≤ a .low = omega arith in
+    sym (also-falls (a .groups .now) (a .room) (a .low) (a .i) (pairOf (a .owner) (a .other)) (c .before .before .before .before .if1 .left) (c .before .before .before .if2 .left) (c .before .before .if3 .left) (λ e. c .before .if4 .left (e ∙ sym own)) falls)
 
 -- 7: no room for the pair
 returns-6 : tie.Need-returns-6

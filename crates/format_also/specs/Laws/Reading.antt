@@ -1,11 +1,11 @@
 -- Also lines are read exactly where their texts stand; a malformed text is refused with 16 at the first byte that no such lines have there.
-use Prim.Native.Nat.{ℕ, zero, suc, _+_, _-_, _≤_, _<_}
+use Prim.Native.Nat.{ℕ, zero, suc, _+_, _^_, _≤_, _<_}
 use native.Mathlib.Omega.{arith}
 use mathlib.Core.Path.{_≡_, refl, ap, sym, _∙_, subst}
 use mathlib.Core.Bool.{Bool, true, false, not, cond}
 use mathlib.Core.List.{List, [], _∷_, _++_, append-assoc, append-nil}
-use lib.ListN.{length, take, length-append}
-use Rattle.base_limits.specs.Limits.{maxPairs}
+use lib.ListN.{length, getD, take, length-append}
+use Rattle.base_limits.specs.Limits.{groupNumbers, maxPairs, alsoDigits}
 use Rattle.format_grammar.specs.Step.{Step, found, refused}
 use Rattle.format_grammar.specs.Bytes.{byteIs}
 use Rattle.format_grammar.specs.Lines.{Lines, following, textOf}
@@ -18,12 +18,14 @@ use Rattle.format_grammar.specs.Laws.Language.{bound}
 use Rattle.format_grammar.specs.Laws.Listing.{items-standing, standing-words, broken-place, broken-same, broken-items}
 use Rattle.format_grammar.specs.Laws.Stands.{stands-first, stands-second, stands-head}
 use Rattle.format_grammar.specs.Laws.Step.{then-found, then-refused, then-value, Stops, early, late, then-stops}
-use Rattle.format_also.specs.Pair.{Pair, pairOf, PairDigits, alsoLetter, rank, alsoLine, alsoReader, alsoTurns, alsoAt, counted}
+use Rattle.survey_core.specs.Lists.{listsFrom}
+use Rattle.survey_core.specs.Pairs.{PairsSound}
+use Rattle.format_also.specs.Pair.{Pair, PairDigits, alsoLetter, rank, alsoLine, alsoReader, alsoTurns, alsoAt, counted, ownersOf, othersOf}
 use Rattle.format_also.specs.Render.{pairText, pairsText}
-use Rattle.format_also.specs.WellFormed.{Accepted, noPair, nextPair, FewPairs}
+use Rattle.format_also.specs.WellFormed.{Accepted, noPair, nextPair, FewPairs, AlsoRead, AlsoMalformed}
 use Rattle.format_also.specs.Laws.Tests.{line-fine, line-passed}
 use Rattle.format_also.specs.Laws.Word.{reads-pair, reads-tested-pair, pair-some, LineStops, past, other, line-stops, lists-also}
-use Rattle.format_also.specs.Laws.Accepted.{also-few, accepted-few}
+use Rattle.format_also.specs.Laws.Accepted.{also-few, accepted-few, sound-accepted}
 
 -- ---- what is rendered is read back
 
@@ -56,18 +58,18 @@ also-reads-back t groups room at l a s e =
     let values : itemsFrom (alsoReader t groups room) alsoTurns 0 0 at .values ≡ l = ap (λ (x : Lines ℕ Pair). x .values) whole in
     (values, then-found _ (ap (λ (x : Lines ℕ Pair). x .end) whole) ∙ ap (λ (x : List Pair). found (length x) (at + length (pairsText l))) values)
 
+-- The same of sound pairs, whose groups are bytes and for which there is room.
+pub sound-reads-back : (t groups : List ℕ) (room at : ℕ) (l : List Pair) → length groups ≤ 10 ^ alsoDigits → ((j : ℕ) → getD (othersOf l) j 0 < groupNumbers) → length l ≤ room
+    → PairsSound (listsFrom groups (ownersOf l) (othersOf l)) → Stands t at (pairsText l) → byteIs t (at + length (pairsText l)) alsoLetter ≡ false
+    → (alsoAt t groups room at .values ≡ l) × (counted (alsoAt t groups room at) ≡ found (length l) (at + length (pairsText l)))
+sound-reads-back t groups room at l small bytes fits sound = also-reads-back t groups room at l (sound-accepted l bytes groups room small fits sound)
+
 -- ---- what is read is a rendering
 
 text-from : (i : ℕ) (l : List Pair) → textFrom (λ j. pairText) i l ≡ pairsText l
 unfolding textFrom pairsText textOf
 text-from i [] = refl
 text-from i (x ∷ l) = ap (λ (w : List ℕ). pairText x ++ w) (text-from (i + 1) l)
-
--- Also lines that are read to their end: the text of their pairs, as many as is answered, with no also line behind it.
-pub record AlsoRead (t groups : List ℕ) (room at count p : ℕ) : Type 0 where
-  pub many : count ≡ length (alsoAt t groups room at .values)
-  pub word : Word (Text FewPairs pairsText) t at (alsoAt t groups room at .values) p
-  pub ended : byteIs t p alsoLetter ≡ false
 
 stop-byte : (b : Bool) → not b ≡ true → b ≡ false
 stop-byte false e = refl
@@ -145,13 +147,6 @@ broken-few t groups room {low} {i} {at} {p} h k (later {next = next} {a = a} e f
       },
       omega arith,
     )
-
--- Where also lines are malformed: the place lies behind them inside the text, the bytes before it go on to at most 256 lines, and nothing behind it matters.
-pub record AlsoMalformed (t groups : List ℕ) (room at p : ℕ) : Type 0 where
-  pub after : at ≤ p
-  pub inside : p ≤ length t
-  pub begins : Extends (Text FewPairs pairsText) t at p
-  pub same : (u : List ℕ) → take (p + 1) t ≡ take (p + 1) u → counted (alsoAt u groups room at) ≡ refused 16 p
 
 pub also-malformed : (t groups : List ℕ) (room at p : ℕ) → at ≤ length t → counted (alsoAt t groups room at) ≡ refused 16 p → AlsoMalformed t groups room at p
 unfolding alsoAt counted
