@@ -192,21 +192,22 @@ fn shorter(a: usize, b: usize) -> usize
     b
 }
 
-// The also lines, and how many they are; the pairs before the first refusal go into the buffers.
-pub fn also_lines(
+// The also lines, and how many they are, where there is room for so many pairs; the pairs before the first refusal go
+// into the buffers, as far as these reach.
+pub fn pair_lines(
     text: &[u8],
     cursor: Cursor,
     groups: &[u8],
+    room: usize,
     owners: &mut [u32],
     others: &mut [u8],
 ) -> Number
     ensures { λ r.
-        let lines = alsoAt (old text) (old groups) (pairRoom (old owners) (old others)) (cursor .at) in
+        let lines = alsoAt (old text) (old groups) room (cursor .at) in
         ⌜ (numberStep r ≡ counted lines)
         × (new owners ≡ sets (old owners) 0 (ownersOf (lines .values)))
         × (new others ≡ sets (old others) 0 (othersOf (lines .values))) ⌝ }
 {
-    let room = shorter(owners.len(), others.len());
     let mut next = cursor;
     let mut low = 0;
     let mut i = 0;
@@ -235,4 +236,22 @@ pub fn also_lines(
     }
     let place = next.at;
     Number::Refused { number: 16, place }
+}
+
+// The same with the room that the buffers have, of which the shorter counts.
+pub fn also_lines(
+    text: &[u8],
+    cursor: Cursor,
+    groups: &[u8],
+    owners: &mut [u32],
+    others: &mut [u8],
+) -> Number
+    ensures { λ r.
+        let lines = alsoAt (old text) (old groups) (pairRoom (old owners) (old others)) (cursor .at) in
+        ⌜ (numberStep r ≡ counted lines)
+        × (new owners ≡ sets (old owners) 0 (ownersOf (lines .values)))
+        × (new others ≡ sets (old others) 0 (othersOf (lines .values))) ⌝ }
+{
+    let room = shorter(owners.len(), others.len());
+    pair_lines(text, cursor, groups, room, owners, others)
 }

@@ -14,7 +14,7 @@ use Rattle.format_grammar.specs.Items.{ItemReader, itemsFrom, puts, Ends}
 use Rattle.format_grammar.specs.Laws.Step.{then-found, then-refused}
 use Rattle.format_grammar.specs.Laws.Lines.{one-less}
 use Rattle.format_grammar.specs.Laws.Items.{ItemsLeft, left-start, left-more, left-stop, left-refused, left-out, left-length}
-use Rattle.format_also.specs.Pair.{Pair, alsoReader, alsoTurns, alsoAt, counted, pairRoom, ownersOf, othersOf, putOwner, putOther}
+use Rattle.format_also.specs.Pair.{Pair, alsoReader, alsoTurns, alsoAt, counted, ownersOf, othersOf, putOwner, putOther}
 
 -- Stores one after another are stores of a list.
 puts-sets : (f : Pair → ℕ) (buffer : List ℕ) (i : ℕ) (l : List Pair) → puts (λ b k x. set b k (f x)) buffer i l ≡ sets buffer i (map f l)
@@ -93,12 +93,19 @@ module _ (r : ItemReader ℕ Pair) (whole : Lines ℕ Pair) (owners₀ others₀
 pub pairs-start : (r : ItemReader ℕ Pair) (at : ℕ) (owners others : List ℕ) → PairsLeft r (itemsFrom r alsoTurns 0 0 at) owners others 0 0 at owners others
 pairs-start r at owners others = record { owned = left-start r putOwner alsoTurns 0 at owners; othered = left-start r putOther alsoTurns 0 at others; count = zero-add _ }
 
--- The end for the room that the buffers have.
-pub pairs-ended : (t groups owners₀ others₀ : List ℕ) (at : ℕ) {room : ℕ} {step : Step ℕ} {owners others : List ℕ} → room ≡ pairRoom owners₀ others₀
-    → PairsEnd (alsoReader t groups room) (alsoAt t groups room at) owners₀ others₀ step owners others
-    → (step ≡ counted (alsoAt t groups (pairRoom owners₀ others₀) at))
-    × (owners ≡ sets owners₀ 0 (ownersOf (alsoAt t groups (pairRoom owners₀ others₀) at .values)))
-    × (others ≡ sets others₀ 0 (othersOf (alsoAt t groups (pairRoom owners₀ others₀) at .values)))
-pairs-ended t groups owners₀ others₀ at {room} {step} {owners} {others} same e =
-    let f = subst (λ (k : ℕ). PairsEnd (alsoReader t groups k) (alsoAt t groups k at) owners₀ others₀ step owners others) same e in
-    (f .end, f .owned, f .othered)
+-- What the lines answer and leave in the buffers.
+abbrev pub AlsoEnds : (t groups owners₀ others₀ : List ℕ) (at : ℕ) (step : Step ℕ) (owners others : List ℕ) (room : ℕ) → Type 0
+AlsoEnds t groups owners₀ others₀ at step owners others room =
+    (step ≡ counted (alsoAt t groups room at))
+    × (owners ≡ sets owners₀ 0 (ownersOf (alsoAt t groups room at .values)))
+    × (others ≡ sets others₀ 0 (othersOf (alsoAt t groups room at .values)))
+
+module _ (t groups owners₀ others₀ : List ℕ) (at : ℕ) where
+  pub pairs-ended : (room : ℕ) {step : Step ℕ} {owners others : List ℕ} → PairsEnd (alsoReader t groups room) (alsoAt t groups room at) owners₀ others₀ step owners others
+      → AlsoEnds t groups owners₀ others₀ at step owners others room
+  pairs-ended room e = (e .end, e .owned, e .othered)
+
+  -- For a room that is the same.
+  pub room-ended : {step : Step ℕ} {owners others : List ℕ} {room room′ : ℕ} → room ≡ room′ → AlsoEnds t groups owners₀ others₀ at step owners others room
+      → AlsoEnds t groups owners₀ others₀ at step owners others room′
+  room-ended {step} {owners} {others} same e = subst (λ (k : ℕ). AlsoEnds t groups owners₀ others₀ at step owners others k) same e
