@@ -3,3 +3,4 @@ pub mod Turn
 pub mod Word
 pub mod Accepted
 pub mod Reading
+pub mod Render

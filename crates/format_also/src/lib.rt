@@ -1,4 +1,4 @@
-// Reads the also lines of a survey's text: each names a vertex and a further group of it.
+// Reads and writes the also lines of a survey's text: each names a vertex and a further group of it.
 ghost use Rattle.base_buffer.specs.Lent.{old, new};
 ghost use mathlib.Core.Path.{_≡_};
 ghost use Prim.Native.Nat.{min};
@@ -9,7 +9,10 @@ ghost use Rattle.format_grammar.specs.Step.{stopped};
 ghost use Rattle.format_also.specs.Pair.{alsoLetter, pairOf, PairDigits, rank, pairAt, alsoTest, alsoLine};
 ghost use Rattle.format_also.specs.Pair.{alsoAt, counted, pairRoom, ownersOf, othersOf};
 ghost use Rattle.format_also.specs.Answer.{pairStep};
+ghost use Rattle.format_also.specs.Render.{pairText, pairsText, pairsFrom};
+ghost use Rattle.format_write.specs.Wrote.{Wrote};
 use base_buffer::at8;
+use base_buffer::at32;
 use base_buffer::put8;
 use base_buffer::put32;
 use base_limits::ALSO_DIGITS;
@@ -20,6 +23,9 @@ use format_number::Cursor;
 use format_number::Number;
 use format_number::fixed;
 use format_number::number_to;
+use format_write::put;
+use format_write::put_bytes;
+use format_write::put_number;
 
 // Group numbers lie below the first; the second is a turn more than there may be lines.
 const GROUPS: u64 = GROUP_NUMBERS as u64;
@@ -254,4 +260,30 @@ pub fn also_lines(
 {
     let room = shorter(owners.len(), others.len());
     pair_lines(text, cursor, groups, room, owners, others)
+}
+
+// Writes the line of a pair.
+fn put_pair(out: &mut [u8], at: usize, owner: u64, other: u64) -> usize
+    ensures { λ r. ⌜ Wrote (old out) at (pairText (pairOf owner other)) (new out) r ⌝ }
+{
+    let next = put_bytes(out, at, &format_key::ALSO);
+    let next = put_number(out, next, owner);
+    let next = put(out, next, b',');
+    let next = put_number(out, next, other);
+    put(out, next, b'\n')
+}
+
+// Writes the line of each pair; there are as many as owners.
+pub fn put_pairs(out: &mut [u8], at: usize, owners: &[u32], others: &[u8]) -> usize
+    ensures { λ r. ⌜ Wrote (old out) at (pairsText (pairsFrom (old owners) (old others))) (new out) r ⌝ }
+{
+    let mut next = at;
+    let mut i = 0;
+    while i < owners.len() {
+        let owner = base_buffer::wide32(at32(owners, i));
+        let other = base_buffer::wide8(at8(others, i));
+        next = put_pair(out, next, owner, other);
+        i += 1;
+    }
+    next
 }
