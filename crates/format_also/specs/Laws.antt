@@ -2,5 +2,5 @@ pub mod Tests
 pub mod Turn
 pub mod Word
 pub mod Accepted
-pub mod Reading
 pub mod Render
+pub mod Reading

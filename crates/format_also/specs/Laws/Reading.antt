@@ -21,10 +21,11 @@ use Rattle.format_grammar.specs.Laws.Step.{then-found, then-refused, then-value
 use Rattle.survey_core.specs.Lists.{listsFrom}
 use Rattle.survey_core.specs.Pairs.{PairsSound}
 use Rattle.format_also.specs.Pair.{Pair, PairDigits, alsoLetter, rank, alsoLine, alsoReader, alsoTurns, alsoAt, counted, ownersOf, othersOf}
-use Rattle.format_also.specs.Render.{pairText, pairsText}
+use Rattle.format_also.specs.Render.{pairText, pairsText, pairsFrom}
 use Rattle.format_also.specs.WellFormed.{Accepted, noPair, nextPair, FewPairs, AlsoRead, AlsoMalformed}
 use Rattle.format_also.specs.Laws.Tests.{line-fine, line-passed}
 use Rattle.format_also.specs.Laws.Word.{reads-pair, reads-tested-pair, pair-some, LineStops, past, other, line-stops, lists-also}
+use Rattle.format_also.specs.Laws.Render.{owners-from, others-from, pairs-many}
 use Rattle.format_also.specs.Laws.Accepted.{also-few, accepted-few, sound-accepted}
 
 -- ---- what is rendered is read back
@@ -63,6 +64,25 @@ pub sound-reads-back : (t groups : List ℕ) (room at : ℕ) (l : List Pair) →
     → PairsSound (listsFrom groups (ownersOf l) (othersOf l)) → Stands t at (pairsText l) → byteIs t (at + length (pairsText l)) alsoLetter ≡ false
     → (alsoAt t groups room at .values ≡ l) × (counted (alsoAt t groups room at) ≡ found (length l) (at + length (pairsText l)))
 sound-reads-back t groups room at l small bytes fits sound = also-reads-back t groups room at l (sound-accepted l bytes groups room small fits sound)
+
+-- Two buffers of sound pairs are read back from their text.
+pub lent-reads-back : (t groups owners others : List ℕ) (room at : ℕ) → length groups ≤ 10 ^ alsoDigits → ((j : ℕ) → getD others j 0 < groupNumbers) → length owners ≡ length others
+    → length owners ≤ room → PairsSound (listsFrom groups owners others) → Stands t at (pairsText (pairsFrom owners others))
+    → byteIs t (at + length (pairsText (pairsFrom owners others))) alsoLetter ≡ false
+    → (ownersOf (alsoAt t groups room at .values) ≡ owners)
+    × (othersOf (alsoAt t groups room at .values) ≡ others)
+    × (counted (alsoAt t groups room at) ≡ found (length owners) (at + length (pairsText (pairsFrom owners others))))
+lent-reads-back t groups owners others room at small bytes same fits sound s e =
+    let l = pairsFrom owners others in
+    let v = owners-from owners others in
+    let g = others-from owners others same in
+    let n = pairs-many owners others in
+    let few : length l ≤ room = omega arith in
+    let b : (j : ℕ) → getD (othersOf l) j 0 < groupNumbers = subst (λ (x : List ℕ). (j : ℕ) → getD x j 0 < groupNumbers) (sym g) bytes in
+    let p : PairsSound (listsFrom groups (ownersOf l) (othersOf l)) =
+    subst (λ (x : List ℕ). PairsSound (listsFrom groups (ownersOf l) x)) (sym g) (subst (λ (x : List ℕ). PairsSound (listsFrom groups x others)) (sym v) sound) in
+    let r = sound-reads-back t groups room at l small b few p s e in
+    (ap ownersOf (r .0) ∙ v, ap othersOf (r .0) ∙ g, r .1 ∙ ap (λ (k : ℕ). found k (at + length (pairsText l))) n)
 
 -- ---- what is read is a rendering
 

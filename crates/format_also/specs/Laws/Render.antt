@@ -1,15 +1,18 @@
--- Laws of writing pairs upwards: no line yet, one line more, and the parts of a line.
-use Prim.Native.Nat.{ℕ, _+_}
+-- Laws of writing pairs upwards: no line yet, one line more, the parts of a line; and that the pairs of two buffers are what the buffers hold.
+use Prim.Native.Nat.{ℕ, zero, suc, _+_}
 use native.Mathlib.Numerals.{add-one}
 use mathlib.Core.Path.{_≡_, refl, ap, sym, _∙_}
-use mathlib.Core.List.{List, [], _∷_, _++_, append-assoc, append-nil}
+use mathlib.Core.List.{List, [], _∷_, _++_, append-assoc, append-nil, map, map-append}
+use lib.ListN.{length, getD}
+use lib.Seq.{ext-getD}
 use Rattle.base_finite.specs.Below.{tabulate}
+use Rattle.base_finite.specs.Laws.Below.{length-tabulate, getD-tabulate}
 use Rattle.format_key.specs.Key.{alsoKey, comma, newline}
 use Rattle.format_write.specs.Decimal.{decimal}
 use Rattle.format_number.specs.Number.{numberText}
 use Rattle.format_grammar.specs.Lines.{textOf}
-use Rattle.format_also.specs.Pair.{Pair, pairOf}
-use Rattle.format_also.specs.Render.{pairText, pairsText}
+use Rattle.format_also.specs.Pair.{Pair, pairOf, ownersOf, othersOf}
+use Rattle.format_also.specs.Render.{pairText, pairsText, pairIn, pairsFrom}
 
 pairs-one-more : (l : List Pair) (x : Pair) → pairsText (l ++ (x ∷ [])) ≡ pairsText l ++ pairText x
 unfolding pairsText textOf
@@ -30,3 +33,26 @@ unfolding pairText numberText
 pair-parts v g =
     append-assoc (alsoKey ++ decimal v ++ (comma ∷ [])) (decimal g) (newline ∷ [])
     ∙ ap (λ (w : List ℕ). w ++ (decimal g ++ (newline ∷ []))) (append-assoc alsoKey (decimal v) (comma ∷ []))
+
+-- ---- the pairs of two buffers
+
+map-table : (f : Pair → ℕ) (n : ℕ) (g : ℕ → Pair) → map f (tabulate n g) ≡ tabulate n (λ i. f (g i))
+unfolding tabulate
+map-table f zero g = refl
+map-table f (suc n) g = map-append f (tabulate n g) (g n ∷ []) ∙ ap (λ (l : List ℕ). l ++ (f (g n) ∷ [])) (map-table f n g)
+
+table-same : (l : List ℕ) (n : ℕ) → n ≡ length l → tabulate n (λ i. getD l i 0) ≡ l
+table-same l n e = ext-getD 0 _ l (length-tabulate n _ ∙ e) (λ i h. getD-tabulate n _ i 0 (rw (length-tabulate n (λ i. getD l i 0)) at h))
+
+module _ (owners others : List ℕ) where
+  pub owners-from : ownersOf (pairsFrom owners others) ≡ owners
+  unfolding ownersOf pairsFrom
+  owners-from = map-table (λ x. x .owner) (length owners) (pairIn owners others) ∙ table-same owners (length owners) refl
+
+  pub others-from : length owners ≡ length others → othersOf (pairsFrom owners others) ≡ others
+  unfolding othersOf pairsFrom
+  others-from same = map-table (λ x. x .other) (length owners) (pairIn owners others) ∙ table-same others (length owners) same
+
+  pub pairs-many : length (pairsFrom owners others) ≡ length owners
+  unfolding pairsFrom
+  pairs-many = length-tabulate (length owners) (pairIn owners others)
