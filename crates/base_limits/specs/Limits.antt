@@ -47,7 +47,7 @@ maxDuals = dualsFor maxVertices
 abbrev pub recordsRoom : ℕ
 recordsRoom = recordBytes * maxDuals
 
--- digits of a number in a survey's text, at most: a count, a group, an end, a price
+-- digits of a number in a survey's text, at most: a count, a group, an end, a price, a number of an also line
 abbrev pub countDigits : ℕ
 countDigits = 7
 
@@ -59,6 +59,9 @@ endpointDigits = 7
 
 abbrev pub weightDigits : ℕ
 weightDigits = 7
+
+abbrev pub alsoDigits : ℕ
+alsoDigits = 3
 
 -- digits of a number in a printed plan, at most: a figure (sites, cost, bound, rounds), a kept track, an amount, a member
 abbrev pub figureDigits : ℕ

@@ -28,7 +28,7 @@ pub const MAX_DUALS: usize = 2 * MAX_VERTICES - 1;
 
 pub const RECORDS_ROOM: usize = RECORD_BYTES * MAX_DUALS;
 
-// Digits of a number in a survey's text, at most: a count, a group, an endpoint, a weight.
+// Digits of a number in a survey's text, at most: a count, a group, an endpoint, a weight, a number of an also line.
 pub const COUNT_DIGITS: usize = 7;
 
 pub const GROUP_DIGITS: usize = 7;
@@ -36,6 +36,8 @@ pub const GROUP_DIGITS: usize = 7;
 pub const ENDPOINT_DIGITS: usize = 7;
 
 pub const WEIGHT_DIGITS: usize = 7;
+
+pub const ALSO_DIGITS: usize = 3;
 
 // Digits of a number in a printed plan, at most: a figure (sites, cost, bound, rounds), a kept edge, a dual's value,
 // a member.

@@ -18,6 +18,9 @@ linksKey = ascii "links="
 abbrev pub nodeKey : List ℕ
 nodeKey = ascii "node="
 
+abbrev pub alsoKey : List ℕ
+alsoKey = ascii "also="
+
 abbrev pub linkKey : List ℕ
 linkKey = ascii "link="
 

@@ -1,11 +1,13 @@
 // The keys of the texts, each in this one place: readers compare them, writers write them. Definitions in specs/.
 
-// A survey's text: the two counts, a vertex's group, an edge.
+// A survey's text: the two counts, a vertex's group, a further group of a vertex, an edge.
 pub const NODES: [u8; 6] = *b"nodes=";
 
 pub const LINKS: [u8; 6] = *b"links=";
 
 pub const NODE: [u8; 5] = *b"node=";
+
+pub const ALSO: [u8; 5] = *b"also=";
 
 pub const LINK: [u8; 5] = *b"link=";
 
