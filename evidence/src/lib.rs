@@ -155,7 +155,7 @@ impl View<'_> {
         }
     }
 
-    /// What 18 is about: v at n or above, g 0 or v's own group, out of rising order, past the 256th.
+    /// What 18 is about: no such junction, no group or the junction's own, not above the pair before, one too many.
     fn is_bad_pair(&self, i: usize) -> bool {
         let pair = |i: usize| (self.owners[i], self.others[i]);
         let (v, g) = pair(i);

@@ -114,7 +114,7 @@ examples =
     (edge 0 1 3 ∷ edge 1 2 4 ∷ [])
     (finished 2 7 14 2 14 14 (2 ∷ 2 ∷ []) (dual 6 (0 ∷ []) ∷ dual 7 (2 ∷ []) ∷ dual 1 (0 ∷ 1 ∷ []) ∷ []))
     []
-    -- P4: k times cost is 6, and k - 1 times bound is 6
+    -- P4: both sides of the rule are 6
     ∷ example
     (1 ∷ 1 ∷ 1 ∷ [])
     (edge 0 1 1 ∷ edge 1 2 1 ∷ edge 0 2 1 ∷ [])

@@ -1,4 +1,4 @@
--- Planning with lists beside planning with lists that share a member poured together (document 02, No. 2): the same, or both refuse with 8, each naming a list of its own.
+-- Planning with lists beside planning with the groups that they are poured into (document 02, No. 2): the same, or both refuse with 8, each naming a list of its own.
 use Prim.Native.Nat.{ℕ}
 use mathlib.Core.Path.{_≡_}
 use Rattle.base_limits.specs.Verdict.{Outcome, refusal}

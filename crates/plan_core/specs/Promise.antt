@@ -42,7 +42,7 @@ pub record FinishedPlan (s : Survey) (marks records : List ℕ) (c : PlanCounts)
   -- the definition's steps: each round has a winner, after them there is none, and no component grows
   pub rounds-steps : TakesRounds (problemOf s) (c .rounds)
   pub rounds-rest : (v : ℕ) → active (problemOf s) (stateAt (problemOf s) (c .rounds) .label) v ≡ false
-  -- the bound: the sum over the rounds of the wait times the number of growing components
+  -- the bound: each round's wait, times how many components grow in it, summed up
   pub bound-rounds : c .bound ≡ boundOfRounds (problemOf s) (c .rounds)
   -- demand 3: the checker passes the marks and records that were written, with the same k, cost and bound
   pub passes-checker :

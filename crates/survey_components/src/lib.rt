@@ -231,7 +231,7 @@ fn join_picked(
     Verdict::Fine
 }
 
-// 21 at the lowest picked track that closes a loop, then 14.
+// 21 at the lowest picked track whose ends are linked already, then 14.
 fn loop_refusal(groups: &[u8], firsts: &[u32], seconds: &[u32], picked: &[u8]) -> Verdict
     requires { ⌜ EndsBelow (now groups) (now firsts) (now seconds) ⌝ }
     ensures { λ r. let s = surveyFrom (old groups) (old firsts) (old seconds) [] in

@@ -18,7 +18,7 @@ delayOrZero (edge e d) = d
 unfoldable pub roundDelay : Problem → ℕ → ℕ
 roundDelay p r = delayOrZero (winner p (stateAt p r))
 
--- Document 01's other figure for the bound: over the first r rounds, the sum of the wait times the number of growing components.
+-- Document 01's other figure for the bound: each of the first r rounds gives its wait times how many components grow in it.
 unfoldable pub boundOfRounds : Problem → ℕ → ℕ
 boundOfRounds p r = sumBelow r (λ i. roundDelay p i * activeCount p (stateAt p i))
 

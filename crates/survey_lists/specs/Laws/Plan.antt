@@ -1,4 +1,4 @@
--- Planning with lists is planning with lists that share a member poured together (document 02, No. 2): where 18 does not come, the two problems separate
+-- Planning with lists is planning with the groups that they are poured into (document 02, No. 2): where 18 does not come, the two problems separate
 -- the same cuts, so they have one plan, and the same sets of tracks join both. A set S that parts A ∪ B has a member u of A inside and w of B
 -- outside, or the other way round; x in both parts B if it is inside, and A if it is not.
 use Prim.Native.Nat.{ℕ, _<_, _≤_}
