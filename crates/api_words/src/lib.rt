@@ -32,7 +32,8 @@ fn word(bytes: &[u8], i: usize) -> u32
     ensures { λ r. ⌜ r ≡ wordAt (old bytes) i ⌝ }
 {
     let at = WORD_BYTES * i;
-    let fourth = byte(bytes, at + 3);
+    let last = at + 3;
+    let fourth = byte(bytes, last);
     let third = byte(bytes, at + 2) + 256 * fourth;
     let second = byte(bytes, at + 1) + 256 * third;
     byte(bytes, at) + 256 * second
