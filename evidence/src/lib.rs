@@ -9,6 +9,7 @@
 //! | `check` | a plan drawn by anyone |
 //! | `print` | a moat line, a printed plan, a refusal, and the whole program's answer |
 //! | `brute` | the cheapest joining set of a tiny survey |
+//! | `handset` | planning and checking over bytes alone, and their generated cases |
 //! | `gen`   | seeded surveys, texts and plans, sound and damaged |
 //! | `blunder` | planners with a fault each, which the generated inputs have to tell from a sound one |
 
@@ -17,6 +18,7 @@ pub mod brute;
 pub mod calls;
 pub mod check;
 pub mod gen;
+pub mod handset;
 #[cfg(feature = "native")]
 pub mod native;
 pub mod plan;
