@@ -68,7 +68,7 @@ fn plan_refusal(
 ) -> Verdict
     ensures { λ r. ⌜ r ≡ planRefusal (lentWith groups firsts seconds weights owners others) marks records ⌝ }
 {
-    let unsound = survey_lists::survey_refusal(groups, firsts, seconds, weights, owners, others);
+    let unsound = survey_pairs::survey_refusal(groups, firsts, seconds, weights, owners, others);
     let Verdict::Fine = unsound else {
         return unsound;
     };
@@ -76,7 +76,7 @@ fn plan_refusal(
     let Verdict::Fine = short else {
         return short;
     };
-    survey_lists::group_refusal(
+    survey_split::group_refusal(
         groups,
         firsts,
         seconds,
@@ -119,7 +119,7 @@ fn finish(
     let bound = grown.bound;
     let picks = &picked[0..firsts.len()];
     plan_drop::prune(groups, firsts, seconds, weights, picks, marks);
-    let duals = plan_duals::draw(
+    let duals = plan_draw::draw(
         groups.len(),
         firsts,
         seconds,

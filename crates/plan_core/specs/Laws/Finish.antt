@@ -30,7 +30,7 @@ use Rattle.survey_core.specs.Laws.Refusal.{survey-fine, survey-sound}
 use Rattle.base_buffer.specs.Store.{remade}
 use Rattle.base_buffer.specs.Laws.Store.{tabulate-cong, length-remade, remade-passed, remade-ahead}
 use Rattle.survey_components.specs.Labels.{pickedIn}
-use Rattle.survey_components.specs.Forest.{forestRefusal}
+use Rattle.survey_forest.specs.Forest.{forestRefusal}
 use Rattle.plan_drop.specs.Judge.{prunedMarks, marksPruned}
 use Rattle.plan_drop.specs.Laws.Prunable.{prunable-fine}
 use Rattle.plan_growth.specs.Represents.{pickAt, winnerEdge}
