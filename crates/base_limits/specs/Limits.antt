@@ -55,7 +55,7 @@ abbrev pub groupDigits : ℕ
 groupDigits = 7
 
 abbrev pub endpointDigits : ℕ
-endpointDigits = 7
+endpointDigits = 3
 
 abbrev pub weightDigits : ℕ
 weightDigits = 7

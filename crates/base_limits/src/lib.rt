@@ -33,7 +33,7 @@ pub const COUNT_DIGITS: usize = 7;
 
 pub const GROUP_DIGITS: usize = 7;
 
-pub const ENDPOINT_DIGITS: usize = 7;
+pub const ENDPOINT_DIGITS: usize = 3;
 
 pub const WEIGHT_DIGITS: usize = 7;
 

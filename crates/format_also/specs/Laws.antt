@@ -1,6 +1,8 @@
 pub mod Tests
 pub mod Turn
 pub mod Word
-pub mod Accepted
+pub mod Passing
 pub mod Render
 pub mod Reading
+pub mod Failing
+pub mod Near

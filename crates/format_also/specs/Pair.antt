@@ -1,7 +1,6 @@
 -- The also lines of a survey's text (document 02, No. 2): each names a junction and a further group of it. They stand behind the node lines, at
 -- most 256, rising by junction, then by group. When a line is complete it is tested: 17, then 18, then 7.
-use Prim.Native.Nat.{ℕ, _+_, _*_, min}
-use Prim.Native.Char.{code}
+use Prim.Native.Nat.{ℕ, _+_, _*_}
 use mathlib.Core.Bool.{not, cond}
 use mathlib.Core.List.{List, map}
 use lib.ListN.{length, getD, set}
@@ -14,11 +13,7 @@ use Rattle.format_grammar.specs.Step.{Step, found, refused, _then_, checked}
 use Rattle.format_grammar.specs.Lines.{Lines}
 use Rattle.format_grammar.specs.Bytes.{byteIs, fixedAt}
 use Rattle.format_grammar.specs.Items.{ItemReader, itemsFrom}
-use Rattle.format_number.specs.Number.{numberTo, OfDigits}
-
--- The letter with which an also line begins, and no other line of a survey's text.
-abbrev pub alsoLetter : ℕ
-alsoLetter = code "a"
+use Rattle.format_number.specs.Number.{alsoLetter, numberTo, OfDigits}
 
 -- A junction and a further group of it.
 pub record Pair : Type 0 where
@@ -81,10 +76,6 @@ alsoAt t groups room at = itemsFrom (alsoReader t groups room) alsoTurns 0 0 at
 -- Where the lines end, with their number.
 unfoldable pub counted : Lines ℕ Pair → Step ℕ
 counted lines = lines .end then λ low p. found (length (lines .values)) p
-
--- Of the two pair buffers the shorter counts.
-abbrev pub pairRoom : (owners others : List ℕ) → ℕ
-pairRoom owners others = min (length owners) (length others)
 
 -- ---- one store after another, as the reading does it
 

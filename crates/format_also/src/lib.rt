@@ -4,10 +4,9 @@ ghost use mathlib.Core.Path.{_≡_};
 ghost use Prim.Native.Nat.{min};
 ghost use lib.Seq.{sets};
 ghost use Rattle.format_number.specs.Answer.{numberStep};
-ghost use Rattle.format_grammar.specs.Bytes.{byteIs};
 ghost use Rattle.format_grammar.specs.Step.{stopped};
-ghost use Rattle.format_also.specs.Pair.{alsoLetter, pairOf, PairDigits, rank, pairAt, alsoTest, alsoLine};
-ghost use Rattle.format_also.specs.Pair.{alsoAt, counted, pairRoom, ownersOf, othersOf};
+ghost use Rattle.format_also.specs.Pair.{pairOf, PairDigits, rank, pairAt, alsoTest, alsoLine};
+ghost use Rattle.format_also.specs.Pair.{alsoAt, counted, ownersOf, othersOf};
 ghost use Rattle.format_also.specs.Answer.{pairStep};
 ghost use Rattle.format_also.specs.Render.{pairText, pairsText, pairsFrom};
 ghost use Rattle.format_write.specs.Wrote.{Wrote};
@@ -19,9 +18,11 @@ use base_limits::ALSO_DIGITS;
 use base_limits::GROUP_NUMBERS;
 use base_limits::MAX_PAIRS;
 use base_limits::Verdict;
+use format_number::Class;
 use format_number::Cursor;
 use format_number::Number;
 use format_number::fixed;
+use format_number::is_class;
 use format_number::number_to;
 use format_write::put;
 use format_write::put_bytes;
@@ -42,13 +43,6 @@ pub enum PairLine {
         number: u64,
         place: usize,
     },
-}
-
-// A line at an offset begins like an also line.
-fn is_also(text: &[u8], at: usize) -> bool
-    ensures { λ r. ⌜ r ≡ byteIs (old text) at alsoLetter ⌝ }
-{
-    at8(text, at) == b'a'
 }
 
 // A refused step, as the answer of an also line.
@@ -189,13 +183,14 @@ fn stopped_line(line: PairLine) -> Number
     }
 }
 
-fn shorter(a: usize, b: usize) -> usize
-    ensures { λ r. ⌜ r ≡ min a b ⌝ }
+// The pairs that two buffers of these lengths hold: the shorter counts.
+pub fn pair_room(owners: usize, others: usize) -> usize
+    ensures { λ r. ⌜ r ≡ min owners others ⌝ }
 {
-    if a < b {
-        return a;
+    if owners < others {
+        return owners;
     }
-    b
+    others
 }
 
 // The also lines, and how many they are, where there is room for so many pairs; the pairs before the first refusal go
@@ -219,7 +214,7 @@ pub fn pair_lines(
     let mut i = 0;
     while i < ALSO_TURNS {
         let at = next.at;
-        if !is_also(text, at) {
+        if !is_class(text, at, Class::Also) {
             return Number::Value {
                 value: base_buffer::wide(i),
                 next,
@@ -242,24 +237,6 @@ pub fn pair_lines(
     }
     let place = next.at;
     Number::Refused { number: 16, place }
-}
-
-// The same with the room that the buffers have, of which the shorter counts.
-pub fn also_lines(
-    text: &[u8],
-    cursor: Cursor,
-    groups: &[u8],
-    owners: &mut [u32],
-    others: &mut [u8],
-) -> Number
-    ensures { λ r.
-        let lines = alsoAt (old text) (old groups) (pairRoom (old owners) (old others)) (cursor .at) in
-        ⌜ (numberStep r ≡ counted lines)
-        × (new owners ≡ sets (old owners) 0 (ownersOf (lines .values)))
-        × (new others ≡ sets (old others) 0 (othersOf (lines .values))) ⌝ }
-{
-    let room = shorter(owners.len(), others.len());
-    pair_lines(text, cursor, groups, room, owners, others)
 }
 
 // Writes the line of a pair.

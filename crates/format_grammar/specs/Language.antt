@@ -40,6 +40,23 @@ pub record Reads {A : Type 0} (f : List ℕ → ℕ → Step A) (W G : A → Lis
   pub some : (a : A) × (w : List ℕ) × G a w
   pub well : (a : A) (w : List ℕ) → W a w → G a w
 
+-- The same of a step whose words end only before a place of which B holds: there they are read. What is read is read again from a text that agrees
+-- up to the byte behind it.
+pub record ReadsBefore {A : Type 0} (B : List ℕ → ℕ → Type 0) (f : List ℕ → ℕ → Step A) (W G : A → List ℕ → Type 0) : Type 0 where
+  pub complete : (t : List ℕ) (at : ℕ) (a : A) (w : List ℕ) → W a w → Stands t at w → B t (at + length w) → f t at ≡ found a (at + length w)
+  pub sound : (t : List ℕ) (at : ℕ) (a : A) (p : ℕ) → at ≤ length t → f t at ≡ found a p → Word W t at a p
+  pub again : (t u : List ℕ) (at : ℕ) (a : A) (p : ℕ) → at ≤ length t → take (p + 1) t ≡ take (p + 1) u → f t at ≡ found a p → f u at ≡ found a p
+  pub notMalformed : (t : List ℕ) (at : ℕ) (a : A) (w : List ℕ) → G a w → Stands t at w → B t (at + length w) → NotMalformed (f t at) a (at + length w)
+  pub same : (t u : List ℕ) (at p : ℕ) → at ≤ length t → f t at ≡ refused 16 p → take (p + 1) t ≡ take (p + 1) u → f u at ≡ refused 16 p
+  pub place : (t : List ℕ) (at p : ℕ) → at ≤ length t → f t at ≡ refused 16 p → (at ≤ p) × (p ≤ length t)
+  pub extends : (t : List ℕ) (at p : ℕ) → at ≤ length t → f t at ≡ refused 16 p → Extends G t at p
+  pub some : (a : A) × (w : List ℕ) × G a w
+  pub well : (a : A) (w : List ℕ) → W a w → G a w
+
+-- Every place.
+abbrev pub Anywhere : List ℕ → ℕ → Type 0
+Anywhere t p = Unit {0}
+
 -- Words one after the other.
 pub record Seq {A B : Type 0} (W : A → List ℕ → Type 0) (X : A → B → List ℕ → Type 0) (b : B) (w : List ℕ) : Type 0 where
   pub value : A

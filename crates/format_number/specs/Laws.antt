@@ -6,3 +6,4 @@ pub mod Decimal
 pub mod NumberWord
 pub mod Keyed
 pub mod Near
+pub mod OnlyMalformed

@@ -9,7 +9,7 @@ use lib.Dec.{eqb, ltb, leb}
 use Prim.Native.Char.{code}
 use Rattle.format_key.specs.Key.{colon, comma, newline}
 use Rattle.format_number.specs.declared.Class.{Class}
-use Rattle.format_number.specs.declared.Class.the-variants.{Zero, Digit, LineEnd, Comma, Colon, Keep, Other}
+use Rattle.format_number.specs.declared.Class.the-variants.{Zero, Digit, LineEnd, Comma, Colon, Keep, Also, Other}
 use Rattle.format_write.specs.Decimal.{decimal, spelledAfter}
 use Rattle.format_grammar.specs.Bytes.{fixedAt}
 use Rattle.format_grammar.specs.Step.{Step, found, refused, _then_}
@@ -22,11 +22,15 @@ zeroDigit = 48
 abbrev pub keepLetter : ℕ
 keepLetter = code "k"
 
+-- The letter with which an also line begins, and no other line of a survey's text.
+abbrev pub alsoLetter : ℕ
+alsoLetter = code "a"
+
 unfoldable pub classOf : ℕ → Class
 classOf b =
     cond (leb zeroDigit b && leb b 57)
     (cond (eqb b zeroDigit) Zero Digit)
-    (cond (eqb b newline) LineEnd (cond (eqb b comma) Comma (cond (eqb b colon) Colon (cond (eqb b keepLetter) Keep Other))))
+    (cond (eqb b newline) LineEnd (cond (eqb b comma) Comma (cond (eqb b colon) Colon (cond (eqb b keepLetter) Keep (cond (eqb b alsoLetter) Also Other)))))
 
 unfoldable pub isDigit : Class → Bool
 isDigit Zero = true
@@ -35,6 +39,7 @@ isDigit LineEnd = false
 isDigit Comma = false
 isDigit Colon = false
 isDigit Keep = false
+isDigit Also = false
 isDigit Other = false
 
 -- Two classes are the same where their numbers are.
@@ -45,7 +50,8 @@ classNumber LineEnd = 2
 classNumber Comma = 3
 classNumber Colon = 4
 classNumber Keep = 5
-classNumber Other = 6
+classNumber Also = 6
+classNumber Other = 7
 
 -- A byte of this class stands at an offset.
 unfoldable pub isClass : List ℕ → (at : ℕ) → Class → Bool

@@ -26,7 +26,7 @@ pub struct Reader<'a> {
 }
 
 // The classes of bytes that tell the parts of a line apart: the digit 0 and the others, what ends a line, what stands
-// between values and behind one, and the letter with which the line of a kept track begins.
+// between values and behind one, and the letters with which the line of a kept track and an also line begin.
 pub enum Class {
     Zero,
     Digit,
@@ -34,6 +34,7 @@ pub enum Class {
     Comma,
     Colon,
     Keep,
+    Also,
     Other,
 }
 
@@ -53,6 +54,7 @@ fn class_of(b: u8) -> Class
         b',' => Class::Comma,
         b':' => Class::Colon,
         b'k' => Class::Keep,
+        b'a' => Class::Also,
         _ => Class::Other,
     }
 }
@@ -68,7 +70,8 @@ fn class_number(kind: Class) -> u8
         Class::Comma => 3,
         Class::Colon => 4,
         Class::Keep => 5,
-        Class::Other => 6,
+        Class::Also => 6,
+        Class::Other => 7,
     }
 }
 
@@ -92,6 +95,7 @@ fn is_digit(kind: Class) -> bool
         Class::Comma => false,
         Class::Colon => false,
         Class::Keep => false,
+        Class::Also => false,
         Class::Other => false,
     }
 }

@@ -1,23 +1,24 @@
--- Reading a whole survey text (document 01, 'Survey text and printed plan'): the counts, the lines after them, and the end.
+-- Reading a whole survey text (document 01, 'Survey text and printed plan'; document 02, No. 2): the counts, the lines after them, and the end.
 use Prim.Native.Nat.{ℕ}
 use mathlib.Core.List.{List, _++_}
 use lib.ListN.{length, drop}
 use Rattle.base_limits.specs.Verdict.{Outcome, refusal, answer}
 use Rattle.base_limits.specs.declared.Verdict.{Verdict}
-use Rattle.format_survey_lines.specs.Line.{Tests, groupTest, testsFor, Edge, firstsOf, secondsOf, weightsOf, SurveyCounts, countsAt, SurveyLines, linesOf}
+use Rattle.format_also.specs.Pair.{Pair, ownersOf, othersOf}
+use Rattle.format_survey_lines.specs.Line.{Lengths, Tests, groupTest, testsFor, Edge, firstsOf, secondsOf, weightsOf, SurveyCounts, countsAt, SurveyLines, linesOf}
 use Rattle.format_grammar.specs.Bytes.{endAt}
 use Rattle.format_grammar.specs.Step.{Step, found, refused, _then_}
 
 -- The lines after the counts, to the end of the text.
-unfoldable pub bodyAt : (ℕ → ℕ → Verdict) → List ℕ → SurveyCounts → (at : ℕ) → SurveyLines
-bodyAt test t counts at =
-    let lines = linesOf test t counts at in
-    record { groups = lines .groups; edges = lines .edges; end = lines .end then λ z p. endAt t p }
+unfoldable pub bodyAt : (ℕ → ℕ → Verdict) → (room : ℕ) → List ℕ → SurveyCounts → (at : ℕ) → SurveyLines
+bodyAt test room t counts at =
+    let lines = linesOf test room t counts at in
+    record { groups = lines .groups; pairs = lines .pairs; edges = lines .edges; end = lines .end then λ k p. endAt t p then λ z q. found k q }
 
-unfoldable pub bodyOf : List ℕ → (vertices edges at : ℕ) → SurveyLines
-bodyOf t vertices edges at = bodyAt groupTest t (record { vertices = vertices; edges = edges }) at
+unfoldable pub bodyOf : (room : ℕ) → List ℕ → (vertices edges at : ℕ) → SurveyLines
+bodyOf room t vertices edges at = bodyAt groupTest room t (record { vertices = vertices; edges = edges }) at
 
--- What a text says: n and m, a group for each junction, two ends and a price for each track.
+-- What a text says: n and m, a group for each junction, two ends and a price for each track, and the pairs.
 pub record SurveyText : Type 0 where
   pub vertices : ℕ
   pub edges : ℕ
@@ -25,9 +26,11 @@ pub record SurveyText : Type 0 where
   pub firsts : List ℕ
   pub seconds : List ℕ
   pub weights : List ℕ
+  pub owners : List ℕ
+  pub others : List ℕ
 
-unfoldable pub surveyOf : SurveyCounts → (groups : List ℕ) → (edges : List Edge) → SurveyText
-surveyOf counts groups edges =
+unfoldable pub surveyOf : SurveyCounts → (groups : List ℕ) → (pairs : List Pair) → (edges : List Edge) → SurveyText
+surveyOf counts groups pairs edges =
     record {
       vertices = counts .vertices;
       edges = counts .edges;
@@ -35,22 +38,23 @@ surveyOf counts groups edges =
       firsts = firstsOf edges;
       seconds = secondsOf edges;
       weights = weightsOf edges;
+      owners = ownersOf pairs;
+      others = othersOf pairs;
     }
 
 unfoldable pub surveyAt : Tests → List ℕ → Step SurveyText
 surveyAt tests t =
-    countsAt tests t then λ counts p.
-    let body = bodyAt (tests .group) t counts p in
-    body .end then λ z q. found (surveyOf counts (body .groups) (body .edges)) q
+    countsAt (tests .vertices) (tests .edges) t then λ counts p.
+    let body = bodyAt (tests .group) (tests .room) t counts p in
+    body .end then λ z q. found (surveyOf counts (body .groups) (body .pairs) (body .edges)) q
 
 unfoldable pub stepOutcome : {A : Type 0} → Step A → Outcome A
 stepOutcome (found a next) = answer a
 stepOutcome (refused number place) = refusal number place
 
--- The four lists are what the lent buffers hold; only their lengths matter.
-unfoldable pub reading : (t groups firsts seconds weights : List ℕ) → Outcome SurveyText
-reading t groups firsts seconds weights =
-    stepOutcome (surveyAt (testsFor (length groups) (length firsts) (length seconds) (length weights)) t)
+-- Of the lent buffers only the lengths matter.
+unfoldable pub reading : List ℕ → Lengths → Outcome SurveyText
+reading t lent = stepOutcome (surveyAt (testsFor lent) t)
 
 -- What a lent buffer holds at the end: the values read and, behind them, what it held; a refusal writes nothing.
 unfoldable pub filled : Outcome SurveyText → (SurveyText → List ℕ) → (old : List ℕ) → List ℕ

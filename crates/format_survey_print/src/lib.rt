@@ -9,7 +9,8 @@ ghost use Rattle.format_number.specs.Number.{numberText};
 ghost use Rattle.format_survey_lines.specs.Render.{edgeText};
 ghost use Rattle.format_grammar.specs.Lines.{textOf};
 ghost use Rattle.format_survey_print.specs.Print.{edgeWith, edgesFrom, surveyText};
-ghost use Rattle.format_survey_print.specs.Print.{surveyPrinted, surveyPrintedOut};
+ghost use Rattle.format_survey_print.specs.Print.{surveyLent, surveyPrinted, surveyPrintedOut};
+use format_also::put_pairs;
 use format_print::Printed;
 use format_write::put;
 use format_write::put_bytes;
@@ -87,9 +88,11 @@ fn put_survey(
     firsts: &[u32],
     seconds: &[u32],
     weights: &[u32],
+    owners: &[u32],
+    others: &[u8],
 ) -> usize
     ensures { λ r.
-        let text = surveyText (old groups) (old firsts) (old seconds) (old weights) in
+        let text = surveyText (surveyLent groups firsts seconds weights owners others) in
         ⌜ Wrote (old out) at text (new out) r ⌝ }
 {
     let next = put_line(out, at, &format_key::NODES, base_buffer::wide(groups.len()));
@@ -100,20 +103,25 @@ fn put_survey(
         base_buffer::wide(firsts.len()),
     );
     let next = put_groups(out, next, groups);
+    let next = put_pairs(out, next, owners, others);
     put_edges(out, next, firsts, seconds, weights)
 }
 
-// Prints a survey's text: 2 where the buffers of the edges differ in length, then 7 where the text does not fit;
-// either way nothing is written. It checks nothing else: the text of a survey that planning refuses is printed too.
+// Prints a survey's text: 2 where the buffers of the edges or those of the pairs differ in length, then 7 where the
+// text does not fit; either way nothing is written. It checks nothing else: the text of a survey that planning refuses
+// is printed too.
 pub fn print_survey(
     groups: &[u8],
     firsts: &[u32],
     seconds: &[u32],
     weights: &[u32],
+    owners: &[u32],
+    others: &[u8],
     out: &mut [u8],
 ) -> Printed
-    ensures { λ r. ⌜ r ≡ surveyPrinted (old groups) (old firsts) (old seconds) (old weights) (old out) ⌝ }
-    ensures { λ _. ⌜ new out ≡ surveyPrintedOut (old groups) (old firsts) (old seconds) (old weights) (old out) ⌝ }
+    ensures { λ r. ⌜ r ≡ surveyPrinted (surveyLent groups firsts seconds weights owners others) (old out) ⌝ }
+    ensures { λ _.
+        ⌜ new out ≡ surveyPrintedOut (surveyLent groups firsts seconds weights owners others) (old out) ⌝ }
 {
     if firsts.len() != seconds.len() {
         return Printed::Refused {
@@ -127,12 +135,27 @@ pub fn print_survey(
             place: 0,
         };
     }
-    let need = put_survey(&mut out[0..0], 0, groups, firsts, seconds, weights);
+    if owners.len() != others.len() {
+        return Printed::Refused {
+            number: 2,
+            place: 0,
+        };
+    }
+    let need = put_survey(
+        &mut out[0..0],
+        0,
+        groups,
+        firsts,
+        seconds,
+        weights,
+        owners,
+        others,
+    );
     if out.len() < need {
         return Printed::Refused {
             number: 7,
             place: 0,
         };
     }
-    Printed::Length(put_survey(out, 0, groups, firsts, seconds, weights))
+    Printed::Length(put_survey(out, 0, groups, firsts, seconds, weights, owners, others))
 }

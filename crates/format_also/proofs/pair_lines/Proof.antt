@@ -6,6 +6,7 @@ use mathlib.Core.Path.{ap, sym, _∙_}
 use mathlib.Core.Bool.{not}
 use Rattle.format_grammar.specs.Step.{stopped}
 use Rattle.format_number.specs.Answer.{numberStep}
+use Rattle.format_number.specs.Laws.Byte.{is-also}
 use Rattle.format_also.specs.Pair.{alsoReader, alsoTurns, alsoAt}
 use Rattle.format_also.specs.Answer.{pairStep}
 use Rattle.format_also.specs.Laws.Tests.{line-passed}
@@ -38,7 +39,7 @@ unfolding numberStep alsoReader
 returns c =
     let a = c .before .before .before .before .before .before .before .before .before .args in
     pairs-ended (a .text .now) (a .groups .now) (a .owners .now) (a .others .now) (a .cursor .at) (a .room)
-    (pairs-stop _ _ _ _ _ _ _ _ _ (c .before .before .before .before .loop .inv) (c .wide .ensures) (c .before .before .before .loop-test .taken) (ap not (sym (c .before .before .is-also .ensures)) ∙ c .before .if1 .taken))
+    (pairs-stop _ _ _ _ _ _ _ _ _ (c .before .before .before .before .loop .inv) (c .wide .ensures) (c .before .before .before .loop-test .taken) (ap not (sym (c .before .before .is-class .ensures ∙ is-also _ _)) ∙ c .before .if1 .taken))
 
 enum-told : tie.Need-enum-told Inv-loop μ-loop
 enum-told c = search needs
@@ -56,7 +57,7 @@ returns-2 c =
     let a = c .before .before .before .before .before .before .before .before .before .before .before .before .args in
     let told = c .before .enum-told .given .1 in
     let done = pairs-ended (a .text .now) (a .groups .now) (a .owners .now) (a .others .now) (a .cursor .at) (a .room)
-    (pairs-refused _ _ _ _ _ _ _ _ _ (c .before .before .before .before .before .before .before .loop .inv) (c .before .before .before .before .before .before .loop-test .taken) (ap not (sym (c .before .before .before .before .before .is-also .ensures)) ∙ c .before .before .before .before .if1 .left) (sym (c .before .before .before .also-line .ensures) ∙ ap pairStep told)) in
+    (pairs-refused _ _ _ _ _ _ _ _ _ (c .before .before .before .before .before .before .before .loop .inv) (c .before .before .before .before .before .before .loop-test .taken) (ap not (sym (c .before .before .before .before .before .is-class .ensures ∙ is-also _ _)) ∙ c .before .before .before .before .if1 .left) (sym (c .before .before .before .also-line .ensures) ∙ ap pairStep told)) in
     (c .stopped-line .ensures ∙ ap (λ x. stopped (pairStep x)) told ∙ done .0, done .1, done .2)
 
 cast-put32 : tie.Need-cast-put32 Inv-loop μ-loop
@@ -89,7 +90,7 @@ loop-again : tie.Need-loop-again Inv-loop μ-loop
 unfolding pairStep alsoReader
 loop-again c =
     rw (c .before .before .before .before .before .before .before .put32 .ensures, c .before .before .before .put8 .ensures, c .rank .ensures)
-    (pairs-more _ _ _ _ _ _ _ _ _ (c .before .before .before .before .before .before .before .before .before .before .before .before .before .before .before .before .loop .inv) (c .before .before .before .before .before .before .before .before .before .before .before .before .before .before .before .loop-test .taken) (ap not (sym (c .before .before .before .before .before .before .before .before .before .before .before .before .before .before .is-also .ensures)) ∙ c .before .before .before .before .before .before .before .before .before .before .before .before .before .if1 .left) (sym (c .before .before .before .before .before .before .before .before .before .before .before .before .also-line .ensures) ∙ ap pairStep (c .before .before .before .before .before .before .before .before .before .before .line .given .1)))
+    (pairs-more _ _ _ _ _ _ _ _ _ (c .before .before .before .before .before .before .before .before .before .before .before .before .before .before .before .before .loop .inv) (c .before .before .before .before .before .before .before .before .before .before .before .before .before .before .before .loop-test .taken) (ap not (sym (c .before .before .before .before .before .before .before .before .before .before .before .before .before .before .is-class .ensures ∙ is-also _ _)) ∙ c .before .before .before .before .before .before .before .before .before .before .before .before .before .if1 .left) (sym (c .before .before .before .before .before .before .before .before .before .before .before .before .also-line .ensures) ∙ ap pairStep (c .before .before .before .before .before .before .before .before .before .before .line .given .1)))
 
 same-length-5 : tie.Need-same-length-5 Inv-loop μ-loop
 same-length-5 c = owners-length _ _ _ _ _ _ _ _ _ (c .before .loop .inv)

@@ -1,113 +1,121 @@
--- Also lines are read exactly where their texts stand; a malformed text is refused with 16 at the first byte that no such lines have there.
-use Prim.Native.Nat.{ℕ, zero, suc, _+_, _^_, _≤_, _<_}
+-- Also lines are read exactly where the texts of their pairs stand and no also line follows; a malformed text is refused with 16 at the first byte that
+-- no such lines have there.
+use Prim.Native.Nat.{ℕ, zero, suc, _+_, _≤_, _<_}
 use native.Mathlib.Omega.{arith}
 use mathlib.Core.Path.{_≡_, refl, ap, sym, _∙_, subst}
 use mathlib.Core.Bool.{Bool, true, false, not, cond}
 use mathlib.Core.List.{List, [], _∷_, _++_, append-assoc, append-nil}
-use lib.ListN.{length, getD, take, length-append}
-use Rattle.base_limits.specs.Limits.{groupNumbers, maxPairs, alsoDigits}
-use Rattle.format_grammar.specs.Step.{Step, found, refused}
+use lib.ListN.{length, take, length-append}
+use Rattle.base_limits.specs.Limits.{maxPairs}
+use Rattle.format_grammar.specs.Step.{Step, found, refused, checked}
 use Rattle.format_grammar.specs.Bytes.{byteIs}
-use Rattle.format_grammar.specs.Lines.{Lines, following, textOf}
-use Rattle.format_grammar.specs.Items.{itemsFrom, Standing, stop, item, Broken, here, later, textFrom}
-use Rattle.format_grammar.specs.Language.{Word, Extends, Text, Each, none, more}
+use Rattle.format_grammar.specs.Lines.{Lines, following, textOf, whole}
+use Rattle.format_grammar.specs.Items.{itemsFrom, Standing, stop, item, Broken, here, later}
+use Rattle.format_grammar.specs.Language.{ReadsBefore, Word, Extends, Text, Each, none, more, NotMalformed, read, otherwise}
 use Rattle.format_grammar.specs.Stands.{Stands}
 use Rattle.format_grammar.specs.Laws.Bytes.{byte-is}
 use Rattle.format_grammar.specs.Laws.Items.{items-reads-back, items-stop}
 use Rattle.format_grammar.specs.Laws.Language.{bound}
-use Rattle.format_grammar.specs.Laws.Listing.{items-standing, standing-words, broken-place, broken-same, broken-items}
+use Rattle.format_grammar.specs.Laws.Listing.{items-standing, standing-words, standing-same, broken-place, broken-same, broken-items, text-from, Met, all-read, one-refused, Tested, met-lines}
 use Rattle.format_grammar.specs.Laws.Stands.{stands-first, stands-second, stands-head}
 use Rattle.format_grammar.specs.Laws.Step.{then-found, then-refused, then-value, Stops, early, late, then-stops}
-use Rattle.survey_core.specs.Lists.{listsFrom}
-use Rattle.survey_core.specs.Pairs.{PairsSound}
-use Rattle.format_also.specs.Pair.{Pair, PairDigits, alsoLetter, rank, alsoLine, alsoReader, alsoTurns, alsoAt, counted, ownersOf, othersOf}
-use Rattle.format_also.specs.Render.{pairText, pairsText, pairsFrom}
-use Rattle.format_also.specs.WellFormed.{Accepted, noPair, nextPair, FewPairs, AlsoRead, AlsoMalformed}
-use Rattle.format_also.specs.Laws.Tests.{line-fine, line-passed}
-use Rattle.format_also.specs.Laws.Word.{reads-pair, reads-tested-pair, pair-some, LineStops, past, other, line-stops, lists-also}
-use Rattle.format_also.specs.Laws.Render.{owners-from, others-from, pairs-many}
-use Rattle.format_also.specs.Laws.Accepted.{also-few, accepted-few, sound-accepted}
+use Rattle.format_number.specs.Number.{alsoLetter}
+use Rattle.format_also.specs.Pair.{Pair, PairDigits, rank, alsoTest, alsoLine, alsoReader, alsoTurns, alsoAt}
+use Rattle.format_also.specs.Render.{pairText, pairsText}
+use Rattle.format_also.specs.WellFormed.{PairsPass, noPair, nextPair, FewPairs, NoAlso}
+use Rattle.format_also.specs.Laws.Tests.{line-read, line-fine, line-passed, passed-fine}
+use Rattle.format_also.specs.Laws.Word.{reads-pair, reads-tested-pair, also-not-malformed, pair-some, LineStops, past, other, line-stops, lists-also}
+use Rattle.format_also.specs.Laws.Passing.{also-passes, also-few, pairs-few, pairs-well}
 
 -- ---- what is rendered is read back
 
-pairs-stand : (t groups : List ℕ) (room : ℕ) {low i : ℕ} {l : List Pair} → Accepted groups room low i l → (at end : ℕ) → Stands t at (pairsText l) → end ≡ at + length (pairsText l)
-    → byteIs t end alsoLetter ≡ false → (last : ℕ) × Standing (alsoReader t groups room) low i at l last end
-unfolding alsoReader pairsText textOf pairText
-pairs-stand t groups room {low} {i} noPair at end s q e =
-    let same : end ≡ at = omega arith in
-    (low, subst (λ (z : ℕ). Standing (alsoReader t groups room) low i at [] low z) (sym same) (stop (ap not (subst (λ (z : ℕ). byteIs t z alsoLetter ≡ false) same e))))
-pairs-stand t groups room {low} {i} (nextPair {x = x} {l = l} f d p r) at end s q e =
-    let line = pairText x in
-    let a : Stands t at line = stands-first line (pairsText l) s in
-    let b : Stands t (at + length line) (pairsText l) = stands-second line (pairsText l) s in
-    let n = length-append line (pairsText l) in
-    let fits = a .fits in
+pub begins-also : (t : List ℕ) (at : ℕ) (x : Pair) → Stands t at (pairText x) → byteIs t at alsoLetter ≡ true
+unfolding pairText
+begins-also t at x s =
     let some = pair-some x in
-    let begins : byteIs t at alsoLetter ≡ true = byte-is t at alsoLetter (omega arith) (stands-head a) in
-    let read = reads-pair .complete t at x line (record { holds = d; word = refl }) a in
-    let rest = pairs-stand t groups room r (at + length line) end b (omega arith) e in
-    (rest .0, item (ap not begins) (line-fine t groups room low i at f read p) (rest .1))
+    let fits = s .fits in
+    byte-is t at alsoLetter (omega arith) (stands-head s)
 
--- Pairs whose text stands, with no also line behind it, are what is read.
-pub also-reads-back : (t groups : List ℕ) (room at : ℕ) (l : List Pair) → Accepted groups room 0 0 l → Stands t at (pairsText l) → byteIs t (at + length (pairsText l)) alsoLetter ≡ false
-    → (alsoAt t groups room at .values ≡ l) × (counted (alsoAt t groups room at) ≡ found (length l) (at + length (pairsText l)))
-unfolding alsoAt counted
-also-reads-back t groups room at l a s e =
-    let w = pairs-stand t groups room a at (at + length (pairsText l)) s refl e in
-    let few = accepted-few a (omega arith) in
-    let whole = items-reads-back (alsoReader t groups room) alsoTurns (omega arith) (w .1) in
-    let values : itemsFrom (alsoReader t groups room) alsoTurns 0 0 at .values ≡ l = ap (λ (x : Lines ℕ Pair). x .values) whole in
-    (values, then-found _ (ap (λ (x : Lines ℕ Pair). x .end) whole) ∙ ap (λ (x : List Pair). found (length x) (at + length (pairsText l))) values)
+module _ (t groups : List ℕ) (room : ℕ) where
+  pairs-stand : {low i : ℕ} {l : List Pair} → PairsPass groups room low i l → (at end : ℕ) → Stands t at (pairsText l) → end ≡ at + length (pairsText l)
+      → NoAlso t end → (last : ℕ) × Standing (alsoReader t groups room) low i at l last end
+  unfolding alsoReader pairsText textOf
+  pairs-stand {low} {i} noPair at end s q e =
+      let same : end ≡ at = omega arith in
+      (low, subst (λ (z : ℕ). Standing (alsoReader t groups room) low i at [] low z) (sym same) (stop (ap not (subst (λ (z : ℕ). byteIs t z alsoLetter ≡ false) same e))))
+  pairs-stand {low} {i} (nextPair {x = x} {l = l} f d p r) at end s q e =
+      let line = pairText x in
+      let a : Stands t at line = stands-first line (pairsText l) s in
+      let b : Stands t (at + length line) (pairsText l) = stands-second line (pairsText l) s in
+      let n = length-append line (pairsText l) in
+      let read = reads-pair .complete t at x line (record { holds = d; word = refl }) a in
+      let rest = pairs-stand r (at + length line) end b (omega arith) e in
+      (rest .0, item (ap not (begins-also t at x a)) (line-fine t groups room low i at f read (passed-fine groups room low i x p)) (rest .1))
 
--- The same of sound pairs, whose groups are bytes and for which there is room.
-pub sound-reads-back : (t groups : List ℕ) (room at : ℕ) (l : List Pair) → length groups ≤ 10 ^ alsoDigits → ((j : ℕ) → getD (othersOf l) j 0 < groupNumbers) → length l ≤ room
-    → PairsSound (listsFrom groups (ownersOf l) (othersOf l)) → Stands t at (pairsText l) → byteIs t (at + length (pairsText l)) alsoLetter ≡ false
-    → (alsoAt t groups room at .values ≡ l) × (counted (alsoAt t groups room at) ≡ found (length l) (at + length (pairsText l)))
-sound-reads-back t groups room at l small bytes fits sound = also-reads-back t groups room at l (sound-accepted l bytes groups room small fits sound)
+  -- What stands is what is read.
+  standing-read : {l : List Pair} {at last end : ℕ} → length l ≤ maxPairs → Standing (alsoReader t groups room) 0 0 at l last end → whole (alsoAt t groups room at) ≡ found l end
+  unfolding alsoAt whole
+  standing-read {l} {at} {last} {end} few s =
+      let all = items-reads-back (alsoReader t groups room) alsoTurns (omega arith) s in
+      then-found _ (ap (λ (x : Lines ℕ Pair). x .end) all) ∙ ap (λ (x : Lines ℕ Pair). found (x .values) end) all
 
--- Two buffers of sound pairs are read back from their text.
-pub lent-reads-back : (t groups owners others : List ℕ) (room at : ℕ) → length groups ≤ 10 ^ alsoDigits → ((j : ℕ) → getD others j 0 < groupNumbers) → length owners ≡ length others
-    → length owners ≤ room → PairsSound (listsFrom groups owners others) → Stands t at (pairsText (pairsFrom owners others))
-    → byteIs t (at + length (pairsText (pairsFrom owners others))) alsoLetter ≡ false
-    → (ownersOf (alsoAt t groups room at .values) ≡ owners)
-    × (othersOf (alsoAt t groups room at .values) ≡ others)
-    × (counted (alsoAt t groups room at) ≡ found (length owners) (at + length (pairsText (pairsFrom owners others))))
-lent-reads-back t groups owners others room at small bytes same fits sound s e =
-    let l = pairsFrom owners others in
-    let v = owners-from owners others in
-    let g = others-from owners others same in
-    let n = pairs-many owners others in
-    let few : length l ≤ room = omega arith in
-    let b : (j : ℕ) → getD (othersOf l) j 0 < groupNumbers = subst (λ (x : List ℕ). (j : ℕ) → getD x j 0 < groupNumbers) (sym g) bytes in
-    let p : PairsSound (listsFrom groups (ownersOf l) (othersOf l)) =
-    subst (λ (x : List ℕ). PairsSound (listsFrom groups (ownersOf l) x)) (sym g) (subst (λ (x : List ℕ). PairsSound (listsFrom groups x others)) (sym v) sound) in
-    let r = sound-reads-back t groups room at l small b few p s e in
-    (ap ownersOf (r .0) ∙ v, ap othersOf (r .0) ∙ g, r .1 ∙ ap (λ (k : ℕ). found k (at + length (pairsText l))) n)
+  -- Pairs that pass, whose text stands with no also line behind it, are what is read.
+  also-complete : (at : ℕ) (l : List Pair) → PairsPass groups room 0 0 l → Stands t at (pairsText l) → NoAlso t (at + length (pairsText l)) → whole (alsoAt t groups room at) ≡ found l (at + length (pairsText l))
+  also-complete at l a s e = let few = pairs-few a (omega arith) in standing-read (omega arith) (pairs-stand a at (at + length (pairsText l)) s refl e .1)
 
 -- ---- what is read is a rendering
 
-text-from : (i : ℕ) (l : List Pair) → textFrom (λ j. pairText) i l ≡ pairsText l
-unfolding textFrom pairsText textOf
-text-from i [] = refl
-text-from i (x ∷ l) = ap (λ (w : List ℕ). pairText x ++ w) (text-from (i + 1) l)
-
-stop-byte : (b : Bool) → not b ≡ true → b ≡ false
-stop-byte false e = refl
-stop-byte true e = sym e
-
-pub also-read : (t groups : List ℕ) (room at : ℕ) {count p : ℕ} → at ≤ length t → counted (alsoAt t groups room at) ≡ found count p → AlsoRead t groups room at count p
-unfolding alsoAt counted alsoReader
-also-read t groups room at {count} {p} h e =
+-- The turns that a text was read with.
+also-standing : (t groups : List ℕ) (room at : ℕ) {l : List Pair} {p : ℕ} → whole (alsoAt t groups room at) ≡ found l p → (l ≡ alsoAt t groups room at .values) × (last : ℕ) × Standing (alsoReader t groups room) 0 0 at l last p
+unfolding alsoAt whole
+also-standing t groups room at {l} {p} e =
     let f = then-value (alsoAt t groups room at .end) _ e in
     let q : f .1 ≡ p = cc (f .3) in
-    let n : count ≡ length (alsoAt t groups room at .values) = cc (f .3) in
-    let ends : alsoAt t groups room at .end ≡ found (f .0) p = f .2 ∙ ap (λ (z : ℕ). found (f .0) z) q in
-    let w = standing-words (lists-also groups room) t h (items-standing (alsoReader t groups room) alsoTurns 0 0 at ends) in
+    let same : l ≡ alsoAt t groups room at .values = cc (f .3) in
+    let s = items-standing (alsoReader t groups room) alsoTurns 0 0 at (f .2 ∙ ap (λ (z : ℕ). found (f .0) z) q) in
+    (same, f .0, subst (λ (z : List Pair). Standing (alsoReader t groups room) 0 0 at z (f .0) p) (sym same) s)
+
+also-words : (t groups : List ℕ) (room at : ℕ) (l : List Pair) (p : ℕ) → at ≤ length t → whole (alsoAt t groups room at) ≡ found l p → Word (Text (PairsPass groups room 0 0) pairsText) t at l p
+unfolding pairsText
+also-words t groups room at l p h e =
+    let s = also-standing t groups room at e in
+    let w = standing-words (lists-also groups room) t h (s .2) in
     record {
-      many = n;
-      word = record { word = w .word; member = record { holds = also-few t groups room at; word = w .member .word ∙ text-from 0 (alsoAt t groups room at .values) }; ends = w .ends; stands = w .stands };
-      ended = stop-byte (byteIs t p alsoLetter) (items-stop (alsoReader t groups room) alsoTurns 0 0 at ends);
+      word = w .word;
+      member = record { holds = subst (PairsPass groups room 0 0) (sym (s .0)) (also-passes t groups room at); word = w .member .word ∙ text-from pairText 0 l };
+      ends = w .ends;
+      stands = w .stands;
     }
+
+also-again : (t u groups : List ℕ) (room at : ℕ) (l : List Pair) (p : ℕ) → at ≤ length t → take (p + 1) t ≡ take (p + 1) u → whole (alsoAt t groups room at) ≡ found l p → whole (alsoAt u groups room at) ≡ found l p
+also-again t u groups room at l p h k e =
+    let s = also-standing t groups room at e in
+    let few = subst (λ (z : List Pair). length z ≤ maxPairs) (sym (s .0)) (also-few t groups room at .few) in
+    standing-read u groups room few (standing-same (lists-also groups room) t u p k h (omega arith) (s .2) .1)
+
+-- ---- well-formed lines are not malformed
+
+also-not-sixteen : (t groups : List ℕ) (room at : ℕ) (l : List Pair) (w : List ℕ) → Text FewPairs pairsText l w → Stands t at w → NoAlso t (at + length w) → NotMalformed (whole (alsoAt t groups room at)) l (at + length w)
+unfolding alsoReader pairsText alsoAt whole
+also-not-sixteen t groups room at l w m s e =
+    let few = m .holds .few in
+    let n : length w ≡ length (pairsText l) = ap length (m .word) in
+    by-met (met-lines (alsoReader t groups room) t PairDigits pairText maxPairs tested (m .holds .digits) 0 0 at (at + length w) (omega arith) (subst (Stands t at) (m .word) s) (omega arith) (ap not e))
+  where
+    tested : (low i at : ℕ) (x : Pair) → i < maxPairs → PairDigits x → Stands t at (pairText x) → Tested (alsoReader t groups room) low i at x (at + length (pairText x))
+    tested low i at x b d s =
+        record {
+          test = alsoTest groups room low i x;
+          notMalformed = also-not-malformed groups room low i x;
+          begins = ap not (begins-also t at x s);
+          line = line-read t groups room low i at b ∙ then-found _ (reads-pair .complete t at x (pairText x) (record { holds = d; word = refl }) s);
+        }
+
+    by-met : Met (alsoReader t groups room) 0 0 at l (at + length w) → NotMalformed (whole (alsoAt t groups room at)) l (at + length w)
+    by-met (all-read last s) = let few = m .holds .few in read (standing-read t groups room few s)
+    by-met (one-refused b f n) =
+        let few = m .holds .few in
+        otherwise (then-refused _ (ap (λ (z : Lines ℕ Pair). z .end) (broken-items (alsoReader t groups room) alsoTurns (omega arith) b))) n
 
 -- ---- malformed lines
 
@@ -139,6 +147,19 @@ also-broken t groups room (suc fuel) low i at {n} {q} h k e =
         same-refusal : _≡_ {A = Step ℕ} (refused u v) (refused n q) → _≡_ {A = Step Pair} (refused u v) (refused n q)
         same-refusal e = let a : u ≡ n = cc in let b : v ≡ q = cc in cc
 
+-- The same of a whole refusal.
+pub also-stops : (t groups : List ℕ) (room at : ℕ) {n q : ℕ} → whole (alsoAt t groups room at) ≡ refused n q → Broken (alsoReader t groups room) n q 0 0 at (alsoAt t groups room at .values)
+unfolding alsoAt whole
+also-stops t groups room at {n} {q} e = by-end (then-stops (alsoAt t groups room at .end) _ e)
+  where
+    by-end : Stops (alsoAt t groups room at .end) (λ low p. found (alsoAt t groups room at .values) p) n q → Broken (alsoReader t groups room) n q 0 0 at (alsoAt t groups room at .values)
+    by-end (early f) = also-broken t groups room alsoTurns 0 0 at (omega arith) (omega arith) f
+    by-end (late low p x y) = let z : _≡_ {A = ℕ} 0 1 = cc in absurd (omega arith)
+
+pub broken-refused : (t groups : List ℕ) (room at : ℕ) {n q : ℕ} {l : List Pair} → length l ≤ maxPairs → Broken (alsoReader t groups room) n q 0 0 at l → whole (alsoAt t groups room at) ≡ refused n q
+unfolding alsoAt whole
+broken-refused t groups room at few b = then-refused _ (ap (λ (z : Lines ℕ Pair). z .end) (broken-items (alsoReader t groups room) alsoTurns (omega arith) b))
+
 -- The bytes before a 16 go on to the text of at most so many pairs that no line past the last is among them.
 broken-few : (t groups : List ℕ) (room : ℕ) {low i at p : ℕ} {l : List Pair} → at ≤ length t → i ≤ maxPairs → Broken (alsoReader t groups room) 16 p low i at l
     → (e : Extends (Text (Each PairDigits) pairsText) t at p) × (i + length (e .value) ≤ maxPairs)
@@ -168,29 +189,39 @@ broken-few t groups room {low} {i} {at} {p} h k (later {next = next} {a = a} e f
       omega arith,
     )
 
-pub also-malformed : (t groups : List ℕ) (room at p : ℕ) → at ≤ length t → counted (alsoAt t groups room at) ≡ refused 16 p → AlsoMalformed t groups room at p
-unfolding alsoAt counted
-also-malformed t groups room at p h e = by-end (then-stops (alsoAt t groups room at .end) _ e)
-  where
-    values : List Pair
-    values = itemsFrom (alsoReader t groups room) alsoTurns 0 0 at .values
+also-extends : (t groups : List ℕ) (room at p : ℕ) → at ≤ length t → whole (alsoAt t groups room at) ≡ refused 16 p → Extends (Text FewPairs pairsText) t at p
+also-extends t groups room at p h e =
+    let x = broken-few t groups room h (omega arith) (also-stops t groups room at e) in
+    let m = x .1 in
+    let y = x .0 in
+    record { value = y .value; word = y .word; member = record { holds = record { digits = y .member .holds; few = omega arith }; word = y .member .word }; rest = y .rest; whole = y .whole }
 
-    by-end : Stops (alsoAt t groups room at .end) (λ low q. found (length values) q) 16 p → AlsoMalformed t groups room at p
-    by-end (early q) =
-        let b = also-broken t groups room alsoTurns 0 0 at (omega arith) (omega arith) q in
-        let place = broken-place (lists-also groups room) t h b in
-        let x = broken-few t groups room h (omega arith) b in
-        let m = x .1 in
-        let y = x .0 in
-        let few = also-few t groups room at .few in
-        let a = place .0 in
-        record {
-          after = omega arith;
-          inside = place .1;
-          begins = record { value = y .value; word = y .word; member = record { holds = record { digits = y .member .holds; few = omega arith }; word = y .member .word }; rest = y .rest; whole = y .whole };
-          same = λ u k. then-refused _ (ap (λ (z : Lines ℕ Pair). z .end) (broken-items (alsoReader u groups room) alsoTurns (turns few) (broken-same (lists-also groups room) t u p k h b)));
-        }
-      where
-        turns : length values ≤ maxPairs → length values < alsoTurns
-        turns few = omega arith
-    by-end (late low q x y) = let z : _≡_ {A = ℕ} 0 1 = cc in absurd (omega arith)
+also-place : (t groups : List ℕ) (room at p : ℕ) → at ≤ length t → whole (alsoAt t groups room at) ≡ refused 16 p → (at ≤ p) × (p ≤ length t)
+also-place t groups room at p h e =
+    let place = broken-place (lists-also groups room) t h (also-stops t groups room at e) in
+    let a = place .0 in
+    (omega arith, place .1)
+
+also-same : (t u groups : List ℕ) (room at p : ℕ) → at ≤ length t → whole (alsoAt t groups room at) ≡ refused 16 p → take (p + 1) t ≡ take (p + 1) u → whole (alsoAt u groups room at) ≡ refused 16 p
+also-same t u groups room at p h e k =
+    broken-refused u groups room at (also-few t groups room at .few) (broken-same (lists-also groups room) t u p k h (also-stops t groups room at e))
+
+-- Also lines read the texts of pairs that pass, among those of at most 256 pairs, where no also line follows.
+pub reads-also : (groups : List ℕ) (room : ℕ) → ReadsBefore NoAlso (λ t at. whole (alsoAt t groups room at)) (Text (PairsPass groups room 0 0) pairsText) (Text FewPairs pairsText)
+unfolding pairsText textOf
+reads-also groups room =
+    record {
+      complete =
+          λ t at l w m s e.
+          let same : w ≡ pairsText l = m .word in
+          also-complete t groups room at l (m .holds) (subst (Stands t at) same s) (subst (λ (z : List ℕ). NoAlso t (at + length z)) same e)
+          ∙ ap (λ (z : List ℕ). found l (at + length z)) (sym same);
+      sound = λ t at l p h e. also-words t groups room at l p h e;
+      again = λ t u at l p h k e. also-again t u groups room at l p h k e;
+      notMalformed = λ t at l w m s e. also-not-sixteen t groups room at l w m s e;
+      same = λ t u at p h e k. also-same t u groups room at p h e k;
+      place = λ t at p h e. also-place t groups room at p h e;
+      extends = λ t at p h e. also-extends t groups room at p h e;
+      some = ([], [], record { holds = record { digits = none; few = omega arith }; word = refl });
+      well = λ l w m. record { holds = pairs-well (m .holds); word = m .word };
+    }

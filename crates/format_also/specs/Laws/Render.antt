@@ -36,22 +36,22 @@ pair-parts v g =
 
 -- ---- the pairs of two buffers
 
-map-table : (f : Pair → ℕ) (n : ℕ) (g : ℕ → Pair) → map f (tabulate n g) ≡ tabulate n (λ i. f (g i))
+pub map-tabulate : {A : Type 0} (f : A → ℕ) (n : ℕ) (g : ℕ → A) → map f (tabulate n g) ≡ tabulate n (λ i. f (g i))
 unfolding tabulate
-map-table f zero g = refl
-map-table f (suc n) g = map-append f (tabulate n g) (g n ∷ []) ∙ ap (λ (l : List ℕ). l ++ (f (g n) ∷ [])) (map-table f n g)
+map-tabulate f zero g = refl
+map-tabulate f (suc n) g = map-append f (tabulate n g) (g n ∷ []) ∙ ap (λ (l : List ℕ). l ++ (f (g n) ∷ [])) (map-tabulate f n g)
 
-table-same : (l : List ℕ) (n : ℕ) → n ≡ length l → tabulate n (λ i. getD l i 0) ≡ l
-table-same l n e = ext-getD 0 _ l (length-tabulate n _ ∙ e) (λ i h. getD-tabulate n _ i 0 (rw (length-tabulate n (λ i. getD l i 0)) at h))
+pub tabulate-getD : (l : List ℕ) (n : ℕ) → n ≡ length l → tabulate n (λ i. getD l i 0) ≡ l
+tabulate-getD l n e = ext-getD 0 _ l (length-tabulate n _ ∙ e) (λ i h. getD-tabulate n _ i 0 (rw (length-tabulate n (λ i. getD l i 0)) at h))
 
 module _ (owners others : List ℕ) where
   pub owners-from : ownersOf (pairsFrom owners others) ≡ owners
   unfolding ownersOf pairsFrom
-  owners-from = map-table (λ x. x .owner) (length owners) (pairIn owners others) ∙ table-same owners (length owners) refl
+  owners-from = map-tabulate (λ x. x .owner) (length owners) (pairIn owners others) ∙ tabulate-getD owners (length owners) refl
 
   pub others-from : length owners ≡ length others → othersOf (pairsFrom owners others) ≡ others
   unfolding othersOf pairsFrom
-  others-from same = map-table (λ x. x .other) (length owners) (pairIn owners others) ∙ table-same others (length owners) same
+  others-from same = map-tabulate (λ x. x .other) (length owners) (pairIn owners others) ∙ tabulate-getD others (length owners) same
 
   pub pairs-many : length (pairsFrom owners others) ≡ length owners
   unfolding pairsFrom

@@ -3,30 +3,24 @@ use Prim.Native.Nat.{ℕ, _+_, _≤_, _<_}
 use native.Mathlib.Omega.{arith}
 use mathlib.Core.Path.{_≡_, refl, ap, sym, _∙_, subst}
 use mathlib.Core.Bool.{Bool, true, false, cond}
+use mathlib.Core.Logic.{inl, inr}
 use mathlib.Core.List.{List}
 use lib.ListN.{length, getD}
 use lib.Dec.{eqb, leb}
 use borrow.Author.Tests.{eq-eqb, ne-eqb, le-leb, lt-leb, eqb-true, eqb-false, leb-true, leb-false}
 use Rattle.base_limits.specs.Limits.{groupNumbers, maxPairs, alsoDigits}
 use Rattle.base_limits.specs.Verdict.{refuseIf, _before_}
+use Rattle.base_limits.specs.declared.Verdict.{Verdict}
 use Rattle.base_limits.specs.declared.Verdict.the-variants.{Fine, Refused}
-use Rattle.base_limits.specs.Laws.Verdict.{fine-left, fine-right, fine-refuse}
+use Rattle.base_limits.specs.Laws.Verdict.{fine-left, fine-right, fine-refuse, no-refusal}
 use Rattle.format_key.specs.Key.{alsoKey, comma, newline}
 use Rattle.format_grammar.specs.Step.{Step, found, refused, _then_, checked}
-use Rattle.format_grammar.specs.Bytes.{byteIs, fixedAt}
-use Rattle.format_grammar.specs.Laws.Bytes.{byte-is, byte-not, read-inside}
+use Rattle.format_grammar.specs.Bytes.{fixedAt}
 use Rattle.format_grammar.specs.Laws.Step.{then-found, then-refused, then-value, checked-fine, checked-value, checked-next}
 use Rattle.format_number.specs.Number.{numberTo}
 use Rattle.format_number.specs.Laws.Digits.{number-to-below}
 use Rattle.format_also.specs.Pair.{Pair, pairOf, PairDigits, rank, pairAt, alsoTest, alsoLine}
-
--- A byte other than 0, read as 0 past the end.
-pub byte-read : (t : List ℕ) (at b : ℕ) → 0 < b → byteIs t at b ≡ eqb (getD t at 0) b
-byte-read t at b h = by-byte (eqb (getD t at 0) b) refl
-  where
-    by-byte : (y : Bool) → eqb (getD t at 0) b ≡ y → byteIs t at b ≡ eqb (getD t at 0) b
-    by-byte true e = let k : getD t at 0 ≡ b = eqb-true (getD t at 0) b e in byte-is t at b (read-inside t at (omega arith)) k ∙ sym e
-    by-byte false e = byte-not t at b (eqb-false (getD t at 0) b e) ∙ sym e
+use Rattle.format_also.specs.WellFormed.{PairInOrder, PairOutOfOrder, PairPasses}
 
 module _ (groups : List ℕ) (room low i : ℕ) (x : Pair) where
   pub also-high : groupNumbers ≤ x .other → alsoTest groups room low i x ≡ Refused 17 (x .owner)
@@ -90,15 +84,7 @@ module _ (groups : List ℕ) (room low i : ℕ) (x : Pair) where
                 lt-leb room i h,
               )
 
--- What a pair that passes its tests is.
-pub record PairPasses (groups : List ℕ) (room low i : ℕ) (x : Pair) : Type 0 where
-  pub group : x .other < groupNumbers
-  pub below : x .owner < length groups
-  pub some : x .other ≡ 0 → ⊥
-  pub foreign : x .other ≡ getD groups (x .owner) 0 → ⊥
-  pub rises : low < rank x
-  pub fits : i < room
-
+-- A pair that passes its tests, and the other way round.
 pub pair-passed : (groups : List ℕ) (room low i : ℕ) (x : Pair) → alsoTest groups room low i x ≡ Fine → PairPasses groups room low i x
 unfolding alsoTest
 pair-passed groups room low i x h =
@@ -108,12 +94,89 @@ pair-passed groups room low i x h =
     let after-own = fine-right _ _ after-none in
     record {
       group = leb-false groupNumbers (x .other) (fine-refuse _ 17 (x .owner) (fine-left _ _ h));
-      below = leb-false (length groups) (x .owner) (fine-refuse _ 18 i (fine-left _ _ after-high));
-      some = eqb-false (x .other) 0 (fine-refuse _ 18 i (fine-left _ _ after-out));
-      foreign = eqb-false (x .other) (getD groups (x .owner) 0) (fine-refuse _ 18 i (fine-left _ _ after-none));
-      rises = leb-false (rank x) low (fine-refuse _ 18 i (fine-left _ _ after-own));
+      order = record {
+        below = leb-false (length groups) (x .owner) (fine-refuse _ 18 i (fine-left _ _ after-high));
+        some = eqb-false (x .other) 0 (fine-refuse _ 18 i (fine-left _ _ after-out));
+        foreign = eqb-false (x .other) (getD groups (x .owner) 0) (fine-refuse _ 18 i (fine-left _ _ after-none));
+        rises = leb-false (rank x) low (fine-refuse _ 18 i (fine-left _ _ after-own));
+      };
       fits = leb-false room i (fine-refuse _ 7 0 (fine-right _ _ after-own));
     }
+
+pub passed-fine : (groups : List ℕ) (room low i : ℕ) (x : Pair) → PairPasses groups room low i x → alsoTest groups room low i x ≡ Fine
+passed-fine groups room low i x p =
+    let o = p .order in
+    also-fine groups room low i x (p .group) (o .below) (o .some) (o .foreign) (o .rises) (p .fits)
+
+-- What a refusal of the tests says of the pair, and with which number and place.
+pub data PairCause (groups : List ℕ) (room low i : ℕ) (x : Pair) (n p : ℕ) : Type 0 where
+  high-group : n ≡ 17 → p ≡ x .owner → groupNumbers ≤ x .other → PairCause groups room low i x n p
+  out-of-order : n ≡ 18 → p ≡ i → x .other < groupNumbers → PairOutOfOrder groups low x → PairCause groups room low i x n p
+  no-room : n ≡ 7 → p ≡ 0 → x .other < groupNumbers → PairInOrder groups low x → room ≤ i → PairCause groups room low i x n p
+
+refused-as : {w : Verdict} {a b n p : ℕ} → w ≡ Refused a b → w ≡ Refused n p → (n ≡ a) × (p ≡ b)
+refused-as e f = ((cc), (cc))
+
+pub pair-cause : (groups : List ℕ) (room low i : ℕ) (x : Pair) {n p : ℕ} → alsoTest groups room low i x ≡ Refused n p → PairCause groups room low i x n p
+pair-cause groups room low i x {n} {p} e =
+    by-group (leb groupNumbers (x .other)) refl (leb (length groups) (x .owner)) refl (eqb (x .other) 0) refl (eqb (x .other) (getD groups (x .owner) 0)) refl (leb (rank x) low) refl (leb room i) refl
+  where
+    by-group : (a : Bool) → leb groupNumbers (x .other) ≡ a → (b : Bool) → leb (length groups) (x .owner) ≡ b → (c : Bool) → eqb (x .other) 0 ≡ c → (d : Bool) → eqb (x .other) (getD groups (x .owner) 0) ≡ d
+        → (f : Bool) → leb (rank x) low ≡ f → (g : Bool) → leb room i ≡ g → PairCause groups room low i x n p
+    by-group true ea b eb c ec d ed f ef g eg =
+        let h = leb-true groupNumbers (x .other) ea in
+        let r = refused-as (also-high groups room low i x h) e in
+        high-group (r .0) (r .1) h
+    by-group false ea true eb c ec d ed f ef g eg =
+        let k = leb-false groupNumbers (x .other) ea in
+        let h = leb-true (length groups) (x .owner) eb in
+        let r = refused-as (also-out groups room low i x k h) e in
+        out-of-order (r .0) (r .1) k (inl h)
+    by-group false ea false eb true ec d ed f ef g eg =
+        let k = leb-false groupNumbers (x .other) ea in
+        let h = eqb-true (x .other) 0 ec in
+        let r = refused-as (also-none groups room low i x k (leb-false (length groups) (x .owner) eb) h) e in
+        out-of-order (r .0) (r .1) k (inr (inl h))
+    by-group false ea false eb false ec true ed f ef g eg =
+        let k = leb-false groupNumbers (x .other) ea in
+        let h = eqb-true (x .other) (getD groups (x .owner) 0) ed in
+        let r = refused-as (also-own groups room low i x k (leb-false (length groups) (x .owner) eb) (eqb-false (x .other) 0 ec) h) e in
+        out-of-order (r .0) (r .1) k (inr (inr (inl h)))
+    by-group false ea false eb false ec false ed true ef g eg =
+        let k = leb-false groupNumbers (x .other) ea in
+        let h = leb-true (rank x) low ef in
+        let r = refused-as (also-falls groups room low i x k (leb-false (length groups) (x .owner) eb) (eqb-false (x .other) 0 ec) (eqb-false (x .other) (getD groups (x .owner) 0) ed) h) e in
+        out-of-order (r .0) (r .1) k (inr (inr (inr h)))
+    by-group false ea false eb false ec false ed false ef true eg =
+        let k = leb-false groupNumbers (x .other) ea in
+        let below = leb-false (length groups) (x .owner) eb in
+        let some = eqb-false (x .other) 0 ec in
+        let foreign = eqb-false (x .other) (getD groups (x .owner) 0) ed in
+        let rises = leb-false (rank x) low ef in
+        let h = leb-true room i eg in
+        let r = refused-as (also-full groups room low i x k below some foreign rises h) e in
+        no-room (r .0) (r .1) k (record { below = below; some = some; foreign = foreign; rises = rises }) h
+    by-group false ea false eb false ec false ed false ef false eg =
+        absurd
+        (no-refusal e
+        (also-fine groups room low i x (leb-false groupNumbers (x .other) ea) (leb-false (length groups) (x .owner) eb) (eqb-false (x .other) 0 ec) (eqb-false (x .other) (getD groups (x .owner) 0) ed)
+        (leb-false (rank x) low ef) (leb-false room i eg)))
+
+-- A fault that 18 names is refused with 18.
+pub out-refused : (groups : List ℕ) (room low i : ℕ) (x : Pair) → x .other < groupNumbers → PairOutOfOrder groups low x → alsoTest groups room low i x ≡ Refused 18 i
+out-refused groups room low i x k o = by-tests (leb (length groups) (x .owner)) refl (eqb (x .other) 0) refl (eqb (x .other) (getD groups (x .owner) 0)) refl o
+  where
+    by-tests : (b : Bool) → leb (length groups) (x .owner) ≡ b → (c : Bool) → eqb (x .other) 0 ≡ c → (d : Bool) → eqb (x .other) (getD groups (x .owner) 0) ≡ d → PairOutOfOrder groups low x
+        → alsoTest groups room low i x ≡ Refused 18 i
+    by-tests true eb c ec d ed o = also-out groups room low i x k (leb-true (length groups) (x .owner) eb)
+    by-tests false eb true ec d ed o = also-none groups room low i x k (leb-false (length groups) (x .owner) eb) (eqb-true (x .other) 0 ec)
+    by-tests false eb false ec true ed o =
+        also-own groups room low i x k (leb-false (length groups) (x .owner) eb) (eqb-false (x .other) 0 ec) (eqb-true (x .other) (getD groups (x .owner) 0) ed)
+    by-tests false eb false ec false ed (inl h) = let z = leb-false (length groups) (x .owner) eb in absurd (omega arith)
+    by-tests false eb false ec false ed (inr (inl h)) = absurd (eqb-false (x .other) 0 ec h)
+    by-tests false eb false ec false ed (inr (inr (inl h))) = absurd (eqb-false (x .other) (getD groups (x .owner) 0) ed h)
+    by-tests false eb false ec false ed (inr (inr (inr h))) =
+        also-falls groups room low i x k (leb-false (length groups) (x .owner) eb) (eqb-false (x .other) 0 ec) (eqb-false (x .other) (getD groups (x .owner) 0) ed) h
 
 -- ---- lines
 

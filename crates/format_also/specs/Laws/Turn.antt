@@ -104,8 +104,3 @@ module _ (t groups owners₀ others₀ : List ℕ) (at : ℕ) where
   pub pairs-ended : (room : ℕ) {step : Step ℕ} {owners others : List ℕ} → PairsEnd (alsoReader t groups room) (alsoAt t groups room at) owners₀ others₀ step owners others
       → AlsoEnds t groups owners₀ others₀ at step owners others room
   pairs-ended room e = (e .end, e .owned, e .othered)
-
-  -- For a room that is the same.
-  pub room-ended : {step : Step ℕ} {owners others : List ℕ} {room room′ : ℕ} → room ≡ room′ → AlsoEnds t groups owners₀ others₀ at step owners others room
-      → AlsoEnds t groups owners₀ others₀ at step owners others room′
-  room-ended {step} {owners} {others} same e = subst (λ (k : ℕ). AlsoEnds t groups owners₀ others₀ at step owners others k) same e

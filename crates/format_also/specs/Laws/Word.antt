@@ -12,19 +12,15 @@ use Rattle.base_limits.specs.Verdict.{refuseIf, _before_}
 use Rattle.base_limits.specs.declared.Verdict.{Verdict}
 use Rattle.base_limits.specs.declared.Verdict.the-variants.{Fine, Refused}
 use Rattle.format_key.specs.Key.{alsoKey, comma, newline}
-use Rattle.format_write.specs.Laws.Decimal.{length-decimal}
-use Rattle.format_write.specs.Decimal.{decimal}
-use Rattle.format_number.specs.Number.{numberText}
-use Rattle.format_number.specs.Laws.NumberWord.{NumberWord, reads-number}
+use Rattle.format_number.specs.Number.{alsoLetter, numberText}
+use Rattle.format_number.specs.Laws.NumberWord.{NumberWord, reads-number, number-most}
 use Rattle.format_number.specs.Laws.Keyed.{newline-no-digit, comma-no-digit}
-use Rattle.format_grammar.specs.Bytes.{byteIs}
 use Rattle.format_grammar.specs.Step.{Step, found, refused, _then_, checked}
 use Rattle.format_grammar.specs.Items.{Lists}
 use Rattle.format_grammar.specs.Language.{Reads, Word, Extends, Seq, Empty, Fixed, Text}
-use Rattle.format_grammar.specs.Laws.Bytes.{reads-fixed, byte-same}
+use Rattle.format_grammar.specs.Laws.Bytes.{reads-fixed, byte-alike}
 use Rattle.format_grammar.specs.Laws.Language.{reads-then, reads-as, reads-value, reads-checked, read-again}
-use Rattle.format_grammar.specs.Laws.Stands.{take-less}
-use Rattle.format_also.specs.Pair.{Pair, pairOf, PairDigits, alsoLetter, pairAt, alsoTest, alsoLine, alsoReader}
+use Rattle.format_also.specs.Pair.{Pair, pairOf, PairDigits, pairAt, alsoTest, alsoLine, alsoReader}
 use Rattle.format_also.specs.Render.{pairText, pairBytes}
 use Rattle.format_also.specs.Laws.Tests.{line-past, line-read, line-passed}
 
@@ -94,20 +90,13 @@ pair-some x =
     let b = length-append alsoKey (numberText comma (x .owner)) in
     omega arith
 
-number-length : (stop x : ℕ) → x < 1000 → length (numberText stop x) ≤ alsoDigits + 1
-unfolding numberText
-number-length stop x h =
-    let d = length-decimal 2 x h in
-    let a = length-append (decimal x) (stop ∷ []) in
-    omega arith
-
 pub pair-length : (x : Pair) → PairDigits x → length (pairText x) ≤ pairBytes
 unfolding pairText
 pair-length x h =
     let a = length-append (alsoKey ++ numberText comma (x .owner)) (numberText newline (x .other)) in
     let b = length-append alsoKey (numberText comma (x .owner)) in
-    let v = number-length comma (x .owner) (h .owner) in
-    let g = number-length newline (x .other) (h .other) in
+    let v = number-most comma alsoDigits (x .owner) (omega arith) (h .owner) in
+    let g = number-most newline alsoDigits (x .other) (omega arith) (h .other) in
     omega arith
 
 pub pair-bytes : pairBytes ≡ 13
@@ -146,7 +135,7 @@ also-not-malformed groups room low i x =
     (both-other _ _ (one-other _ 18 i (λ z. omega arith)) seven))))
     .never
 
-pub record Passing (groups : List ℕ) (room low i : ℕ) (x : Pair) : Type 0 where
+pub record TestedPair (groups : List ℕ) (room low i : ℕ) (x : Pair) : Type 0 where
   pub digits : PairDigits x
   pub passes : alsoTest groups room low i x ≡ Fine
 
@@ -154,19 +143,19 @@ abbrev tested : (groups : List ℕ) (room low i : ℕ) → List ℕ → ℕ → 
 tested groups room low i t at = pairAt t at then λ x p. checked (alsoTest groups room low i x) x p
 
 module _ (groups : List ℕ) (room low i : ℕ) where
-  pub reads-tested-pair : Reads (tested groups room low i) (Text (Passing groups room low i) pairText) (Text PairDigits pairText)
+  pub reads-tested-pair : Reads (tested groups room low i) (Text (TestedPair groups room low i) pairText) (Text PairDigits pairText)
   reads-tested-pair =
       reads-as (λ t at. refl) to from to′ from′ (reads-then reads-pair (λ x. reads-checked (alsoTest groups room low i x) x (also-not-malformed groups room low i x)))
     where
-      to : (a : Pair) (w : List ℕ) → Seq (Text PairDigits pairText) (λ x c z. Empty x c z × (alsoTest groups room low i x ≡ Fine)) a w → Text (Passing groups room low i) pairText a w
+      to : (a : Pair) (w : List ℕ) → Seq (Text PairDigits pairText) (λ x c z. Empty x c z × (alsoTest groups room low i x ≡ Fine)) a w → Text (TestedPair groups room low i) pairText a w
       to a w m =
           let e : m .value ≡ a = sym (m .second .0 .value) in
           record {
-            holds = subst (Passing groups room low i) e record { digits = m .first .holds; passes = m .second .1 };
+            holds = subst (TestedPair groups room low i) e record { digits = m .first .holds; passes = m .second .1 };
             word = m .whole ∙ ap (λ (x : List ℕ). m .left ++ x) (m .second .0 .word) ∙ append-nil (m .left) ∙ m .first .word ∙ ap pairText e;
           }
 
-      from : (a : Pair) (w : List ℕ) → Text (Passing groups room low i) pairText a w → Seq (Text PairDigits pairText) (λ x c z. Empty x c z × (alsoTest groups room low i x ≡ Fine)) a w
+      from : (a : Pair) (w : List ℕ) → Text (TestedPair groups room low i) pairText a w → Seq (Text PairDigits pairText) (λ x c z. Empty x c z × (alsoTest groups room low i x ≡ Fine)) a w
       from a w m =
           record {
             value = a;
@@ -214,19 +203,6 @@ line-stops t groups room low i at {n} {p} e = by-count (leb maxPairs i) refl
         let b : at ≡ p = cc in
         past m (sym a) (sym b)
     by-count false h = let m = leb-false maxPairs i h in other m (sym (line-read t groups room low i at m) ∙ e)
-
--- Texts that agree up to an offset have the same bytes there.
-byte-alike : (t u : List ℕ) (at b q : ℕ) → at ≤ q → take (q + 1) t ≡ take (q + 1) u → byteIs t at b ≡ byteIs u at b
-byte-alike t u at b q h k = by-test (byteIs t at b) (byteIs u at b) refl refl
-  where
-    near : take (at + 1) t ≡ take (at + 1) u
-    near = take-less t u (at + 1) (q + 1) (omega arith) k
-
-    by-test : (x y : Bool) → byteIs t at b ≡ x → byteIs u at b ≡ y → x ≡ y
-    by-test true true e f = refl
-    by-test true false e f = sym e ∙ byte-same b u t at f (sym near)
-    by-test false true e f = sym (byte-same b t u at e near) ∙ f
-    by-test false false e f = refl
 
 module _ (groups : List ℕ) (room : ℕ) where
   line-sound : (t : List ℕ) (low i at : ℕ) (x : Pair) (p : ℕ) → at ≤ length t → alsoLine t groups room low i at ≡ found x p → Word (Text PairDigits pairText) t at x p

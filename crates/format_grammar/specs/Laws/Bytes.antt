@@ -12,7 +12,7 @@ use borrow.Author.Tests.{eqb-true, ltb-true, ltb-false, ne-eqb, eq-eqb, lt-ltb, 
 use Rattle.format_grammar.specs.Bytes.{byteIs, fixedAt, byteStep, endAt}
 use Rattle.format_grammar.specs.Language.{Reads, Word, Seq, read, Empty, Fixed}
 use Rattle.format_grammar.specs.Laws.Language.{reads-then, reads-as, reads-value}
-use Rattle.format_grammar.specs.Laws.Stands.{stands-byte, stands-head, stands-same}
+use Rattle.format_grammar.specs.Laws.Stands.{stands-byte, stands-head, stands-same, take-less}
 use Rattle.format_grammar.specs.Stands.{Stands}
 use Rattle.format_grammar.specs.Step.{found, refused, _then_, Step}
 
@@ -219,3 +219,15 @@ end-here t at h = rw (le-leb (length t) at h)
 pub end-later : (t : List ℕ) (at : ℕ) → at < length t → endAt t at ≡ refused 16 at
 unfolding endAt
 end-later t at h = rw (lt-leb (length t) at h)
+
+-- Texts that agree up to an offset have the same bytes there.
+pub byte-alike : (t u : List ℕ) (at b q : ℕ) → at ≤ q → take (q + 1) t ≡ take (q + 1) u → byteIs t at b ≡ byteIs u at b
+byte-alike t u at b q h k = by-test (byteIs t at b) (byteIs u at b) refl refl
+  where
+    near : take (at + 1) t ≡ take (at + 1) u
+    near = take-less t u (at + 1) (q + 1) (omega arith) k
+
+    by-test : (x y : Bool) → byteIs t at b ≡ x → byteIs u at b ≡ y → byteIs t at b ≡ byteIs u at b
+    by-test true true e f = e ∙ sym f
+    by-test true false e f = byte-same b u t at f (sym near) ∙ sym f
+    by-test false y e f = e ∙ sym (byte-same b t u at e near)

@@ -13,7 +13,7 @@ use Rattle.base_limits.specs.declared.Verdict.{Verdict}
 use Rattle.base_limits.specs.declared.Verdict.the-variants.{Fine, Refused}
 use Rattle.format_grammar.specs.Bytes.{byteIs, fixedAt, endAt, byteStep}
 use Rattle.format_grammar.specs.Language.{LooksWithin, Any}
-use Rattle.format_grammar.specs.Laws.Bytes.{fixed-step, byte-same}
+use Rattle.format_grammar.specs.Laws.Bytes.{fixed-step, byte-alike}
 use Rattle.format_grammar.specs.Laws.Lines.{lines-unfold}
 use Rattle.format_grammar.specs.Laws.Stands.{take-less}
 use Rattle.format_grammar.specs.Laws.Step.{then-found, then-refused, then-value}
@@ -66,19 +66,11 @@ local-as {b = b} {c = c} e h k r =
       near = λ t at a p q. let n = r .near t at a p (e t at ∙ q) in let i = n .0 in (omega arith, k a (n .1));
     }
 
-both-same : (b : ℕ) (t u : List ℕ) (at : ℕ) → take (at + 1) t ≡ take (at + 1) u → byteIs t at b ≡ byteIs u at b
-both-same b t u at e = by-test (byteIs t at b) (byteIs u at b) refl refl
-  where
-    by-test : (x y : Bool) → byteIs t at b ≡ x → byteIs u at b ≡ y → byteIs t at b ≡ byteIs u at b
-    by-test true true h k = h ∙ sym k
-    by-test true false h k = byte-same b u t at k (sym e) ∙ sym k
-    by-test false y h k = h ∙ sym (byte-same b t u at h e)
-
 local-byte : (b : ℕ) → LooksWithin (byteStep b) 1 Any
 unfolding byteStep
 local-byte b =
     record {
-      same = λ t u at e. ap (λ (x : Bool). cond x (found 0 (at + 1)) (refused 16 at)) (both-same b t u at e);
+      same = λ t u at e. ap (λ (x : Bool). cond x (found 0 (at + 1)) (refused 16 at)) (byte-alike t u at b at (omega arith) e);
       near = λ t at a p e. (by-test at a p (byteIs t at b) e, tt);
     }
   where

@@ -7,9 +7,9 @@ use mathlib.Core.List.{List, [], _∷_}
 use lib.ListN.{length, getD}
 use lib.Dec.{eqb, ltb, leb}
 use borrow.Author.Tests.{ltb-true, leb-true, eqb-true, eqb-false, le-leb, lt-leb, eq-eqb, ne-eqb}
-use Rattle.format_number.specs.Number.{classOf, isDigit, classNumber, isClass, classStep, keepLetter}
+use Rattle.format_number.specs.Number.{classOf, isDigit, classNumber, isClass, classStep, keepLetter, alsoLetter}
 use Rattle.format_number.specs.declared.Class.{Class}
-use Rattle.format_number.specs.declared.Class.the-variants.{Zero, Digit, LineEnd, Comma, Colon, Keep, Other}
+use Rattle.format_number.specs.declared.Class.the-variants.{Zero, Digit, LineEnd, Comma, Colon, Keep, Also, Other}
 use Rattle.format_key.specs.Key.{colon, comma, newline}
 use Rattle.format_grammar.specs.Bytes.{byteIs, fixedAt}
 use Rattle.format_grammar.specs.Step.{found, refused}
@@ -39,33 +39,39 @@ pub class-keep : {b : ℕ} → b ≡ 107 → classOf b ≡ Keep
 unfolding classOf
 class-keep e = ap classOf e
 
+pub class-also : {b : ℕ} → b ≡ 97 → classOf b ≡ Also
+unfolding classOf
+class-also e = ap classOf e
+
 pub class-low : (b : ℕ) → b < 48 → (b ≡ 10 → ⊥) → (b ≡ 44 → ⊥) → classOf b ≡ Other
 unfolding classOf
 class-low b h n m =
     let c : b ≡ 58 → ⊥ = λ e. omega arith in
     let k : b ≡ 107 → ⊥ = λ e. omega arith in
-    simp (lt-leb 48 b h, ne-eqb b 10 n, ne-eqb b 44 m, ne-eqb b 58 c, ne-eqb b 107 k)
+    let l : b ≡ 97 → ⊥ = λ e. omega arith in
+    simp (lt-leb 48 b h, ne-eqb b 10 n, ne-eqb b 44 m, ne-eqb b 58 c, ne-eqb b 107 k, ne-eqb b 97 l)
 
-pub class-high : (b : ℕ) → 58 ≤ b → (b ≡ 58 → ⊥) → (b ≡ 107 → ⊥) → classOf b ≡ Other
+pub class-high : (b : ℕ) → 58 ≤ b → (b ≡ 58 → ⊥) → (b ≡ 107 → ⊥) → (b ≡ 97 → ⊥) → classOf b ≡ Other
 unfolding classOf
-class-high b h c k =
+class-high b h c k l =
     let n : b ≡ 10 → ⊥ = λ e. omega arith in
     let m : b ≡ 44 → ⊥ = λ e. omega arith in
-    simp (le-leb 48 b (omega arith), lt-leb b 57 (omega arith), ne-eqb b 10 n, ne-eqb b 44 m, ne-eqb b 58 c, ne-eqb b 107 k)
+    simp (le-leb 48 b (omega arith), lt-leb b 57 (omega arith), ne-eqb b 10 n, ne-eqb b 44 m, ne-eqb b 58 c, ne-eqb b 107 k, ne-eqb b 97 l)
 
 -- The digits are the bytes from 48 to 57.
 pub digit-test : (b : ℕ) → isDigit (classOf b) ≡ (leb 48 b && leb b 57)
 unfolding classOf isDigit
-digit-test b = by-tests (leb 48 b && leb b 57) (eqb b 48) (eqb b 10) (eqb b 44) (eqb b 58) (eqb b 107)
+digit-test b = by-tests (leb 48 b && leb b 57) (eqb b 48) (eqb b 10) (eqb b 44) (eqb b 58) (eqb b 107) (eqb b 97)
   where
-    by-tests : (d z n m c k : Bool) → isDigit (cond d (cond z Zero Digit) (cond n LineEnd (cond m Comma (cond c Colon (cond k Keep Other))))) ≡ d
-    by-tests true true n m c k = refl
-    by-tests true false n m c k = refl
-    by-tests false z true m c k = refl
-    by-tests false z false true c k = refl
-    by-tests false z false false true k = refl
-    by-tests false z false false false true = refl
-    by-tests false z false false false false = refl
+    by-tests : (d z n m c k l : Bool) → isDigit (cond d (cond z Zero Digit) (cond n LineEnd (cond m Comma (cond c Colon (cond k Keep (cond l Also Other)))))) ≡ d
+    by-tests true true n m c k l = refl
+    by-tests true false n m c k l = refl
+    by-tests false z true m c k l = refl
+    by-tests false z false true c k l = refl
+    by-tests false z false false true k l = refl
+    by-tests false z false false false true l = refl
+    by-tests false z false false false false true = refl
+    by-tests false z false false false false false = refl
 
 pub digit-byte : (b : ℕ) → 48 ≤ b → b ≤ 57 → isDigit (classOf b) ≡ true
 digit-byte b h k = digit-test b ∙ simp (le-leb 48 b h, le-leb b 57 k)
@@ -88,26 +94,28 @@ pub record Facts (b number : ℕ) : Type 0 where
   pub comma : number ≡ 3 → b ≡ 44
   pub colon : number ≡ 4 → b ≡ 58
   pub keep : number ≡ 5 → b ≡ 107
+  pub also : number ≡ 6 → b ≡ 97
 
 not-equal : {A : Type 0} (m n : ℕ) → eqb m n ≡ false → m ≡ n → A
 not-equal m n h e = no-bool (sym (eq-eqb m n e) ∙ h)
 
 pub class-facts : (b : ℕ) → Facts b (classNumber (classOf b))
 unfolding classOf classNumber
-class-facts b = by-tests (leb 48 b && leb b 57) (eqb b 48) (eqb b 10) (eqb b 44) (eqb b 58) (eqb b 107) refl refl refl refl refl
+class-facts b = by-tests (leb 48 b && leb b 57) (eqb b 48) (eqb b 10) (eqb b 44) (eqb b 58) (eqb b 107) (eqb b 97) refl refl refl refl refl refl
   where
-    none : (number : ℕ) → eqb number 0 ≡ false → eqb number 2 ≡ false → eqb number 3 ≡ false → eqb number 4 ≡ false → eqb number 5 ≡ false → Facts b number
-    none r x0 x2 x3 x4 x5 = record { zero = not-equal r 0 x0; end = not-equal r 2 x2; comma = not-equal r 3 x3; colon = not-equal r 4 x4; keep = not-equal r 5 x5 }
+    none : (number : ℕ) → eqb number 0 ≡ false → eqb number 2 ≡ false → eqb number 3 ≡ false → eqb number 4 ≡ false → eqb number 5 ≡ false → eqb number 6 ≡ false → Facts b number
+    none r x0 x2 x3 x4 x5 x6 = record { zero = not-equal r 0 x0; end = not-equal r 2 x2; comma = not-equal r 3 x3; colon = not-equal r 4 x4; keep = not-equal r 5 x5; also = not-equal r 6 x6 }
 
-    by-tests : (d z n m c k : Bool) → eqb b 48 ≡ z → eqb b 10 ≡ n → eqb b 44 ≡ m → eqb b 58 ≡ c → eqb b 107 ≡ k
-        → Facts b (classNumber (cond d (cond z Zero Digit) (cond n LineEnd (cond m Comma (cond c Colon (cond k Keep Other))))))
-    by-tests true true n m c k ez en em ec ek = record { zero = λ _. eqb-true b 48 ez; end = not-equal 0 2 refl; comma = not-equal 0 3 refl; colon = not-equal 0 4 refl; keep = not-equal 0 5 refl }
-    by-tests true false n m c k ez en em ec ek = none 1 refl refl refl refl refl
-    by-tests false z true m c k ez en em ec ek = record { zero = not-equal 2 0 refl; end = λ _. eqb-true b 10 en; comma = not-equal 2 3 refl; colon = not-equal 2 4 refl; keep = not-equal 2 5 refl }
-    by-tests false z false true c k ez en em ec ek = record { zero = not-equal 3 0 refl; end = not-equal 3 2 refl; comma = λ _. eqb-true b 44 em; colon = not-equal 3 4 refl; keep = not-equal 3 5 refl }
-    by-tests false z false false true k ez en em ec ek = record { zero = not-equal 4 0 refl; end = not-equal 4 2 refl; comma = not-equal 4 3 refl; colon = λ _. eqb-true b 58 ec; keep = not-equal 4 5 refl }
-    by-tests false z false false false true ez en em ec ek = record { zero = not-equal 5 0 refl; end = not-equal 5 2 refl; comma = not-equal 5 3 refl; colon = not-equal 5 4 refl; keep = λ _. eqb-true b 107 ek }
-    by-tests false z false false false false ez en em ec ek = none 6 refl refl refl refl refl
+    by-tests : (d z n m c k l : Bool) → eqb b 48 ≡ z → eqb b 10 ≡ n → eqb b 44 ≡ m → eqb b 58 ≡ c → eqb b 107 ≡ k → eqb b 97 ≡ l
+        → Facts b (classNumber (cond d (cond z Zero Digit) (cond n LineEnd (cond m Comma (cond c Colon (cond k Keep (cond l Also Other)))))))
+    by-tests true true n m c k l ez en em ec ek el = record { zero = λ _. eqb-true b 48 ez; end = not-equal 0 2 refl; comma = not-equal 0 3 refl; colon = not-equal 0 4 refl; keep = not-equal 0 5 refl; also = not-equal 0 6 refl }
+    by-tests true false n m c k l ez en em ec ek el = none 1 refl refl refl refl refl refl
+    by-tests false z true m c k l ez en em ec ek el = record { zero = not-equal 2 0 refl; end = λ _. eqb-true b 10 en; comma = not-equal 2 3 refl; colon = not-equal 2 4 refl; keep = not-equal 2 5 refl; also = not-equal 2 6 refl }
+    by-tests false z false true c k l ez en em ec ek el = record { zero = not-equal 3 0 refl; end = not-equal 3 2 refl; comma = λ _. eqb-true b 44 em; colon = not-equal 3 4 refl; keep = not-equal 3 5 refl; also = not-equal 3 6 refl }
+    by-tests false z false false true k l ez en em ec ek el = record { zero = not-equal 4 0 refl; end = not-equal 4 2 refl; comma = not-equal 4 3 refl; colon = λ _. eqb-true b 58 ec; keep = not-equal 4 5 refl; also = not-equal 4 6 refl }
+    by-tests false z false false false true l ez en em ec ek el = record { zero = not-equal 5 0 refl; end = not-equal 5 2 refl; comma = not-equal 5 3 refl; colon = not-equal 5 4 refl; keep = λ _. eqb-true b 107 ek; also = not-equal 5 6 refl }
+    by-tests false z false false false false true ez en em ec ek el = record { zero = not-equal 6 0 refl; end = not-equal 6 2 refl; comma = not-equal 6 3 refl; colon = not-equal 6 4 refl; keep = not-equal 6 5 refl; also = λ _. eqb-true b 97 el }
+    by-tests false z false false false false false ez en em ec ek el = none 7 refl refl refl refl refl refl
 
 -- A class that stands for one byte.
 class-stands : (t : List ℕ) (at s : ℕ) (kind : Class) → (classNumber (classOf (getD t at 0)) ≡ classNumber kind → getD t at 0 ≡ s) → (getD t at 0 ≡ s → classOf (getD t at 0) ≡ kind)
@@ -134,6 +142,10 @@ is-colon t at = class-stands t at 58 Colon (class-facts (getD t at 0) .colon) cl
 pub is-keep : (t : List ℕ) (at : ℕ) → isClass t at Keep ≡ byteIs t at keepLetter
 unfolding classNumber
 is-keep t at = class-stands t at 107 Keep (class-facts (getD t at 0) .keep) class-keep
+
+pub is-also : (t : List ℕ) (at : ℕ) → isClass t at Also ≡ byteIs t at alsoLetter
+unfolding classNumber
+is-also t at = class-stands t at 97 Also (class-facts (getD t at 0) .also) class-also
 
 pub is-zero : (t : List ℕ) (at : ℕ) → isClass t at Zero ≡ eqb (getD t at 0) 48
 unfolding classNumber

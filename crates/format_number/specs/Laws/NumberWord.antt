@@ -9,9 +9,11 @@ use lib.ListN.{length, getD, take, drop, length-append, length-drop}
 use lib.Seq.{length-take-le}
 use lib.Dec.{eqb}
 use borrow.Author.Tests.{eq-eqb, ne-eqb, eqb-true, eqb-false}
+use Rattle.format_key.specs.Key.{newline}
 use Rattle.format_write.specs.Decimal.{decimal, spelledAfter}
+use Rattle.format_write.specs.Text.{lineOf}
 use Rattle.format_write.specs.Laws.Decimal.{length-decimal, decimal-small}
-use Rattle.format_number.specs.Number.{classOf, isDigit, digitsEnd, numeralEnd, numeralAt, numberAt, numberTo, numberText}
+use Rattle.format_number.specs.Number.{classOf, isDigit, digitsEnd, numeralEnd, numeralAt, numberAt, numberTo, numberText, OfDigits, lineBytes}
 use Rattle.format_number.specs.Laws.Byte.{digit-byte, digit-inside}
 use Rattle.format_number.specs.Laws.Number.{digits-none, digits-range, numeral-range}
 use Rattle.format_number.specs.Laws.Digits.{Digits, none, one, numeral-digits, number-below}
@@ -77,6 +79,22 @@ first-byte (b ∷ w) h s = stands-head s
 pub digits-most : (limit v : ℕ) → 1 ≤ limit → v < 10 ^ limit → length (decimal v) ≤ limit
 digits-most zero v h k = absurd (omega arith)
 digits-most (suc limit) v h k = length-decimal limit v k
+
+-- So has its text, with the byte behind it, and a line of a key and a number.
+pub number-most : (stop limit x : ℕ) → 1 ≤ limit → OfDigits limit x → length (numberText stop x) ≤ limit + 1
+unfolding numberText
+number-most stop limit x positive h =
+    let a = length-append (decimal x) (stop ∷ []) in
+    let d = digits-most limit x positive h in
+    omega arith
+
+pub line-most : (key : List ℕ) (limit x : ℕ) → 1 ≤ limit → OfDigits limit x → length (lineOf key x) ≤ lineBytes key limit
+unfolding lineOf
+line-most key limit x positive h =
+    let a = length-append (key ++ decimal x) (newline ∷ []) in
+    let b = length-append key (decimal x) in
+    let d = digits-most limit x positive h in
+    omega arith
 
 numeral-end-is : (t : List ℕ) (limit at v : ℕ) → 1 ≤ limit → v < 10 ^ limit → Stands t at (decimal v) → isDigit (classOf (getD t (at + length (decimal v)) 0)) ≡ false → numeralEnd limit t at ≡ at + length (decimal v)
 unfolding numeralEnd

@@ -32,8 +32,8 @@ use Rattle.format_grammar.specs.Laws.Items.{items-stop}
 use Rattle.format_plan.specs.Laws.Reading.{room-fine}
 use Rattle.format_plan.specs.Laws.Room.{room-answer, dual-passed}
 use Rattle.format_plan.specs.Laws.RoundTrip.{plan-reads-back}
-use Rattle.format_grammar.specs.Laws.Listing.{standing-words, items-standing}
-use Rattle.format_plan.specs.Laws.Listed.{lists-kept, lists-duals, dual-parts-read, text-from}
+use Rattle.format_grammar.specs.Laws.Listing.{standing-words, items-standing, text-from}
+use Rattle.format_plan.specs.Laws.Listed.{lists-kept, lists-duals, dual-parts-read}
 use Rattle.format_plan.specs.WellFormed.{Rising, ended, rising, DualDigits, Printed, ClaimDigits, dualText, claimsText, planWords, Rendering, RoomFor, FewParts}
 
 -- ---- the counts

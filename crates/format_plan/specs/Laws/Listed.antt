@@ -18,7 +18,7 @@ use Rattle.format_grammar.specs.Step.{Step, found, refused, _then_, checked}
 use Rattle.format_grammar.specs.Lines.{Lines, textOf}
 use Rattle.format_number.specs.Number.{isDigit, classOf, numberAt, numberTo, OfDigits}
 use Rattle.format_grammar.specs.Bytes.{byteIs, fixedAt}
-use Rattle.format_grammar.specs.Laws.Bytes.{byte-inside, read-same, byte-same, reads-fixed}
+use Rattle.format_grammar.specs.Laws.Bytes.{byte-inside, read-same, byte-alike, reads-fixed}
 use Rattle.format_number.specs.Laws.Decimal.{decimal-numeral}
 use Rattle.format_grammar.specs.Laws.Step.{then-found, then-refused, then-value, Stops, early, late, then-stops, checked-fine, checked-value, checked-next}
 use Rattle.format_grammar.specs.Stands.{Stands}
@@ -33,22 +33,9 @@ use Rattle.format_plan_lines.specs.Lines.{keptTest, keepLine, keepReader, separ
 use Rattle.format_grammar.specs.Laws.Items.{items-stop}
 use Rattle.format_plan.specs.WellFormed.{DualDigits, dualText}
 use Rattle.format_plan.specs.Laws.RoundTrip.{dual-some, line-some, colon-ends, memberWords, later-text, listed-text}
-use Rattle.format_grammar.specs.Laws.Listing.{standing-words, standing-long, items-standing, items-broken, item-goes, broken-place, broken-extends, items-again, items-broken-again}
+use Rattle.format_grammar.specs.Laws.Listing.{standing-words, standing-long, items-standing, items-broken, item-goes, broken-place, broken-extends, items-again, items-broken-again, text-from}
 
 -- ---- bytes and ends that texts have in common
-
--- Texts that agree up to an offset have the same bytes there.
-byte-alike : (t u : List ℕ) (at b q : ℕ) → at ≤ q → take (q + 1) t ≡ take (q + 1) u → byteIs t at b ≡ byteIs u at b
-byte-alike t u at b q h k = by-test (byteIs t at b) (byteIs u at b) refl refl
-  where
-    near : take (at + 1) t ≡ take (at + 1) u
-    near = take-less t u (at + 1) (q + 1) (omega arith) k
-
-    by-test : (x y : Bool) → byteIs t at b ≡ x → byteIs u at b ≡ y → x ≡ y
-    by-test true true e f = refl
-    by-test true false e f = sym e ∙ byte-same b u t at f (sym near)
-    by-test false true e f = sym (byte-same b t u at e near) ∙ f
-    by-test false false e f = refl
 
 -- Texts that agree past an offset go on there, or both end before it.
 end-alike : (t u : List ℕ) (at q : ℕ) → at ≤ q → take (q + 1) t ≡ take (q + 1) u → leb (length t) at ≡ leb (length u) at
@@ -476,9 +463,3 @@ lists-duals =
       after = λ t u low d. refl;
       same = λ t u low i at p h. dual-same t at h u i p;
     }
-
--- Lines that do not depend on their number, one after another.
-pub text-from : {A : Type 0} (f : A → List ℕ) (i : ℕ) (l : List A) → textFrom (λ j. f) i l ≡ textOf f l
-unfolding textFrom textOf
-text-from f i [] = refl
-text-from f i (a ∷ l) = ap (λ (w : List ℕ). f a ++ w) (text-from f (i + 1) l)

@@ -29,59 +29,29 @@ use Rattle.format_plan.specs.Plan.{Claims, claimsAt, PrintedPlan, planLi
 use Rattle.format_plan.specs.Laws.Room.{room-refusal}
 use Rattle.format_grammar.specs.Laws.Items.{items-reads-back}
 use Rattle.format_plan.specs.Laws.RoundTrip.{keep-line-reads-back, dual-line-reads-back, claims-reads-back, claims-some, lines-long, line-some, dual-some, no-keep}
-use Rattle.format_grammar.specs.Laws.Listing.{items-standing, items-broken, broken-items, item-goes, standing-long, broken-place, broken-extends, items-again, items-broken-again}
-use Rattle.format_plan.specs.Laws.Listed.{kept-not-malformed, dual-not-malformed, lists-kept, lists-duals, text-from}
+use Rattle.format_grammar.specs.Laws.Listing.{items-standing, items-broken, broken-items, item-goes, standing-long, broken-place, broken-extends, items-again, items-broken-again, text-from, Met, all-read, one-refused, Tested, met-lines}
+use Rattle.format_plan.specs.Laws.Listed.{kept-not-malformed, dual-not-malformed, lists-kept, lists-duals}
 use Rattle.format_plan.specs.Laws.Accepted.{reads-claims, lines-words, plan-missing}
 use Rattle.format_plan.specs.WellFormed.{DualDigits, dualText, claimsText, planWords, WellFormedPlan, PlanBegins}
 
 -- ---- a well-formed plan is not refused with 16
 
--- Items that are all read, or of which one is refused for another reason than its form.
-data Met {A : Type 0} (r : ItemReader ℕ A) (low i at : ℕ) (l : List A) (end : ℕ) : Type 0 where
-  all-read : (last : ℕ) → Standing r low i at l last end → Met r low i at l end
-  one-refused : {n q : ℕ} {k : List A} → Broken r n q low i at k → length k ≤ length l → (n ≡ 16 → ⊥) → Met r low i at l end
-
--- A line where it stands: only a test of its value is left.
-record Tested {A : Type 0} (r : ItemReader ℕ A) (low i at : ℕ) (a : A) (next : ℕ) : Type 0 where
-  test : Verdict
-  notMalformed : (n p : ℕ) → test ≡ Refused n p → n ≡ 16 → ⊥
-  begins : r .stop at ≡ false
-  line : r .item low i at ≡ checked test a next
-
--- Lines of which only tests are left are all read, or one fails its test.
-met-lines : {A : Type 0} (r : ItemReader ℕ A) (t : List ℕ) (P : A → Type 0) (f : A → List ℕ) → ((low i at : ℕ) (a : A) → P a → Stands t at (f a) → Tested r low i at a (at + length (f a)))
-    → {l : List A} → Each P l → (low i at end : ℕ) → Stands t at (textOf f l) → end ≡ at + length (textOf f l) → r .stop end ≡ true → Met r low i at l end
-unfolding textOf checked
-met-lines r t P f tested none low i at end s q e =
-    let same : end ≡ at = omega arith in
-    all-read low (subst (λ (z : ℕ). Standing r low i at [] low z) (sym same) (stop (subst (λ (z : ℕ). r .stop z ≡ true) same e)))
-met-lines {A} r t P f tested (more {a = a} {l = l} p ps) low i at end s q e =
-    let n = length-append (f a) (textOf f l) in
-    let next = at + length (f a) in
-    let x = tested low i at a p (stands-first (f a) (textOf f l) s) in
-    by-test (x .test) (x .notMalformed) (x .begins) (x .line) (met-lines r t P f tested ps (r .after low a) (i + 1) next end (stands-second (f a) (textOf f l) s) (omega arith) e)
-  where
-    by-test : {next : ℕ} (v : Verdict) → ((n p : ℕ) → v ≡ Refused n p → n ≡ 16 → ⊥) → r .stop at ≡ false → r .item low i at ≡ checked v a next → Met r (r .after low a) (i + 1) next l end → Met r low i at (a ∷ l) end
-    by-test Fine h b c (all-read last s) = all-read last (item b c s)
-    by-test Fine h b c (one-refused k m n) = one-refused (later b c k) (omega arith) n
-    by-test (Refused n p) h b c y = one-refused (here b c) (omega arith) (h n p refl)
-
 -- Keep lines that stand before a byte that begins none.
 met-kept : (t : List ℕ) (m : ℕ) {ks : List ℕ} → Each (OfDigits keptDigits) ks → (at end : ℕ) → Stands t at (textOf (lineOf keptKey) ks) → end ≡ at + length (textOf (lineOf keptKey) ks) → byteIs t end (code "k") ≡ false
     → Met (keepReader t m) 0 0 at ks end
 unfolding keepReader
-met-kept t m w at end s q e = met-lines (keepReader t m) t (OfDigits keptDigits) (lineOf keptKey) tested w 0 0 at end s q (ap not e)
+met-kept t m {ks} w at end s q e = met-lines (keepReader t m) t (OfDigits keptDigits) (lineOf keptKey) (length ks) tested w 0 0 at end (omega arith) s q (ap not e)
   where
-    tested : (low i at e : ℕ) → OfDigits keptDigits e → Stands t at (lineOf keptKey e) → Tested (keepReader t m) low i at e (at + length (lineOf keptKey e))
-    tested low i at e h s = let b = keep-line-reads-back t m low i at e h s in record { test = keptTest m low i e; notMalformed = kept-not-malformed m low i e; begins = b .0; line = b .1 }
+    tested : (low i at e : ℕ) → i < length ks → OfDigits keptDigits e → Stands t at (lineOf keptKey e) → Tested (keepReader t m) low i at e (at + length (lineOf keptKey e))
+    tested low i at e b h s = let b = keep-line-reads-back t m low i at e h s in record { test = keptTest m low i e; notMalformed = kept-not-malformed m low i e; begins = b .0; line = b .1 }
 
 -- Moat lines that stand to the end of the text.
 met-duals : (t : List ℕ) {ds : List PrintedDual} → Each DualDigits ds → (at : ℕ) → Stands t at (textOf dualText ds) → at + length (textOf dualText ds) ≡ length t → Met (dualReader t) 0 0 at ds (length t)
 unfolding dualReader
-met-duals t w at s q = met-lines (dualReader t) t DualDigits dualText tested w 0 0 at (length t) s (sym q) (le-leb (length t) (length t) (omega arith))
+met-duals t {ds} w at s q = met-lines (dualReader t) t DualDigits dualText (length ds) tested w 0 0 at (length t) (omega arith) s (sym q) (le-leb (length t) (length t) (omega arith))
   where
-    tested : (low i at : ℕ) (d : PrintedDual) → DualDigits d → Stands t at (dualText d) → Tested (dualReader t) low i at d (at + length (dualText d))
-    tested low i at d h s =
+    tested : (low i at : ℕ) (d : PrintedDual) → i < length ds → DualDigits d → Stands t at (dualText d) → Tested (dualReader t) low i at d (at + length (dualText d))
+    tested low i at d b h s =
         let b = dual-line-reads-back t i at d h s in
         let n = dual-some d in
         let f = s .fits in

@@ -11,19 +11,19 @@ use Rattle.format_survey_lines.specs.Line.{linesAt}
 use Rattle.format_survey.specs.Reading.{bodyAt, bodyOf}
 
 -- By where the lines end.
-module _ (t : List ℕ) (n m at : ℕ) where
-  pub body-refused : {number place : ℕ} → linesAt t n m at .end ≡ refused number place → bodyOf t n m at .end ≡ refused number place
+module _ (room : ℕ) (t : List ℕ) (n m at : ℕ) where
+  pub body-refused : {number place : ℕ} → linesAt room t n m at .end ≡ refused number place → bodyOf room t n m at .end ≡ refused number place
   unfolding bodyOf bodyAt linesAt
   body-refused e = then-refused _ e
 
-  module _ {z p : ℕ} (e : linesAt t n m at .end ≡ found z p) where
-    pub body-long : p < length t → bodyOf t n m at .end ≡ refused 16 p
+  module _ {k p : ℕ} (e : linesAt room t n m at .end ≡ found k p) where
+    pub body-long : p < length t → bodyOf room t n m at .end ≡ refused 16 p
     unfolding bodyOf bodyAt linesAt
-    body-long h = then-found _ e ∙ end-later t p h
+    body-long h = then-found _ e ∙ then-refused _ (end-later t p h)
 
-    pub body-ended : length t ≤ p → bodyOf t n m at .end ≡ found 0 p
+    pub body-ended : length t ≤ p → bodyOf room t n m at .end ≡ found k p
     unfolding bodyOf bodyAt linesAt
-    body-ended h = then-found _ e ∙ end-here t p h
+    body-ended h = then-found _ e ∙ then-found _ (end-here t p h)
 
 -- A pass over a buffer of no length stores nothing, and where it is refused, that is all.
 sets-nil : (i : ℕ) (vs : List ℕ) → sets [] i vs ≡ []

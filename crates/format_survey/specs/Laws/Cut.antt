@@ -10,16 +10,17 @@ use Rattle.format_number.specs.Number.{lineBytes}
 use Rattle.format_survey.specs.Render.{edgeBytes}
 use Rattle.base_limits.specs.Limits.{maxVertices, maxEdges, countDigits, groupDigits, endpointDigits, weightDigits}
 use Rattle.format_key.specs.Key.{comma, newline, nodesKey, linksKey, nodeKey, linkKey}
-use Rattle.format_survey_lines.specs.Line.{Tests, testsFor, verticesTest, edgesTest, groupTest, countLine, groupLine, groupLines, edgeLine, edgeLines}
-use Rattle.format_survey.specs.Reading.{surveyOf, surveyAt, stepOutcome, reading}
+use Rattle.format_survey_lines.specs.Line.{Lengths, pairRoom, Tests, testsFor, verticesTest, edgesTest, groupTest, countLine, groupLine, groupLines, edgeLine, edgeLines}
+use Rattle.format_survey.specs.Reading.{surveyAt, stepOutcome, reading}
 use Rattle.format_survey_lines.specs.Laws.Tests.{vertices-passed, edges-passed}
-use Rattle.format_survey.specs.Laws.Content.{contentAt, content-survey}
+use Rattle.format_survey.specs.Laws.Content.{contentWith, contentSurvey, contentAt, content-survey}
 use Rattle.format_grammar.specs.Bytes.{endAt}
 use Rattle.format_grammar.specs.Language.{LooksWithin, Any}
 use Rattle.format_grammar.specs.Laws.Local.{local-value, local-then, local-as, local-fixed, local-lines, local-end}
 use Rattle.format_grammar.specs.Lines.{linesFrom, whole}
 use Rattle.format_grammar.specs.Step.{found, _then_}
 use Rattle.format_number.specs.Laws.Near.{local-number, local-tested}
+use Rattle.format_also.specs.Laws.Near.{alsoLook, local-also}
 
 local-edge : (e : ℕ) → LooksWithin (λ t at. edgeLine t e at) edgeBytes Any
 unfolding edgeLine
@@ -33,20 +34,21 @@ local-edge e =
 
 -- How many bytes are looked at.
 abbrev pub farthestLook : ℕ
-farthestLook = lineBytes nodesKey countDigits + (lineBytes linksKey countDigits + (maxVertices * lineBytes nodeKey groupDigits + (maxEdges * edgeBytes + 1)))
+farthestLook = lineBytes nodesKey countDigits + (lineBytes linksKey countDigits + (maxVertices * lineBytes nodeKey groupDigits + (alsoLook + (maxEdges * edgeBytes + 1))))
 
-module _ (a b c d : ℕ) where
+module _ (lent : Lengths) where
   abbrev tests : Tests
-  tests = testsFor a b c d
+  tests = testsFor lent
 
-  local-content : LooksWithin (contentAt tests) (lineBytes nodesKey countDigits + (lineBytes linksKey countDigits + (maxVertices * lineBytes nodeKey groupDigits + (maxEdges * edgeBytes + 0)))) Any
+  local-content : LooksWithin (contentAt tests) (lineBytes nodesKey countDigits + (lineBytes linksKey countDigits + (maxVertices * lineBytes nodeKey groupDigits + (alsoLook + (maxEdges * edgeBytes + 0))))) Any
   unfolding contentAt countLine groupLines groupLine edgeLines testsFor
   local-content =
-      local-then {Q = Any} (local-tested nodesKey countDigits (omega arith) (verticesTest a)) λ n x.
-      local-then {Q = Any} (local-tested linksKey countDigits (omega arith) (edgesTest b c d)) λ m y.
-      local-then {Q = Any} (few-groups n (vertices-passed a n x .most)) λ gs z.
-      local-then {Q = Any} (few-edges m (edges-passed b c d m y .most)) λ es z.
-      local-value (record { counts = record { vertices = n; edges = m }; groups = gs; edges = es })
+      local-then {Q = Any} (local-tested nodesKey countDigits (omega arith) (verticesTest (lent .groups))) λ n x.
+      local-then {Q = Any} (local-tested linksKey countDigits (omega arith) (edgesTest (lent .firsts) (lent .seconds) (lent .weights))) λ m y.
+      local-then {Q = Any} (few-groups n (vertices-passed (lent .groups) n x .most)) λ gs z.
+      local-then {Q = Any} (local-also gs (pairRoom lent)) λ ps z.
+      local-then {Q = Any} (few-edges m (edges-passed (lent .firsts) (lent .seconds) (lent .weights) m y .most)) λ es z.
+      local-value (contentWith n m gs ps es)
     where
       few-groups : (n : ℕ) → n ≤ maxVertices → LooksWithin (λ t at. whole (linesFrom (groupLine groupTest t) n 0 at)) (maxVertices * lineBytes nodeKey groupDigits) Any
       few-groups n h = local-as (λ t at. refl) (omega arith) (λ a x. tt) (local-lines (groupLine groupTest) (lineBytes nodeKey groupDigits) (λ i. local-as (λ t at. refl) (omega arith) (λ a x. tt) (local-tested nodeKey groupDigits (omega arith) (groupTest i))) n 0)
@@ -57,17 +59,16 @@ module _ (a b c d : ℕ) where
   survey-same : (t u : List ℕ) → take farthestLook t ≡ take farthestLook u → surveyAt tests t ≡ surveyAt tests u
   survey-same t u e = content-survey tests t ∙ whole-survey .same t u 0 e ∙ sym (content-survey tests u)
     where
-      whole-survey : LooksWithin (λ t at. contentAt tests t at then λ x p. endAt t p then λ z q. found (surveyOf (x .counts) (x .groups) (x .edges)) q) farthestLook Any
+      whole-survey : LooksWithin (λ t at. contentAt tests t at then λ x p. endAt t p then λ z q. found (contentSurvey x) q) farthestLook Any
       whole-survey =
           local-as (λ t at. refl) (omega arith) (λ a x. tt)
-          (local-then {Q = Any} local-content λ x y. local-then {Q = Any} local-end λ z y. local-value (surveyOf (x .counts) (x .groups) (x .edges)))
+          (local-then {Q = Any} local-content λ x y. local-then {Q = Any} local-end λ z y. local-value (contentSurvey x))
 
 -- Bytes beyond the first k change nothing.
-pub reading-cut : (k : ℕ) (t groups firsts seconds weights : List ℕ) → farthestLook ≤ k → reading (take k t) groups firsts seconds weights ≡ reading t groups firsts seconds weights
+pub reading-cut : (k : ℕ) (t : List ℕ) (lent : Lengths) → farthestLook ≤ k → reading (take k t) lent ≡ reading t lent
 unfolding reading
-reading-cut k t groups firsts seconds weights h =
-    ap stepOutcome (survey-same (length groups) (length firsts) (length seconds) (length weights) (take k t) t (take-take farthestLook k t h))
+reading-cut k t lent h = ap stepOutcome (survey-same lent (take k t) t (take-take farthestLook k t h))
 
 -- A program that reads at most 65,536 bytes gives the answer of its whole input.
-pub reading-first-bytes : (t groups firsts seconds weights : List ℕ) → reading (take 65536 t) groups firsts seconds weights ≡ reading t groups firsts seconds weights
-reading-first-bytes t groups firsts seconds weights = reading-cut 65536 t groups firsts seconds weights (omega arith)
+pub reading-first-bytes : (t : List ℕ) (lent : Lengths) → reading (take 65536 t) lent ≡ reading t lent
+reading-first-bytes t lent = reading-cut 65536 t lent (omega arith)

@@ -20,7 +20,7 @@ use Rattle.format_grammar.specs.Laws.Step.{then-found, Stops, early, late, then
 use Rattle.format_number.specs.Number.{numberLine, OfDigits}
 use Rattle.format_number.specs.Laws.Keyed.{Passes, reads-line, reads-tested}
 use Rattle.format_survey_lines.specs.Line.{groupLine}
-use Rattle.format_survey.specs.Laws.OnlyMalformed.{only-line}
+use Rattle.format_number.specs.Laws.OnlyMalformed.{only-line}
 
 -- ---- a line whose number is tested
 

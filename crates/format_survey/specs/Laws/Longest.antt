@@ -1,40 +1,29 @@
--- How long a well-formed text within the counts can be (document 01, 'Survey text and printed plan': 62,741 bytes).
-use Prim.Native.Nat.{ℕ, _+_, _*_, _≤_}
+-- How long a well-formed text within the counts can be (document 01, 'Survey text and printed plan'; with the also lines and ends of document 02, No. 2,
+-- 49,685 bytes), and that there is one so long.
+use Prim.Native.Nat.{ℕ, _+_, _*_, _≤_, _<_}
 use native.Mathlib.Omega.{arith}
 use mathlib.Core.Path.{_≡_, refl, ap, sym, subst}
 use mathlib.Core.List.{List, [], _∷_, _++_}
 use lib.ListN.{length, length-append}
-use Rattle.format_number.specs.Laws.NumberWord.{digits-most}
-use Rattle.base_limits.specs.Limits.{maxVertices, maxEdges, groupDigits, endpointDigits, weightDigits}
+use Rattle.format_number.specs.Laws.NumberWord.{line-most, number-most}
+use Rattle.base_limits.specs.Limits.{maxVertices, maxEdges, surveyRoom, groupDigits, endpointDigits, weightDigits}
 use Rattle.base_limits.specs.Verdict.{answer}
 use Rattle.format_key.specs.Key.{nodesKey, linksKey, nodeKey, linkKey, comma, newline}
-use Rattle.format_write.specs.Decimal.{decimal}
 use Rattle.format_write.specs.Text.{lineOf}
-use Rattle.format_survey_lines.specs.Line.{Edge, EdgeDigits}
+use Rattle.format_also.specs.Pair.{Pair, PairDigits}
+use Rattle.format_also.specs.Render.{pairText, pairsText, pairBytes}
+use Rattle.format_also.specs.Laws.Word.{pair-length}
+use Rattle.format_also.specs.Laws.Passing.{pairs-well}
+use Rattle.format_survey_lines.specs.Line.{Edge, EdgeDigits, Lengths}
 use Rattle.format_survey.specs.Reading.{SurveyText, reading}
-use Rattle.format_number.specs.Number.{numberText, OfDigits, lineBytes}
+use Rattle.format_number.specs.Number.{numberText, lineBytes}
 use Rattle.format_survey_lines.specs.Render.{edgeText}
 use Rattle.format_grammar.specs.Lines.{textOf}
 use Rattle.format_survey.specs.Render.{render, edgeBytes, longestText}
-use Rattle.format_grammar.specs.Language.{EachFrom, noneFrom, moreFrom}
+use Rattle.format_grammar.specs.Language.{EachFrom, noneFrom, moreFrom, Each, none, more}
 use Rattle.format_survey.specs.WellFormed.{WellFormed, WithinCounts}
 use Rattle.format_survey.specs.Laws.WellFormed.{accepted-render}
 use Rattle.format_grammar.specs.Laws.Lines.{each-map}
-
-line-most : (key : List ℕ) (limit x : ℕ) → 1 ≤ limit → OfDigits limit x → length (lineOf key x) ≤ lineBytes key limit
-unfolding lineOf
-line-most key limit x positive h =
-    let a = length-append (key ++ decimal x) (newline ∷ []) in
-    let b = length-append key (decimal x) in
-    let d = digits-most limit x positive h in
-    omega arith
-
-number-most : (stop limit x : ℕ) → 1 ≤ limit → OfDigits limit x → length (numberText stop x) ≤ limit + 1
-unfolding numberText
-number-most stop limit x positive h =
-    let a = length-append (decimal x) (stop ∷ []) in
-    let d = digits-most limit x positive h in
-    omega arith
 
 edge-most : (x : Edge) → EdgeDigits x → length (edgeText x) ≤ edgeBytes
 unfolding edgeText
@@ -59,6 +48,15 @@ texts-most text most h (moreFrom {i = i} {a = a} {l = l} p r) =
     let y = length-append (text a) (textOf text l) in
     omega arith
 
+pairs-most : {l : List Pair} → Each PairDigits l → length (pairsText l) ≤ length l * pairBytes
+unfolding pairsText textOf
+pairs-most none = omega arith
+pairs-most (more {a = x} {l = l} p r) =
+    let ih = pairs-most r in
+    let y = pair-length x p in
+    let z = length-append (pairText x) (pairsText l) in
+    omega arith
+
 pub longest-text : {t : List ℕ} (w : WellFormed t) → length (w .groups) ≤ maxVertices → length (w .edges) ≤ maxEdges → length t ≤ longestText
 unfolding render
 longest-text {t} w h k =
@@ -67,9 +65,13 @@ longest-text {t} w h k =
     let n = lineOf nodesKey (length gs) in
     let m = lineOf linksKey (length es) in
     let g = textOf (lineOf nodeKey) gs in
+    let o = pairsText (w .pairs) in
     let e = textOf edgeText es in
-    let word : length t ≡ length (n ++ m ++ g ++ e) = ap length (w .word) in
-    let a = length-append (n ++ m ++ g) e in
+    let word : length t ≡ length (n ++ m ++ g ++ o ++ e) = ap length (w .word) in
+    let few = w .fewPairs .few in
+    let a = length-append (n ++ m ++ g ++ o) e in
+    let d = length-append (n ++ m ++ g) o in
+    let u = pairs-most (w .fewPairs .digits) in
     let b = length-append (n ++ m) g in
     let c = length-append n m in
     let p : length n ≤ lineBytes nodesKey 3 = line-most nodesKey 3 (length gs) (omega arith) (omega arith) in
@@ -79,27 +81,33 @@ longest-text {t} w h k =
     omega arith
 
 -- The text of a survey within the counts is no longer.
-pub longest-within : {groups : List ℕ} {edges : List Edge} → WithinCounts groups edges → length (render groups edges) ≤ longestText
-longest-within {groups} {edges} w =
+pub longest-within : {groups : List ℕ} {pairs : List Pair} {edges : List Edge} → WithinCounts groups pairs edges → length (render groups pairs edges) ≤ longestText
+longest-within {groups} {pairs} {edges} w =
     let few = w .fewGroups in
     let some = w .fewEdges in
     longest-text
     (record {
       groups = groups;
+      pairs = pairs;
       edges = edges;
       fewGroups = omega arith;
       fewEdges = omega arith;
       eachGroup = each-map (λ v g h. omega arith) (w .eachGroup);
+      fewPairs = pairs-well (w .eachPair);
       eachEdge = w .eachEdge;
       word = refl;
     })
     few some
 
 -- A text that is read is no longer.
-pub longest-read : (t gb fb sb wb : List ℕ) (s : SurveyText) → reading t gb fb sb wb ≡ answer s → length t ≤ longestText
-longest-read t gb fb sb wb s e =
-    let a = accepted-render gb fb sb wb t s e in
+pub longest-read : (t : List ℕ) (lent : Lengths) (s : SurveyText) → reading t lent ≡ answer s → length t ≤ longestText
+longest-read t lent s e =
+    let a = accepted-render lent t s e in
     subst (λ (x : List ℕ). length x ≤ longestText) (sym (a .word)) (longest-within (a .within))
 
-pub longest-is : longestText ≡ 62741
+pub longest-is : longestText ≡ 49685
 longest-is = refl
+
+-- The program reads more.
+pub longest-below : longestText < surveyRoom
+longest-below = omega arith

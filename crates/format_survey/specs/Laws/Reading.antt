@@ -1,24 +1,20 @@
 -- Laws of reading a whole text: its outcome by the outcome of its parts, and what an accepted text says of the lent buffers.
-use Prim.Native.Nat.{ℕ, _+_, _≤_}
+use Prim.Native.Nat.{ℕ, _≤_, min}
 use native.Mathlib.Omega.{arith}
-use native.Mathlib.Nat.{zero-add}
 use mathlib.Core.Path.{_≡_, ap, sym, _∙_}
 use mathlib.Core.List.{List, _++_}
 use lib.ListN.{length, drop, length-map}
-use lib.Seq.{sets, sets-eq}
-use Rattle.format_survey_lines.specs.Laws.Body.{lines-sizes}
+use lib.Seq.{sets}
+use Rattle.format_survey_lines.specs.Laws.Body.{sets-filled, lines-sizes, lines-room}
+use Rattle.base_limits.specs.Limits.{maxVertices}
 use Rattle.base_limits.specs.Verdict.{Outcome, refusal, answer}
+use Rattle.format_also.specs.Pair.{ownersOf, othersOf}
 use Rattle.format_grammar.specs.Step.{Step, found, refused, _then_, storedIf}
-use Rattle.format_survey_lines.specs.Line.{Tests, testsFor, countsAt, firstsOf, secondsOf, weightsOf, SurveyLines, linesAt}
+use Rattle.format_survey_lines.specs.Line.{Lengths, pairRoom, testsFor, SurveyCounts, countsAt, firstsOf, secondsOf, weightsOf, SurveyLines, linesOf, linesAt}
 use Rattle.format_survey.specs.Reading.{bodyAt, bodyOf, SurveyText, surveyOf, surveyAt, stepOutcome, reading, filled}
 use Rattle.format_grammar.specs.Bytes.{endAt}
 use Rattle.format_grammar.specs.Laws.Step.{then-value, stored-found, stored-refused}
 use Rattle.format_survey_lines.specs.Laws.Tests.{counts-passed}
-
-pub sets-filled : (values old : List ℕ) → length values ≤ length old → sets old 0 values ≡ values ++ drop (length values) old
-sets-filled values old h =
-    let e : 0 + length values ≡ length values = zero-add (length values) in
-    sets-eq values old 0 (omega arith) ∙ ap (λ (k : ℕ). values ++ drop k old) e
 
 -- A buffer at the end, by the outcome.
 module _ {o : Outcome SurveyText} (values : SurveyText → List ℕ) where
@@ -33,44 +29,68 @@ module _ {o : Outcome SurveyText} (values : SurveyText → List ℕ) where
   unfolding filled
   buffer-found s old r e h = stored-found (sets old 0 (values s)) old e ∙ sets-filled (values s) old h ∙ sym (ap (λ x. filled x values old) r)
 
--- Values that lent buffers have room for.
-pub record Fits (b : SurveyLines) (gs us vs ws : List ℕ) : Type 0 where
-  pub groups : length (b .groups) ≤ length gs
-  pub firsts : length (firstsOf (b .edges)) ≤ length us
-  pub seconds : length (secondsOf (b .edges)) ≤ length vs
-  pub weights : length (weightsOf (b .edges)) ≤ length ws
+-- Values that lent buffers have room for, and how many pairs there are.
+pub record Fits (b : SurveyLines) (lent : Lengths) (pairs : ℕ) : Type 0 where
+  pub groups : length (b .groups) ≤ lent .groups
+  pub firsts : length (firstsOf (b .edges)) ≤ lent .firsts
+  pub seconds : length (secondsOf (b .edges)) ≤ lent .seconds
+  pub weights : length (weightsOf (b .edges)) ≤ lent .weights
+  pub owners : length (ownersOf (b .pairs)) ≤ lent .owners
+  pub others : length (othersOf (b .pairs)) ≤ lent .others
+  pub count : length (ownersOf (b .pairs)) ≡ pairs
 
 -- The outcome, by that of the counts and that of the lines after them.
-module _ (t groups firsts seconds weights : List ℕ) where
-  abbrev tests : Tests
-  tests = testsFor (length groups) (length firsts) (length seconds) (length weights)
+module _ (t : List ℕ) (lent : Lengths) where
+  abbrev countsRead : Step SurveyCounts
+  countsRead = countsAt (testsFor lent .vertices) (testsFor lent .edges) t
 
-  pub reading-refused : {n p : ℕ} → countsAt tests t ≡ refused n p → reading t groups firsts seconds weights ≡ refusal n p
+  abbrev body : (n m at : ℕ) → SurveyLines
+  body n m at = bodyOf (pairRoom lent) t n m at
+
+  pub reading-refused : {n p : ℕ} → countsRead ≡ refused n p → reading t lent ≡ refusal n p
   unfolding reading surveyAt stepOutcome _then_
   reading-refused e = rw e
 
-  pub reading-stopped : {n m at number place : ℕ} → countsAt tests t ≡ found (record { vertices = n; edges = m }) at → bodyOf t n m at .end ≡ refused number place → reading t groups firsts seconds weights ≡ refusal number place
+  pub reading-stopped : {n m at number place : ℕ} → countsRead ≡ found (record { vertices = n; edges = m }) at → body n m at .end ≡ refused number place → reading t lent ≡ refusal number place
   unfolding reading surveyAt stepOutcome _then_ testsFor bodyOf
   reading-stopped e f = rw (e, f)
 
-  pub reading-found : {n m at z p : ℕ} → countsAt tests t ≡ found (record { vertices = n; edges = m }) at → bodyOf t n m at .end ≡ found z p → reading t groups firsts seconds weights ≡ answer (surveyOf (record { vertices = n; edges = m }) (bodyOf t n m at .groups) (bodyOf t n m at .edges))
+  pub reading-found : {n m at k p : ℕ} → countsRead ≡ found (record { vertices = n; edges = m }) at → body n m at .end ≡ found k p
+      → reading t lent ≡ answer (surveyOf (record { vertices = n; edges = m }) (body n m at .groups) (body n m at .pairs) (body n m at .edges))
   unfolding reading surveyAt stepOutcome _then_ testsFor bodyOf
   reading-found e f = rw (e, f)
 
   -- What is read fits into the lent buffers.
-  pub lines-fit : {n m at z p : ℕ} → countsAt tests t ≡ found (record { vertices = n; edges = m }) at → bodyOf t n m at .end ≡ found z p → Fits (bodyOf t n m at) groups firsts seconds weights
-  unfolding bodyOf bodyAt linesAt firstsOf secondsOf weightsOf
-  lines-fit {n} {m} {at} e b =
-      let fit = counts-passed (length groups) (length firsts) (length seconds) (length weights) t e in
-      let lines = then-value (linesAt t n m at .end) (λ x q. endAt t q) b in
-      let size = lines-sizes t n m at (lines .2) in
-      let es = bodyOf t n m at .edges in
+  pub lines-fit : {n m at k p : ℕ} → countsRead ≡ found (record { vertices = n; edges = m }) at → body n m at .end ≡ found k p → Fits (body n m at) lent k
+  unfolding bodyOf bodyAt linesAt linesOf firstsOf secondsOf weightsOf ownersOf othersOf
+  lines-fit {n} {m} {at} {k} e b =
+      let fit = counts-passed lent t e in
+      let lines = then-value (linesAt (pairRoom lent) t n m at .end) (λ k q. endAt t q then λ z r. found k r) b in
+      let end = then-value (endAt t (lines .1)) (λ z r. found (lines .0) r) (lines .3) in
+      let same : lines .0 ≡ k = cc (end .3) in
+      let size = lines-sizes (pairRoom lent) t n m at (lines .2) in
+      let es = body n m at .edges in
+      let ps = body n m at .pairs in
+      let few = lines-room (pairRoom lent) t n m at in
       record {
         groups = at-most (size .groups) (fit .vertices .room);
         firsts = at-most (length-map es (λ x. x .first) ∙ size .edges) (fit .edges .first);
         seconds = at-most (length-map es (λ x. x .second) ∙ size .edges) (fit .edges .second);
         weights = at-most (length-map es (λ x. x .weight) ∙ size .edges) (fit .edges .weight);
+        owners = least-left (length-map ps (λ x. x .owner)) few;
+        others = least-right (length-map ps (λ x. x .other)) few;
+        count = length-map ps (λ x. x .owner) ∙ size .pairs ∙ same;
       }
     where
       at-most : {x y z : ℕ} → x ≡ y → y ≤ z → x ≤ z
       at-most e h = omega arith
+
+      least-left : {x y : ℕ} → x ≡ y → y ≤ min (lent .owners) (lent .others) → x ≤ lent .owners
+      least-left e h = omega arith
+
+      least-right : {x y : ℕ} → x ≡ y → y ≤ min (lent .owners) (lent .others) → x ≤ lent .others
+      least-right e h = omega arith
+
+  -- The counts that are read are within the limits and the group buffer.
+  pub counts-fit : {n m at : ℕ} → countsRead ≡ found (record { vertices = n; edges = m }) at → (n ≤ maxVertices) × (n ≤ lent .groups)
+  counts-fit e = let fit = counts-passed lent t e in (fit .vertices .most, fit .vertices .room)

@@ -9,17 +9,21 @@ use lib.ListN.{length, take, length-append}
 use lib.Seq.{take-at, take-all, length-take-le}
 use lib.Dec.{leb}
 use borrow.Author.Tests.{leb-true, leb-false}
+use Rattle.base_limits.specs.Limits.{maxPairs}
 use Rattle.base_limits.specs.Verdict.{refusal, answer, refuseIf, _before_}
 use Rattle.base_limits.specs.declared.Verdict.the-variants.{Refused}
-use Rattle.format_survey_lines.specs.Line.{Tests, testsFor, verticesTest, edgesTest, groupTest, Edge}
+use Rattle.format_survey_lines.specs.Line.{Lengths, pairRoom, Tests, testsFor, verticesTest, edgesTest, groupTest, Edge}
 use Rattle.format_survey.specs.Reading.{SurveyText, surveyOf, surveyAt, stepOutcome, reading}
 use Rattle.format_survey.specs.Render.{render}
 use Rattle.format_survey_lines.specs.Laws.Tests.{vertices-fine, edges-fine, group-fine, vertices-passed, edges-passed, group-passed}
-use Rattle.format_survey.specs.Laws.Content.{SurveyContent, contentAt, NeverMalformed, Accepted, Formed, reads-content, content-survey}
+use Rattle.format_survey.specs.Laws.Content.{SurveyContent, contentWith, contentSurvey, contentAt, NeverMalformed, Accepted, Formed, reads-content, content-survey}
 use Rattle.format_grammar.specs.Bytes.{endAt}
-use Rattle.format_grammar.specs.Language.{Reads, NotMalformed, read, otherwise}
-use Rattle.format_grammar.specs.Laws.Bytes.{end-here, end-later}
-use Rattle.format_grammar.specs.Laws.Language.{read-again}
+use Rattle.format_grammar.specs.Language.{ReadsBefore, NotMalformed, read, otherwise}
+use Rattle.format_grammar.specs.Laws.Bytes.{byte-short, end-here, end-later}
+use Rattle.format_number.specs.Number.{alsoLetter}
+use Rattle.format_also.specs.Pair.{Pair}
+use Rattle.format_also.specs.WellFormed.{NoAlso}
+use Rattle.format_also.specs.Laws.Passing.{pairs-few, pairs-room, pairs-any-room}
 use Rattle.format_grammar.specs.Laws.Lines.{each-map}
 use Rattle.format_grammar.specs.Laws.Stands.{stands-whole}
 use Rattle.format_grammar.specs.Laws.Step.{then-found, then-value}
@@ -37,9 +41,9 @@ unfolding refuseIf _before_
 two-not-malformed true y i j u v n p h k e z = one-not-malformed true i u n p h e z
 two-not-malformed false y i j u v n p h k e z = one-not-malformed y j v n p k e z
 
-pub never-malformed : (a b c d : ℕ) → NeverMalformed (testsFor a b c d)
+pub never-malformed : (lent : Lengths) → NeverMalformed (testsFor lent)
 unfolding testsFor verticesTest edgesTest groupTest
-never-malformed a b c d =
+never-malformed lent =
     record {
       vertices = λ x n p. two-not-malformed _ _ 1 7 0 0 n p (λ z. omega arith) (λ z. omega arith);
       edges = λ x n p. two-not-malformed _ _ 3 7 0 0 n p (λ z. omega arith) (λ z. omega arith);
@@ -62,7 +66,7 @@ record AcceptedText (tests : Tests) (t : List ℕ) (s : SurveyText) : Type 0 whe
   next : ℕ
   found-it : contentAt tests t 0 ≡ found content next
   last : length t ≤ next
-  says : s ≡ surveyOf (content .counts) (content .groups) (content .edges)
+  says : s ≡ surveyOf (content .counts) (content .groups) (content .pairs) (content .edges)
 
 ends-at : (t : List ℕ) (p : ℕ) {z q : ℕ} → endAt t p ≡ found z q → length t ≤ p
 ends-at t p e = by-test (leb (length t) p) refl
@@ -73,83 +77,103 @@ ends-at t p e = by-test (leb (length t) p) refl
 
 survey-content : (tests : Tests) (t : List ℕ) (s : SurveyText) (p : ℕ) → surveyAt tests t ≡ found s p → AcceptedText tests t s
 survey-content tests t s p e =
-    let g = then-value (contentAt tests t 0) (λ x p. endAt t p then λ z q. found (surveyOf (x .counts) (x .groups) (x .edges)) q) (sym (content-survey tests t) ∙ e) in
-    let h = then-value (endAt t (g .1)) (λ z q. found (surveyOf (g .0 .counts) (g .0 .groups) (g .0 .edges)) q) (g .3) in
+    let g = then-value (contentAt tests t 0) (λ x p. endAt t p then λ z q. found (contentSurvey x) q) (sym (content-survey tests t) ∙ e) in
+    let h = then-value (endAt t (g .1)) (λ z q. found (contentSurvey (g .0)) q) (g .3) in
     record { content = g .0; next = g .1; found-it = g .2; last = ends-at t (g .1) (h .2); says = cc (h .3) }
 
 -- The same as what its lines say.
-abbrev pub contentFrom : List ℕ → List Edge → SurveyContent
-contentFrom groups edges = record { counts = record { vertices = length groups; edges = length edges }; groups = groups; edges = edges }
+abbrev pub contentFrom : List ℕ → List Pair → List Edge → SurveyContent
+contentFrom groups pairs edges = contentWith (length groups) (length edges) groups pairs edges
 
--- Tests with room for these groups and edges accept their text.
-pub within-accepted : (a b c d : ℕ) (groups : List ℕ) (edges : List Edge) → WithinCounts groups edges → length groups ≤ a → length edges ≤ b → length edges ≤ c → length edges ≤ d
-    → Accepted (testsFor a b c d) (contentFrom groups edges) (render groups edges)
+-- Tests with room for these groups, pairs and edges accept their text.
+pub within-accepted : (lent : Lengths) (groups : List ℕ) (pairs : List Pair) (edges : List Edge) → WithinCounts groups pairs edges → SurveyRoom lent groups pairs edges
+    → Accepted (testsFor lent) (contentFrom groups pairs edges) (render groups pairs edges)
 unfolding testsFor
-within-accepted a b c d groups edges w hg hf hs hw =
+within-accepted lent groups pairs edges w r =
     let x = w .some in
     let y = w .fewGroups in
     let z = w .fewEdges in
+    let o = r .forOwners in
+    let p = r .forOthers in
     record {
       vertices = refl;
       edges = refl;
-      someVertices = record { small = omega arith; passes = vertices-fine a (length groups) (λ z. omega arith) (w .fewGroups) hg };
-      someEdges = record { small = omega arith; passes = edges-fine b c d (length edges) (w .fewEdges) hf hs hw };
+      someVertices = record { small = omega arith; passes = vertices-fine (lent .groups) (length groups) (λ z. omega arith) (w .fewGroups) (r .forGroups) };
+      someEdges = record { small = omega arith; passes = edges-fine (lent .firsts) (lent .seconds) (lent .weights) (length edges) (w .fewEdges) (r .forFirsts) (r .forSeconds) (r .forWeights) };
       eachGroup = each-map (λ v g h. record { small = omega arith; passes = group-fine v g h }) (w .eachGroup);
+      eachPair = pairs-any-room (pairRoom lent) (w .eachPair) (omega arith);
       eachEdge = w .eachEdge;
       word = refl;
     }
 
--- What these tests accept is within the counts.
-pub accepted-within : (a b c d : ℕ) {x : SurveyContent} {w : List ℕ} → Accepted (testsFor a b c d) x w → WithinCounts (x .groups) (x .edges)
+-- What these tests accept is within the counts, and there is room for it.
+pub accepted-within : (lent : Lengths) {x : SurveyContent} {w : List ℕ} → Accepted (testsFor lent) x w → WithinCounts (x .groups) (x .pairs) (x .edges)
 unfolding testsFor
-accepted-within a b c d {x} m =
-    let v = vertices-passed a (length (x .groups)) (m .someVertices .passes) in
-    let e = edges-passed b c d (length (x .edges)) (m .someEdges .passes) in
-    record { some = v .some; fewGroups = v .most; fewEdges = e .most; eachGroup = each-map (λ v g p. group-passed v g (p .passes)) (m .eachGroup); eachEdge = m .eachEdge }
+accepted-within lent {x} m =
+    let v = vertices-passed (lent .groups) (length (x .groups)) (m .someVertices .passes) in
+    let e = edges-passed (lent .firsts) (lent .seconds) (lent .weights) (length (x .edges)) (m .someEdges .passes) in
+    let few = pairs-few (m .eachPair) (omega arith) in
+    record {
+      some = v .some;
+      fewGroups = v .most;
+      fewEdges = e .most;
+      eachGroup = each-map (λ v g p. group-passed v g (p .passes)) (m .eachGroup);
+      eachPair = pairs-any-room maxPairs (m .eachPair) (omega arith);
+      eachEdge = m .eachEdge;
+    }
 
-module _ (gb fb sb wb : List ℕ) where
+accepted-room : (lent : Lengths) {x : SurveyContent} {w : List ℕ} → Accepted (testsFor lent) x w → SurveyRoom lent (x .groups) (x .pairs) (x .edges)
+unfolding testsFor
+accepted-room lent {x} m =
+    let v = vertices-passed (lent .groups) (length (x .groups)) (m .someVertices .passes) in
+    let c = edges-passed (lent .firsts) (lent .seconds) (lent .weights) (length (x .edges)) (m .someEdges .passes) in
+    let fits : 0 + length (x .pairs) ≤ pairRoom lent = pairs-room (m .eachPair) (omega arith) in
+    record { forGroups = v .room; forFirsts = c .first; forSeconds = c .second; forWeights = c .weight; forOwners = omega arith; forOthers = omega arith }
+
+module _ (lent : Lengths) where
   abbrev tests : Tests
-  tests = testsFor (length gb) (length fb) (length sb) (length wb)
+  tests = testsFor lent
 
   -- A rendering is read back.
-  pub read-render : (groups : List ℕ) (edges : List Edge) → WithinCounts groups edges → SurveyRoom gb fb sb wb groups edges → reading (render groups edges) gb fb sb wb ≡ answer (surveyOfText groups edges)
+  pub read-render : (groups : List ℕ) (pairs : List Pair) (edges : List Edge) → WithinCounts groups pairs edges → SurveyRoom lent groups pairs edges
+      → reading (render groups pairs edges) lent ≡ answer (surveyOfText groups pairs edges)
   unfolding reading surveyOfText stepOutcome
-  read-render groups edges w r =
-      let t = render groups edges in
-      let x = contentFrom groups edges in
-      let a = within-accepted (length gb) (length fb) (length sb) (length wb) groups edges w (r .forGroups) (r .forFirsts) (r .forSeconds) (r .forWeights) in
-      let c : contentAt tests t 0 ≡ found x (0 + length t) = reads-content tests (never-malformed _ _ _ _) .complete t 0 x t a (stands-whole t) in
+  read-render groups pairs edges w r =
+      let t = render groups pairs edges in
+      let x = contentFrom groups pairs edges in
+      let a = within-accepted lent groups pairs edges w r in
+      let last = byte-short t (0 + length t) alsoLetter (omega arith) in
+      let c : contentAt tests t 0 ≡ found x (0 + length t) = reads-content tests (never-malformed lent) .complete t 0 x t a (stands-whole t) last in
       ap stepOutcome (content-survey tests t ∙ then-found _ c ∙ then-found _ (end-here t (0 + length t) (omega arith)))
 
-  pub accepted-render : (t : List ℕ) (s : SurveyText) → reading t gb fb sb wb ≡ answer s → Accepting gb fb sb wb t s
-  unfolding reading surveyOfText testsFor
+  pub accepted-render : (t : List ℕ) (s : SurveyText) → reading t lent ≡ answer s → Accepting lent t s
+  unfolding reading surveyOfText
   accepted-render t s e =
       let f = outcome-found (surveyAt tests t) e in
       let g = survey-content tests t s (f .0) (f .1) in
-      let w = reads-content tests (never-malformed _ _ _ _) .sound t 0 (g .content) (g .next) (omega arith) (g .found-it) in
+      let w = reads-content tests (never-malformed lent) .sound t 0 (g .content) (g .next) (omega arith) (g .found-it) in
       let m = w .member in
       let l = g .last in
-      let v = vertices-passed (length gb) (length (g .content .groups)) (m .someVertices .passes) in
-      let c = edges-passed (length fb) (length sb) (length wb) (length (g .content .edges)) (m .someEdges .passes) in
       let x = w .ends in
       record {
         groups = g .content .groups;
+        pairs = g .content .pairs;
         edges = g .content .edges;
-        within = accepted-within (length gb) (length fb) (length sb) (length wb) m;
-        room = record { forGroups = v .room; forFirsts = c .first; forSeconds = c .second; forWeights = c .weight };
+        within = accepted-within lent m;
+        room = accepted-room lent m;
         word = sym (take-all (0 + length (w .word)) t (omega arith)) ∙ w .stands .is ∙ m .word;
-        says = g .says ∙ (λ i. surveyOf (record { vertices = m .vertices i; edges = m .edges i }) (g .content .groups) (g .content .edges));
+        says = g .says ∙ (λ i. surveyOf (record { vertices = m .vertices i; edges = m .edges i }) (g .content .groups) (g .content .pairs) (g .content .edges));
       }
 
 formed-well : {x : SurveyContent} {w : List ℕ} → Formed x w → WellFormed w
-formed-well {x} m = record { groups = x .groups; edges = x .edges; fewGroups = m .someVertices; fewEdges = m .someEdges; eachGroup = m .eachGroup; eachEdge = m .eachEdge; word = m .word }
+formed-well {x} m = record { groups = x .groups; pairs = x .pairs; edges = x .edges; fewGroups = m .someVertices; fewEdges = m .someEdges; eachGroup = m .eachGroup; fewPairs = m .eachPair; eachEdge = m .eachEdge; word = m .word }
 
 well-content : {t : List ℕ} → WellFormed t → SurveyContent
-well-content w = contentFrom (w .groups) (w .edges)
+well-content w = contentFrom (w .groups) (w .pairs) (w .edges)
 
 well-formed : {t : List ℕ} (w : WellFormed t) → Formed (well-content w) t
 unfolding well-content
-well-formed w = record { vertices = refl; edges = refl; someVertices = w .fewGroups; someEdges = w .fewEdges; eachGroup = w .eachGroup; eachEdge = w .eachEdge; word = w .word }
+well-formed w = record { vertices = refl; edges = refl; someVertices = w .fewGroups; someEdges = w .fewEdges; eachGroup = w .eachGroup; eachPair = w .fewPairs; eachEdge = w .eachEdge; word = w .word }
 
 end-refused : (t : List ℕ) (q n p : ℕ) → endAt t q ≡ refused n p → (q < length t) × (p ≡ q)
 end-refused t q n p e = by-test (leb (length t) q) refl
@@ -167,7 +191,7 @@ malformed : (tests : Tests) (t : List ℕ) (p : ℕ) → surveyAt tests t ≡ re
 unfolding _then_
 malformed tests t p e = by-content (contentAt tests t 0) refl (sym (content-survey tests t) ∙ e)
   where
-    by-end : (x : SurveyContent) (q : ℕ) (s : Step ℕ) → contentAt tests t 0 ≡ found x q → endAt t q ≡ s → (s then λ z q. found (surveyOf (x .counts) (x .groups) (x .edges)) q) ≡ refused 16 p → Malformed tests t p
+    by-end : (x : SurveyContent) (q : ℕ) (s : Step ℕ) → contentAt tests t 0 ≡ found x q → endAt t q ≡ s → (s then λ z q. found (contentSurvey x) q) ≡ refused 16 p → Malformed tests t p
     by-end x q (found z r) h k e = let w : _≡_ {A = ℕ} 0 1 = cc in absurd (omega arith)
     by-end x q (refused n r) h k e =
         let a = end-refused t q n r k in
@@ -175,7 +199,7 @@ malformed tests t p e = by-content (contentAt tests t 0) refl (sym (content-surv
         let c : q ≡ p = sym (a .1) ∙ b in
         after-lines x (h ∙ ap (λ (i : ℕ). found x i) c) (subst (λ (i : ℕ). i < length t) c (a .0))
 
-    by-content : (s : Step SurveyContent) → contentAt tests t 0 ≡ s → (s then λ x p. endAt t p then λ z q. found (surveyOf (x .counts) (x .groups) (x .edges)) q) ≡ refused 16 p → Malformed tests t p
+    by-content : (s : Step SurveyContent) → contentAt tests t 0 ≡ s → (s then λ x p. endAt t p then λ z q. found (contentSurvey x) q) ≡ refused 16 p → Malformed tests t p
     by-content (found x q) h e = by-end x q (endAt t q) h refl e
     by-content (refused n r) h e = in-line (h ∙ (λ i. refused (number e i) (place e i)))
       where
@@ -185,12 +209,12 @@ malformed tests t p e = by-content (contentAt tests t 0) refl (sym (content-surv
         place : _≡_ {A = Step SurveyText} (refused n r) (refused 16 p) → r ≡ p
         place e = cc
 
-module _ (gb fb sb wb t : List ℕ) (p : ℕ) (e : reading t gb fb sb wb ≡ refusal 16 p) where
+module _ (lent : Lengths) (t : List ℕ) (p : ℕ) (e : reading t lent ≡ refusal 16 p) where
   abbrev tests′ : Tests
-  tests′ = testsFor (length gb) (length fb) (length sb) (length wb)
+  tests′ = testsFor lent
 
-  reads : Reads (contentAt tests′) (Accepted tests′) Formed
-  reads = reads-content tests′ (never-malformed _ _ _ _)
+  reads : ReadsBefore NoAlso (contentAt tests′) (Accepted tests′) Formed
+  reads = reads-content tests′ (never-malformed lent)
 
   why : Malformed tests′ t p
   unfolding reading
@@ -211,7 +235,7 @@ module _ (gb fb sb wb t : List ℕ) (p : ℕ) (e : reading t gb fb sb wb ≡ ref
 
   -- With the byte at that place they begin none.
   pub malformed-stops : p < length t → (rest : List ℕ) → WellFormed (take (p + 1) t ++ rest) → ⊥
-  malformed-stops l rest w = by-place why (reads .notMalformed u 0 (well-content w) u (well-formed w) (stands-whole u))
+  malformed-stops l rest w = by-place why (reads .notMalformed u 0 (well-content w) u (well-formed w) (stands-whole u) (byte-short u (0 + length u) alsoLetter (omega arith)))
     where
       u : List ℕ
       u = take (p + 1) t ++ rest
@@ -229,7 +253,7 @@ module _ (gb fb sb wb t : List ℕ) (p : ℕ) (e : reading t gb fb sb wb ≡ ref
       by-place (in-line h) (read q) = let z : _≡_ {A = ℕ} 0 1 = cc (reads .same t u 0 p (omega arith) h same) in omega arith
       by-place (in-line h) (otherwise {n = i} {q = j} q k) = let z : 16 ≡ i = cc (reads .same t u 0 p (omega arith) h same) in k (sym z)
       by-place (after-lines x h i) y =
-          by-found (read-again reads t u 0 x p (p + 1) (omega arith) (omega arith) same h) y
+          by-found (reads .again t u 0 x p (omega arith) same h) y
         where
           by-found : contentAt tests′ u 0 ≡ found x p → NotMalformed (contentAt tests′ u 0) (well-content w) (0 + length u) → ⊥
           by-found c (read q) = let z : p ≡ 0 + length u = cc in let b = long in omega arith
@@ -237,7 +261,7 @@ module _ (gb fb sb wb t : List ℕ) (p : ℕ) (e : reading t gb fb sb wb ≡ ref
 
   -- The text itself is none.
   pub malformed-is-none : WellFormed t → ⊥
-  malformed-is-none w = by-place why (reads .notMalformed t 0 (well-content w) t (well-formed w) (stands-whole t))
+  malformed-is-none w = by-place why (reads .notMalformed t 0 (well-content w) t (well-formed w) (stands-whole t) (byte-short t (0 + length t) alsoLetter (omega arith)))
     where
       by-place : Malformed tests′ t p → NotMalformed (contentAt tests′ t 0) (well-content w) (0 + length t) → ⊥
       by-place (in-line h) (read q) = let z : _≡_ {A = ℕ} 0 1 = cc in omega arith

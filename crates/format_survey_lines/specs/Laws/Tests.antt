@@ -13,7 +13,7 @@ use Rattle.base_limits.specs.Laws.Verdict.{no-refusal}
 use Rattle.base_limits.specs.declared.Verdict.the-variants.{Fine, Refused}
 use Rattle.format_key.specs.Key.{comma, newline, nodeKey, linkKey, nodesKey, linksKey}
 use Rattle.format_grammar.specs.Step.{found, checked}
-use Rattle.format_survey_lines.specs.Line.{verticesTest, edgesTest, groupTest, groupLine, Edge, edgeLine, testsFor, countLine, countsAt, SurveyCounts, EdgeDigits, wordNumbers}
+use Rattle.format_survey_lines.specs.Line.{verticesTest, edgesTest, groupTest, groupLine, Edge, edgeLine, Lengths, testsFor, countLine, countsAt, SurveyCounts, EdgeDigits, wordNumbers}
 use Rattle.format_number.specs.Number.{numberLine, numberTo, OfDigits}
 use Rattle.format_grammar.specs.Bytes.{fixedAt}
 use Rattle.format_number.specs.Laws.Digits.{number-to-below}
@@ -137,19 +137,19 @@ pub below-word : (limit : ℕ) {x : ℕ} → limit ≤ 9 → OfDigits limit x �
 below-word limit l h = let p : 10 ^ limit ≤ 10 ^ 9 = pow-le-pow-right {n = 10} (omega arith) {i = limit} {j = 9} l in omega arith
 
 -- What the counts that pass their tests are.
-pub record CountsPassed (a b c d : ℕ) (counts : SurveyCounts) : Type 0 where
-  pub vertices : VerticesPass a (counts .vertices)
-  pub edges : EdgesPass b c d (counts .edges)
+pub record CountsPassed (lent : Lengths) (counts : SurveyCounts) : Type 0 where
+  pub vertices : VerticesPass (lent .groups) (counts .vertices)
+  pub edges : EdgesPass (lent .firsts) (lent .seconds) (lent .weights) (counts .edges)
 
-pub counts-passed : (a b c d : ℕ) (t : List ℕ) {counts : SurveyCounts} {q : ℕ} → countsAt (testsFor a b c d) t ≡ found counts q → CountsPassed a b c d counts
+pub counts-passed : (lent : Lengths) (t : List ℕ) {counts : SurveyCounts} {q : ℕ} → countsAt (testsFor lent .vertices) (testsFor lent .edges) t ≡ found counts q → CountsPassed lent counts
 unfolding countsAt testsFor countLine
-counts-passed a b c d t {counts} {q} e =
-    let one = then-value (countLine nodesKey (verticesTest a) t 0) _ e in
+counts-passed lent t {counts} {q} e =
+    let one = then-value (countLine nodesKey (verticesTest (lent .groups)) t 0) _ e in
     let n = then-value (numberLine nodesKey countDigits t 0) _ (one .2) in
-    let two = then-value (countLine linksKey (edgesTest b c d) t (one .1)) _ (one .3) in
+    let two = then-value (countLine linksKey (edgesTest (lent .firsts) (lent .seconds) (lent .weights)) t (one .1)) _ (one .3) in
     let m = then-value (numberLine linksKey countDigits t (one .1)) _ (two .2) in
     let u = checked-value _ _ _ (n .3) in
     let v = checked-value _ _ _ (m .3) in
     let same : _≡_ {A = SurveyCounts} (record { vertices = n .0; edges = m .0 }) counts = cc (u, v, two .3) in
-    subst (CountsPassed a b c d) same
-    record { vertices = vertices-passed a (n .0) (checked-fine _ _ _ (n .3)); edges = edges-passed b c d (m .0) (checked-fine _ _ _ (m .3)) }
+    subst (CountsPassed lent) same
+    record { vertices = vertices-passed (lent .groups) (n .0) (checked-fine _ _ _ (n .3)); edges = edges-passed (lent .firsts) (lent .seconds) (lent .weights) (m .0) (checked-fine _ _ _ (m .3)) }

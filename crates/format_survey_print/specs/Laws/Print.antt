@@ -12,6 +12,7 @@ use Rattle.base_limits.specs.Verdict.{refuseIf, _before_, written}
 use Rattle.format_grammar.specs.Lines.{textOf}
 use Rattle.format_print.specs.declared.Printed.the-variants.{Refused}
 use Rattle.format_print.specs.Print.{answerOf, outAfter, printed, printedOut}
+use Rattle.format_survey.specs.Reading.{SurveyText}
 use Rattle.format_survey_print.specs.Print.{edgesFrom, surveyText, surveyPrintRefusal, surveyPrinted, surveyPrintedOut}
 
 text-more : {A : Type 0} (f : A → List ℕ) (l : List A) (a : A) → textOf f (l ++ (a ∷ [])) ≡ textOf f l ++ f a
@@ -40,31 +41,43 @@ pub edges-count : (firsts seconds weights : List ℕ) → length (edgesFrom firs
 unfolding edgesFrom
 edges-count firsts seconds weights = length-tabulate (length firsts) _
 
-module _ (groups firsts seconds weights out : List ℕ) where
-  -- 2: the second ends differ in number, or the weights.
-  pub seconds-answer : (length firsts ≡ length seconds → ⊥) → Refused 2 0 ≡ surveyPrinted groups firsts seconds weights out
+module _ (s : SurveyText) (out : List ℕ) where
+  abbrev first : ℕ
+  first = length (s .firsts)
+
+  -- 2: the second ends differ in number from the first, or the weights, or the groups of the pairs from their vertices.
+  pub seconds-answer : (first ≡ length (s .seconds) → ⊥) → Refused 2 0 ≡ surveyPrinted s out
   unfolding surveyPrinted surveyPrintRefusal refuseIf _before_ answerOf
-  seconds-answer d = rw (ne-eqb (length firsts) (length seconds) d)
+  seconds-answer d = rw (ne-eqb first (length (s .seconds)) d)
 
-  pub seconds-out : (length firsts ≡ length seconds → ⊥) → out ≡ surveyPrintedOut groups firsts seconds weights out
+  pub seconds-out : (first ≡ length (s .seconds) → ⊥) → out ≡ surveyPrintedOut s out
   unfolding surveyPrintedOut surveyPrintRefusal refuseIf _before_ outAfter written
-  seconds-out d = rw (ne-eqb (length firsts) (length seconds) d)
+  seconds-out d = rw (ne-eqb first (length (s .seconds)) d)
 
-  module _ (same : length firsts ≡ length seconds) where
-    pub weights-answer : (length firsts ≡ length weights → ⊥) → Refused 2 0 ≡ surveyPrinted groups firsts seconds weights out
+  module _ (same : first ≡ length (s .seconds)) where
+    pub weights-answer : (first ≡ length (s .weights) → ⊥) → Refused 2 0 ≡ surveyPrinted s out
     unfolding surveyPrinted surveyPrintRefusal refuseIf _before_ answerOf
-    weights-answer d = rw (eq-eqb (length firsts) (length seconds) same, ne-eqb (length firsts) (length weights) d)
+    weights-answer d = rw (eq-eqb first (length (s .seconds)) same, ne-eqb first (length (s .weights)) d)
 
-    pub weights-out : (length firsts ≡ length weights → ⊥) → out ≡ surveyPrintedOut groups firsts seconds weights out
+    pub weights-out : (first ≡ length (s .weights) → ⊥) → out ≡ surveyPrintedOut s out
     unfolding surveyPrintedOut surveyPrintRefusal refuseIf _before_ outAfter written
-    weights-out d = rw (eq-eqb (length firsts) (length seconds) same, ne-eqb (length firsts) (length weights) d)
+    weights-out d = rw (eq-eqb first (length (s .seconds)) same, ne-eqb first (length (s .weights)) d)
 
-    -- Of buffers of one length the text is printed whole.
-    module _ (also : length firsts ≡ length weights) where
-      pub whole-answer : printed (surveyText groups firsts seconds weights) out ≡ surveyPrinted groups firsts seconds weights out
-      unfolding printed surveyPrinted surveyPrintRefusal refuseIf _before_
-      whole-answer = rw (eq-eqb (length firsts) (length seconds) same, eq-eqb (length firsts) (length weights) also)
+    module _ (also : first ≡ length (s .weights)) where
+      pub others-answer : (length (s .owners) ≡ length (s .others) → ⊥) → Refused 2 0 ≡ surveyPrinted s out
+      unfolding surveyPrinted surveyPrintRefusal refuseIf _before_ answerOf
+      others-answer d = rw (eq-eqb first (length (s .seconds)) same, eq-eqb first (length (s .weights)) also, ne-eqb (length (s .owners)) (length (s .others)) d)
 
-      pub whole-out : printedOut (surveyText groups firsts seconds weights) out ≡ surveyPrintedOut groups firsts seconds weights out
-      unfolding printedOut surveyPrintedOut surveyPrintRefusal refuseIf _before_
-      whole-out = rw (eq-eqb (length firsts) (length seconds) same, eq-eqb (length firsts) (length weights) also)
+      pub others-out : (length (s .owners) ≡ length (s .others) → ⊥) → out ≡ surveyPrintedOut s out
+      unfolding surveyPrintedOut surveyPrintRefusal refuseIf _before_ outAfter written
+      others-out d = rw (eq-eqb first (length (s .seconds)) same, eq-eqb first (length (s .weights)) also, ne-eqb (length (s .owners)) (length (s .others)) d)
+
+      -- Of buffers of one length the text is printed whole.
+      module _ (pairs : length (s .owners) ≡ length (s .others)) where
+        pub whole-answer : printed (surveyText s) out ≡ surveyPrinted s out
+        unfolding printed surveyPrinted surveyPrintRefusal refuseIf _before_
+        whole-answer = rw (eq-eqb first (length (s .seconds)) same, eq-eqb first (length (s .weights)) also, eq-eqb (length (s .owners)) (length (s .others)) pairs)
+
+        pub whole-out : printedOut (surveyText s) out ≡ surveyPrintedOut s out
+        unfolding printedOut surveyPrintedOut surveyPrintRefusal refuseIf _before_
+        whole-out = rw (eq-eqb first (length (s .seconds)) same, eq-eqb first (length (s .weights)) also, eq-eqb (length (s .owners)) (length (s .others)) pairs)

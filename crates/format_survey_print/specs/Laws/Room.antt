@@ -9,22 +9,22 @@ use Rattle.base_limits.specs.Limits.{surveyRoom}
 use Rattle.base_limits.specs.Verdict.{answer, refuseIf}
 use Rattle.format_print.specs.declared.Printed.the-variants.{Length}
 use Rattle.format_print.specs.Print.{printRefusal, answerOf, printed}
+use Rattle.format_survey_lines.specs.Line.{Lengths}
 use Rattle.format_survey.specs.Reading.{SurveyText, reading}
 use Rattle.format_survey.specs.WellFormed.{WithinCounts}
 use Rattle.format_survey.specs.Laws.Longest.{longest-within, longest-read}
-use Rattle.format_survey_print.specs.Print.{edgesFrom, surveyText, surveyPrinted}
+use Rattle.format_survey_print.specs.Print.{edgesIn, pairsIn, surveyText, surveyPrinted}
 use Rattle.format_survey_print.specs.Laws.Print.{whole-answer}
 
 -- It is never refused with 7.
-pub survey-room : (groups firsts seconds weights out : List ℕ) → length firsts ≡ length seconds → length firsts ≡ length weights
-    → WithinCounts groups (edgesFrom firsts seconds weights) → surveyRoom ≤ length out
-    → surveyPrinted groups firsts seconds weights out ≡ Length (length (surveyText groups firsts seconds weights))
+pub survey-room : (s : SurveyText) (out : List ℕ) → length (s .firsts) ≡ length (s .seconds) → length (s .firsts) ≡ length (s .weights) → length (s .owners) ≡ length (s .others)
+    → WithinCounts (s .groups) (pairsIn s) (edgesIn s) → surveyRoom ≤ length out → surveyPrinted s out ≡ Length (length (surveyText s))
 unfolding printed printRefusal refuseIf answerOf surveyText
-survey-room groups firsts seconds weights out same also within room =
+survey-room s out same also pairs within room =
     let most = longest-within within in
-    let fits : length (surveyText groups firsts seconds weights) ≤ length out = omega arith in
-    sym (whole-answer groups firsts seconds weights out same also) ∙ rw (le-ltb (length out) (length (surveyText groups firsts seconds weights)) fits)
+    let fits : length (surveyText s) ≤ length out = omega arith in
+    sym (whole-answer s out same also pairs) ∙ rw (le-ltb (length out) (length (surveyText s)) fits)
 
 -- Whatever is read, the program `plan` reads whole.
-pub read-fits : (t gb fb sb wb : List ℕ) (s : SurveyText) → reading t gb fb sb wb ≡ answer s → length t ≤ surveyRoom
-read-fits t gb fb sb wb s e = let most = longest-read t gb fb sb wb s e in omega arith
+pub read-fits : (t : List ℕ) (lent : Lengths) (s : SurveyText) → reading t lent ≡ answer s → length t ≤ surveyRoom
+read-fits t lent s e = let most = longest-read t lent s e in omega arith
