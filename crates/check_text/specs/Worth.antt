@@ -3,23 +3,19 @@ use Prim.Native.Nat.{ℕ}
 use mathlib.Core.List.{List, _++_}
 use mathlib.Core.Path.{_≡_}
 use lib.ListN.{length}
-use Rattle.base_limits.specs.Limits.{maxVertices, maxEdges}
 use Rattle.base_limits.specs.Verdict.{answer}
 use Rattle.check_rule.specs.Check.{Checked, checking}
-use Rattle.check_text.specs.Verify.{prefixAt}
+use Rattle.check_text.specs.Verify.{prefixAt, surveyIn}
 use Rattle.format_grammar.specs.Step.{found}
 use Rattle.format_plan.specs.Plan.{Claims, PrintedPlan, marksOf, dualRecords}
 use Rattle.format_plan.specs.WellFormed.{Printable, planWords}
 use Rattle.format_survey.specs.Reading.{SurveyText}
 use Rattle.format_survey.specs.Render.{render}
 use Rattle.format_survey.specs.WellFormed.{WithinCounts, surveyOfText}
-use Rattle.format_survey_lines.specs.Line.{testsFor, Edge}
+use Rattle.format_also.specs.Pair.{Pair}
+use Rattle.format_survey_lines.specs.Line.{widest, Edge}
 use Rattle.survey_core.specs.Accuracy.{Accurate}
-use Rattle.survey_core.specs.Survey.{Survey, surveyFrom}
-
--- The survey that a text says.
-abbrev pub surveyIn : SurveyText → Survey
-surveyIn s = surveyFrom (s .groups) (s .firsts) (s .seconds) (s .weights)
+use Rattle.survey_core.specs.Survey.{Survey}
 
 -- Counts that are what the checker found.
 pub record Claimed (x : Claims) (c : Checked) : Type 0 where
@@ -31,20 +27,21 @@ pub record Claimed (x : Claims) (c : Checked) : Type 0 where
 pub record Worth (t : List ℕ) (c : Checked) : Type 0 where
   pub survey : SurveyText
   pub next : ℕ
-  pub read : prefixAt (testsFor maxVertices maxEdges maxEdges maxEdges) t ≡ found survey next
+  pub read : prefixAt widest t ≡ found survey next
   pub accurate : Accurate (surveyIn survey) (c .terminals) (c .cost)
 
--- The survey of groups and edges.
-abbrev pub surveyWith : List ℕ → List Edge → Survey
-surveyWith groups edges = surveyIn (surveyOfText groups edges)
+-- The survey of groups, pairs and edges.
+abbrev pub surveyRendered : List ℕ → List Pair → List Edge → Survey
+surveyRendered groups pairs edges = surveyIn (surveyOfText groups pairs edges)
 
 -- A survey's text with a plan's behind it that passes with these counts.
-pub record Pair (t : List ℕ) (c : Checked) : Type 0 where
+pub record PassingText (t : List ℕ) (c : Checked) : Type 0 where
   pub groups : List ℕ
+  pub pairs : List Pair
   pub edges : List Edge
   pub plan : PrintedPlan
-  pub within : WithinCounts groups edges
+  pub within : WithinCounts groups pairs edges
   pub printable : Printable (length edges) plan
-  pub word : t ≡ render groups edges ++ planWords plan
-  pub passes : checking (surveyWith groups edges) (marksOf (length edges) (plan .kept)) (dualRecords (plan .duals)) ≡ answer c
+  pub word : t ≡ render groups pairs edges ++ planWords plan
+  pub passes : checking (surveyRendered groups pairs edges) (marksOf (length edges) (plan .kept)) (dualRecords (plan .duals)) ≡ answer c
   pub claims : Claimed (plan .claims) c
