@@ -11,11 +11,12 @@
 
 use crate::calls::{Figures, Library, PLAN_COUNTS};
 use crate::plan::Counts;
+use crate::read::Lent;
 use crate::{Refusal, View};
 
 // Every buffer is a pointer and a length in items. The answer is 0, or number + 256 * place of the refusal.
 extern "C" {
-    /// `counts` takes n and m.
+    /// `counts` takes n, m and the number of pairs.
     fn foamsickle_read(
         text: *const u8,
         text_length: usize,
@@ -27,6 +28,10 @@ extern "C" {
         second_length: usize,
         prices: *mut u32,
         prices_length: usize,
+        owners: *mut u32,
+        owners_length: usize,
+        others: *mut u8,
+        others_length: usize,
         counts: *mut u64,
         counts_length: usize,
     ) -> u64;
@@ -106,6 +111,10 @@ extern "C" {
         second_length: usize,
         prices: *const u32,
         prices_length: usize,
+        owners: *const u32,
+        owners_length: usize,
+        others: *const u8,
+        others_length: usize,
         out: *mut u8,
         out_length: usize,
         counts: *mut u64,
@@ -165,26 +174,23 @@ fn check_call(survey: View, marks: &[u8], records: &[u8], counts: &mut [u64]) ->
     }
 }
 
-fn read_call(
-    text: &[u8],
-    groups: &mut [u8],
-    first: &mut [u32],
-    second: &mut [u32],
-    prices: &mut [u32],
-    counts: &mut [u64],
-) -> u64 {
+fn read_call(text: &[u8], lent: Lent, counts: &mut [u64]) -> u64 {
     unsafe {
         foamsickle_read(
             text.as_ptr(),
             text.len(),
-            groups.as_mut_ptr(),
-            groups.len(),
-            first.as_mut_ptr(),
-            first.len(),
-            second.as_mut_ptr(),
-            second.len(),
-            prices.as_mut_ptr(),
-            prices.len(),
+            lent.groups.as_mut_ptr(),
+            lent.groups.len(),
+            lent.first.as_mut_ptr(),
+            lent.first.len(),
+            lent.second.as_mut_ptr(),
+            lent.second.len(),
+            lent.prices.as_mut_ptr(),
+            lent.prices.len(),
+            lent.owners.as_mut_ptr(),
+            lent.owners.len(),
+            lent.others.as_mut_ptr(),
+            lent.others.len(),
             counts.as_mut_ptr(),
             counts.len(),
         )
@@ -235,6 +241,10 @@ fn print_survey_call(survey: View, out: &mut [u8], counts: &mut [u64]) -> u64 {
             survey.second.len(),
             survey.prices.as_ptr(),
             survey.prices.len(),
+            survey.owners.as_ptr(),
+            survey.owners.len(),
+            survey.others.as_ptr(),
+            survey.others.len(),
             out.as_mut_ptr(),
             out.len(),
             counts.as_mut_ptr(),
