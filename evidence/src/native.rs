@@ -11,12 +11,18 @@
 use crate::calls::{Figures, Library, PLAN_COUNTS};
 use crate::handset::{Crossing, Handset};
 use crate::plan::Counts;
+use crate::read::Lent;
 use crate::{Refusal, View};
 use foamsickle::call;
 
 fn slices(survey: View) -> call::Slices {
     let View { groups, first: firsts, second: seconds, prices: weights, owners, others } = survey;
     call::Slices { groups, firsts, seconds, weights, owners, others }
+}
+
+fn read(text: &[u8], lent: Lent, counts: &mut [u64]) -> u64 {
+    let Lent { groups, first: firsts, second: seconds, prices: weights, owners, others } = lent;
+    call::read(text, call::Buffers { groups, firsts, seconds, weights, owners, others }, counts)
 }
 
 fn bytes(crossing: Crossing) -> call::Bytes {
@@ -31,7 +37,7 @@ fn print_plan(figures: Figures, marks: &[u8], records: &[u8], out: &mut [u8], co
 
 /// The product's operations in the form that crosses.
 pub const LIBRARY: Library = Library {
-    read: call::read,
+    read,
     plan: |survey, marks, records, counts| call::plan(slices(survey), marks, records, counts),
     check: |survey, marks, records, counts| call::check(slices(survey), marks, records, counts),
     print_moat: call::print_dual,
