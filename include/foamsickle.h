@@ -58,7 +58,7 @@ extern "C" {
 /* Entries of `counts`: planning, checking and verifying, reading, printing. */
 #define FOAMSICKLE_PLAN_FIGURES 5
 #define FOAMSICKLE_CHECK_FIGURES 3
-#define FOAMSICKLE_READ_FIGURES 2
+#define FOAMSICKLE_READ_FIGURES 3
 #define FOAMSICKLE_PRINT_FIGURES 1
 
 /* Bytes of the handset's `result`: planning, checking. */
@@ -72,18 +72,23 @@ extern "C" {
 #define FOAMSICKLE_NUMBER(answer) ((unsigned)((answer) % 256))
 #define FOAMSICKLE_PLACE(answer) ((answer) / 256)
 
-/* Reads a survey's text (lines nodes=, links=, node=, link=; no pairs).
- * Writes the first n groups, the first m firsts, seconds and weights; counts[0] n, counts[1] m.
+/* Reads a survey's text (lines nodes=, links=, node=, also=, link=).
+ * Writes the first n groups, the first m firsts, seconds and weights, the first owners and others of the pairs; counts[0]
+ * n, counts[1] m, counts[2] the number of pairs.
  * Refuses what stands first in the text: 16 where it is malformed (place: the byte's offset), 1 and 3 when the line of a
- * count is complete, then 7 if the slices for it are short (for n also where counts has less than 2 entries), 17 for a
- * group over 255 (place: the junction). 4, 5 and 6 are left to planning.
- * Enough for every text: FOAMSICKLE_MAX_VERTICES groups, FOAMSICKLE_MAX_EDGES firsts, seconds and weights. */
+ * count is complete, then 7 if the slices for it are short (for n also where counts has less than 3 entries), 17 for a
+ * group over 255 (place: the junction), and when an also line is complete 17 (place: its junction as written), then 18
+ * (place: the pair), then 7 if owners or others is full. 4, 5 and 6 are left to planning.
+ * Enough for every text: FOAMSICKLE_MAX_VERTICES groups, FOAMSICKLE_MAX_EDGES firsts, seconds and weights,
+ * FOAMSICKLE_MAX_PAIRS owners and others. */
 uint64_t foamsickle_read(
     const uint8_t *text, size_t text_length,
     uint8_t *groups, size_t groups_length,
     uint32_t *firsts, size_t firsts_length,
     uint32_t *seconds, size_t seconds_length,
     uint32_t *weights, size_t weights_length,
+    uint32_t *owners, size_t owners_length,
+    uint8_t *others, size_t others_length,
     uint64_t *counts, size_t counts_length);
 
 /* Plans a survey.
@@ -145,15 +150,18 @@ uint64_t foamsickle_print_plan(
     uint8_t *out, size_t out_length,
     uint64_t *counts, size_t counts_length);
 
-/* Prints a survey without pairs, also one that planning would refuse.
+/* Prints a survey, also one that planning would refuse.
  * Writes the text into out; counts[0] its length.
- * Refuses 2 (firsts, seconds and weights differ in length), then 7 (the text does not fit out, or counts is empty).
+ * Refuses 2 (firsts, seconds and weights differ in length, or owners and others), then 7 (the text does not fit out, or
+ * counts is empty).
  * Enough for every survey that planning takes: FOAMSICKLE_SURVEY_ROOM bytes. */
 uint64_t foamsickle_print_survey(
     const uint8_t *groups, size_t groups_length,
     const uint32_t *firsts, size_t firsts_length,
     const uint32_t *seconds, size_t seconds_length,
     const uint32_t *weights, size_t weights_length,
+    const uint32_t *owners, size_t owners_length,
+    const uint8_t *others, size_t others_length,
     uint8_t *out, size_t out_length,
     uint64_t *counts, size_t counts_length);
 

@@ -77,13 +77,14 @@ static void handset_check(void) {
 }
 
 static void print_survey(void) {
-    answer = foamsickle_print_survey(groups, N, firsts, M, seconds, M, weights, M, text, sizeof text, counts, 1);
+    answer = foamsickle_print_survey(groups, N, firsts, M, seconds, M, weights, M, owners, PAIRS, others, PAIRS, text,
+                                     sizeof text, counts, 1);
     survey_length = (size_t)counts[0];
 }
 
 static void read_survey(void) {
-    answer = foamsickle_read(text, survey_length, groups, N, firsts, M, seconds, M, weights, M, counts,
-                             FOAMSICKLE_READ_FIGURES);
+    answer = foamsickle_read(text, survey_length, groups, N, firsts, M, seconds, M, weights, M, owners, PAIRS, others,
+                             PAIRS, counts, FOAMSICKLE_READ_FIGURES);
 }
 
 static void print_plan(void) {

@@ -13,6 +13,8 @@
 static uint8_t text[FOAMSICKLE_SURVEY_ROOM];
 static uint8_t groups[FOAMSICKLE_MAX_VERTICES];
 static uint32_t firsts[FOAMSICKLE_MAX_EDGES], seconds[FOAMSICKLE_MAX_EDGES], weights[FOAMSICKLE_MAX_EDGES];
+static uint32_t owners[FOAMSICKLE_MAX_PAIRS];
+static uint8_t others[FOAMSICKLE_MAX_PAIRS];
 static uint8_t marks[FOAMSICKLE_MAX_EDGES];
 static uint8_t records[FOAMSICKLE_RECORDS_ROOM];
 
@@ -32,16 +34,15 @@ int main(int argc, char **argv) {
 
     uint64_t size[FOAMSICKLE_READ_FIGURES];
     uint64_t answer = foamsickle_read(text, length, groups, FOAMSICKLE_MAX_VERTICES, firsts, FOAMSICKLE_MAX_EDGES,
-                                      seconds, FOAMSICKLE_MAX_EDGES, weights, FOAMSICKLE_MAX_EDGES, size,
-                                      FOAMSICKLE_READ_FIGURES);
+                                      seconds, FOAMSICKLE_MAX_EDGES, weights, FOAMSICKLE_MAX_EDGES, owners,
+                                      FOAMSICKLE_MAX_PAIRS, others, FOAMSICKLE_MAX_PAIRS, size, FOAMSICKLE_READ_FIGURES);
     if (answer != 0)
         return refused("reading", answer);
 
-    /* No pairs: their slices have length 0, and any pointer. */
-    size_t n = (size_t)size[0], m = (size_t)size[1];
+    size_t n = (size_t)size[0], m = (size_t)size[1], pairs = (size_t)size[2];
     uint64_t counts[FOAMSICKLE_PLAN_FIGURES];
-    answer = foamsickle_plan(groups, n, firsts, m, seconds, m, weights, m, firsts, 0, groups, 0, marks, sizeof marks,
-                             records, sizeof records, counts, FOAMSICKLE_PLAN_FIGURES);
+    answer = foamsickle_plan(groups, n, firsts, m, seconds, m, weights, m, owners, pairs, others, pairs, marks,
+                             sizeof marks, records, sizeof records, counts, FOAMSICKLE_PLAN_FIGURES);
     if (answer != 0)
         return refused("planning", answer);
 

@@ -10,6 +10,7 @@ use Rattle.format_write.specs.Text.{dualLine}
 use Rattle.format_print.specs.Print.{printRefusal, dualPrintRefusal, outAfter}
 use Rattle.format_print.specs.declared.Printed.{Printed}
 use Rattle.format_print.specs.declared.Printed.the-variants.{Length, Refused as PrintRefused}
+use Rattle.format_survey.specs.Reading.{SurveyText}
 use Rattle.format_survey_print.specs.Print.{surveyText, surveyPrintRefusal}
 use Rattle.api_code.specs.Code.{placeUnit, countsAfter}
 
@@ -51,13 +52,11 @@ unfoldable pub textCounts : (whole out counts : List ℕ) → List ℕ
 textCounts whole out counts = countsAfter (textCall whole out counts) (length whole ∷ []) counts
 
 -- Printing a survey: 2, then 7.
-unfoldable pub surveyCall : (groups firsts seconds weights out counts : List ℕ) → Verdict
-surveyCall groups firsts seconds weights out counts = withLength (surveyPrintRefusal groups firsts seconds weights out) (length counts)
+unfoldable pub surveyCall : SurveyText → (out counts : List ℕ) → Verdict
+surveyCall s out counts = withLength (surveyPrintRefusal s out) (length counts)
 
-unfoldable pub surveyOut : (groups firsts seconds weights out counts : List ℕ) → List ℕ
-surveyOut groups firsts seconds weights out counts =
-    outAfter (surveyCall groups firsts seconds weights out counts) (surveyText groups firsts seconds weights) out
+unfoldable pub surveyOut : SurveyText → (out counts : List ℕ) → List ℕ
+surveyOut s out counts = outAfter (surveyCall s out counts) (surveyText s) out
 
-unfoldable pub surveyCounts : (groups firsts seconds weights out counts : List ℕ) → List ℕ
-surveyCounts groups firsts seconds weights out counts =
-    countsAfter (surveyCall groups firsts seconds weights out counts) (length (surveyText groups firsts seconds weights) ∷ []) counts
+unfoldable pub surveyCounts : SurveyText → (out counts : List ℕ) → List ℕ
+surveyCounts s out counts = countsAfter (surveyCall s out counts) (length (surveyText s) ∷ []) counts

@@ -2,6 +2,7 @@
 ghost use mathlib.Core.Path.{_≡_};
 ghost use Rattle.base_buffer.specs.Lent.{old, new};
 ghost use Rattle.format_write.specs.Text.{planText};
+ghost use Rattle.format_survey_print.specs.Print.{surveyLent};
 ghost use Rattle.api_code.specs.Code.{codeOf, capped};
 ghost use Rattle.api_print.specs.Call.{printedCode, printedCounts, dualCall, dualOut, dualCounts};
 ghost use Rattle.api_print.specs.Call.{textCall, textOut, textCounts, surveyCall, surveyOut, surveyCounts};
@@ -79,17 +80,30 @@ pub fn print_survey_call(
     firsts: &[u32],
     seconds: &[u32],
     weights: &[u32],
+    owners: &[u32],
+    others: &[u8],
     out: &mut [u8],
     counts: &mut [u64],
 ) -> u64
     ensures code { λ r.
-        ⌜ r ≡ codeOf (surveyCall (old groups) (old firsts) (old seconds) (old weights) (old out) (old counts)) ⌝ }
+        let s = surveyLent groups firsts seconds weights owners others in
+        ⌜ r ≡ codeOf (surveyCall s (old out) (old counts)) ⌝ }
     ensures out { λ _.
-        ⌜ new out ≡ surveyOut (old groups) (old firsts) (old seconds) (old weights) (old out) (old counts) ⌝ }
+        let s = surveyLent groups firsts seconds weights owners others in
+        ⌜ new out ≡ surveyOut s (old out) (old counts) ⌝ }
     ensures counts { λ _.
-        ⌜ new counts ≡ surveyCounts (old groups) (old firsts) (old seconds) (old weights) (old out) (old counts) ⌝ }
+        let s = surveyLent groups firsts seconds weights owners others in
+        ⌜ new counts ≡ surveyCounts s (old out) (old counts) ⌝ }
 {
     let room = api_code::lent_on(counts.len(), PRINT_FIGURES, out.len());
-    let answer = print_survey(groups, firsts, seconds, weights, &mut out[0..room]);
+    let answer = print_survey(
+        groups,
+        firsts,
+        seconds,
+        weights,
+        owners,
+        others,
+        &mut out[0..room],
+    );
     printed_code(answer, counts)
 }

@@ -1,20 +1,30 @@
 -- Reading with lent counts: what the call answers and leaves in its buffers, by the library's own definitions.
 use Prim.Native.Nat.{ℕ}
-use mathlib.Core.Bool.{cond}
 use mathlib.Core.List.{List, [], _∷_}
-use lib.ListN.{length}
-use lib.Dec.{ltb}
 use Rattle.base_limits.specs.Verdict.{Outcome}
-use Rattle.format_survey_lines.specs.Line.{SurveyCounts}
+use Rattle.format_survey_lines.specs.Line.{Lengths}
 use Rattle.format_survey.specs.Reading.{SurveyText, reading}
+use Rattle.format_survey.specs.Answer.{TextCounts}
+use Rattle.api_code.specs.Code.{lentOn}
 
--- entries of the counts of reading: n and m
+-- entries of the counts of reading: n, m and the number of pairs
 abbrev pub readFigures : ℕ
-readFigures = 2
+readFigures = 3
 
-unfoldable pub readFiguresOf : SurveyCounts → List ℕ
-readFiguresOf c = c .vertices ∷ c .edges ∷ []
+unfoldable pub readFiguresOf : TextCounts → List ℕ
+readFiguresOf c = c .vertices ∷ c .edges ∷ c .pairs ∷ []
 
 -- A buffer that is too short for the counts is judged as a group buffer of no length, so that 7 comes at the nodes line, after 1.
-unfoldable pub readCall : (text groups firsts seconds weights counts : List ℕ) → Outcome SurveyText
-readCall text groups firsts seconds weights counts = reading text (cond (ltb (length counts) readFigures) [] groups) firsts seconds weights
+unfoldable pub lentFor : Lengths → (counts : ℕ) → Lengths
+lentFor lent counts =
+    record {
+      groups = lentOn counts readFigures (lent .groups);
+      firsts = lent .firsts;
+      seconds = lent .seconds;
+      weights = lent .weights;
+      owners = lent .owners;
+      others = lent .others;
+    }
+
+unfoldable pub readCall : List ℕ → Lengths → (counts : ℕ) → Outcome SurveyText
+readCall text lent counts = reading text (lentFor lent counts)

@@ -4,6 +4,9 @@ ghost use mathlib.Core.Path.{_≡_};
 ghost use Rattle.base_buffer.specs.Lent.{old, new};
 ghost use Rattle.survey_core.specs.Survey.{lentWith};
 ghost use Rattle.format_write.specs.Text.{planText};
+ghost use lib.ListN.{length};
+ghost use Rattle.format_survey_lines.specs.Line.{lentLengths};
+ghost use Rattle.format_survey_print.specs.Print.{surveyLent};
 ghost use Rattle.format_survey.specs.Reading.{filled};
 ghost use Rattle.format_survey.specs.Answer.{countsOf};
 ghost use Rattle.api_code.specs.Code.{codeOf, capped, verdictOf, countsFor};
@@ -17,7 +20,7 @@ ghost use Rattle.api_lengths.specs.Slices.{lentSlices};
 ghost use Rattle.api_handset.specs.Call.{handsetPlan, handsetMarks, handsetRecords, handsetPlanResult};
 ghost use Rattle.api_handset.specs.Call.{handsetCheck, handsetCheckResult};
 
-// Reads a survey's text. `counts` gets n and m.
+// Reads a survey's text. `counts` gets n, m and the number of pairs.
 #[no_mangle]
 pub extern "C" fn foamsickle_read(
     text: &[u8],
@@ -25,28 +28,53 @@ pub extern "C" fn foamsickle_read(
     firsts: &mut [u32],
     seconds: &mut [u32],
     weights: &mut [u32],
+    owners: &mut [u32],
+    others: &mut [u8],
     counts: &mut [u64],
 ) -> u64
     ensures code { λ r.
-        let read = readCall (old text) (old groups) (old firsts) (old seconds) (old weights) (old counts) in
+        let lent = lentLengths groups firsts seconds weights owners others in
+        let read = readCall (old text) lent (length (old counts)) in
         ⌜ r ≡ codeOf (verdictOf read) ⌝ }
     ensures groups { λ _.
-        let read = readCall (old text) (old groups) (old firsts) (old seconds) (old weights) (old counts) in
+        let lent = lentLengths groups firsts seconds weights owners others in
+        let read = readCall (old text) lent (length (old counts)) in
         ⌜ new groups ≡ filled read (λ s. s .groups) (old groups) ⌝ }
     ensures firsts { λ _.
-        let read = readCall (old text) (old groups) (old firsts) (old seconds) (old weights) (old counts) in
+        let lent = lentLengths groups firsts seconds weights owners others in
+        let read = readCall (old text) lent (length (old counts)) in
         ⌜ new firsts ≡ filled read (λ s. s .firsts) (old firsts) ⌝ }
     ensures seconds { λ _.
-        let read = readCall (old text) (old groups) (old firsts) (old seconds) (old weights) (old counts) in
+        let lent = lentLengths groups firsts seconds weights owners others in
+        let read = readCall (old text) lent (length (old counts)) in
         ⌜ new seconds ≡ filled read (λ s. s .seconds) (old seconds) ⌝ }
     ensures weights { λ _.
-        let read = readCall (old text) (old groups) (old firsts) (old seconds) (old weights) (old counts) in
+        let lent = lentLengths groups firsts seconds weights owners others in
+        let read = readCall (old text) lent (length (old counts)) in
         ⌜ new weights ≡ filled read (λ s. s .weights) (old weights) ⌝ }
+    ensures owners { λ _.
+        let lent = lentLengths groups firsts seconds weights owners others in
+        let read = readCall (old text) lent (length (old counts)) in
+        ⌜ new owners ≡ filled read (λ s. s .owners) (old owners) ⌝ }
+    ensures others { λ _.
+        let lent = lentLengths groups firsts seconds weights owners others in
+        let read = readCall (old text) lent (length (old counts)) in
+        ⌜ new others ≡ filled read (λ s. s .others) (old others) ⌝ }
     ensures counts { λ _.
-        let read = readCall (old text) (old groups) (old firsts) (old seconds) (old weights) (old counts) in
+        let lent = lentLengths groups firsts seconds weights owners others in
+        let read = readCall (old text) lent (length (old counts)) in
         ⌜ new counts ≡ countsFor (countsOf read) readFiguresOf (old counts) ⌝ }
 {
-    api_read::read_call(text, groups, firsts, seconds, weights, counts)
+    api_read::read_call(
+        text,
+        groups,
+        firsts,
+        seconds,
+        weights,
+        owners,
+        others,
+        counts,
+    )
 }
 
 // Plans a survey with pairs (owners, others). `counts` gets k, cost, bound, rounds and the number of moats.
@@ -163,17 +191,31 @@ pub extern "C" fn foamsickle_print_survey(
     firsts: &[u32],
     seconds: &[u32],
     weights: &[u32],
+    owners: &[u32],
+    others: &[u8],
     out: &mut [u8],
     counts: &mut [u64],
 ) -> u64
     ensures code { λ r.
-        ⌜ r ≡ codeOf (surveyCall (old groups) (old firsts) (old seconds) (old weights) (old out) (old counts)) ⌝ }
+        let s = surveyLent groups firsts seconds weights owners others in
+        ⌜ r ≡ codeOf (surveyCall s (old out) (old counts)) ⌝ }
     ensures out { λ _.
-        ⌜ new out ≡ surveyOut (old groups) (old firsts) (old seconds) (old weights) (old out) (old counts) ⌝ }
+        let s = surveyLent groups firsts seconds weights owners others in
+        ⌜ new out ≡ surveyOut s (old out) (old counts) ⌝ }
     ensures counts { λ _.
-        ⌜ new counts ≡ surveyCounts (old groups) (old firsts) (old seconds) (old weights) (old out) (old counts) ⌝ }
+        let s = surveyLent groups firsts seconds weights owners others in
+        ⌜ new counts ≡ surveyCounts s (old out) (old counts) ⌝ }
 {
-    api_print::print_survey_call(groups, firsts, seconds, weights, out, counts)
+    api_print::print_survey_call(
+        groups,
+        firsts,
+        seconds,
+        weights,
+        owners,
+        others,
+        out,
+        counts,
+    )
 }
 
 // Checks a survey's text with a printed plan behind it. `counts` gets k, the kept cost and the bound.

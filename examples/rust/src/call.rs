@@ -15,6 +15,17 @@ pub struct Slices<'a> {
     pub others: &'a [u8],
 }
 
+/// The six slices that reading fills.
+#[derive(Debug)]
+pub struct Buffers<'a> {
+    pub groups: &'a mut [u8],
+    pub firsts: &'a mut [u32],
+    pub seconds: &'a mut [u32],
+    pub weights: &'a mut [u32],
+    pub owners: &'a mut [u32],
+    pub others: &'a mut [u8],
+}
+
 /// The same in bytes alone: four for each end, price and owner, lowest first.
 #[derive(Clone, Copy, Debug)]
 pub struct Bytes<'a> {
@@ -64,7 +75,8 @@ macro_rules! calls {
 mod flat {
     calls! {
         read = foamsickle_read(
-            text: in u8, groups: out u8, firsts: out u32, seconds: out u32, weights: out u32, counts: out u64,
+            text: in u8, groups: out u8, firsts: out u32, seconds: out u32, weights: out u32, owners: out u32,
+            others: out u8, counts: out u64,
         );
         plan = foamsickle_plan(
             groups: in u8, firsts: in u32, seconds: in u32, weights: in u32, owners: in u32, others: in u8,
@@ -80,7 +92,8 @@ mod flat {
             counts: out u64,
         );
         print_survey = foamsickle_print_survey(
-            groups: in u8, firsts: in u32, seconds: in u32, weights: in u32, out: out u8, counts: out u64,
+            groups: in u8, firsts: in u32, seconds: in u32, weights: in u32, owners: in u32, others: in u8, out: out u8,
+            counts: out u64,
         );
         verify = foamsickle_verify(text: in u8, counts: out u64);
         handset_plan = foamsickle_handset_plan(
@@ -94,7 +107,12 @@ mod flat {
     }
 }
 
-pub use flat::{print_dual, print_plan, read, verify};
+pub use flat::{print_dual, print_plan, verify};
+
+/// `counts` takes n, m and the number of pairs.
+pub fn read(text: &[u8], b: Buffers, counts: &mut [u64]) -> u64 {
+    flat::read(text, b.groups, b.firsts, b.seconds, b.weights, b.owners, b.others, counts)
+}
 
 /// `counts` takes sites, cost, bound, rounds and moats.
 pub fn plan(s: Slices, marks: &mut [u8], records: &mut [u8], counts: &mut [u64]) -> u64 {
@@ -106,9 +124,9 @@ pub fn check(s: Slices, marks: &[u8], records: &[u8], counts: &mut [u64]) -> u64
     flat::check(s.groups, s.firsts, s.seconds, s.weights, s.owners, s.others, marks, records, counts)
 }
 
-/// Pairs are not printed. `counts` takes the text's length.
+/// `counts` takes the text's length.
 pub fn print_survey(s: Slices, out: &mut [u8], counts: &mut [u64]) -> u64 {
-    flat::print_survey(s.groups, s.firsts, s.seconds, s.weights, out, counts)
+    flat::print_survey(s.groups, s.firsts, s.seconds, s.weights, s.owners, s.others, out, counts)
 }
 
 /// `result` takes sites, cost, bound, rounds and moats, eight bytes each.

@@ -14,16 +14,17 @@
 
 pub mod call;
 
-use call::Slices;
+use call::{Buffers, Slices};
 
 /// The limits of include/foamsickle.h.
 pub const MAX_VERTICES: usize = 256;
 pub const MAX_EDGES: usize = 2_048;
+pub const MAX_PAIRS: usize = 256;
 pub const RECORD_BYTES: usize = 40;
 pub const DUAL_ROOM: usize = 1_024;
 
 /// Entries of the counts of each operation.
-pub const READ_FIGURES: usize = 2;
+pub const READ_FIGURES: usize = 3;
 pub const PLAN_FIGURES: usize = 5;
 pub const CHECK_FIGURES: usize = 3;
 pub const PRINT_FIGURES: usize = 1;
@@ -193,18 +194,21 @@ pub fn check(survey: &Survey, marks: &[u8], records: &[u8]) -> Result<Found, Ref
     Ok(Found { sites, cost, bound })
 }
 
-/// A survey that was read: groups, first ends, second ends and prices.
+/// A survey that was read: groups, first ends, second ends and prices, and the pairs.
 #[derive(Clone, Debug, PartialEq, Eq)]
 pub struct SurveyText {
     pub groups: Vec<u8>,
     pub firsts: Vec<u32>,
     pub seconds: Vec<u32>,
     pub weights: Vec<u32>,
+    pub owners: Vec<u32>,
+    pub others: Vec<u8>,
 }
 
 impl SurveyText {
     pub fn survey(&self) -> Result<Survey<'_>, Refusal> {
-        Survey::new(&self.groups, &self.firsts, &self.seconds, &self.weights)
+        let SurveyText { groups, firsts, seconds, weights, owners, others } = self;
+        Survey::with_pairs(groups, firsts, seconds, weights, owners, others)
     }
 }
 
@@ -212,14 +216,25 @@ impl SurveyText {
 pub fn read(text: &[u8]) -> Result<SurveyText, Refusal> {
     let mut groups = vec![0; MAX_VERTICES];
     let [mut firsts, mut seconds, mut weights] = [(); 3].map(|_| vec![0; MAX_EDGES]);
+    let (mut owners, mut others) = (vec![0; MAX_PAIRS], vec![0; MAX_PAIRS]);
     let mut counts = [0; READ_FIGURES];
-    answered(call::read(text, &mut groups, &mut firsts, &mut seconds, &mut weights, &mut counts))?;
-    let [n, m] = counts.map(|count| count as usize);
+    let buffers = Buffers {
+        groups: &mut groups,
+        firsts: &mut firsts,
+        seconds: &mut seconds,
+        weights: &mut weights,
+        owners: &mut owners,
+        others: &mut others,
+    };
+    answered(call::read(text, buffers, &mut counts))?;
+    let [n, m, pairs] = counts.map(|count| count as usize);
     groups.truncate(n);
     for buffer in [&mut firsts, &mut seconds, &mut weights] {
         buffer.truncate(m);
     }
-    Ok(SurveyText { groups, firsts, seconds, weights })
+    owners.truncate(pairs);
+    others.truncate(pairs);
+    Ok(SurveyText { groups, firsts, seconds, weights, owners, others })
 }
 
 /// A text of so many bytes at first, and of more where it does not fit.
@@ -250,7 +265,7 @@ pub fn print_plan(plan: &Plan) -> Result<Vec<u8>, Refusal> {
     printed(1 << 16, |out, counts| call::print_plan(sites, cost, bound, plan.rounds, marks, records, out, counts))
 }
 
-/// A survey's text, without its pairs.
+/// A survey's text.
 pub fn print_survey(survey: &Survey) -> Result<Vec<u8>, Refusal> {
     printed(1 << 16, |out, counts| call::print_survey(survey.slices(), out, counts))
 }
@@ -282,6 +297,16 @@ mod tests {
         assert_eq!(print_plan(&plan).unwrap(), P3_PLAN.as_bytes());
         assert_eq!(print_moat(&plan.records[80..]).unwrap(), b"moat=1:0,1\n");
         assert_eq!(verify(P3.as_bytes(), P3_PLAN.as_bytes()), Ok(plan.found));
+    }
+
+    #[test]
+    fn pairs_are_read_and_printed() {
+        let paired = P3.replace("link=0", "also=1,1\nlink=0");
+        let text = read(paired.as_bytes()).unwrap();
+        assert_eq!((&text.owners[..], &text.others[..]), (&[1][..], &[1][..]));
+        let survey = text.survey().unwrap();
+        assert_eq!(plan(&survey).unwrap().found, Found { sites: 3, cost: 7, bound: 11 });
+        assert_eq!(print_survey(&survey).unwrap(), paired.as_bytes());
     }
 
     #[test]

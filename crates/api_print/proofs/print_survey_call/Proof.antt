@@ -1,5 +1,6 @@
 -- `print_survey_call` meets its contract: what `print_survey` answers where so much of the buffer is lent on.
 use borrow.Author.Needs.{needs}
+use Rattle.format_survey_print.specs.Print.{surveyOfLists}
 use Rattle.api_code.specs.Laws.Lending.{lent-le}
 use Rattle.api_print.specs.Laws.Call.{survey-into}
 use Rattle.api_print.proofs.print_survey_call.Statement.{statement}
@@ -12,8 +13,8 @@ returns : tie.Need-returns
 returns c =
     let called = c .before .before .before .before .before .before in
     let lent = called .before .before in
-    let a = lent .before .before .before .before .before .before .before .args in
-    survey-into (a .groups .now) (a .firsts .now) (a .seconds .now) (a .weights .now) (a .out .now) (a .counts .now) (lent .lent-on .ensures)
+    let a = lent .before .before .before .before .before .before .before .before .before .args in
+    survey-into (surveyOfLists (a .groups .now) (a .firsts .now) (a .seconds .now) (a .weights .now) (a .owners .now) (a .others .now)) (a .out .now) (a .counts .now) (lent .lent-on .ensures)
     (called .print-survey .ensures .0)
     (called .print-survey .ensures .1)
     (c .before .before .printed-code .ensures .0)

@@ -2,7 +2,7 @@
 use Prim.Native.Nat.{ℕ, _+_, _*_, _-_, _<_}
 use native.Mathlib.Omega.{arith}
 use mathlib.Core.Path.{_≡_, refl, ap, sym, _∙_}
-use mathlib.Core.Bool.{Bool, true, false, _&&_, not, cond}
+use mathlib.Core.Bool.{Bool, true, false, not, cond}
 use mathlib.Core.List.{List, [], _∷_, _++_, append-nil}
 use lib.ListN.{length, set, take, drop, length-append}
 use lib.Dec.{eqb, ltb, lit<}
@@ -11,7 +11,7 @@ use Rattle.base_limits.specs.Limits.{recordBytes}
 use Rattle.base_limits.specs.Verdict.{refuseIf, _before_, written}
 use Rattle.base_limits.specs.declared.Verdict.{Verdict}
 use Rattle.base_limits.specs.declared.Verdict.the-variants.{Fine, Refused}
-use Rattle.base_limits.specs.Laws.Verdict.{before-none}
+use Rattle.base_limits.specs.Laws.Verdict.{before-none, before-assoc}
 use Rattle.format_key.specs.Key.{terminalsKey, costKey, boundKey, roundsKey, dualKey, nodesKey, linksKey, nodeKey, colon, newline}
 use Rattle.format_record.specs.Record.{valueIn}
 use Rattle.format_write.specs.Decimal.{decimal}
@@ -22,7 +22,9 @@ use Rattle.format_print.specs.declared.Printed.{Printed}
 use Rattle.format_print.specs.declared.Printed.the-variants.{Length, Refused as PrintRefused}
 use Rattle.format_survey_lines.specs.Render.{edgeText}
 use Rattle.format_survey.specs.Render.{render}
-use Rattle.format_survey_print.specs.Print.{edgesFrom, surveyText, surveyPrintRefusal, surveyPrinted, surveyPrintedOut}
+use Rattle.format_also.specs.Render.{pairsText}
+use Rattle.format_survey.specs.Reading.{SurveyText}
+use Rattle.format_survey_print.specs.Print.{edgesIn, pairsIn, surveyText, surveyPrintRefusal, surveyPrinted, surveyPrintedOut}
 use Rattle.api_code.specs.Code.{placeUnit, codeOf, capped, countsAfter, lentOn}
 use Rattle.api_code.specs.Laws.Encodable.{Encodable, encodable-before, encodable-refuse, encodable-fine, at-zero, capped-code}
 use Rattle.api_code.specs.Laws.Lending.{lent-part, lent-rest}
@@ -133,13 +135,15 @@ some-plan k c b r marks records =
     (some-left (lineOf terminalsKey k ++ lineOf costKey c ++ lineOf boundKey b) (lineOf roundsKey r)
     (some-left (lineOf terminalsKey k ++ lineOf costKey c) (lineOf boundKey b) (some-left (lineOf terminalsKey k) (lineOf costKey c) (some-line terminalsKey k)))))
 
-some-survey : (groups firsts seconds weights : List ℕ) → 0 < length (surveyText groups firsts seconds weights)
+some-survey : (s : SurveyText) → 0 < length (surveyText s)
 unfolding surveyText render
-some-survey groups firsts seconds weights =
-    let n = lineOf nodesKey (length groups) in
-    let m = lineOf linksKey (length (edgesFrom firsts seconds weights)) in
-    let gs = textOf (lineOf nodeKey) groups in
-    some-left (n ++ m ++ gs) (textOf edgeText (edgesFrom firsts seconds weights)) (some-left (n ++ m) gs (some-left n m (some-line nodesKey (length groups))))
+some-survey s =
+    let n = lineOf nodesKey (length (s .groups)) in
+    let m = lineOf linksKey (length (edgesIn s)) in
+    let gs = textOf (lineOf nodeKey) (s .groups) in
+    let ps = pairsText (pairsIn s) in
+    some-left (n ++ m ++ gs ++ ps) (textOf edgeText (edgesIn s))
+    (some-left (n ++ m ++ gs) ps (some-left (n ++ m) gs (some-left n m (some-line nodesKey (length (s .groups))))))
 
 -- ---- a moat line
 
@@ -174,15 +178,37 @@ plan-into k c b n marks records out counts lent e o x l = text-into (planText k 
 
 -- ---- a survey
 
-abbrev unequal : (firsts seconds weights : List ℕ) → Verdict
-unequal firsts seconds weights = refuseIf (not (eqb (length firsts) (length seconds) && eqb (length firsts) (length weights))) 2 0
+abbrev unequal : SurveyText → Verdict
+unequal s =
+    refuseIf (not (eqb (length (s .firsts)) (length (s .seconds)))) 2 0
+    before refuseIf (not (eqb (length (s .firsts)) (length (s .weights)))) 2 0
+    before refuseIf (not (eqb (length (s .owners)) (length (s .others)))) 2 0
 
-pub survey-into : (groups firsts seconds weights out counts : List ℕ) {room : ℕ} {r : Printed} {code : ℕ} {held counts′ : List ℕ}
-    → room ≡ lentOn (length counts) printFigures (length out)
-    → r ≡ surveyPrinted groups firsts seconds weights (take (room - 0) out) → held ≡ surveyPrintedOut groups firsts seconds weights (take (room - 0) out)
+unequal-encodable : (s : SurveyText) → Encodable (unequal s)
+unequal-encodable s =
+    encodable-before _ _ (encodable-refuse _ (at-zero 2 (lit< tt) (lit< tt))) λ _.
+    encodable-before _ _ (encodable-refuse _ (at-zero 2 (lit< tt) (lit< tt))) λ _. encodable-refuse _ (at-zero 2 (lit< tt) (lit< tt))
+
+-- The tests of lengths, taken together.
+unequal-first : (s : SurveyText) (out : List ℕ) → surveyPrintRefusal s out ≡ (unequal s before printRefusal (surveyText s) out)
+unfolding surveyPrintRefusal
+unequal-first s out =
+    let first = refuseIf (not (eqb (length (s .firsts)) (length (s .seconds)))) 2 0 in
+    let second = refuseIf (not (eqb (length (s .firsts)) (length (s .weights)))) 2 0 in
+    let third = refuseIf (not (eqb (length (s .owners)) (length (s .others)))) 2 0 in
+    let last = printRefusal (surveyText s) out in
+    sym (before-assoc first (second before third) last ∙ ap (λ (v : Verdict). first before v) (before-assoc second third last))
+
+pub survey-into : (s : SurveyText) (out counts : List ℕ) {room : ℕ} {r : Printed} {code : ℕ} {held counts′ : List ℕ}
+    → room ≡ lentOn (length counts) printFigures (length out) → r ≡ surveyPrinted s (take (room - 0) out) → held ≡ surveyPrintedOut s (take (room - 0) out)
     → code ≡ capped (printedCode r) → counts′ ≡ printedCounts r counts
-    → (code ≡ codeOf (surveyCall groups firsts seconds weights out counts))
-    × ((held ++ drop (room - 0) out ≡ surveyOut groups firsts seconds weights out counts) × (counts′ ≡ surveyCounts groups firsts seconds weights out counts))
-unfolding surveyCall surveyOut surveyCounts surveyPrinted surveyPrintedOut surveyPrintRefusal
-survey-into groups firsts seconds weights out counts lent e o k c =
-    print-into (unequal firsts seconds weights) (surveyText groups firsts seconds weights) out counts lent (some-survey groups firsts seconds weights) (encodable-refuse _ (at-zero 2 (lit< tt) (lit< tt))) e o k c
+    → (code ≡ codeOf (surveyCall s out counts)) × ((held ++ drop (room - 0) out ≡ surveyOut s out counts) × (counts′ ≡ surveyCounts s out counts))
+unfolding surveyCall surveyOut surveyCounts surveyPrinted surveyPrintedOut
+survey-into s out counts {room} lent e o k c =
+    let text = surveyText s in
+    let part = unequal-first s (take (room - 0) out) in
+    let same = ap (λ (v : Verdict). withLength v (length counts)) (sym (unequal-first s out)) in
+    let into =
+    print-into (unequal s) text out counts lent (some-survey s) (unequal-encodable s) (e ∙ ap (λ (v : Verdict). answerOf v text) part)
+    (o ∙ ap (λ (v : Verdict). outAfter v text (take (room - 0) out)) part) k c in
+    (into .0 ∙ ap codeOf same, (into .1 .0 ∙ ap (λ (v : Verdict). outAfter v text out) same, into .1 .1 ∙ ap (λ (v : Verdict). countsAfter v (length text ∷ []) counts) same))

@@ -1,4 +1,4 @@
--- `read_code` meets its contract: n and m are stored, or the refusal is answered.
+-- `read_code` meets its contract: n, m and the number of pairs are stored, or the refusal is answered.
 use borrow.Author.Needs.{needs}
 use Rattle.api_read.specs.Laws.Call.{read-refused-answers, read-answers}
 use Rattle.api_read.proofs.read_code.Statement.{statement}
@@ -8,11 +8,12 @@ use Rattle.api_read.proofs.read_code.Tie as tie
 returns : tie.Need-returns
 returns c =
     let called = c .before .before in
-    let matched = called .before .before .before .before .before in
+    let matched = called .before .before .before .before .before .before in
     read-answers (matched .before .before .before .args .counts .now) (matched .answer .given .1)
-    (called .before .before .wide .ensures)
-    (called .before .wide2 .ensures)
-    (called .store-two .ensures)
+    (called .before .before .before .wide .ensures)
+    (called .before .before .wide2 .ensures)
+    (called .before .wide3 .ensures)
+    (called .store-three .ensures)
 
 -- refused
 returns-2 : tie.Need-returns-2
@@ -23,6 +24,7 @@ read-code-spec =
     tie.close
     (tie.spec
     (λ c. search needs)
+    (λ c κs. search needs)
     (λ c κs. search needs)
     (λ c κs. search needs)
     (λ c κs. search needs)

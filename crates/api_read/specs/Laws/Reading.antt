@@ -1,26 +1,31 @@
--- Refusals of reading are told by one number of 64 bits: each is 16, whose place is at most 65,536 since no later byte changes the answer, or one of the tests' own, whose place is a junction or 0.
+-- Refusals of reading are told by one number of 64 bits: each is 16, whose place is at most 65,536 since no later byte changes the answer, or one of the tests' own, whose place is a junction, a number of three digits, a pair or 0.
 use Prim.Native.Nat.{ℕ, zero, suc, _+_, _<_, _≤_, _^_}
 use native.Mathlib.Omega.{arith}
 use native.Mathlib.Nat.{min-le-left}
 use mathlib.Core.Path.{_≡_, refl, ap, sym, _∙_, subst}
-use mathlib.Core.Bool.{Bool, true, false, cond}
+use mathlib.Core.Logic.{⊎-elim}
+use mathlib.Core.Bool.{Bool, true, false, not, cond}
 use mathlib.Core.List.{List, [], _∷_}
 use lib.ListN.{length, take, length-take}
 use lib.Dec.{lit<, leb, eqb}
-use Rattle.base_limits.specs.Limits.{maxVertices, countDigits, groupDigits, endpointDigits, weightDigits, surveyRoom}
+use Rattle.base_finite.specs.Laws.Below.{lt-or-ge}
+use Rattle.base_limits.specs.Limits.{maxVertices, maxPairs, countDigits, groupDigits, endpointDigits, weightDigits, alsoDigits, surveyRoom}
 use Rattle.base_limits.specs.Verdict.{refusal}
 use Rattle.base_limits.specs.declared.Verdict.{Verdict}
 use Rattle.base_limits.specs.declared.Verdict.the-variants.{Fine, Refused}
-use Rattle.format_key.specs.Key.{nodesKey, linksKey, nodeKey, linkKey, comma, newline}
+use Rattle.format_key.specs.Key.{nodesKey, linksKey, nodeKey, alsoKey, linkKey, comma, newline}
 use Rattle.format_grammar.specs.Step.{Step, found, refused, _then_, checked}
 use Rattle.format_grammar.specs.Bytes.{byteIs, fixedAt, endAt}
-use Rattle.format_grammar.specs.Lines.{linesFrom, whole}
+use Rattle.format_grammar.specs.Items.{itemsFrom}
+use Rattle.format_grammar.specs.Lines.{following, linesFrom, whole}
 use Rattle.format_grammar.specs.Laws.Step.{Stops, early, late, then-stops}
 use Rattle.format_grammar.specs.Laws.Lines.{lines-unfold}
 use Rattle.format_write.specs.Decimal.{spelledAfter}
-use Rattle.format_number.specs.Number.{numeralAt, numberAt, numberTo, numberLine}
+use Rattle.format_number.specs.Number.{alsoLetter, numeralAt, numberAt, numberTo, numberLine}
 use Rattle.format_number.specs.Laws.Near.{local-tested}
-use Rattle.format_survey_lines.specs.Line.{testsFor, verticesTest, edgesTest, groupTest, countLine, groupLine, groupLines, edgeLine, edgeLines}
+use Rattle.format_also.specs.Pair.{Pair, PairDigits, rank, pairAt, alsoTest, alsoLine, alsoReader, alsoTurns, alsoAt}
+use Rattle.format_also.specs.Laws.Tests.{pair-digits, line-past, line-read}
+use Rattle.format_survey_lines.specs.Line.{Lengths, pairRoom, testsFor, verticesTest, edgesTest, groupTest, countLine, groupLine, groupLines, edgeLine, edgeLines}
 use Rattle.format_survey_lines.specs.Laws.Tests.{vertices-passed}
 use Rattle.format_survey.specs.Reading.{surveyAt, stepOutcome, reading}
 use Rattle.format_survey.specs.Laws.Content.{contentAt, content-survey}
@@ -118,42 +123,96 @@ group-line-encodable : (v : ℕ) → v < maxVertices → (g : ℕ) → Encodable
 unfolding groupTest
 group-line-encodable v h g = encodable-refuse _ (at-place 17 (lit< tt) (lit< tt) (omega arith))
 
-finds-content : (a b c d : ℕ) (t : List ℕ) → Finds (contentAt (testsFor a b c d) t 0)
+-- ---- also lines
+
+finds-pair : (t : List ℕ) (at : ℕ) → Finds (pairAt t at)
+unfolding pairAt
+finds-pair t at =
+    finds-then _ _ (finds-fixed alsoKey t at) λ z a f.
+    finds-then _ _ (finds-to alsoDigits comma t a) λ v b f.
+    finds-then _ _ (finds-to alsoDigits newline t b) λ g c f.
+    finds-value _ c
+
+also-encodable : (groups : List ℕ) (room low i : ℕ) (x : Pair) → i < maxPairs → PairDigits x → Encodable (alsoTest groups room low i x)
+unfolding alsoTest
+also-encodable groups room low i x h d =
+    let near : x .owner < 2 ^ 32 = let o = d .owner in omega arith in
+    encodable-before _ _ (encodable-refuse _ (at-place 17 (lit< tt) (lit< tt) near)) λ _.
+    encodable-before _ _ (encodable-refuse _ (at-place 18 (lit< tt) (lit< tt) (omega arith))) λ _.
+    encodable-before _ _ (encodable-refuse _ (at-place 18 (lit< tt) (lit< tt) (omega arith))) λ _.
+    encodable-before _ _ (encodable-refuse _ (at-place 18 (lit< tt) (lit< tt) (omega arith))) λ _.
+    encodable-before _ _ (encodable-refuse _ (at-place 18 (lit< tt) (lit< tt) (omega arith))) λ _.
+    encodable-refuse _ (at-zero 7 (lit< tt) (lit< tt))
+
+finds-also-line : (t groups : List ℕ) (room low i at : ℕ) → Finds (alsoLine t groups room low i at)
+finds-also-line t groups room low i at = ⊎-elim some past (lt-or-ge i maxPairs)
+  where
+    some : i < maxPairs → Finds (alsoLine t groups room low i at)
+    some h =
+        subst Finds (sym (line-read t groups room low i at h))
+        (finds-then _ _ (finds-pair t at) λ x p e. finds-checked (alsoTest groups room low i x) (also-encodable groups room low i x h (pair-digits t at e)) x p)
+
+    past : maxPairs ≤ i → Finds (alsoLine t groups room low i at)
+    past h = subst Finds (sym (line-past t groups room low i at h)) (finds-malformed at)
+
+finds-items : (t groups : List ℕ) (room fuel low i at : ℕ) → Finds (itemsFrom (alsoReader t groups room) fuel low i at .end)
+unfolding itemsFrom following alsoReader
+finds-items t groups room zero low i at = finds-malformed at
+finds-items t groups room (suc fuel) low i at =
+    by-stop (not (byteIs t at alsoLetter)) (alsoLine t groups room low i at) (finds-also-line t groups room low i at) (λ x p. finds-items t groups room fuel (rank x) (i + 1) p)
+  where
+    by-stop : (b : Bool) (s : Step Pair) → Finds s → ((x : Pair) (p : ℕ) → Finds (itemsFrom (alsoReader t groups room) fuel (rank x) (i + 1) p .end))
+        → Finds (cond b (record { values = []; end = found low at }) (following s (λ x p. itemsFrom (alsoReader t groups room) fuel (rank x) (i + 1) p)) .end)
+    by-stop true s h k = finds-value low at
+    by-stop false (found x p) h k = k x p
+    by-stop false (refused n p) h k = record { finding = λ number place e. h .finding number place (same e) }
+      where
+        same : {number place : ℕ} → _≡_ {A = Step ℕ} (refused n p) (refused number place) → _≡_ {A = Step Pair} (refused n p) (refused number place)
+        same {number} {place} e = let a : n ≡ number = cc in let b : p ≡ place = cc in cc
+
+finds-also : (t groups : List ℕ) (room at : ℕ) → Finds (whole (alsoAt t groups room at))
+unfolding alsoAt whole
+finds-also t groups room at = finds-then _ _ (finds-items t groups room alsoTurns 0 0 at) λ z p e. finds-value _ p
+
+-- ---- the whole text
+
+finds-content : (lent : Lengths) (t : List ℕ) → Finds (contentAt (testsFor lent) t 0)
 unfolding contentAt testsFor countLine groupLines groupLine edgeLines
-finds-content a b c d t =
-    finds-then _ _ (finds-tested nodesKey countDigits (verticesTest a) (vertices-encodable a) t 0) λ n p e.
-    finds-then _ _ (finds-tested linksKey countDigits (edgesTest b c d) (edges-encodable b c d) t p) λ m q f.
+finds-content lent t =
+    finds-then _ _ (finds-tested nodesKey countDigits (verticesTest (lent .groups)) (vertices-encodable (lent .groups)) t 0) λ n p e.
+    finds-then _ _ (finds-tested linksKey countDigits (edgesTest (lent .firsts) (lent .seconds) (lent .weights)) (edges-encodable (lent .firsts) (lent .seconds) (lent .weights)) t p) λ m q f.
     finds-then _ _ (finds-lines _ maxVertices (λ i at h. finds-tested nodeKey groupDigits (groupTest i) (group-line-encodable i h) t at) n 0 q (few n p e)) λ gs r g.
-    finds-then _ _ (finds-lines _ m (λ i at h. finds-edge t i at) m 0 r (omega arith)) λ es s h.
+    finds-then _ _ (finds-also t gs (pairRoom lent) r) λ ps v h.
+    finds-then _ _ (finds-lines _ m (λ i at h. finds-edge t i at) m 0 v (omega arith)) λ es s h.
     finds-value _ s
   where
-    few : (n p : ℕ) → (numberLine nodesKey countDigits t 0 then λ x q. checked (verticesTest a x) x q) ≡ found n p → 0 + n ≤ maxVertices
-    few n p e = let m = vertices-passed a n (local-tested nodesKey countDigits (omega arith) (verticesTest a) .near t 0 n p e .1) .most in omega arith
+    few : (n p : ℕ) → (numberLine nodesKey countDigits t 0 then λ x q. checked (verticesTest (lent .groups) x) x q) ≡ found n p → 0 + n ≤ maxVertices
+    few n p e = let m = vertices-passed (lent .groups) n (local-tested nodesKey countDigits (omega arith) (verticesTest (lent .groups)) .near t 0 n p e .1) .most in omega arith
 
-finds-survey : (a b c d : ℕ) (t : List ℕ) → Finds (surveyAt (testsFor a b c d) t)
+finds-survey : (lent : Lengths) (t : List ℕ) → Finds (surveyAt (testsFor lent) t)
 unfolding endAt
-finds-survey a b c d t =
-    subst Finds (sym (content-survey (testsFor a b c d) t))
-    (finds-then _ _ (finds-content a b c d t) λ x p e. finds-then _ _ (finds-cond (leb (length t) p) (finds-value 0 p) (finds-malformed p)) λ z q f. finds-value _ q)
+finds-survey lent t =
+    subst Finds (sym (content-survey (testsFor lent) t))
+    (finds-then _ _ (finds-content lent t) λ x p e. finds-then _ _ (finds-cond (leb (length t) p) (finds-value 0 p) (finds-malformed p)) λ z q f. finds-value _ q)
 
 step-refused : {A : Type 0} (s : Step A) {number place : ℕ} → stepOutcome s ≡ refusal number place → s ≡ refused number place
 unfolding stepOutcome
 step-refused (found a next) e = let z : _≡_ {A = ℕ} 0 1 = cc in absurd (omega arith)
 step-refused (refused i j) {number} {place} e = let a : i ≡ number = cc in let b : j ≡ place = cc in cc
 
-module _ (t groups firsts seconds weights : List ℕ) {number place : ℕ} (e : reading t groups firsts seconds weights ≡ refusal number place) where
+module _ (t : List ℕ) (lent : Lengths) {number place : ℕ} (e : reading t lent ≡ refusal number place) where
   -- 16 stands within the first 65,536 bytes.
   malformed-near : number ≡ 16 → place ≤ surveyRoom
   malformed-near h =
-      let same = reading-first-bytes t groups firsts seconds weights ∙ e ∙ ap (λ (n : ℕ). refusal n place) h in
-      let inside = malformed-begins groups firsts seconds weights (take surveyRoom t) place same .inside in
+      let same = reading-first-bytes t lent ∙ e ∙ ap (λ (n : ℕ). refusal n place) h in
+      let inside = malformed-begins lent (take surveyRoom t) place same .inside in
       let size = length-take surveyRoom t in
       let most = min-le-left surveyRoom (length t) in
       omega arith
 
   pub reading-telling : Telling number place
   unfolding reading
-  reading-telling = by-finding (finds-survey (length groups) (length firsts) (length seconds) (length weights) t .finding number place (step-refused _ e))
+  reading-telling = by-finding (finds-survey lent t .finding number place (step-refused _ e))
     where
       by-finding : Finding number place → Telling number place
       by-finding (malformed h) = let l = malformed-near h in record { some = omega arith; low = omega arith; near = omega arith }
