@@ -53,13 +53,6 @@ static void plan(void) {
     moat_bytes = FOAMSICKLE_RECORD_BYTES * (size_t)figures[4];
 }
 
-/* Texts have no pairs, so the plan that is printed and verified is drawn without. */
-static void plan_alone(void) {
-    answer = foamsickle_plan(groups, N, firsts, M, seconds, M, weights, M, owners, 0, others, 0, marks, M, records,
-                             sizeof records, figures, FOAMSICKLE_PLAN_FIGURES);
-    moat_bytes = FOAMSICKLE_RECORD_BYTES * (size_t)figures[4];
-}
-
 static void check(void) {
     answer = foamsickle_check(groups, N, firsts, M, seconds, M, weights, M, owners, PAIRS, others, PAIRS, marks, M, records,
                               moat_bytes, counts, FOAMSICKLE_CHECK_FIGURES);
@@ -134,7 +127,6 @@ int main(int argc, char **argv) {
         {"foamsickle_handset_check", handset_check},
         {"foamsickle_print_survey", print_survey},
         {"foamsickle_read", read_survey},
-        {"foamsickle_plan without pairs", plan_alone},
         {"foamsickle_print_plan", print_plan},
         {"foamsickle_print_dual", print_moat},
         {"foamsickle_verify", verify},

@@ -11,6 +11,7 @@
 //! | `brute` | the cheapest joining set of a tiny survey |
 //! | `handset` | planning and checking over bytes alone, and their generated cases |
 //! | `gen`   | seeded surveys, texts and plans, sound and damaged |
+//! | `verifying` | the check of a printed plan behind its survey, as a call |
 //! | `blunder` | planners with a fault each, which the generated inputs have to tell from a sound one |
 
 pub mod blunder;
@@ -24,6 +25,7 @@ pub mod native;
 pub mod plan;
 pub mod print;
 pub mod read;
+pub mod verifying;
 
 /// 01, refusal 1: more junctions are refused.
 pub const MAX_JUNCTIONS: usize = 256;

@@ -12,6 +12,7 @@ use crate::calls::{Figures, Library, PLAN_COUNTS};
 use crate::handset::{Crossing, Handset};
 use crate::plan::Counts;
 use crate::read::Lent;
+use crate::verifying::Verify;
 use crate::{Refusal, View};
 use foamsickle::call;
 
@@ -50,6 +51,9 @@ pub const HANDSET: Handset = Handset {
     plan: |crossing, marks, records, result| call::handset_plan(bytes(crossing), marks, records, result),
     check: |crossing, marks, records, result| call::handset_check(bytes(crossing), marks, records, result),
 };
+
+/// Its check of a printed plan behind its survey.
+pub const VERIFY: Verify = call::verify;
 
 /// The outside planner in the form of ours.
 pub fn plan(survey: View, marks: &mut [u8], records: &mut [u8]) -> Result<Counts, Refusal> {

@@ -11,8 +11,8 @@ use Rattle.plan_core.specs.Plan.{planRefusal}
 use Rattle.api_code.specs.Code.{withCounts}
 use Rattle.api_plan.specs.Call.{planFigures, drawnMarks, drawnRecords, drawnFigures}
 use Rattle.api_check.specs.Call.{checkFigures, checkFiguresOf}
-use Rattle.api_words.specs.Words.{figureBytes, spelled}
-use Rattle.api_lengths.specs.Slices.{Slices, surveyIn, raggedRefusal}
+use Rattle.api_words.specs.Words.{figureBytes, spelledCounts}
+use Rattle.api_lengths.specs.Slices.{Slices, surveySpelled, raggedRefusal}
 
 -- bytes of the counts of planning and of checking
 abbrev pub planBytes : ℕ
@@ -23,7 +23,7 @@ checkBytes = checkFigures * figureBytes
 
 -- What the lent result holds at the end: the counts in document 01's order, and behind them what was there; a refusal writes nothing.
 unfoldable pub resultAfter : Verdict → (figures result : List ℕ) → List ℕ
-resultAfter v figures result = written v (sets result 0 (spelled figures)) result
+resultAfter v figures result = written v (sets result 0 (spelledCounts figures)) result
 
 -- ---- checking
 
@@ -32,11 +32,11 @@ unfoldable pub checkWith : Survey → (marks records result : List ℕ) → Verd
 checkWith s marks records result = withCounts s checkBytes (length result) (checkRefusal s marks records)
 
 unfoldable pub handsetCheck : Slices → (marks records result : List ℕ) → Verdict
-handsetCheck b marks records result = raggedRefusal b before checkWith (surveyIn b) marks records result
+handsetCheck b marks records result = raggedRefusal b before checkWith (surveySpelled b) marks records result
 
 unfoldable pub handsetCheckResult : Slices → (marks records result : List ℕ) → List ℕ
 handsetCheckResult b marks records result =
-    resultAfter (handsetCheck b marks records result) (checkFiguresOf (checkedOf (surveyIn b) marks records)) result
+    resultAfter (handsetCheck b marks records result) (checkFiguresOf (checkedOf (surveySpelled b) marks records)) result
 
 -- ---- planning
 
@@ -45,13 +45,13 @@ unfoldable pub planWith : Survey → (marks records result : List ℕ) → Verdi
 planWith s marks records result = withCounts s planBytes (length result) (planRefusal s (length marks) (length records))
 
 unfoldable pub handsetPlan : Slices → (marks records result : List ℕ) → Verdict
-handsetPlan b marks records result = raggedRefusal b before planWith (surveyIn b) marks records result
+handsetPlan b marks records result = raggedRefusal b before planWith (surveySpelled b) marks records result
 
 unfoldable pub handsetMarks : Slices → (marks records result : List ℕ) → List ℕ
-handsetMarks b marks records result = written (handsetPlan b marks records result) (drawnMarks (surveyIn b) marks) marks
+handsetMarks b marks records result = written (handsetPlan b marks records result) (drawnMarks (surveySpelled b) marks) marks
 
 unfoldable pub handsetRecords : Slices → (marks records result : List ℕ) → List ℕ
-handsetRecords b marks records result = written (handsetPlan b marks records result) (drawnRecords (surveyIn b) records) records
+handsetRecords b marks records result = written (handsetPlan b marks records result) (drawnRecords (surveySpelled b) records) records
 
 unfoldable pub handsetPlanResult : Slices → (marks records result : List ℕ) → List ℕ
-handsetPlanResult b marks records result = resultAfter (handsetPlan b marks records result) (drawnFigures (surveyIn b)) result
+handsetPlanResult b marks records result = resultAfter (handsetPlan b marks records result) (drawnFigures (surveySpelled b)) result

@@ -17,8 +17,8 @@ abbrev pub Fit : List ℕ → Type 0
 Fit l = (i : ℕ) → getD l i 0 < 256 ^ wordBytes
 
 -- The six slices in which a survey crosses.
-unfoldable pub crossing : Survey → Slices
-crossing s =
+unfoldable pub crossingOf : Survey → Slices
+crossingOf s =
     record {
       groups = s .groups;
       firsts = inBytes (s .firsts);

@@ -3,61 +3,15 @@ ghost use mathlib.Core.Path.{_≡_};
 ghost use lib.ListN.{length};
 ghost use Rattle.base_buffer.specs.Lent.{old, new};
 ghost use Rattle.base_limits.specs.declared.Verdict.the-variants.{Fine};
-ghost use Rattle.survey_core.specs.Survey.{lentWith};
-ghost use Rattle.check_rule.specs.Check.{checkedOf};
 ghost use Rattle.api_code.specs.Code.{codeOf};
-ghost use Rattle.api_check.specs.Call.{checkFiguresOf};
 ghost use Rattle.api_lengths.specs.Slices.{lentSlices, lengthsRefusal};
-ghost use Rattle.api_handset.specs.Call.{resultAfter, checkWith, handsetCheck, handsetCheckResult};
-use api_check::CHECK_FIGURES;
+ghost use Rattle.api_handset.specs.Call.{handsetCheck, handsetCheckResult};
 use api_lengths::lengths_refusal;
 use api_lengths::pairs_seen;
 use api_words::WORD_BYTES;
 use api_words::edge_words;
 use api_words::pair_words;
-use base_limits::VALUE_BYTES;
 use base_limits::Verdict;
-
-// Bytes of the counts.
-const CHECK_BYTES: usize = CHECK_FIGURES * VALUE_BYTES;
-
-// Checks a plan against a survey in numbers: no entry for counts is lent on where the result is too short.
-fn check_words(
-    groups: &[u8],
-    firsts: &[u32],
-    seconds: &[u32],
-    weights: &[u32],
-    owners: &[u32],
-    others: &[u8],
-    marks: &[u8],
-    records: &[u8],
-    result: &mut [u8],
-) -> u64
-    ensures { λ r. let s = lentWith groups firsts seconds weights owners others in
-        ⌜ r ≡ codeOf (checkWith s (old marks) (old records) (old result)) ⌝ }
-    ensures { λ _. let s = lentWith groups firsts seconds weights owners others in
-        let figures = checkFiguresOf (checkedOf s (old marks) (old records)) in
-        ⌜ new result ≡ resultAfter (checkWith s (old marks) (old records) (old result)) figures (old result) ⌝ }
-{
-    let mut counts = [0u64; CHECK_FIGURES];
-    let room = api_code::lent_on(result.len(), CHECK_BYTES, CHECK_FIGURES);
-    let found = api_check::check_call(
-        groups,
-        firsts,
-        seconds,
-        weights,
-        owners,
-        others,
-        marks,
-        records,
-        &mut counts[0..room],
-    );
-    if 0 < found {
-        return found;
-    }
-    api_words::write_counts(result, &counts);
-    found
-}
 
 // Checks a plan against a survey whose lengths are in order.
 fn check_bytes(
@@ -71,8 +25,8 @@ fn check_bytes(
     records: &[u8],
     result: &mut [u8],
 ) -> u64
-    requires { ⌜ lengthsRefusal (length (now groups)) (length (now firsts)) (length (now seconds)) (length (now weights))
-        (length (now owners)) (length (now others)) ≡ Fine ⌝ }
+    requires { ⌜ lengthsRefusal (length (now groups)) (length (now firsts)) (length (now seconds))
+        (length (now weights)) (length (now owners)) (length (now others)) ≡ Fine ⌝ }
     ensures code { λ r.
         let b = lentSlices groups firsts seconds weights owners others in
         ⌜ r ≡ codeOf (handsetCheck b (old marks) (old records) (old result)) ⌝ }
@@ -86,7 +40,7 @@ fn check_bytes(
     let owner_words = pair_words(owners);
     let m = firsts.len() / WORD_BYTES;
     let p = pairs_seen(others.len());
-    check_words(
+    api_result::check_words(
         groups,
         &first_words[0..m],
         &second_words[0..m],

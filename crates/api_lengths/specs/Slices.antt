@@ -33,8 +33,8 @@ lentSlices groups firsts seconds weights owners others =
     }
 
 -- The survey that they spell.
-unfoldable pub surveyIn : Slices → Survey
-surveyIn b = surveyWith (b .groups) (wordsIn (b .firsts)) (wordsIn (b .seconds)) (wordsIn (b .weights)) (wordsIn (b .owners)) (b .others)
+unfoldable pub surveySpelled : Slices → Survey
+surveySpelled b = surveyWith (b .groups) (wordsIn (b .firsts)) (wordsIn (b .seconds)) (wordsIn (b .weights)) (wordsIn (b .owners)) (b .others)
 
 -- ---- lengths
 

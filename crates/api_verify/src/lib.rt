@@ -1,5 +1,5 @@
-// Checking a survey's text with a printed plan behind it, for a caller that gets one number back and its counts in a lent
-// buffer. Definitions in specs/.
+// Checking a survey's text with a printed plan behind it, for a caller that gets one number back and its counts in a
+// lent buffer. Definitions in specs/.
 ghost use mathlib.Core.Path.{_≡_};
 ghost use lib.ListN.{length};
 ghost use Rattle.base_buffer.specs.Lent.{old, new};

@@ -24,10 +24,10 @@ unfoldable pub wordsIn : List ℕ → List ℕ
 wordsIn bytes = tabulate (length bytes / wordBytes) (wordAt bytes)
 
 -- Counts one after the other.
-unfoldable pub spelled : List ℕ → List ℕ
-spelled [] = []
-spelled (x ∷ xs) = lowBytes figureBytes x ++ spelled xs
+unfoldable pub spelledCounts : List ℕ → List ℕ
+spelledCounts [] = []
+spelledCounts (x ∷ xs) = lowBytes figureBytes x ++ spelledCounts xs
 
 -- A slice that holds so many counts, with them at its beginning; a shorter one as it was.
 unfoldable pub withSpelled : (result counts : List ℕ) → List ℕ
-withSpelled result counts = cond (ltb (length result / figureBytes) (length counts)) result (sets result 0 (spelled counts))
+withSpelled result counts = cond (ltb (length result / figureBytes) (length counts)) result (sets result 0 (spelledCounts counts))

@@ -1,5 +1,6 @@
-// The library for programs in other languages: every operation as a function that C can call. A slice crosses as a pointer
-// and a length in items; the answer is 0, or a refusal's number plus 256 times its place. include/foamsickle.h declares them.
+// The library for programs in other languages: every operation as a function that C can call. A slice crosses as a
+// pointer and a length in items; the answer is 0, or a refusal's number plus 256 times its place. Declared in
+// include/foamsickle.h.
 ghost use mathlib.Core.Path.{_≡_};
 ghost use Rattle.base_buffer.specs.Lent.{old, new};
 ghost use Rattle.survey_core.specs.Survey.{lentWith};

@@ -18,6 +18,9 @@ const LIBRARY: evidence::calls::Library = evidence::calls::SECOND;
 #[cfg(not(feature = "native"))]
 const HANDSET: handset::Handset = handset::SECOND;
 
+/// The calls of which so many cases are compared; the check of printed plans is of the library alone.
+const COMPARED: u64 = (OPERATIONS.len() + handset::CALLS.len()) as u64 + cfg!(feature = "native") as u64;
+
 /// Holds a call of so many cases against the second implementation, and says how often each refusal came.
 fn run(name: &str, count: u64, seed: u64, compare: impl Fn(u64) -> Result<u64, String>) -> Result<(), String> {
     let mut came: BTreeMap<u64, u64> = BTreeMap::new();
@@ -38,6 +41,8 @@ fn compare(count: u64, seed: u64) -> Result<(), String> {
     for (name, checks) in handset::CALLS {
         run(name, count, seed, |case| handset::compare(&HANDSET, seed, case, checks))?;
     }
+    #[cfg(feature = "native")]
+    run("verify", count, seed, |case| evidence::verifying::compare(evidence::native::VERIFY, seed, case))?;
     Ok(())
 }
 
@@ -60,7 +65,7 @@ fn main() -> ExitCode {
     }
     match compare(count, seed) {
         Ok(()) => {
-            println!("{} compared, 0 differ", count * (OPERATIONS.len() + handset::CALLS.len()) as u64);
+            println!("{} compared, 0 differ", count * COMPARED);
             ExitCode::SUCCESS
         }
         Err(trouble) => {

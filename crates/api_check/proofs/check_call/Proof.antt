@@ -1,6 +1,6 @@
 -- `check_call` meets its contract: counts that fit get what `check` finds, others are 7 after the survey's refusals.
 use borrow.Author.Needs.{needs}
-use Rattle.api_check.specs.Laws.Call.{check-short-code, check-short-counts, check-passed, check-stored, check-refused, check-kept}
+use Rattle.api_check.specs.Laws.Call.{check-short-code, check-short-counts, check-passed, check-stored, check-call-refused, check-kept}
 use Rattle.api_check.proofs.check_call.Statement.{statement}
 use Rattle.api_check.proofs.check_call.Tie as tie
 
@@ -24,7 +24,7 @@ returns-3 : tie.Need-returns-3
 returns-3 c =
     let matched = c .before .before in
     let called = matched .before .before in (
-      check-refused _ _ _ _ (called .before .if1 .left) (called .check .ensures .0) _ _ (matched .answer2 .given .1) (c .code .ensures),
+      check-call-refused _ _ _ _ (called .before .if1 .left) (called .check .ensures .0) _ _ (matched .answer2 .given .1) (c .code .ensures),
       check-kept _ _ _ _ (called .before .if1 .left) (called .check .ensures .0) _ _ (matched .answer2 .given .1),
     )
 

@@ -78,10 +78,10 @@ module _ (s : Survey) (marks records counts : List ℕ) where
     unfolding checking checkOutcome checkCounts checkFiguresOf
     check-stored k c b h e = finished-counts (check-long long) _ (sym answered ∙ ap checkOutcome h) checkFiguresOf counts e
 
-    pub check-refused : (number place : ℕ) → r ≡ CheckRefused number place → {x : ℕ} → x ≡ capped (number + placeUnit * place)
+    pub check-call-refused : (number place : ℕ) → r ≡ CheckRefused number place → {x : ℕ} → x ≡ capped (number + placeUnit * place)
         → x ≡ codeOf (checkCall s marks records counts)
     unfolding checking checkOutcome
-    check-refused number place h = refused-code (check-long long) _ (check-encodable s marks records) number place (sym answered ∙ ap checkOutcome h)
+    check-call-refused number place h = refused-code (check-long long) _ (check-encodable s marks records) number place (sym answered ∙ ap checkOutcome h)
 
     pub check-kept : (number place : ℕ) → r ≡ CheckRefused number place → counts ≡ checkCounts s marks records counts
     unfolding checking checkOutcome checkCounts

@@ -39,9 +39,9 @@ module _ (s : Survey) (wanted long : ℕ) (w : Verdict) where
 -- ---- what `short_counts` answers, by what the survey's check found
 
 module _ (s : Survey) {found : Verdict} (looked : found ≡ surveyRefusal s) where
-  pub short-refused : (number place : ℕ) {r : ℕ} → found ≡ Refused number place → r ≡ capped (number + placeUnit * place)
+  pub short-counts-refused : (number place : ℕ) {r : ℕ} → found ≡ Refused number place → r ≡ capped (number + placeUnit * place)
       → r ≡ codeOf (surveyRefusal s before Refused 7 0)
-  short-refused number place h k =
+  short-counts-refused number place h k =
       let refused = sym looked ∙ h in
       exact-code (surveyRefusal s) (survey-encodable s) number place refused k ∙ ap codeOf (refused ∙ sym (before-refused refused (Refused 7 0)))
 

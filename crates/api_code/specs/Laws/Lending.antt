@@ -44,12 +44,3 @@ module _ (long wanted : ℕ) (l : List ℕ) {room : ℕ} (lent : room ≡ lentOn
   pub lent-rest : drop (room - 0) l ≡ cond (ltb long wanted) l []
   unfolding lentOn
   lent-rest = ap (λ (n : ℕ). drop (n - 0) l) lent ∙ cond-drop (ltb long wanted) l
-
--- What is lent on is too short exactly if the counts do not fit.
-lent-test : (b : Bool) (whole : ℕ) → 0 < whole → ltb (cond b 0 whole) whole ≡ b
-lent-test true whole some = lt-ltb 0 whole some
-lent-test false whole some = le-ltb whole whole (omega arith)
-
-pub lent-short : (long wanted whole : ℕ) → 0 < whole → ltb (lentOn long wanted whole) whole ≡ ltb long wanted
-unfolding lentOn
-lent-short long wanted whole some = lent-test (ltb long wanted) whole some

@@ -20,8 +20,8 @@ use Rattle.api_plan.specs.Call.{planFigures, planFiguresOf, planCall, drawnMark
 use Rattle.api_plan.specs.Laws.Call.{plan-encodable}
 use Rattle.api_check.specs.Call.{checkFigures, checkFiguresOf, checkCall, checkCounts}
 use Rattle.api_check.specs.Laws.Call.{check-encodable}
-use Rattle.api_words.specs.Words.{spelled, withSpelled}
-use Rattle.api_lengths.specs.Slices.{Slices, surveyIn, sizeRefusal, lengthsRefusal, raggedRefusal}
+use Rattle.api_words.specs.Words.{spelledCounts, withSpelled}
+use Rattle.api_lengths.specs.Slices.{Slices, surveySpelled, sizeRefusal, lengthsRefusal, raggedRefusal}
 use Rattle.api_lengths.specs.Laws.Lengths.{lengthsOf, lengths-refused, lengths-whole}
 use Rattle.api_lengths.specs.Laws.Pairs.{Seen, seen-call, seen-written}
 use Rattle.api_handset.specs.Call.{planBytes, checkBytes, resultAfter, checkWith, handsetCheck, handsetCheckResult}
@@ -91,22 +91,22 @@ lengths-encodable groups firsts seconds weights owners others =
 
 -- The call is refused for its lengths.
 module _ (b : Slices) {number place : ℕ} (h : lengthsOf b ≡ Refused number place) (w : Verdict) where
-  odd-code : {r : ℕ} → r ≡ capped (number + placeUnit * place) → r ≡ codeOf (raggedRefusal b before surveyRefusal (surveyIn b) before w)
+  odd-code : {r : ℕ} → r ≡ capped (number + placeUnit * place) → r ≡ codeOf (raggedRefusal b before surveyRefusal (surveySpelled b) before w)
   odd-code k = exact-code (lengthsOf b) (lengths-encodable _ _ _ _ _ _) number place h k ∙ ap codeOf (h ∙ sym (lengths-refused b h w))
 
-  odd-kept : (new old : List ℕ) → old ≡ written (raggedRefusal b before surveyRefusal (surveyIn b) before w) new old
+  odd-kept : (new old : List ℕ) → old ≡ written (raggedRefusal b before surveyRefusal (surveySpelled b) before w) new old
   unfolding written
   odd-kept new old = sym (ap (λ v. written v new old) (lengths-refused b h w))
 
 -- It is the call on what is seen of the survey.
-module _ (b : Slices) {t : Survey} (fine : lengthsOf b ≡ Fine) (seen : Seen (surveyIn b) t) (rest : Survey → Verdict) where
-  even-code : {r : ℕ} → r ≡ codeOf (surveyRefusal t before rest t) → r ≡ codeOf (raggedRefusal b before surveyRefusal (surveyIn b) before rest (surveyIn b))
+module _ (b : Slices) {t : Survey} (fine : lengthsOf b ≡ Fine) (seen : Seen (surveySpelled b) t) (rest : Survey → Verdict) where
+  even-code : {r : ℕ} → r ≡ codeOf (surveyRefusal t before rest t) → r ≡ codeOf (raggedRefusal b before surveyRefusal (surveySpelled b) before rest (surveySpelled b))
   even-code k = k ∙ ap codeOf (seen-call rest seen ∙ sym (before-fine (lengths-whole b fine) _))
 
   even-written : (new : Survey → List ℕ) (old : List ℕ) {after : List ℕ} → after ≡ written (surveyRefusal t before rest t) (new t) old
-      → after ≡ written (raggedRefusal b before surveyRefusal (surveyIn b) before rest (surveyIn b)) (new (surveyIn b)) old
+      → after ≡ written (raggedRefusal b before surveyRefusal (surveySpelled b) before rest (surveySpelled b)) (new (surveySpelled b)) old
   even-written new old k =
-      k ∙ seen-written rest new old seen ∙ ap (λ v. written v (new (surveyIn b)) old) (sym (before-fine (lengths-whole b fine) _))
+      k ∙ seen-written rest new old seen ∙ ap (λ v. written v (new (surveySpelled b)) old) (sym (before-fine (lengths-whole b fine) _))
 
 module _ (b : Slices) (marks records result : List ℕ) where
   pub check-odd-code : {number place r : ℕ} → lengthsOf b ≡ Refused number place → r ≡ capped (number + placeUnit * place) → r ≡ codeOf (handsetCheck b marks records result)
@@ -117,7 +117,7 @@ module _ (b : Slices) (marks records result : List ℕ) where
   unfolding handsetCheckResult resultAfter handsetCheck checkWith withCounts
   check-odd-kept h = odd-kept b h _ _ result
 
-  module _ {t : Survey} (fine : lengthsOf b ≡ Fine) (seen : Seen (surveyIn b) t) where
+  module _ {t : Survey} (fine : lengthsOf b ≡ Fine) (seen : Seen (surveySpelled b) t) where
     pub check-even-code : {r : ℕ} → r ≡ codeOf (checkWith t marks records result) → r ≡ codeOf (handsetCheck b marks records result)
     unfolding handsetCheck checkWith withCounts
     check-even-code k = even-code b fine seen (λ s. refuseIf (ltb (length result) checkBytes) 7 0 before checkRefusal s marks records) k
@@ -127,7 +127,7 @@ module _ (b : Slices) (marks records result : List ℕ) where
     unfolding handsetCheckResult resultAfter handsetCheck checkWith withCounts
     check-even-result k =
         even-written b fine seen (λ s. refuseIf (ltb (length result) checkBytes) 7 0 before checkRefusal s marks records)
-        (λ s. sets result 0 (spelled (checkFiguresOf (checkedOf s marks records)))) result k
+        (λ s. sets result 0 (spelledCounts (checkFiguresOf (checkedOf s marks records)))) result k
 
   pub plan-odd-code : {number place r : ℕ} → lengthsOf b ≡ Refused number place → r ≡ capped (number + placeUnit * place) → r ≡ codeOf (handsetPlan b marks records result)
   unfolding handsetPlan planWith withCounts
@@ -146,7 +146,7 @@ module _ (b : Slices) (marks records result : List ℕ) where
     unfolding handsetPlanResult resultAfter handsetPlan planWith withCounts
     plan-odd-result = odd-kept b h _ _ result
 
-  module _ {t : Survey} (fine : lengthsOf b ≡ Fine) (seen : Seen (surveyIn b) t) where
+  module _ {t : Survey} (fine : lengthsOf b ≡ Fine) (seen : Seen (surveySpelled b) t) where
     abbrev rest : Survey → Verdict
     rest s = refuseIf (ltb (length result) planBytes) 7 0 before planRefusal s (length marks) (length records)
 
@@ -167,4 +167,4 @@ module _ (b : Slices) (marks records result : List ℕ) where
     pub plan-even-result : {after : List ℕ} → after ≡ resultAfter (planWith t marks records result) (drawnFigures t) result
         → after ≡ handsetPlanResult b marks records result
     unfolding handsetPlanResult resultAfter handsetPlan planWith withCounts
-    plan-even-result k = even-written b fine seen rest (λ s. sets result 0 (spelled (drawnFigures s))) result k
+    plan-even-result k = even-written b fine seen rest (λ s. sets result 0 (spelledCounts (drawnFigures s))) result k

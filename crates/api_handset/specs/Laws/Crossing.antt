@@ -19,9 +19,9 @@ use Rattle.survey_core.specs.Survey.{Survey, vertexCount}
 use Rattle.survey_core.specs.Refusal.{surveyRefusal}
 use Rattle.api_words.specs.Words.{wordBytes, wordAt, wordsIn}
 use Rattle.api_code.specs.Code.{withCounts}
-use Rattle.api_lengths.specs.Slices.{surveyIn, isRagged, sizeRefusal, anyRagged, raggedRefusal}
+use Rattle.api_lengths.specs.Slices.{surveySpelled, isRagged, sizeRefusal, anyRagged, raggedRefusal}
 use Rattle.api_handset.specs.Call.{planWith, handsetPlan, checkWith, handsetCheck}
-use Rattle.api_handset.specs.Crossing.{inBytes, Fit, crossing}
+use Rattle.api_handset.specs.Crossing.{inBytes, Fit, crossingOf}
 
 length-crossed : (l : List ℕ) → length (inBytes l) ≡ wordBytes * length l
 unfolding inBytes
@@ -65,8 +65,8 @@ words-back l h =
     let c : i < length l = rw same at b in
     getD-tabulate (length l) (wordAt (inBytes l)) i 0 c ∙ word-back l h i c)
 
-pub survey-back : (s : Survey) → Fit (s .firsts) → Fit (s .seconds) → Fit (s .weights) → Fit (s .owners) → surveyIn (crossing s) ≡ s
-unfolding surveyIn crossing
+pub survey-back : (s : Survey) → Fit (s .firsts) → Fit (s .seconds) → Fit (s .weights) → Fit (s .owners) → surveySpelled (crossingOf s) ≡ s
+unfolding surveySpelled crossingOf
 survey-back s f g w o =
     rw (words-back (s .firsts) f, words-back (s .seconds) g, words-back (s .weights) w, words-back (s .owners) o)
 
@@ -78,8 +78,8 @@ crossed-whole l =
     let long : length (inBytes l) ≡ wordBytes * length l = length-crossed l in
     rw (eq-eqb (length (inBytes l) % wordBytes) 0 (omega arith))
 
-crossed-size : (s : Survey) → raggedRefusal (crossing s) ≡ sizeRefusal (length (s .groups))
-unfolding raggedRefusal crossing anyRagged
+crossed-size : (s : Survey) → raggedRefusal (crossingOf s) ≡ sizeRefusal (length (s .groups))
+unfolding raggedRefusal crossingOf anyRagged
 crossed-size s =
     ap (λ v. sizeRefusal (length (s .groups)) before v)
     (refuse-false (rw (crossed-whole (s .firsts), crossed-whole (s .seconds), crossed-whole (s .weights), crossed-whole (s .owners))) 2 0)
@@ -95,16 +95,16 @@ unfolding sizeRefusal surveyRefusal vertexCount
 size-first s w = found-first (sizeRefusal (length (s .groups))) _ w
 
 module _ (s : Survey) (f : Fit (s .firsts)) (g : Fit (s .seconds)) (w : Fit (s .weights)) (o : Fit (s .owners)) (marks records result : List ℕ) where
-  pub plan-crossed : handsetPlan (crossing s) marks records result ≡ planWith s marks records result
+  pub plan-crossed : handsetPlan (crossingOf s) marks records result ≡ planWith s marks records result
   unfolding handsetPlan planWith withCounts
   plan-crossed =
-      ap (λ t. raggedRefusal (crossing s) before planWith t marks records result) (survey-back s f g w o)
+      ap (λ t. raggedRefusal (crossingOf s) before planWith t marks records result) (survey-back s f g w o)
       ∙ ap (λ v. v before planWith s marks records result) (crossed-size s)
       ∙ size-first s _
 
-  pub check-crossed : handsetCheck (crossing s) marks records result ≡ checkWith s marks records result
+  pub check-crossed : handsetCheck (crossingOf s) marks records result ≡ checkWith s marks records result
   unfolding handsetCheck checkWith withCounts
   check-crossed =
-      ap (λ t. raggedRefusal (crossing s) before checkWith t marks records result) (survey-back s f g w o)
+      ap (λ t. raggedRefusal (crossingOf s) before checkWith t marks records result) (survey-back s f g w o)
       ∙ ap (λ v. v before checkWith s marks records result) (crossed-size s)
       ∙ size-first s _

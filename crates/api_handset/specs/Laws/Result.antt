@@ -20,7 +20,7 @@ use Rattle.api_code.specs.Code.{codeOf, withCounts, countsAfter, lentOn}
 use Rattle.api_code.specs.Laws.Encodable.{Encodable, code-zero, zero-code}
 use Rattle.api_code.specs.Laws.Lending.{lent-part, lent-rest}
 use Rattle.api_code.specs.Laws.Ends.{counts-encodable}
-use Rattle.api_words.specs.Words.{figureBytes, spelled, withSpelled}
+use Rattle.api_words.specs.Words.{figureBytes, spelledCounts, withSpelled}
 use Rattle.api_handset.specs.Call.{resultAfter}
 
 -- The entries that are lent on of n zeros, and how many they are.
@@ -60,7 +60,7 @@ module _ (s : Survey) (rest : Verdict) (n : ℕ) (some : 0 < n) (zeros result : 
   unfolding resultAfter written
   result-kept {code} h refused figures = by across (across-code h)
     where
-      by : (v : Verdict) → code ≡ codeOf v → result ≡ written v (sets result 0 (spelled figures)) result
+      by : (v : Verdict) → code ≡ codeOf v → result ≡ written v (sets result 0 (spelledCounts figures)) result
       by Fine e = let none : code ≡ 0 = e ∙ zero-code refl in absurd (omega (arith, none, refused))
       by (Refused number place) e = refl
 
@@ -86,6 +86,6 @@ module _ (s : Survey) (rest : Verdict) (n : ℕ) (some : 0 < n) (zeros result : 
         let held : part ++ drop (room - 0) zeros ≡ figures = ap (λ l. part ++ l) none-left ∙ append-nil part ∙ all in
         let long = ltb-false (length result) wanted enough in
         let room-for : ltb (length result / figureBytes) (length figures) ≡ false = le-ltb (length result / figureBytes) (length figures) (omega (arith, long, many)) in
-        wrote ∙ ap (λ l. cond (ltb (length result / figureBytes) (length l)) result (sets result 0 (spelled l))) held
-        ∙ ap (λ t. cond t result (sets result 0 (spelled figures))) room-for
-        ∙ sym (ap (λ v. written v (sets result 0 (spelled figures)) result) fine)
+        wrote ∙ ap (λ l. cond (ltb (length result / figureBytes) (length l)) result (sets result 0 (spelledCounts l))) held
+        ∙ ap (λ t. cond t result (sets result 0 (spelledCounts figures))) room-for
+        ∙ sym (ap (λ v. written v (sets result 0 (spelledCounts figures)) result) fine)

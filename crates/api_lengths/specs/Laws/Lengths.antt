@@ -14,7 +14,7 @@ use Rattle.base_limits.specs.Laws.Verdict.{before-refused, before-fine, before-
 use Rattle.survey_core.specs.Survey.{vertexCount, edgeCount}
 use Rattle.survey_core.specs.Refusal.{surveyRefusal}
 use Rattle.api_words.specs.Words.{wordBytes}
-use Rattle.api_lengths.specs.Slices.{Slices, surveyIn, sizeRefusal, isRagged, anyRagged, areUneven, lengthsRefusal, raggedRefusal}
+use Rattle.api_lengths.specs.Slices.{Slices, surveySpelled, sizeRefusal, isRagged, anyRagged, areUneven, lengthsRefusal, raggedRefusal}
 use Rattle.api_words.specs.Laws.Words.{length-words}
 
 -- Refused for the six lengths.
@@ -36,10 +36,10 @@ absorbed Fine Fine false false Fine rest h = absurd (no-refusal h refl)
 
 module _ (b : Slices) where
   pub lengths-refused : {number place : ℕ} → lengthsOf b ≡ Refused number place → (w : Verdict)
-      → (raggedRefusal b before surveyRefusal (surveyIn b) before w) ≡ Refused number place
-  unfolding surveyRefusal surveyIn vertexCount edgeCount sizeRefusal raggedRefusal lengthsRefusal areUneven
+      → (raggedRefusal b before surveyRefusal (surveySpelled b) before w) ≡ Refused number place
+  unfolding surveyRefusal surveySpelled vertexCount edgeCount sizeRefusal raggedRefusal lengthsRefusal areUneven
   lengths-refused h w =
-      sym (before-assoc (raggedRefusal b) (surveyRefusal (surveyIn b)) w)
+      sym (before-assoc (raggedRefusal b) (surveyRefusal (surveySpelled b)) w)
       ∙ before-refused
       (rw (length-words (b .firsts), length-words (b .seconds), length-words (b .weights), length-words (b .owners))
       (absorbed (sizeRefusal (length (b .groups))) _ _ _ _ _ h))

@@ -21,7 +21,7 @@ use Rattle.survey_core.specs.Refusal.{surveyRefusal}
 use Rattle.survey_core.specs.Laws.Refusal.{pairs-decide}
 use Rattle.base_finite.specs.Below.{tabulate}
 use Rattle.api_words.specs.Words.{wordBytes, wordAt, wordsIn}
-use Rattle.api_lengths.specs.Slices.{Slices, surveyIn, pairsSeen}
+use Rattle.api_lengths.specs.Slices.{Slices, surveySpelled, pairsSeen}
 use Rattle.api_words.specs.Laws.Words.{length-words, words-part}
 use Rattle.api_lengths.specs.Laws.Lengths.{Even}
 
@@ -148,10 +148,10 @@ seen-fits n h = omega arith
 pub seen-words : (b : Slices) → Even b → {F S W O : List ℕ} {p : ℕ}
     → F ≡ tabulate maxEdges (wordAt (b .firsts)) → S ≡ tabulate maxEdges (wordAt (b .seconds)) → W ≡ tabulate maxEdges (wordAt (b .weights))
     → O ≡ tabulate (maxPairs + 1) (wordAt (b .owners)) → p ≡ pairsSeen (length (b .others))
-    → Seen (surveyIn b)
+    → Seen (surveySpelled b)
     (surveyWith (b .groups) (take (length (b .firsts) / wordBytes - 0) F) (take (length (b .firsts) / wordBytes - 0) S)
     (take (length (b .firsts) / wordBytes - 0) W) (take (p - 0) O) (take (p - 0) (b .others)))
-unfolding surveyIn wordsIn
+unfolding surveySpelled wordsIn
 seen-words b even {F} {S} {W} {O} {p} hF hS hW hO e =
     let m = length (b .firsts) / wordBytes in
     let q = pairsSeen (length (b .others)) in

@@ -9,7 +9,7 @@ use Rattle.api_plan.specs.Laws.Call.{
   plan-records,
   plan-finished,
   plan-stored,
-  plan-refused,
+  plan-call-refused,
   plan-kept,
 }
 use Rattle.api_plan.proofs.plan_call.Statement.{statement}
@@ -45,7 +45,7 @@ returns-3 c =
     let matched = c .before .before in
     let called = matched .before .before .before .before .before .before in
     let long = called .before .before .before .if1 .left in (
-      plan-refused _ _ _ _ long (called .plan .ensures .0) _ _ (matched .answer2 .given .1) (c .code .ensures),
+      plan-call-refused _ _ _ _ long (called .plan .ensures .0) _ _ (matched .answer2 .given .1) (c .code .ensures),
       (
         plan-marks _ _ _ _ long (called .plan .ensures .1 .0),
         (plan-records _ _ _ _ long (called .plan .ensures .1 .1 .0), plan-kept _ _ _ _ long (called .plan .ensures .0) _ _ (matched .answer2 .given .1)),

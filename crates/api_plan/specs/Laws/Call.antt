@@ -74,10 +74,10 @@ module _ (s : Survey) (marks records counts : List ℕ) where
       unfolding counting planOutcome planCounts drawnFigures planFiguresOf
       plan-stored k c b n d h e = finished-counts (plan-long s marks records counts long) _ (sym answered ∙ ap planOutcome h) planFiguresOf counts e
 
-      pub plan-refused : (number place : ℕ) → r ≡ PlanRefused number place → {x : ℕ} → x ≡ capped (number + placeUnit * place)
+      pub plan-call-refused : (number place : ℕ) → r ≡ PlanRefused number place → {x : ℕ} → x ≡ capped (number + placeUnit * place)
           → x ≡ codeOf (planCall s marks records counts)
       unfolding counting planOutcome
-      plan-refused number place h = refused-code (plan-long s marks records counts long) _ (plan-encodable s (length marks) (length records)) number place (sym answered ∙ ap planOutcome h)
+      plan-call-refused number place h = refused-code (plan-long s marks records counts long) _ (plan-encodable s (length marks) (length records)) number place (sym answered ∙ ap planOutcome h)
 
       pub plan-kept : (number place : ℕ) → r ≡ PlanRefused number place → counts ≡ planCounts s marks records counts
       unfolding counting planOutcome planCounts

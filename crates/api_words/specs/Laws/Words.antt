@@ -16,7 +16,7 @@ use Rattle.format_record.specs.Bits.{numberOf, lowBytes}
 use Rattle.format_record.specs.Record.{withValue}
 use Rattle.format_record.specs.Laws.Bytes.{number-down, length-low}
 use Rattle.format_record.specs.Laws.Record.{overwritten-whole}
-use Rattle.api_words.specs.Words.{wordBytes, figureBytes, wordAt, wordsIn, spelled, withSpelled}
+use Rattle.api_words.specs.Words.{wordBytes, figureBytes, wordAt, wordsIn, spelledCounts, withSpelled}
 
 pub length-words : (bytes : List ℕ) → length (wordsIn bytes) ≡ length bytes / wordBytes
 unfolding wordsIn
@@ -97,18 +97,18 @@ sets-append l i (x ∷ xs) ys =
     let e : suc i + length xs ≡ i + suc (length xs) = omega arith in
     sets-append (set l i x) (suc i) xs ys ∙ ap (λ k. sets (sets (set l i x) (suc i) xs) k ys) e
 
-spelled-append : (xs ys : List ℕ) → spelled (xs ++ ys) ≡ spelled xs ++ spelled ys
-unfolding spelled
+spelled-append : (xs ys : List ℕ) → spelledCounts (xs ++ ys) ≡ spelledCounts xs ++ spelledCounts ys
+unfolding spelledCounts
 spelled-append [] ys = refl
-spelled-append (x ∷ xs) ys = ap (λ l. lowBytes figureBytes x ++ l) (spelled-append xs ys) ∙ sym (append-assoc (lowBytes figureBytes x) (spelled xs) (spelled ys))
+spelled-append (x ∷ xs) ys = ap (λ l. lowBytes figureBytes x ++ l) (spelled-append xs ys) ∙ sym (append-assoc (lowBytes figureBytes x) (spelledCounts xs) (spelledCounts ys))
 
-pub length-spelled : (xs : List ℕ) → length (spelled xs) ≡ figureBytes * length xs
-unfolding spelled
+pub length-spelled : (xs : List ℕ) → length (spelledCounts xs) ≡ figureBytes * length xs
+unfolding spelledCounts
 length-spelled [] = refl
 length-spelled (x ∷ xs) =
-    let a = length-append (lowBytes figureBytes x) (spelled xs) in
+    let a = length-append (lowBytes figureBytes x) (spelledCounts xs) in
     let b : length (lowBytes figureBytes x) ≡ figureBytes = length-low figureBytes x in
-    let ih : length (spelled xs) ≡ figureBytes * length xs = length-spelled xs in
+    let ih : length (spelledCounts xs) ≡ figureBytes * length xs = length-spelled xs in
     omega arith
 
 -- A count that is written into a part of eight bytes.
@@ -132,27 +132,27 @@ pub record Writing (counts before : List ℕ) (i : ℕ) (result : List ℕ) : Ty
   pub within : i ≤ length counts
   pub holds : figureBytes * length counts ≤ length before
   pub long : length result ≡ length before
-  pub made : result ≡ sets before 0 (spelled (take i counts))
+  pub made : result ≡ sets before 0 (spelledCounts (take i counts))
 
 module _ (counts before : List ℕ) where
   pub writing-start : length counts ≤ length before / figureBytes → Writing counts before 0 before
-  unfolding spelled
+  unfolding spelledCounts
   writing-start fits = record { within = omega arith; holds = omega arith; long = refl; made = refl }
 
   -- One count more.
   spelled-turn : (i : ℕ) → i < length counts
-      → sets (sets before 0 (spelled (take i counts))) (figureBytes * i) (lowBytes figureBytes (getD counts i 0)) ≡ sets before 0 (spelled (take (i + 1) counts))
-  unfolding spelled
+      → sets (sets before 0 (spelledCounts (take i counts))) (figureBytes * i) (lowBytes figureBytes (getD counts i 0)) ≡ sets before 0 (spelledCounts (take (i + 1) counts))
+  unfolding spelledCounts
   spelled-turn i b =
       let x = getD counts i 0 in
       let size : length (take i counts) ≡ i = length-take-le i counts (omega arith) in
       let far = length-spelled (take i counts) in
-      let at : 0 + length (spelled (take i counts)) ≡ figureBytes * i = omega arith in
-      ap (λ k. sets (sets before 0 (spelled (take i counts))) k (lowBytes figureBytes x)) (sym at)
-      ∙ sym (sets-append before 0 (spelled (take i counts)) (lowBytes figureBytes x))
-      ∙ ap (λ l. sets before 0 (spelled (take i counts) ++ l)) (sym (append-nil (lowBytes figureBytes x)))
+      let at : 0 + length (spelledCounts (take i counts)) ≡ figureBytes * i = omega arith in
+      ap (λ k. sets (sets before 0 (spelledCounts (take i counts))) k (lowBytes figureBytes x)) (sym at)
+      ∙ sym (sets-append before 0 (spelledCounts (take i counts)) (lowBytes figureBytes x))
+      ∙ ap (λ l. sets before 0 (spelledCounts (take i counts) ++ l)) (sym (append-nil (lowBytes figureBytes x)))
       ∙ ap (λ l. sets before 0 l) (sym (spelled-append (take i counts) (x ∷ [])))
-      ∙ ap (λ l. sets before 0 (spelled l)) (sym (ap (λ k. take k counts) (add-one i) ∙ take-suc counts i 0 b))
+      ∙ ap (λ l. sets before 0 (spelledCounts l)) (sym (ap (λ k. take k counts) (add-one i) ∙ take-suc counts i 0 b))
 
   pub writing-turn : {i x : ℕ} {result after : List ℕ} → Writing counts before i result → i < length counts → x ≡ getD counts i 0
       → after ≡ sets result (figureBytes * i) (lowBytes figureBytes x) → Writing counts before (i + 1) after
@@ -171,7 +171,7 @@ module _ (counts before : List ℕ) where
   writing-end {i} {result} h b =
       let fits = h .holds in
       let few : length counts ≤ length before / figureBytes = omega arith in
-      rw (le-ltb (length before / figureBytes) (length counts) few) (h .made ∙ ap (λ l. sets before 0 (spelled l)) (take-all i counts b))
+      rw (le-ltb (length before / figureBytes) (length counts) few) (h .made ∙ ap (λ l. sets before 0 (spelledCounts l)) (take-all i counts b))
 
   pub unwritten : length before / figureBytes < length counts → before ≡ withSpelled before counts
   unfolding withSpelled

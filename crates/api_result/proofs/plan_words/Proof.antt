@@ -6,8 +6,8 @@ use Prim.Native.Nat.{ℕ, _-_}
 use borrow.Author.Needs.{needs}
 use Rattle.api_code.specs.Laws.Lending.{lent-le}
 use Rattle.api_handset.specs.Laws.Call.{plan-words-code, plan-words-marks, plan-words-records, plan-words-kept, plan-words-stored}
-use Rattle.api_handset_plan.proofs.plan_words.Statement.{statement}
-use Rattle.api_handset_plan.proofs.plan_words.Tie as tie
+use Rattle.api_result.proofs.plan_words.Statement.{statement}
+use Rattle.api_result.proofs.plan_words.Tie as tie
 
 abbrev zeros : List ℕ
 zeros = 0 ∷ 0 ∷ 0 ∷ 0 ∷ 0 ∷ []

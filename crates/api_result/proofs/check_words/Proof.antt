@@ -6,8 +6,8 @@ use Prim.Native.Nat.{ℕ, _-_}
 use borrow.Author.Needs.{needs}
 use Rattle.api_code.specs.Laws.Lending.{lent-le}
 use Rattle.api_handset.specs.Laws.Call.{check-words-code, check-words-kept, check-words-stored}
-use Rattle.api_handset_check.proofs.check_words.Statement.{statement}
-use Rattle.api_handset_check.proofs.check_words.Tie as tie
+use Rattle.api_result.proofs.check_words.Statement.{statement}
+use Rattle.api_result.proofs.check_words.Tie as tie
 
 abbrev zeros : List ℕ
 zeros = 0 ∷ 0 ∷ 0 ∷ []
