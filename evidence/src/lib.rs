@@ -42,7 +42,7 @@ pub const RECORD_BYTES: usize = 40;
 /// Bytes of a record's amount, lowest first.
 pub const AMOUNT_BYTES: usize = 8;
 /// The longest well-formed text that neither 1 nor 3 refuses.
-pub const MAX_TEXT: usize = 62_741;
+pub const MAX_TEXT: usize = 49_685;
 /// The program reads no more of its standard input.
 pub const MAX_INPUT: usize = 65_536;
 

@@ -64,6 +64,9 @@ pub fn survey_text(survey: &Survey) -> Vec<u8> {
     for group in &survey.groups {
         out += &format!("node={group}\n");
     }
+    for (owner, other) in survey.owners.iter().zip(&survey.others) {
+        out += &format!("also={owner},{other}\n");
+    }
     for t in 0..survey.first.len() {
         out += &format!("link={},{},{}\n", survey.first[t], survey.second[t], survey.prices[t]);
     }

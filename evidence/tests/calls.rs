@@ -259,7 +259,14 @@ reader!(short_counts_at_the_end, |text, groups, first, second, prices, counts| {
     if counts.len() >= READ_COUNTS {
         return (SECOND.read)(text, groups, first, second, prices, counts);
     }
-    let lengths = Lengths { groups: groups.len(), first: first.len(), second: second.len(), prices: prices.len() };
+    let lengths = Lengths {
+        groups: groups.len(),
+        first: first.len(),
+        second: second.len(),
+        prices: prices.len(),
+        owners: 0,
+        others: 0,
+    };
     parse(text, lengths).map_or_else(code, |_| 7)
 });
 

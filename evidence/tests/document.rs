@@ -260,14 +260,56 @@ fn reading_counts_and_digits() {
     assert_eq!(parsed("nodes=1\nlinks=0\nnode=0\n\n"), Err(refused(16, 23)));
     assert_eq!(parsed("nodes=1\nlinks=0\nnode=0"), Err(refused(16, 22)));
     // 4, 5 and 6 wait for planning.
-    let all_wrong = "nodes=1\nlinks=1\nnode=255\nlink=9999999,9999999,9999999\n";
-    assert_eq!(parsed(all_wrong), Ok(Survey::new(&[255], &[(9_999_999, 9_999_999, 9_999_999)])));
+    let all_wrong = "nodes=1\nlinks=1\nnode=255\nlink=999,999,9999999\n";
+    assert_eq!(parsed(all_wrong), Ok(Survey::new(&[255], &[(999, 999, 9_999_999)])));
+    // Ends have three digits.
+    assert_eq!(parsed("nodes=1\nlinks=1\nnode=0\nlink=1000,0,1\n"), Err(refused(16, 31)));
+    assert_eq!(parsed("nodes=1\nlinks=1\nnode=0\nlink=0,1000,1\n"), Err(refused(16, 33)));
     assert_eq!(program(reference, all_wrong.as_bytes()), "refused=4\nplace=0\n");
+}
+
+/// A text with own groups 1, 1 and 0 and these also lines.
+fn with_pairs(lines: &str) -> String {
+    format!("nodes=3\nlinks=0\nnode=1\nnode=1\nnode=0\n{lines}")
+}
+
+#[test]
+fn reading_pairs() {
+    let said = |lines: &str| parsed(&with_pairs(lines)).map(|survey| (survey.owners, survey.others));
+    assert_eq!(said("also=0,2\nalso=0,3\nalso=2,1\n"), Ok((vec![0, 0, 2], vec![2, 3, 1])));
+    assert_eq!(said("also=9,256\n"), Err(refused(17, 9)));
+    assert_eq!(said("also=999,0\n"), Err(refused(18, 0)));
+    assert_eq!(said("also=3,1\n"), Err(refused(18, 0)));
+    assert_eq!(said("also=2,1\nalso=0,1\n"), Err(refused(18, 1)));
+    assert_eq!(said("also=0,2\nalso=0,2\n"), Err(refused(18, 1)));
+    assert_eq!(said("also=1,2\nalso=0,2\n"), Err(refused(18, 1)));
+    assert_eq!(said("also=0,1000\n"), Err(refused(16, 47)));
+    assert_eq!(said("also=0,02\n"), Err(refused(16, 45)));
+    assert_eq!(said("also=0,2\nbut"), Err(refused(16, 46)));
+    // 17 before 18 before 7 on one line, and 7 where the shorter of the two buffers is full.
+    let short = |owners, others| Lengths { owners, others, ..Lengths::ENOUGH };
+    for (lines, lengths, want) in [
+        ("also=9,256\n", short(0, 0), refused(17, 9)),
+        ("also=9,1\n", short(0, 0), refused(18, 0)),
+        ("also=0,2\n", short(0, 1), refused(7, 0)),
+        ("also=0,2\n", short(1, 0), refused(7, 0)),
+        ("also=0,2\nalso=0,3\nx", short(2, 1), refused(7, 0)),
+        ("also=0,2\nx", short(1, 1), refused(16, 46)),
+    ] {
+        assert_eq!(parse(with_pairs(lines).as_bytes(), lengths), Err(want), "{lines}");
+    }
+    // A 257th line.
+    let head = format!("nodes=256\nlinks=0\n{}", "node=0\n".repeat(256));
+    let most: String = (0..256).map(|v| format!("also={v},1\n")).collect();
+    assert_eq!(parsed(&format!("{head}{most}")).map(|survey| survey.owners.len()), Ok(256));
+    let past = (head.len() + most.len()) as u64;
+    assert_eq!(parsed(&format!("{head}{most}also=255,2\n")), Err(refused(16, past)));
 }
 
 #[test]
 fn reading_into_short_buffers() {
-    let lengths = |groups, first, second, prices| Lengths { groups, first, second, prices };
+    let lengths =
+        |groups, first, second, prices| Lengths { groups, first, second, prices, ..Lengths::ENOUGH };
     let p3 = survey_text(&worked(3));
     assert_eq!(parse(&p3, lengths(3, 2, 2, 2)), Ok(worked(3)));
     for short in [lengths(2, 2, 2, 2), lengths(3, 1, 2, 2), lengths(3, 2, 1, 2), lengths(3, 2, 2, 1)] {
@@ -292,10 +334,11 @@ fn reading_into_short_buffers() {
 #[test]
 fn longest_text() {
     let nodes = "node=9999999\n".repeat(256);
-    let links = "link=9999999,9999999,9999999\n".repeat(2_048);
-    let text = format!("nodes=256\nlinks=2048\n{nodes}{links}");
-    assert_eq!(text.len(), 62_741);
-    assert_eq!(MAX_TEXT, 62_741);
+    let also = "also=999,999\n".repeat(256);
+    let links = "link=999,999,9999999\n".repeat(2_048);
+    let text = format!("nodes=256\nlinks=2048\n{nodes}{also}{links}");
+    assert_eq!(text.len(), 49_685);
+    assert_eq!(MAX_TEXT, 49_685);
     assert_eq!(MAX_INPUT, 65_536);
     assert_eq!(parsed(&text), Err(refused(17, 0)));
     let text = format!("nodes=256\nlinks=2048\n{}{links}", "node=255\n".repeat(256));

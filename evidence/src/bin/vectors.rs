@@ -66,10 +66,12 @@ fn read_line(seed: u64, case: u64) -> String {
         first: length(MAX_TRACKS),
         second: length(MAX_TRACKS),
         prices: length(MAX_TRACKS),
+        owners: 0,
+        others: 0,
     };
     let read = parse(&text, lengths);
     let counts = read.as_ref().map(|survey| [survey.groups.len() as u64, survey.first.len() as u64]).map_err(|r| *r);
-    let Lengths { groups, first, second, prices } = lengths;
+    let Lengths { groups, first, second, prices, .. } = lengths;
     format!(
         "read text={} room={groups},{first},{second},{prices} answer={} {}",
         hex(&text),

@@ -60,7 +60,7 @@ const TEXTS: [(&str, Result<Tracks, Refused>); 21] = [
     (P3, Ok((&[1, 0, 1], &[(0, 1, 3), (1, 2, 4)]))),
     ("nodes=1\nlinks=0\nnode=0\n", Ok((&[0], &[]))),
     // 4, 5 and 6 wait for planning.
-    ("nodes=2\nlinks=1\nnode=255\nnode=1\nlink=0,9999999,1000001\n", Ok((&[255, 1], &[(0, 9_999_999, 1_000_001)]))),
+    ("nodes=2\nlinks=1\nnode=255\nnode=1\nlink=0,999,1000001\n", Ok((&[255, 1], &[(0, 999, 1_000_001)]))),
     ("", Err((16, 0))),
     ("nodes=03", Err((16, 7))),
     ("nodes=300", Err((16, 9))),

@@ -3,7 +3,7 @@
 use super::surveys::{full, refused_survey, survey, Size, WORKED};
 use super::Rng;
 use crate::print::survey_text;
-use crate::{Survey, MAX_INPUT, MAX_JUNCTIONS, MAX_PRICE, MAX_TEXT, MAX_TRACKS};
+use crate::{Survey, MAX_INPUT, MAX_JUNCTIONS, MAX_PAIRS, MAX_PRICE, MAX_TEXT, MAX_TRACKS};
 use std::sync::OnceLock;
 
 /// Numbers at the boundaries of counts, groups, ends, prices and digits, and some that are no number.
@@ -142,7 +142,7 @@ fn build_directed() -> Vec<Vec<u8>> {
     let longest = [
         format!("nodes={MAX_JUNCTIONS}\nlinks={MAX_TRACKS}\n"),
         "node=9999999\n".repeat(MAX_JUNCTIONS),
-        "link=9999999,9999999,9999999\n".repeat(MAX_TRACKS),
+        format!("{}{}", "also=999,999\n".repeat(MAX_PAIRS), "link=999,999,9999999\n".repeat(MAX_TRACKS)),
     ];
     let in_groups = [longest[0].clone(), "node=255\n".repeat(MAX_JUNCTIONS), longest[2].clone()].concat();
     let longest = longest.concat();
