@@ -43,11 +43,9 @@ pub fn check(survey: View, marks: &[u8], records: &[u8]) -> Result<Passed, Refus
     if let Some(record) = moats.iter().position(bad) {
         return refuse(11, record);
     }
+    let lists = survey.lists();
     let parts_a_group = |moat: &&[u8]| {
-        (1..=255u8).any(|group| {
-            let members = survey.members(group);
-            members.iter().any(|&v| holds(moat, v)) && members.iter().any(|&v| !holds(moat, v))
-        })
+        lists.iter().any(|members| members.iter().any(|&v| holds(moat, v)) && members.iter().any(|&v| !holds(moat, v)))
     };
     if let Some(record) = moats.iter().position(|moat| !parts_a_group(moat)) {
         return refuse(12, record);

@@ -9,6 +9,7 @@
 //! | `check` | a plan drawn by anyone |
 //! | `print` | a moat line, a printed plan, a refusal, and the whole program's answer |
 //! | `brute` | the cheapest joining set of a tiny survey |
+//! | `handset` | planning and checking over bytes alone, and their generated cases |
 //! | `gen`   | seeded surveys, texts and plans, sound and damaged |
 //! | `blunder` | planners with a fault each, which the generated inputs have to tell from a sound one |
 
@@ -17,6 +18,7 @@ pub mod brute;
 pub mod calls;
 pub mod check;
 pub mod gen;
+pub mod handset;
 #[cfg(feature = "native")]
 pub mod native;
 pub mod plan;
@@ -41,10 +43,22 @@ pub const MAX_GROUP: u32 = 255;
 pub const RECORD_BYTES: usize = 40;
 /// Bytes of a record's amount, lowest first.
 pub const AMOUNT_BYTES: usize = 8;
-/// The longest well-formed text that neither 1 nor 3 refuses.
+/// 01: the most digits of a count and of a node line's group in a text.
+pub const COUNT_DIGITS: usize = 7;
+/// 01: the most digits of a price in a text.
+pub const PRICE_DIGITS: usize = 7;
+/// No. 2: the most digits of an end and of both numbers of an also line.
+pub const END_DIGITS: usize = 3;
+/// The longest well-formed text that neither 1 nor 3 refuses: all lines that there can be, each number as long as it
+/// can be.
 pub const MAX_TEXT: usize = 49_685;
 /// The program reads no more of its standard input.
 pub const MAX_INPUT: usize = 65_536;
+
+/// The highest number of so many digits.
+pub const fn highest(digits: usize) -> u32 {
+    10u32.pow(digits as u32) - 1
+}
 
 /// A refusal's number and place.
 #[derive(Clone, Copy, Debug, PartialEq, Eq)]
@@ -156,7 +170,7 @@ impl View<'_> {
     }
 
     /// What 18 is about: no such junction, no group or the junction's own, not above the pair before, one too many.
-    fn is_bad_pair(&self, i: usize) -> bool {
+    pub fn is_bad_pair(&self, i: usize) -> bool {
         let pair = |i: usize| (self.owners[i], self.others[i]);
         let (v, g) = pair(i);
         v as usize >= self.n()
@@ -166,19 +180,29 @@ impl View<'_> {
             || i >= MAX_PAIRS
     }
 
-    /// The members of a group, rising: by their own group or by a pair.
-    pub fn members(&self, group: u8) -> Vec<usize> {
-        let mut members: Vec<usize> = (0..self.n()).filter(|&v| self.groups[v] == group).collect();
-        let pairs = self.owners.iter().zip(self.others);
-        members.extend(pairs.filter(|(_, &g)| g == group).map(|(&v, _)| v as usize));
-        members.sort_unstable();
-        members.dedup();
+    /// The members of each group, rising: by their own group or by a pair. Group 0 is no group and has none.
+    pub fn members_by_group(&self) -> Vec<Vec<usize>> {
+        let mut members = vec![Vec::new(); 256];
+        let own = self.groups.iter().copied().zip(0..);
+        let paired = self.others.iter().copied().zip(self.owners.iter().map(|&v| v as usize));
+        for (group, v) in own.chain(paired).filter(|&(group, _)| group != 0) {
+            members[usize::from(group)].push(v);
+        }
+        for list in &mut members {
+            list.sort_unstable();
+            list.dedup();
+        }
         members
     }
 
-    /// The groups with two or more members. Group 0 is no group.
+    /// The members of a group.
+    pub fn members(&self, group: u8) -> Vec<usize> {
+        self.members_by_group().swap_remove(usize::from(group))
+    }
+
+    /// The groups with two or more members.
     pub fn lists(&self) -> Vec<Vec<usize>> {
-        (1..=255u8).map(|g| self.members(g)).filter(|members| members.len() >= 2).collect()
+        self.members_by_group().into_iter().filter(|members| members.len() >= 2).collect()
     }
 
     /// The number of sites, which are the members of groups with two or more members, each counted once.
@@ -220,9 +244,7 @@ impl View<'_> {
     /// The lowest group that the set of tracks doesn't join, if there is one.
     pub fn unjoined(&self, holds: impl Fn(usize) -> bool) -> Option<u8> {
         let component = self.components(holds);
-        (1..=255u8).find(|&g| {
-            let members = self.members(g);
-            members.iter().any(|&v| component[v] != component[members[0]])
-        })
+        let apart = |members: &Vec<usize>| members.iter().any(|&v| component[v] != component[members[0]]);
+        self.members_by_group().iter().position(apart).map(|group| group as u8)
     }
 }

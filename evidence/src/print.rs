@@ -58,14 +58,14 @@ pub fn program(planner: Planner, input: &[u8]) -> String {
     }
 }
 
-/// The text of a survey.
+/// The text of a survey, whatever its numbers.
 pub fn survey_text(survey: &Survey) -> Vec<u8> {
     let mut out = format!("nodes={}\nlinks={}\n", survey.groups.len(), survey.first.len());
     for group in &survey.groups {
         out += &format!("node={group}\n");
     }
-    for (owner, other) in survey.owners.iter().zip(&survey.others) {
-        out += &format!("also={owner},{other}\n");
+    for (v, group) in survey.owners.iter().zip(&survey.others) {
+        out += &format!("also={v},{group}\n");
     }
     for t in 0..survey.first.len() {
         out += &format!("link={},{},{}\n", survey.first[t], survey.second[t], survey.prices[t]);

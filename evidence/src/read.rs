@@ -1,6 +1,8 @@
-//! Reading a survey text (01, "Survey text and printed plan"; 02, No. 2), from the first byte towards the last.
+//! Reading a survey text (01, "Survey text and printed plan"; also lines: No. 2), from the first byte towards the last.
 
-use crate::{refuse, Refusal, Survey, MAX_GROUP, MAX_JUNCTIONS, MAX_PAIRS, MAX_TRACKS};
+use crate::{
+    refuse, Refusal, Survey, COUNT_DIGITS, END_DIGITS, MAX_GROUP, MAX_JUNCTIONS, MAX_PAIRS, MAX_TRACKS, PRICE_DIGITS,
+};
 
 /// The lengths of the six buffers that reading fills.
 #[derive(Clone, Copy, Debug)]
@@ -23,6 +25,29 @@ impl Lengths {
         owners: MAX_PAIRS,
         others: MAX_PAIRS,
     };
+}
+
+/// The buffers that reading fills.
+pub struct Lent<'a> {
+    pub groups: &'a mut [u8],
+    pub first: &'a mut [u32],
+    pub second: &'a mut [u32],
+    pub prices: &'a mut [u32],
+    pub owners: &'a mut [u32],
+    pub others: &'a mut [u8],
+}
+
+impl Lent<'_> {
+    pub fn lengths(&self) -> Lengths {
+        Lengths {
+            groups: self.groups.len(),
+            first: self.first.len(),
+            second: self.second.len(),
+            prices: self.prices.len(),
+            owners: self.owners.len(),
+            others: self.others.len(),
+        }
+    }
 }
 
 struct Cursor<'a> {
@@ -51,7 +76,7 @@ impl Cursor<'_> {
         Ok(())
     }
 
-    /// Takes one to `most` digits, no 0 before another digit. What follows is the caller's to judge: a digit too many
+    /// Takes one digit to this many, no 0 before another digit. What follows is the caller's to judge: a digit too many
     /// and a digit after a leading 0 are bytes that no comma and no line end can be.
     fn number(&mut self, most: usize) -> Result<u32, Refusal> {
         let start = self.at;
@@ -71,46 +96,12 @@ impl Cursor<'_> {
     }
 }
 
-/// Digits of a count, a group or a price; of an end, and of both numbers of an also line.
-const DIGITS: usize = 7;
-const FEW_DIGITS: usize = 3;
-
-/// The pairs of the also lines, which go on as long as a line begins like one: 17, 18 and 7 when a line is complete.
-fn pairs(cursor: &mut Cursor, lengths: Lengths, survey: &mut Survey) -> Result<(), Refusal> {
-    while cursor.next() == Some(b'a') {
-        let number = survey.owners.len();
-        if number == MAX_PAIRS {
-            return cursor.malformed();
-        }
-        cursor.fixed(b"also=")?;
-        let owner = cursor.number(FEW_DIGITS)?;
-        cursor.fixed(b",")?;
-        let other = cursor.number(FEW_DIGITS)?;
-        cursor.fixed(b"\n")?;
-        if other > MAX_GROUP {
-            return refuse(17, owner as usize);
-        }
-        let own = survey.groups.get(owner as usize).copied();
-        let last = survey.owners.last().copied().zip(survey.others.last().map(|&g| u32::from(g)));
-        let rises = last.is_none_or(|pair| pair < (owner, other));
-        if own.is_none() || other == 0 || own.map(u32::from) == Some(other) || !rises {
-            return refuse(18, number);
-        }
-        if number >= lengths.owners || number >= lengths.others {
-            return refuse(7, 0);
-        }
-        survey.owners.push(owner);
-        survey.others.push(other as u8);
-    }
-    Ok(())
-}
-
 /// The survey that a text holds, for buffers of these lengths, or the earliest finding: 1, 3, 7, 16, 17 or 18.
 pub fn parse(text: &[u8], lengths: Lengths) -> Result<Survey, Refusal> {
     let mut cursor = Cursor { text, at: 0 };
 
     cursor.fixed(b"nodes=")?;
-    let n = cursor.number(DIGITS)? as usize;
+    let n = cursor.number(COUNT_DIGITS)? as usize;
     cursor.fixed(b"\n")?;
     if n == 0 || n > MAX_JUNCTIONS {
         return refuse(1, 0);
@@ -120,7 +111,7 @@ pub fn parse(text: &[u8], lengths: Lengths) -> Result<Survey, Refusal> {
     }
 
     cursor.fixed(b"links=")?;
-    let m = cursor.number(DIGITS)? as usize;
+    let m = cursor.number(COUNT_DIGITS)? as usize;
     cursor.fixed(b"\n")?;
     if m > MAX_TRACKS {
         return refuse(3, 0);
@@ -132,21 +123,40 @@ pub fn parse(text: &[u8], lengths: Lengths) -> Result<Survey, Refusal> {
     let mut survey = Survey::default();
     for junction in 0..n {
         cursor.fixed(b"node=")?;
-        let group = cursor.number(DIGITS)?;
+        let group = cursor.number(COUNT_DIGITS)?;
         cursor.fixed(b"\n")?;
         if group > MAX_GROUP {
             return refuse(17, junction);
         }
         survey.groups.push(group as u8);
     }
-    pairs(&mut cursor, lengths, &mut survey)?;
+    // An also line may stand here as long as there are fewer than 256; every other byte belongs to what comes after.
+    while cursor.next() == Some(b'a') && survey.owners.len() < MAX_PAIRS {
+        cursor.fixed(b"also=")?;
+        let v = cursor.number(END_DIGITS)?;
+        cursor.fixed(b",")?;
+        let group = cursor.number(END_DIGITS)?;
+        cursor.fixed(b"\n")?;
+        if group > MAX_GROUP {
+            return refuse(17, v as usize);
+        }
+        let pair = survey.owners.len();
+        survey.owners.push(v);
+        survey.others.push(group as u8);
+        if survey.view().is_bad_pair(pair) {
+            return refuse(18, pair);
+        }
+        if lengths.owners <= pair || lengths.others <= pair {
+            return refuse(7, 0);
+        }
+    }
     for _ in 0..m {
         cursor.fixed(b"link=")?;
-        survey.first.push(cursor.number(FEW_DIGITS)?);
+        survey.first.push(cursor.number(END_DIGITS)?);
         cursor.fixed(b",")?;
-        survey.second.push(cursor.number(FEW_DIGITS)?);
+        survey.second.push(cursor.number(END_DIGITS)?);
         cursor.fixed(b",")?;
-        survey.prices.push(cursor.number(DIGITS)?);
+        survey.prices.push(cursor.number(PRICE_DIGITS)?);
         cursor.fixed(b"\n")?;
     }
     if cursor.next().is_some() {
@@ -155,28 +165,16 @@ pub fn parse(text: &[u8], lengths: Lengths) -> Result<Survey, Refusal> {
     Ok(survey)
 }
 
-/// Reads a text into lent buffers, with none for pairs, and answers with n and m. What the text says goes into the buffers' beginnings,
-/// and only if nothing is refused; everything else keeps its values.
-pub fn read(
-    text: &[u8],
-    groups: &mut [u8],
-    first: &mut [u32],
-    second: &mut [u32],
-    prices: &mut [u32],
-) -> Result<(u64, u64), Refusal> {
-    let lengths = Lengths {
-        groups: groups.len(),
-        first: first.len(),
-        second: second.len(),
-        prices: prices.len(),
-        owners: 0,
-        others: 0,
-    };
-    let survey = parse(text, lengths)?;
-    let (n, m) = (survey.groups.len(), survey.first.len());
-    groups[..n].copy_from_slice(&survey.groups);
-    first[..m].copy_from_slice(&survey.first);
-    second[..m].copy_from_slice(&survey.second);
-    prices[..m].copy_from_slice(&survey.prices);
-    Ok((n as u64, m as u64))
+/// Reads a text into lent buffers and answers with n, m and the number of pairs. What the text says goes into the
+/// buffers' beginnings, and only if nothing is refused; everything else keeps its values.
+pub fn read(text: &[u8], lent: Lent) -> Result<[u64; 3], Refusal> {
+    let survey = parse(text, lent.lengths())?;
+    let (n, m, pairs) = (survey.groups.len(), survey.first.len(), survey.owners.len());
+    lent.groups[..n].copy_from_slice(&survey.groups);
+    lent.first[..m].copy_from_slice(&survey.first);
+    lent.second[..m].copy_from_slice(&survey.second);
+    lent.prices[..m].copy_from_slice(&survey.prices);
+    lent.owners[..pairs].copy_from_slice(&survey.owners);
+    lent.others[..pairs].copy_from_slice(&survey.others);
+    Ok([n, m, pairs].map(|count| count as u64))
 }

@@ -30,7 +30,7 @@ fn on_the_surveys_that_name_them() {
 fn on_generated_texts() {
     for blunder in BLUNDERS {
         // Past the directed texts, so that the random ones are judged.
-        let found = (5_000..8_000)
+        let found = (10_000..20_000)
             .map(|case| text_case(41, case))
             .find(|text| text.len() < 3_000 && program(blunder, text) != sound(fast, text));
         assert!(found.is_some(), "{blunder:?} goes unseen");

@@ -1,12 +1,13 @@
 //! The comparison of single calls finds faults: libraries with one fault each, among them changes of order that a definition and its code could make
 //! together, are told from the second implementation; and every pair of refusals that can be due together is met.
 
+use evidence::blunder::lowest_of_class;
 use evidence::calls::document;
-use evidence::calls::faults::{pair, Fault, PAIR_FAULTS};
+use evidence::calls::faults::{pair, Fault, ALSO_FAULTS, PAIR_FAULTS};
 use evidence::calls::generated::OPERATIONS;
 use evidence::calls::{code, Figures, Library, PLAN_COUNTS, READ_COUNTS, SECOND};
 use evidence::check::check;
-use evidence::read::{parse, Lengths};
+use evidence::read::{parse, Lengths, Lent};
 use evidence::{refuse, Refusal, View, MAX_PAIRS, MAX_TRACKS, RECORD_BYTES};
 use std::cell::RefCell;
 use std::collections::BTreeMap;
@@ -148,22 +149,10 @@ fn number_of_pairs_first(survey: View, marks: &mut [u8], records: &mut [u8], cou
 
 /// Lists that share a member are one, and 8 names the lowest of them.
 fn eight_by_class(survey: View, marks: &mut [u8], records: &mut [u8], counts: &mut [u64]) -> u64 {
-    let answer = plan(survey, marks, records, counts);
-    if answer % 256 != 8 {
-        return answer;
+    match plan(survey, marks, records, counts) {
+        answer if answer % 256 == 8 => 8 + 256 * lowest_of_class(survey, (answer / 256) as u8) as u64,
+        answer => answer,
     }
-    let mut class = vec![(answer / 256) as u8];
-    let mut looked = 0;
-    while looked < class.len() {
-        let members = survey.members(class[looked]);
-        for group in 1..=255u8 {
-            if !class.contains(&group) && survey.members(group).iter().any(|v| members.contains(v)) {
-                class.push(group);
-            }
-        }
-        looked += 1;
-    }
-    8 + 256 * u64::from(class.into_iter().min().unwrap_or(0))
 }
 
 fn sites_by_list(survey: View, marks: &mut [u8], records: &mut [u8], counts: &mut [u64]) -> u64 {
@@ -211,20 +200,10 @@ fn nine_before_seven(survey: View, marks: &[u8], records: &[u8], counts: &mut [u
     }
 }
 
-/// A reader with a fault: what it is lent, and the fault.
-macro_rules! reader {
-    ($name:ident, |$text:ident, $groups:ident, $first:ident, $second:ident, $prices:ident, $counts:ident| $body:expr) => {
-        fn $name(
-            $text: &[u8],
-            $groups: &mut [u8],
-            $first: &mut [u32],
-            $second: &mut [u32],
-            $prices: &mut [u32],
-            $counts: &mut [u64],
-        ) -> u64 {
-            $body
-        }
-    };
+/// What reading answers; the buffers stay at hand for a fault.
+fn read(text: &[u8], lent: &mut Lent, counts: &mut [u64]) -> u64 {
+    let Lent { groups, first, second, prices, owners, others } = lent;
+    (SECOND.read)(text, Lent { groups, first, second, prices, owners, others }, counts)
 }
 
 /// The refusal of a text that is read into buffers with room for all.
@@ -232,88 +211,184 @@ fn roomy(text: &[u8]) -> u64 {
     parse(text, Lengths::ENOUGH).map_or_else(code, |_| 0)
 }
 
-reader!(seven_before_one, |text, groups, first, second, prices, counts| {
+/// The refusal of a text that is read into buffers with room for all pairs.
+fn pairs_roomy(text: &[u8], lent: &Lent) -> u64 {
+    parse(text, Lengths { owners: MAX_PAIRS, others: MAX_PAIRS, ..lent.lengths() }).map_or_else(code, |_| 0)
+}
+
+fn seven_before_one(text: &[u8], mut lent: Lent, counts: &mut [u64]) -> u64 {
     let counted = text.strip_prefix(b"nodes=").and_then(|rest| rest.split(|&byte| byte == b'\n').next());
     let wanted = counted.and_then(|digits| std::str::from_utf8(digits).ok()).and_then(|digits| digits.parse().ok());
     match (roomy(text), wanted) {
-        (1, Some(wanted)) if groups.len() < wanted => 7,
-        _ => (SECOND.read)(text, groups, first, second, prices, counts),
+        (1, Some(wanted)) if lent.groups.len() < wanted => 7,
+        _ => read(text, &mut lent, counts),
     }
-});
+}
 
-reader!(seven_before_three, |text, groups, first, second, prices, counts| {
-    match (SECOND.read)(text, groups, first, second, prices, counts) {
-        3 if first.len() <= MAX_TRACKS => 7,
+fn seven_before_three(text: &[u8], mut lent: Lent, counts: &mut [u64]) -> u64 {
+    match read(text, &mut lent, counts) {
+        3 if lent.first.len() <= MAX_TRACKS => 7,
         other => other,
     }
-});
+}
 
-reader!(seven_at_the_end, |text, groups, first, second, prices, counts| {
-    match (SECOND.read)(text, groups, first, second, prices, counts) {
+fn seven_at_the_end(text: &[u8], mut lent: Lent, counts: &mut [u64]) -> u64 {
+    match read(text, &mut lent, counts) {
         7 if roomy(text) != 0 => roomy(text),
         other => other,
     }
-});
+}
 
-reader!(short_counts_at_the_end, |text, groups, first, second, prices, counts| {
+fn short_counts_at_the_end(text: &[u8], mut lent: Lent, counts: &mut [u64]) -> u64 {
     if counts.len() >= READ_COUNTS {
-        return (SECOND.read)(text, groups, first, second, prices, counts);
+        return read(text, &mut lent, counts);
     }
-    let lengths = Lengths {
-        groups: groups.len(),
-        first: first.len(),
-        second: second.len(),
-        prices: prices.len(),
-        owners: 0,
-        others: 0,
-    };
-    parse(text, lengths).map_or_else(code, |_| 7)
-});
+    parse(text, lent.lengths()).map_or_else(code, |_| 7)
+}
 
-reader!(sixteen_before_seventeen, |text, groups, first, second, prices, counts| {
-    let answer = (SECOND.read)(text, groups, first, second, prices, counts);
+fn sixteen_before_seventeen(text: &[u8], mut lent: Lent, counts: &mut [u64]) -> u64 {
+    let answer = read(text, &mut lent, counts);
     if answer % 256 == 17 && text.last() != Some(&b'\n') {
         return 16 + 256 * text.len() as u64;
     }
     answer
-});
+}
 
-reader!(read_place_cut, |text, groups, first, second, prices, counts| {
-    (SECOND.read)(text, groups, first, second, prices, counts) % 65_536
-});
+fn read_place_cut(text: &[u8], mut lent: Lent, counts: &mut [u64]) -> u64 {
+    read(text, &mut lent, counts) % 65_536
+}
 
-reader!(groups_on_refusal, |text, groups, first, second, prices, counts| {
-    let answer = (SECOND.read)(text, groups, first, second, prices, counts);
+fn groups_on_refusal(text: &[u8], mut lent: Lent, counts: &mut [u64]) -> u64 {
+    let answer = read(text, &mut lent, counts);
     if answer % 256 == 17 {
-        groups[0] = groups[0].wrapping_add(1);
+        lent.groups[0] = lent.groups[0].wrapping_add(1);
     }
     answer
-});
+}
 
-reader!(later_groups_zeroed, |text, groups, first, second, prices, counts| {
-    let answer = (SECOND.read)(text, groups, first, second, prices, counts);
+fn later_groups_zeroed(text: &[u8], mut lent: Lent, counts: &mut [u64]) -> u64 {
+    let answer = read(text, &mut lent, counts);
     if answer == 0 {
-        groups[counts[0] as usize..].fill(0);
+        lent.groups[counts[0] as usize..].fill(0);
     }
     answer
-});
+}
 
-reader!(n_and_m_swapped, |text, groups, first, second, prices, counts| {
-    let answer = (SECOND.read)(text, groups, first, second, prices, counts);
+fn n_and_m_swapped(text: &[u8], mut lent: Lent, counts: &mut [u64]) -> u64 {
+    let answer = read(text, &mut lent, counts);
     if answer == 0 {
         counts.swap(0, 1);
     }
     answer
-});
+}
 
-reader!(prices_for_ends, |text, groups, first, second, prices, counts| {
-    let answer = (SECOND.read)(text, groups, first, second, prices, counts);
+fn prices_for_ends(text: &[u8], mut lent: Lent, counts: &mut [u64]) -> u64 {
+    let answer = read(text, &mut lent, counts);
     if answer == 0 {
         let m = counts[1] as usize;
-        second[..m].copy_from_slice(&prices[..m]);
+        lent.second[..m].copy_from_slice(&lent.prices[..m]);
     }
     answer
-});
+}
+
+fn no_number_of_pairs(text: &[u8], mut lent: Lent, counts: &mut [u64]) -> u64 {
+    let before = counts.get(2).copied();
+    let answer = read(text, &mut lent, counts);
+    if answer == 0 {
+        counts[2] = before.unwrap_or(0);
+    }
+    answer
+}
+
+fn later_pairs_zeroed(text: &[u8], mut lent: Lent, counts: &mut [u64]) -> u64 {
+    let answer = read(text, &mut lent, counts);
+    if answer == 0 {
+        lent.others[counts[2] as usize..].fill(0);
+    }
+    answer
+}
+
+fn pairs_on_refusal(text: &[u8], mut lent: Lent, counts: &mut [u64]) -> u64 {
+    let answer = read(text, &mut lent, counts);
+    if answer % 256 == 18 {
+        if let Some(owner) = lent.owners.first_mut() {
+            *owner = owner.wrapping_add(1);
+        }
+    }
+    answer
+}
+
+/// 2 for pair buffers that differ in length, though a text needs neither whole.
+fn unequal_pair_buffers(text: &[u8], mut lent: Lent, counts: &mut [u64]) -> u64 {
+    match pairs_roomy(text, &lent) {
+        0 if lent.owners.len() != lent.others.len() => 2,
+        _ => read(text, &mut lent, counts),
+    }
+}
+
+/// 7 before the first also line, if there is no room for a pair.
+fn pairs_wanted(text: &[u8], mut lent: Lent, counts: &mut [u64]) -> u64 {
+    match read(text, &mut lent, counts) {
+        0 if lent.owners.is_empty() || lent.others.is_empty() => 7,
+        other => other,
+    }
+}
+
+/// 7 of pairs before 17 or 18 of the same line: with no room for this pair, its line is never judged.
+fn seven_before(number: u64, text: &[u8], lent: &mut Lent, counts: &mut [u64]) -> u64 {
+    let answer = read(text, lent, counts);
+    let line = text.split_inclusive(|&byte| byte == b'\n').filter(|line| line.starts_with(b"also=")).position(|line| {
+        let group = line[5..].split(|&byte| byte == b',').nth(1).and_then(|g| std::str::from_utf8(g).ok());
+        group.and_then(|g| g.trim_end().parse::<u32>().ok()).is_some_and(|g| g > 255)
+    });
+    let pair = if number == 18 { Some((answer / 256) as usize) } else { line };
+    match pair {
+        Some(pair) if answer % 256 == number && pair >= lent.owners.len().min(lent.others.len()) => 7,
+        _ => answer,
+    }
+}
+
+fn seven_before_seventeen(text: &[u8], mut lent: Lent, counts: &mut [u64]) -> u64 {
+    seven_before(17, text, &mut lent, counts)
+}
+
+fn seven_before_eighteen(text: &[u8], mut lent: Lent, counts: &mut [u64]) -> u64 {
+    seven_before(18, text, &mut lent, counts)
+}
+
+/// 7 of pairs only when all else is well.
+fn pairs_seven_at_the_end(text: &[u8], mut lent: Lent, counts: &mut [u64]) -> u64 {
+    match (read(text, &mut lent, counts), pairs_roomy(text, &lent)) {
+        (7, other) if other != 0 && other != 7 && counts.len() >= READ_COUNTS => other,
+        (answer, _) => answer,
+    }
+}
+
+/// Where there is room for one of the two, the longer buffer counts.
+fn the_longer_pair_buffer(text: &[u8], mut lent: Lent, counts: &mut [u64]) -> u64 {
+    let answer = read(text, &mut lent, counts);
+    let longer = lent.owners.len().max(lent.others.len());
+    match parse(text, Lengths { owners: longer, others: longer, ..lent.lengths() }) {
+        Ok(_) if answer == 7 && counts.len() >= READ_COUNTS => 0,
+        _ => answer,
+    }
+}
+
+/// The pair before isn't looked at: only v, g and the own group.
+fn order_not_looked_at(text: &[u8], mut lent: Lent, counts: &mut [u64]) -> u64 {
+    let answer = read(text, &mut lent, counts);
+    if answer % 256 != 18 || answer < 512 {
+        return answer;
+    }
+    let alsos: Vec<&[u8]> =
+        text.split_inclusive(|&byte| byte == b'\n').filter(|line| line.starts_with(b"also=")).collect();
+    let pair = (answer / 256) as usize;
+    if alsos[pair] == alsos[pair - 1] {
+        7
+    } else {
+        answer
+    }
+}
 
 fn seven_before_nine(record: &[u8], out: &mut [u8], counts: &mut [u64]) -> u64 {
     if record.len() != RECORD_BYTES && out.len() < 7 {
@@ -371,6 +446,30 @@ fn seven_before_two(survey: View, out: &mut [u8], counts: &mut [u64]) -> u64 {
     (SECOND.print_survey)(survey, out, counts)
 }
 
+fn alsos_not_printed(survey: View, out: &mut [u8], counts: &mut [u64]) -> u64 {
+    if survey.owners.len() != survey.others.len() {
+        return (SECOND.print_survey)(survey, out, counts);
+    }
+    (SECOND.print_survey)(plain(survey), out, counts)
+}
+
+fn alsos_printed_last(survey: View, out: &mut [u8], counts: &mut [u64]) -> u64 {
+    let answer = (SECOND.print_survey)(survey, out, counts);
+    if answer == 0 {
+        let text = String::from_utf8_lossy(&out[..counts[0] as usize]).into_owned();
+        let (alsos, others): (Vec<&str>, Vec<&str>) =
+            text.split_inclusive('\n').partition(|line| line.starts_with("also="));
+        out[..text.len()].copy_from_slice([others.concat(), alsos.concat()].concat().as_bytes());
+    }
+    answer
+}
+
+fn unequal_pairs_printed(survey: View, out: &mut [u8], counts: &mut [u64]) -> u64 {
+    let many = survey.owners.len().min(survey.others.len());
+    let both = View { owners: &survey.owners[..many], others: &survey.others[..many], ..survey };
+    (SECOND.print_survey)(both, out, counts)
+}
+
 fn differs(library: &Library) -> bool {
     (0..4000).any(|case| OPERATIONS.iter().any(|operation| operation.compare(library, 1, case).is_err()))
 }
@@ -421,6 +520,16 @@ fn faults_are_found() {
         ("groups past the last zeroed", Library { read: later_groups_zeroed, ..SECOND }),
         ("n and m swapped", Library { read: n_and_m_swapped, ..SECOND }),
         ("prices stored for second ends", Library { read: prices_for_ends, ..SECOND }),
+        ("no number of pairs", Library { read: no_number_of_pairs, ..SECOND }),
+        ("others past the last zeroed", Library { read: later_pairs_zeroed, ..SECOND }),
+        ("owners written on 18", Library { read: pairs_on_refusal, ..SECOND }),
+        ("2 for pair buffers of unequal length in reading", Library { read: unequal_pair_buffers, ..SECOND }),
+        ("7 for a pair buffer of no length", Library { read: pairs_wanted, ..SECOND }),
+        ("7 before 17 of an also line", Library { read: seven_before_seventeen, ..SECOND }),
+        ("7 before 18 of an also line", Library { read: seven_before_eighteen, ..SECOND }),
+        ("7 of pairs after all else", Library { read: pairs_seven_at_the_end, ..SECOND }),
+        ("the longer of the pair buffers counts", Library { read: the_longer_pair_buffer, ..SECOND }),
+        ("an equal pair read", Library { read: order_not_looked_at, ..SECOND }),
         ("7 before 9", Library { print_moat: seven_before_nine, ..SECOND }),
         ("short counts before 9", Library { print_moat: short_counts_before_nine, ..SECOND }),
         ("7 for a line that just fits", Library { print_moat: room_for_one_more, ..SECOND }),
@@ -430,6 +539,9 @@ fn faults_are_found() {
         ("dropped tracks printed as kept", Library { print_plan: dropped_printed, ..SECOND }),
         ("ends swapped", Library { print_survey: ends_swapped, ..SECOND }),
         ("7 before 2", Library { print_survey: seven_before_two, ..SECOND }),
+        ("also lines not printed", Library { print_survey: alsos_not_printed, ..SECOND }),
+        ("also lines printed last", Library { print_survey: alsos_printed_last, ..SECOND }),
+        ("as many also lines as there are pairs in both", Library { print_survey: unequal_pairs_printed, ..SECOND }),
     ];
     for (name, library) in faulty {
         assert!(differs(&library), "{name} is not found");
@@ -457,12 +569,15 @@ fn every_pair_is_met() {
     }
 }
 
-/// Every fault of pairs is due alone, and beside each refusal that can stand before or behind it: 2 of pairs of unequal length, else 18.
+/// Every fault of pairs and of also lines is due alone, and beside each refusal that can stand before or behind its own: 2 of pairs of unequal length,
+/// 18 of others, and in a text its own.
 #[test]
 fn every_fault_of_pairs_is_met() {
-    for operation in OPERATIONS.iter().filter(|operation| operation.faults.contains(&Fault::PairsUnequal)) {
-        for &fault in PAIR_FAULTS.iter().chain(&[Fault::PairsUnequal]) {
-            let number = if fault == Fault::PairsUnequal { 2 } else { 18 };
+    let of_pairs: Vec<(Fault, u64)> =
+        PAIR_FAULTS.iter().map(|&fault| (fault, 18)).chain([(Fault::PairsUnequal, 2)]).collect();
+    for operation in &OPERATIONS {
+        let faults = of_pairs.iter().chain(ALSO_FAULTS).filter(|fault| operation.faults.contains(&fault.0));
+        for &(fault, number) in faults {
             let mut beside: BTreeMap<u64, u64> = BTreeMap::new();
             for case in (0..16_000).filter(|&case| pair(operation.faults, case)[0] == fault) {
                 let [one, other, both] = operation.due(1, case);

@@ -5,7 +5,7 @@ use evidence::check::{check, Passed};
 use evidence::gen::WORKED;
 use evidence::plan::{fast, growth, owned, record_room, reference, Plan, Planner};
 use evidence::print::{moat_line, plan_lines, program, refusal_lines, survey_text};
-use evidence::read::{parse, read, Lengths};
+use evidence::read::{parse, read, Lengths, Lent};
 use evidence::{brute, Refusal, Survey, MAX_INPUT, MAX_TEXT};
 
 const PLANNERS: [Planner; 2] = [reference, fast];
@@ -262,54 +262,12 @@ fn reading_counts_and_digits() {
     // 4, 5 and 6 wait for planning.
     let all_wrong = "nodes=1\nlinks=1\nnode=255\nlink=999,999,9999999\n";
     assert_eq!(parsed(all_wrong), Ok(Survey::new(&[255], &[(999, 999, 9_999_999)])));
-    // Ends have three digits.
-    assert_eq!(parsed("nodes=1\nlinks=1\nnode=0\nlink=1000,0,1\n"), Err(refused(16, 31)));
-    assert_eq!(parsed("nodes=1\nlinks=1\nnode=0\nlink=0,1000,1\n"), Err(refused(16, 33)));
     assert_eq!(program(reference, all_wrong.as_bytes()), "refused=4\nplace=0\n");
-}
-
-/// A text with own groups 1, 1 and 0 and these also lines.
-fn with_pairs(lines: &str) -> String {
-    format!("nodes=3\nlinks=0\nnode=1\nnode=1\nnode=0\n{lines}")
-}
-
-#[test]
-fn reading_pairs() {
-    let said = |lines: &str| parsed(&with_pairs(lines)).map(|survey| (survey.owners, survey.others));
-    assert_eq!(said("also=0,2\nalso=0,3\nalso=2,1\n"), Ok((vec![0, 0, 2], vec![2, 3, 1])));
-    assert_eq!(said("also=9,256\n"), Err(refused(17, 9)));
-    assert_eq!(said("also=999,0\n"), Err(refused(18, 0)));
-    assert_eq!(said("also=3,1\n"), Err(refused(18, 0)));
-    assert_eq!(said("also=2,1\nalso=0,1\n"), Err(refused(18, 1)));
-    assert_eq!(said("also=0,2\nalso=0,2\n"), Err(refused(18, 1)));
-    assert_eq!(said("also=1,2\nalso=0,2\n"), Err(refused(18, 1)));
-    assert_eq!(said("also=0,1000\n"), Err(refused(16, 47)));
-    assert_eq!(said("also=0,02\n"), Err(refused(16, 45)));
-    assert_eq!(said("also=0,2\nbut"), Err(refused(16, 46)));
-    // 17 before 18 before 7 on one line, and 7 where the shorter of the two buffers is full.
-    let short = |owners, others| Lengths { owners, others, ..Lengths::ENOUGH };
-    for (lines, lengths, want) in [
-        ("also=9,256\n", short(0, 0), refused(17, 9)),
-        ("also=9,1\n", short(0, 0), refused(18, 0)),
-        ("also=0,2\n", short(0, 1), refused(7, 0)),
-        ("also=0,2\n", short(1, 0), refused(7, 0)),
-        ("also=0,2\nalso=0,3\nx", short(2, 1), refused(7, 0)),
-        ("also=0,2\nx", short(1, 1), refused(16, 46)),
-    ] {
-        assert_eq!(parse(with_pairs(lines).as_bytes(), lengths), Err(want), "{lines}");
-    }
-    // A 257th line.
-    let head = format!("nodes=256\nlinks=0\n{}", "node=0\n".repeat(256));
-    let most: String = (0..256).map(|v| format!("also={v},1\n")).collect();
-    assert_eq!(parsed(&format!("{head}{most}")).map(|survey| survey.owners.len()), Ok(256));
-    let past = (head.len() + most.len()) as u64;
-    assert_eq!(parsed(&format!("{head}{most}also=255,2\n")), Err(refused(16, past)));
 }
 
 #[test]
 fn reading_into_short_buffers() {
-    let lengths =
-        |groups, first, second, prices| Lengths { groups, first, second, prices, ..Lengths::ENOUGH };
+    let lengths = |groups, first, second, prices| Lengths { groups, first, second, prices, owners: 0, others: 0 };
     let p3 = survey_text(&worked(3));
     assert_eq!(parse(&p3, lengths(3, 2, 2, 2)), Ok(worked(3)));
     for short in [lengths(2, 2, 2, 2), lengths(3, 1, 2, 2), lengths(3, 2, 1, 2), lengths(3, 2, 2, 1)] {
@@ -323,25 +281,59 @@ fn reading_into_short_buffers() {
     assert_eq!(parse(b"nodes=3\nlinks=1\nnode=256\n", lengths(3, 1, 1, 0)), Err(refused(7, 0)));
     assert_eq!(parse(b"nodes=3", lengths(2, 0, 0, 0)), Err(refused(16, 7)));
 
-    let (mut groups, mut first, mut second, mut prices) = ([9u8; 4], [9u32; 3], [9u32; 2], [9u32; 5]);
+    let mut lent = Survey {
+        groups: vec![9; 4],
+        first: vec![9; 3],
+        second: vec![9; 2],
+        prices: vec![9; 5],
+        owners: vec![9; 2],
+        others: vec![9; 1],
+    };
+    let untouched = lent.clone();
     let torn = &p3[..p3.len() - 1];
-    assert_eq!(read(torn, &mut groups, &mut first, &mut second, &mut prices), Err(refused(16, torn.len() as u64)));
-    assert_eq!((groups, first, second, prices), ([9; 4], [9; 3], [9; 2], [9; 5]));
-    assert_eq!(read(&p3, &mut groups, &mut first, &mut second, &mut prices), Ok((3, 2)));
-    assert_eq!((groups, first, second, prices), ([1, 0, 1, 9], [0, 1, 9], [1, 2], [3, 4, 9, 9, 9]));
+    assert_eq!(read(torn, lent_by(&mut lent)), Err(refused(16, torn.len() as u64)));
+    assert_eq!(lent, untouched);
+    assert_eq!(read(&p3, lent_by(&mut lent)), Ok([3, 2, 0]));
+    let mut filled = untouched.clone();
+    filled.groups = vec![1, 0, 1, 9];
+    (filled.first, filled.second, filled.prices) = (vec![0, 1, 9], vec![1, 2], vec![3, 4, 9, 9, 9]);
+    assert_eq!(lent, filled);
+    // With an also line, which fills both pair buffers' beginnings.
+    let also = b"nodes=1\nlinks=0\nnode=7\nalso=0,255\n";
+    assert_eq!(read(also, lent_by(&mut lent)), Ok([1, 0, 1]));
+    (filled.groups[0], filled.owners[0], filled.others[0]) = (7, 0, 255);
+    assert_eq!(lent, filled);
+    let two = b"nodes=1\nlinks=0\nnode=7\nalso=0,254\nalso=0,255\n";
+    assert_eq!(read(two, lent_by(&mut lent)), Err(refused(7, 0)));
+    assert_eq!(lent, filled);
+}
+
+/// The buffers of a survey as they are lent to reading.
+fn lent_by(survey: &mut Survey) -> Lent<'_> {
+    Lent {
+        groups: &mut survey.groups,
+        first: &mut survey.first,
+        second: &mut survey.second,
+        prices: &mut survey.prices,
+        owners: &mut survey.owners,
+        others: &mut survey.others,
+    }
 }
 
 #[test]
 fn longest_text() {
     let nodes = "node=9999999\n".repeat(256);
-    let also = "also=999,999\n".repeat(256);
+    let alsos = "also=999,999\n".repeat(256);
     let links = "link=999,999,9999999\n".repeat(2_048);
-    let text = format!("nodes=256\nlinks=2048\n{nodes}{also}{links}");
+    let text = format!("nodes=256\nlinks=2048\n{nodes}{alsos}{links}");
     assert_eq!(text.len(), 49_685);
     assert_eq!(MAX_TEXT, 49_685);
     assert_eq!(MAX_INPUT, 65_536);
     assert_eq!(parsed(&text), Err(refused(17, 0)));
-    let text = format!("nodes=256\nlinks=2048\n{}{links}", "node=255\n".repeat(256));
+    let nodes = "node=255\n".repeat(256);
+    let text = format!("nodes=256\nlinks=2048\n{nodes}{alsos}{links}");
+    assert_eq!(parsed(&text), Err(refused(17, 999)));
+    let text = format!("nodes=256\nlinks=2048\n{nodes}{links}");
     assert_eq!(parsed(&text).unwrap().prices, [9_999_999; 2_048]);
     // What stands past the last line is found at once, and what stands past 65,536 bytes isn't looked at.
     let mut longer = text.clone().into_bytes();

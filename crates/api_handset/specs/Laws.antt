@@ -1,6 +1,3 @@
-pub mod Words
-pub mod Lengths
-pub mod Pairs
-pub mod Small
+pub mod Result
 pub mod Call
 pub mod Crossing

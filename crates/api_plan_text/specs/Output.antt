@@ -2,18 +2,18 @@
 -- planning and printing, one after the other, for every text.
 use Prim.Native.Nat.{ℕ}
 use mathlib.Core.List.{List}
-use Rattle.base_limits.specs.Limits.{maxVertices, maxEdges, recordsRoom}
+use Rattle.base_limits.specs.Limits.{maxEdges, recordsRoom}
 use Rattle.base_limits.specs.Verdict.{Outcome, refusal, answer}
-use Rattle.format_survey_lines.specs.Line.{testsFor}
-use Rattle.format_survey.specs.Reading.{SurveyText, surveyAt, stepOutcome}
+use Rattle.format_survey_lines.specs.Line.{widest}
+use Rattle.format_survey.specs.Reading.{SurveyText, reading}
 use Rattle.format_write.specs.Text.{planText, refusalText}
 use Rattle.plan_core.specs.Plan.{Plan, planning}
 use Rattle.plan_duals.specs.Drawing.{recordsOf}
-use Rattle.survey_core.specs.Survey.{Survey, surveyFrom}
+use Rattle.survey_core.specs.Survey.{Survey, surveyWith}
 
 -- The survey that a text says, or the refusal, where there is room for every survey within the limits.
 unfoldable pub surveyRead : List ℕ → Outcome SurveyText
-surveyRead t = stepOutcome (surveyAt (testsFor maxVertices maxEdges maxEdges maxEdges) t)
+surveyRead t = reading t widest
 
 -- The plan of a survey, or the refusal, where there is room for every plan.
 unfoldable pub surveyPlan : Survey → Outcome Plan
@@ -22,7 +22,7 @@ surveyPlan s = planning s maxEdges recordsRoom
 -- The plan of what was read.
 unfoldable pub readPlan : Outcome SurveyText → Outcome Plan
 readPlan (refusal number place) = refusal number place
-readPlan (answer s) = surveyPlan (surveyFrom (s .groups) (s .firsts) (s .seconds) (s .weights))
+readPlan (answer s) = surveyPlan (surveyWith (s .groups) (s .firsts) (s .seconds) (s .weights) (s .owners) (s .others))
 
 -- The plan of the survey that a text says: what reading and planning come to.
 unfoldable pub textPlan : List ℕ → Outcome Plan

@@ -6,10 +6,11 @@ ghost use mathlib.Core.List.{_++_};
 ghost use Prim.Native.Nat.{_≤_};
 ghost use lib.ListN.{length, drop};
 ghost use Rattle.base_limits.specs.Limits.{planRoom};
-ghost use Rattle.survey_core.specs.Survey.{lentSurvey};
+ghost use Rattle.survey_core.specs.Survey.{lentWith};
 ghost use Rattle.format_print.specs.Print.{printed, printedOut};
 ghost use Rattle.api_plan_text.specs.Output.{surveyOutput, planOutput};
 use base_limits::MAX_EDGES;
+use base_limits::MAX_PAIRS;
 use base_limits::MAX_VERTICES;
 use base_limits::PLAN_ROOM;
 use base_limits::RECORD_BYTES;
@@ -24,11 +25,19 @@ fn plan_survey(
     firsts: &[u32],
     seconds: &[u32],
     weights: &[u32],
+    owners: &[u32],
+    others: &[u8],
     out: &mut [u8],
 ) -> Printed
-    ensures { λ r. ⌜ r ≡ printed (surveyOutput (lentSurvey groups firsts seconds weights)) (old out) ⌝ }
-    ensures { λ _. ⌜ new out ≡ printedOut (surveyOutput (lentSurvey groups firsts seconds weights)) (old out) ⌝ }
-    ensures fits { λ _. ⌜ length (surveyOutput (lentSurvey groups firsts seconds weights)) ≤ planRoom ⌝ }
+    ensures { λ r.
+        let s = lentWith groups firsts seconds weights owners others in
+        ⌜ r ≡ printed (surveyOutput s) (old out) ⌝ }
+    ensures { λ _.
+        let s = lentWith groups firsts seconds weights owners others in
+        ⌜ new out ≡ printedOut (surveyOutput s) (old out) ⌝ }
+    ensures fits { λ _.
+        let s = lentWith groups firsts seconds weights owners others in
+        ⌜ length (surveyOutput s) ≤ planRoom ⌝ }
 {
     let mut marks = [0u8; MAX_EDGES];
     let mut records = [0u8; RECORDS_ROOM];
@@ -38,8 +47,8 @@ fn plan_survey(
         firsts,
         seconds,
         weights,
-        &[],
-        &[],
+        owners,
+        others,
         &mut marks,
         &mut records,
     ) {
@@ -76,13 +85,29 @@ pub fn plan_text(text: &[u8], out: &mut [u8]) -> Printed
     let mut firsts = [0u32; MAX_EDGES];
     let mut seconds = [0u32; MAX_EDGES];
     let mut weights = [0u32; MAX_EDGES];
-    match format_survey::read(text, &mut groups, &mut firsts, &mut seconds, &mut weights) {
+    let mut owners = [0u32; MAX_PAIRS];
+    let mut others = [0u8; MAX_PAIRS];
+    match format_survey::read(
+        text,
+        &mut groups,
+        &mut firsts,
+        &mut seconds,
+        &mut weights,
+        &mut owners,
+        &mut others,
+    ) {
         Reading::Refused { number, place } => format_print::print_refusal(number, place, out),
-        Reading::Survey { vertices, edges } => plan_survey(
+        Reading::Survey {
+            vertices,
+            edges,
+            pairs,
+        } => plan_survey(
             &groups[0..vertices],
             &firsts[0..edges],
             &seconds[0..edges],
             &weights[0..edges],
+            &owners[0..pairs],
+            &others[0..pairs],
             out,
         ),
     }

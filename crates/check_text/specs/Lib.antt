@@ -1,4 +1,4 @@
 pub mod Verify
-pub mod Pair
+pub mod Worth
 pub mod Answer
 pub mod Laws

@@ -1,28 +1,32 @@
--- Checking a survey text that a printedWith plan follows: the survey is read, then the plan, then the checker looks at both, and at last the
+-- Checking a survey text that a printed plan follows: the survey is read, then the plan, then the checker looks at both, and at last the
 -- counts that the plan claims are held against what the checker finds.
 use Prim.Native.Nat.{ℕ, _*_}
 use mathlib.Core.Bool.{not}
 use mathlib.Core.List.{List}
 use lib.Dec.{eqb}
-use Rattle.base_limits.specs.Limits.{maxVertices, maxEdges, recordBytes, maxDuals}
+use Rattle.base_limits.specs.Limits.{maxEdges, recordBytes, maxDuals}
 use Rattle.base_limits.specs.Verdict.{refuseIf, _before_, Outcome, refusal, answer, outcome}
 use Rattle.base_limits.specs.declared.Verdict.{Verdict}
 use Rattle.format_grammar.specs.Step.{Step, found, refused, _then_}
 use Rattle.format_survey.specs.Reading.{surveyOf, SurveyText}
-use Rattle.format_survey_lines.specs.Line.{SurveyCounts, Tests, testsFor, countsAt, linesAt}
-use Rattle.survey_core.specs.Survey.{Survey, surveyFrom, edgeCount}
+use Rattle.format_survey_lines.specs.Line.{Lengths, widest, pairRoom, SurveyCounts, testsFor, countsAt, linesAt}
+use Rattle.survey_core.specs.Survey.{Survey, surveyWith, edgeCount}
 use Rattle.check_rule.specs.Check.{Checked, checking}
 use Rattle.format_plan.specs.Plan.{PrintedPlan, planAt, withRoom, marksOf, dualRecords}
 
--- The survey of these counts, and the offset behind its lines.
-unfoldable pub surveyLinesAt : List ℕ → SurveyCounts → (at : ℕ) → Step SurveyText
-surveyLinesAt t counts at =
-    let body = linesAt t (counts .vertices) (counts .edges) at in
-    body .end then λ z q. found (surveyOf counts (body .groups) (body .edges)) q
+-- The survey of these counts, where there is room for so many pairs, and the offset behind its lines.
+unfoldable pub surveyLinesAt : (room : ℕ) → List ℕ → SurveyCounts → (at : ℕ) → Step SurveyText
+surveyLinesAt room t counts at =
+    let body = linesAt room t (counts .vertices) (counts .edges) at in
+    body .end then λ k q. found (surveyOf counts (body .groups) (body .pairs) (body .edges)) q
 
 -- A survey at the start of a text, and the offset behind it.
-unfoldable pub prefixAt : Tests → List ℕ → Step SurveyText
-prefixAt tests t = countsAt tests t then surveyLinesAt t
+unfoldable pub prefixAt : Lengths → List ℕ → Step SurveyText
+prefixAt lent t = countsAt (testsFor lent .vertices) (testsFor lent .edges) t then surveyLinesAt (pairRoom lent) t
+
+-- The survey that a text says.
+abbrev pub surveyIn : SurveyText → Survey
+surveyIn s = surveyWith (s .groups) (s .firsts) (s .seconds) (s .weights) (s .owners) (s .others)
 
 -- 25: a count that is not what the checker finds; 0 for sites, 1 for cost, 2 for bound.
 unfoldable pub claimTest : Checked → (terminals cost bound : ℕ) → Verdict
@@ -47,9 +51,7 @@ planFrom t s at = withRoom (planAt t (edgeCount s) at) (edgeCount s) maxEdges (r
 
 unfoldable pub verifiedFrom : List ℕ → Step SurveyText → Outcome Checked
 verifiedFrom t (refused number place) = refusal number place
-verifiedFrom t (found s at) =
-    let v = surveyFrom (s .groups) (s .firsts) (s .seconds) (s .weights) in
-    planVerified v (planFrom t v at)
+verifiedFrom t (found s at) = planVerified (surveyIn s) (planFrom t (surveyIn s) at)
 
 unfoldable pub verifying : List ℕ → Outcome Checked
-verifying t = verifiedFrom t (prefixAt (testsFor maxVertices maxEdges maxEdges maxEdges) t)
+verifying t = verifiedFrom t (prefixAt widest t)

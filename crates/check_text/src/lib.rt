@@ -1,22 +1,23 @@
-// Checks a survey text with a printedWith plan behind it: the survey is read, then the plan, then the checker looks at
+// Checks a survey text with a printed plan behind it: the survey is read, then the plan, then the checker looks at
 // both, and at last the claimed counts are held against what it finds. Definitions in specs/.
 ghost use Rattle.base_buffer.specs.Lent.{old};
 ghost use mathlib.Core.Path.{_≡_};
 ghost use Prim.Native.Nat.{_≤_};
 ghost use lib.ListN.{length};
-ghost use Rattle.base_limits.specs.Limits.{maxVertices, maxEdges};
+ghost use Rattle.base_limits.specs.Limits.{maxVertices, maxEdges, maxPairs};
 ghost use Rattle.format_grammar.specs.Step.{stopped};
 ghost use Rattle.format_number.specs.Answer.{numberStep};
 ghost use Rattle.format_survey_lines.specs.Answer.{countsStep};
 ghost use Rattle.format_survey.specs.Reading.{stepOutcome};
 ghost use Rattle.format_plan.specs.Answer.{planOutcome};
-ghost use Rattle.survey_core.specs.Survey.{lentSurvey};
+ghost use Rattle.survey_core.specs.Survey.{lentWith};
 ghost use Rattle.check_rule.specs.Check.{checking};
 ghost use Rattle.check_core.specs.Stage.{checkedOutcome};
 ghost use Rattle.check_text.specs.Verify.{surveyLinesAt, claimsJudged, planVerified};
 ghost use Rattle.check_text.specs.Verify.{planFrom, verifiedFrom, verifying};
 ghost use Rattle.check_text.specs.Answer.{verifiedOutcome, refusedOnly};
 use base_limits::MAX_EDGES;
+use base_limits::MAX_PAIRS;
 use base_limits::MAX_VERTICES;
 use base_limits::RECORD_BYTES;
 use base_limits::RECORDS_ROOM;
@@ -111,6 +112,8 @@ fn judge(
     firsts: &[u32],
     seconds: &[u32],
     weights: &[u32],
+    owners: &[u32],
+    others: &[u8],
     marks: &[u8],
     records: &[u8],
     terminals: u64,
@@ -118,10 +121,19 @@ fn judge(
     bound: u64,
 ) -> Verified
     ensures { λ r.
-        let s = lentSurvey groups firsts seconds weights in
+        let s = lentWith groups firsts seconds weights owners others in
         ⌜ verifiedOutcome r ≡ claimsJudged (checking s (old marks) (old records)) terminals cost bound ⌝ }
 {
-    let found = check_core::check(groups, firsts, seconds, weights, &[], &[], marks, records);
+    let found = check_core::check(
+        groups,
+        firsts,
+        seconds,
+        weights,
+        owners,
+        others,
+        marks,
+        records,
+    );
     let Checking::Passed {
         terminals: k,
         cost: c,
@@ -155,7 +167,7 @@ fn judge(
     }
 }
 
-// The printedWith plan from an offset on, against a survey.
+// The printed plan from an offset on, against a survey.
 fn verify_plan(
     text: &[u8],
     at: usize,
@@ -163,10 +175,12 @@ fn verify_plan(
     firsts: &[u32],
     seconds: &[u32],
     weights: &[u32],
+    owners: &[u32],
+    others: &[u8],
 ) -> Verified
     requires { ⌜ length (now firsts) ≤ maxEdges ⌝ }
     ensures { λ r.
-        let s = lentSurvey groups firsts seconds weights in
+        let s = lentWith groups firsts seconds weights owners others in
         ⌜ verifiedOutcome r ≡ planVerified s (planFrom (old text) s at) ⌝ }
 {
     let mut marks = [0u8; MAX_EDGES];
@@ -189,6 +203,8 @@ fn verify_plan(
         firsts,
         seconds,
         weights,
+        owners,
+        others,
         &marks[0..edges],
         &records[0..size],
         terminals,
@@ -197,31 +213,37 @@ fn verify_plan(
     )
 }
 
-// The lines of a survey after its counts, and the printedWith plan behind them.
+// The lines of a survey after its counts, and the printed plan behind them.
 fn verify_lines(text: &[u8], cursor: Cursor, vertices: usize, edges: usize) -> Verified
     requires { ⌜ (vertices ≤ maxVertices) × (edges ≤ maxEdges) ⌝ }
     ensures { λ r.
-        let survey = surveyLinesAt (old text) (record { vertices = vertices; edges = edges }) (cursor .at) in
+        let survey = surveyLinesAt maxPairs (old text) (record { vertices = vertices; edges = edges }) (cursor .at) in
         ⌜ verifiedOutcome r ≡ verifiedFrom (old text) survey ⌝ }
 {
     let mut groups = [0u8; MAX_VERTICES];
     let mut firsts = [0u32; MAX_EDGES];
     let mut seconds = [0u32; MAX_EDGES];
     let mut weights = [0u32; MAX_EDGES];
+    let mut owners = [0u32; MAX_PAIRS];
+    let mut others = [0u8; MAX_PAIRS];
     let step = format_survey_lines::survey_lines(
         text,
         cursor,
         vertices,
         edges,
+        MAX_PAIRS,
         &mut groups,
         &mut firsts,
         &mut seconds,
         &mut weights,
+        &mut owners,
+        &mut others,
     );
-    let Number::Value { value: _, next } = step else {
+    let Number::Value { value, next } = step else {
         return stopped_lines(step);
     };
     let at = next.at;
+    let pairs = value as usize;
     verify_plan(
         text,
         at,
@@ -229,10 +251,12 @@ fn verify_lines(text: &[u8], cursor: Cursor, vertices: usize, edges: usize) -> V
         &firsts[0..edges],
         &seconds[0..edges],
         &weights[0..edges],
+        &owners[0..pairs],
+        &others[0..pairs],
     )
 }
 
-// Checks a survey text with a printedWith plan behind it.
+// Checks a survey text with a printed plan behind it.
 pub fn verify(text: &[u8]) -> Verified
     ensures { λ r. ⌜ verifiedOutcome r ≡ verifying (old text) ⌝ }
 {

@@ -1,7 +1,7 @@
 -- The plan of the survey that a text says, and its text as the program `plan` prints it.
 use Prim.Native.Nat.{ℕ}
 use mathlib.Core.List.{List}
-use Rattle.check_text.specs.Pair.{surveyIn}
+use Rattle.check_text.specs.Verify.{surveyIn}
 use Rattle.format_survey.specs.Reading.{SurveyText}
 use Rattle.format_write.specs.Text.{planText}
 use Rattle.plan_core.specs.Plan.{Plan, planOf}

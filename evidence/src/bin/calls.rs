@@ -7,26 +7,36 @@
 
 use evidence::calls::document;
 use evidence::calls::generated::OPERATIONS;
+use evidence::handset;
 use std::collections::BTreeMap;
 use std::process::ExitCode;
 
 #[cfg(feature = "native")]
-use evidence::native::LIBRARY;
+use evidence::native::{HANDSET, LIBRARY};
 #[cfg(not(feature = "native"))]
 const LIBRARY: evidence::calls::Library = evidence::calls::SECOND;
+#[cfg(not(feature = "native"))]
+const HANDSET: handset::Handset = handset::SECOND;
+
+/// Holds a call of so many cases against the second implementation, and says how often each refusal came.
+fn run(name: &str, count: u64, seed: u64, compare: impl Fn(u64) -> Result<u64, String>) -> Result<(), String> {
+    let mut came: BTreeMap<u64, u64> = BTreeMap::new();
+    for case in 0..count {
+        let number = compare(case).map_err(|trouble| format!("seed {seed} case {case}, {trouble}"))?;
+        *came.entry(number).or_default() += 1;
+    }
+    let came: Vec<String> = came.iter().map(|(number, many)| format!("{number}: {many}")).collect();
+    println!("{name}: {}", came.join(", "));
+    Ok(())
+}
 
 fn compare(count: u64, seed: u64) -> Result<(), String> {
     println!("{} cases are as written", document::cases(&LIBRARY)?);
     for operation in OPERATIONS {
-        let mut came: BTreeMap<u64, u64> = BTreeMap::new();
-        for case in 0..count {
-            let number = operation
-                .compare(&LIBRARY, seed, case)
-                .map_err(|trouble| format!("seed {seed} case {case}, {trouble}"))?;
-            *came.entry(number).or_default() += 1;
-        }
-        let came: Vec<String> = came.iter().map(|(number, many)| format!("{number}: {many}")).collect();
-        println!("{}: {}", operation.name, came.join(", "));
+        run(operation.name, count, seed, |case| operation.compare(&LIBRARY, seed, case))?;
+    }
+    for (name, checks) in handset::CALLS {
+        run(name, count, seed, |case| handset::compare(&HANDSET, seed, case, checks))?;
     }
     Ok(())
 }
@@ -50,7 +60,7 @@ fn main() -> ExitCode {
     }
     match compare(count, seed) {
         Ok(()) => {
-            println!("{} compared, 0 differ", count * OPERATIONS.len() as u64);
+            println!("{} compared, 0 differ", count * (OPERATIONS.len() + handset::CALLS.len()) as u64);
             ExitCode::SUCCESS
         }
         Err(trouble) => {

@@ -7,17 +7,19 @@
 //! 0,0 for none, and goes on with the call's counts, all 0 after a refusal. What isn't given as written keeps its
 //! values.
 //!
-//!     read  text room=groups,first,second,prices answer=number,place,n,m groups first second prices
-//!     plan  groups first second prices room=marks,records answer=number,place,k,cost,bound,rounds,moats marks records
-//!     check groups first second prices marks records answer=number,place,k,cost,bound
+//!     read  text room=groups,first,second,prices,owners,others answer=number,place,n,m,pairs SURVEY
+//!     plan  SURVEY room=marks,records answer=number,place,k,cost,bound,rounds,moats marks records
+//!     check SURVEY marks records answer=number,place,k,cost,bound
 //!     print record room answer=number,place,length line
+//!
+//! SURVEY stands for groups first second prices owners others.
 
 use evidence::check::check;
-use evidence::gen::{damaged_plan, moat_case, refused_survey, survey, text_case, Rng, Size};
+use evidence::gen::{damaged_plan, moat_case, overlap, refused_pairs, refused_survey, survey, text_case, Rng, Size};
 use evidence::plan::{record_room, reference};
 use evidence::print::moat_line;
 use evidence::read::{parse, Lengths};
-use evidence::{Refusal, Survey, MAX_JUNCTIONS, MAX_TRACKS, RECORD_BYTES};
+use evidence::{Refusal, Survey, MAX_JUNCTIONS, MAX_PAIRS, MAX_TRACKS, RECORD_BYTES};
 use std::fmt::Write as _;
 use std::io::Write as _;
 use std::process::ExitCode;
@@ -42,8 +44,10 @@ fn answer<const N: usize>(answer: Result<[u64; N], Refusal>) -> String {
 }
 
 fn fields(survey: &Survey) -> String {
-    let Survey { groups, first, second, prices, .. } = survey;
-    format!("groups={} first={} second={} prices={}", hex(groups), list(first), list(second), list(prices))
+    let Survey { groups, first, second, prices, owners, others } = survey;
+    let tracks =
+        format!("groups={} first={} second={} prices={}", hex(groups), list(first), list(second), list(prices));
+    format!("{tracks} owners={} others={}", list(owners), hex(others))
 }
 
 /// Mostly what is needed, else less or more.
@@ -66,14 +70,17 @@ fn read_line(seed: u64, case: u64) -> String {
         first: length(MAX_TRACKS),
         second: length(MAX_TRACKS),
         prices: length(MAX_TRACKS),
-        owners: 0,
-        others: 0,
+        owners: length(MAX_PAIRS),
+        others: length(MAX_PAIRS),
     };
     let read = parse(&text, lengths);
-    let counts = read.as_ref().map(|survey| [survey.groups.len() as u64, survey.first.len() as u64]).map_err(|r| *r);
-    let Lengths { groups, first, second, prices, .. } = lengths;
+    let counts = read
+        .as_ref()
+        .map_err(|refusal| *refusal)
+        .map(|survey| [survey.groups.len(), survey.first.len(), survey.owners.len()].map(|count| count as u64));
+    let Lengths { groups, first, second, prices, owners, others } = lengths;
     format!(
-        "read text={} room={groups},{first},{second},{prices} answer={} {}",
+        "read text={} room={groups},{first},{second},{prices},{owners},{others} answer={} {}",
         hex(&text),
         answer(counts),
         fields(&read.unwrap_or_default())
@@ -85,11 +92,16 @@ fn plan_line(seed: u64, case: u64) -> String {
     let size =
         if rng.chance(1, 64) { Size::Large } else { rng.pick(&[Size::Tiny, Size::Small, Size::Small, Size::Middle]) };
     let mut survey = survey(rng, size);
+    if rng.chance(1, 2) {
+        overlap(rng, &mut survey);
+    }
     match rng.below(16) {
         0 | 1 => refused_survey(rng, &mut survey),
         2 => drop(survey.second.pop()),
         3 => survey.prices.push(0),
         4 => survey.groups.resize(rng.pick(&[0, MAX_JUNCTIONS + 1]), 0),
+        5 => refused_pairs(rng, &mut survey),
+        6 => survey.others.push(1),
         _ => {}
     }
     if rng.chance(1, 64) {

@@ -4,7 +4,8 @@
 use super::{Library, CHECK_COUNTS, PLAN_COUNTS, PRINT_COUNTS, READ_COUNTS};
 use crate::gen::WORKED;
 use crate::plan::record_room;
-use crate::{Survey, MAX_AMOUNT, MAX_JUNCTIONS, MAX_PAIRS, MAX_PRICE, MAX_RECORDS, MAX_TRACKS, RECORD_BYTES};
+use crate::read::{Lengths, Lent};
+use crate::{Survey, MAX_AMOUNT, MAX_JUNCTIONS, MAX_PAIRS, MAX_PRICE, MAX_RECORDS, MAX_TEXT, MAX_TRACKS, RECORD_BYTES};
 
 /// An amount and members.
 pub type Moat = (u64, &'static [usize]);
@@ -56,7 +57,7 @@ pub const P3: &str = "nodes=3\nlinks=2\nnode=1\nnode=0\nnode=1\nlink=0,1,3\nlink
 pub const P3_PLAN: &str = "sites=2\ncost=7\nbound=14\nrounds=2\nkeep=0\nkeep=1\nmoat=6:0\nmoat=7:2\nmoat=1:0,1\n";
 
 /// Texts, read into buffers that hold every survey.
-const TEXTS: [(&str, Result<Tracks, Refused>); 21] = [
+const TEXTS: [(&str, Result<Tracks, Refused>); 24] = [
     (P3, Ok((&[1, 0, 1], &[(0, 1, 3), (1, 2, 4)]))),
     ("nodes=1\nlinks=0\nnode=0\n", Ok((&[0], &[]))),
     // 4, 5 and 6 wait for planning.
@@ -79,6 +80,67 @@ const TEXTS: [(&str, Result<Tracks, Refused>); 21] = [
     ("nodes=2\nlinks=1\nnode=1\nnode=1\nlink=0,1,00\n", Err((16, 40))),
     ("nodes=1\r\nlinks=0\nnode=0\n", Err((16, 7))),
     ("nodes=256\nlinks=2048\nx", Err((16, 21))),
+    // Ends have at most three digits.
+    ("nodes=2\nlinks=1\nnode=1\nnode=1\nlink=1000,1,5\n", Err((16, 38))),
+    ("nodes=2\nlinks=1\nnode=1\nnode=1\nlink=0,1000,5\n", Err((16, 40))),
+    ("nodes=2\nlinks=1\nnode=1\nnode=1\nlink=0,1,10000000\n", Err((16, 46))),
+];
+
+/// The beginning of a text with three junctions of groups 1, 0 and 2: 37 bytes, and no link line, so that it may end
+/// after any also line.
+const THREE: &str = "nodes=3\nlinks=0\nnode=1\nnode=0\nnode=2\n";
+
+/// Also lines behind that beginning, the room for owners and others, and the pairs or the refusal.
+type Alsos = (&'static str, [usize; 2], Result<&'static [(u32, u8)], Refused>);
+
+const ALSOS: [Alsos; 43] = [
+    ("", [0, 0], Ok(&[])),
+    ("also=0,2\n", [1, 1], Ok(&[(0, 2)])),
+    ("also=0,2\nalso=1,1\nalso=1,255\nalso=2,1\n", [4, 9], Ok(&[(0, 2), (1, 1), (1, 255), (2, 1)])),
+    // 17 at v as written, before 18 and 7 of its line, behind those of earlier ones.
+    ("also=0,256\n", [1, 1], Err((17, 0))),
+    ("also=2,999\n", [0, 0], Err((17, 2))),
+    ("also=3,256\n", [1, 1], Err((17, 3))),
+    ("also=999,256\n", [0, 1], Err((17, 999))),
+    ("also=1,1\nalso=0,256\n", [1, 1], Err((17, 0))),
+    ("also=1,1\nalso=1,1\nalso=0,256\n", [9, 9], Err((18, 1))),
+    ("also=1,1\nalso=1,2\nalso=0,256\n", [1, 9], Err((7, 0))),
+    // 18 at the pair: v at n or above, g 0, the own one, out of order; before 7 of its line.
+    ("also=3,1\n", [1, 1], Err((18, 0))),
+    ("also=999,255\n", [0, 0], Err((18, 0))),
+    ("also=0,0\n", [1, 1], Err((18, 0))),
+    ("also=1,0\n", [1, 1], Err((18, 0))),
+    ("also=0,1\n", [1, 1], Err((18, 0))),
+    ("also=0,2\nalso=2,2\n", [2, 2], Err((18, 1))),
+    ("also=1,2\nalso=1,2\n", [2, 2], Err((18, 1))),
+    ("also=1,2\nalso=1,1\n", [1, 1], Err((18, 1))),
+    ("also=1,2\nalso=0,3\n", [2, 1], Err((18, 1))),
+    // 7 at the first line that has no room in either buffer, at once.
+    ("also=0,2\n", [0, 1], Err((7, 0))),
+    ("also=0,2\n", [1, 0], Err((7, 0))),
+    ("also=0,2\nalso=1,1\nx", [1, 2], Err((7, 0))),
+    ("also=0,2\nalso=1,1\nx", [2, 1], Err((7, 0))),
+    ("also=0,2\nalso=1,1\nx", [2, 2], Err((16, 55))),
+    ("also=0,2\nalso=1,1", [1, 1], Err((16, 54))),
+    // Bytes.
+    ("a", [9, 9], Err((16, 38))),
+    ("x", [9, 9], Err((16, 37))),
+    ("alsO=0,2\n", [9, 9], Err((16, 40))),
+    ("also=", [9, 9], Err((16, 42))),
+    ("also=,2\n", [9, 9], Err((16, 42))),
+    ("also=0\n", [9, 9], Err((16, 43))),
+    ("also=0,", [9, 9], Err((16, 44))),
+    ("also=0,\n", [9, 9], Err((16, 44))),
+    ("also=00,2\n", [9, 9], Err((16, 43))),
+    ("also=0,02\n", [9, 9], Err((16, 45))),
+    ("also=1000,2\n", [9, 9], Err((16, 45))),
+    ("also=0,1000\n", [9, 9], Err((16, 47))),
+    ("also=3,256", [9, 9], Err((16, 47))),
+    ("also=3,256 ", [9, 9], Err((16, 47))),
+    ("also=0,2,3\n", [9, 9], Err((16, 45))),
+    ("also=0,2\r\n", [9, 9], Err((16, 45))),
+    ("also=0,2\nnode=1\n", [9, 9], Err((16, 46))),
+    ("also=0,2\nlink=0,1,3\n", [9, 9], Err((16, 46))),
 ];
 
 /// Texts, read into a group buffer of one byte and edge buffers of one entry, one and none.
@@ -202,43 +264,93 @@ impl Cases<'_> {
         Ok(())
     }
 
-    fn read(&mut self, text: &str, room: [usize; 4], want: Result<Tracks, Refused>) -> Result<(), String> {
-        let before = (vec![BEFORE; room[0]], [room[1], room[2], room[3]].map(|length| vec![u32::from(BEFORE); length]));
-        let (mut groups, [mut first, mut second, mut prices]) = before.clone();
-        let mut counts = [7; READ_COUNTS];
-        let code = (self.library.read)(text.as_bytes(), &mut groups, &mut first, &mut second, &mut prices, &mut counts);
-        let (mut want_groups, mut tracks) = before;
-        let (want_code, want_counts) = match want {
-            Err(refused) => (one_number(refused), [7; READ_COUNTS]),
-            Ok((g, t)) => {
-                want_groups[..g.len()].copy_from_slice(g);
-                for (i, &(u, v, price)) in t.iter().enumerate() {
-                    (tracks[0][i], tracks[1][i], tracks[2][i]) = (u, v, price);
-                }
-                (0, [g.len() as u64, t.len() as u64])
-            }
+    fn read(&mut self, text: &str, room: Lengths, want: Result<(Tracks, &[(u32, u8)]), Refused>) -> Result<(), String> {
+        let before = Survey {
+            groups: vec![BEFORE; room.groups],
+            first: vec![BEFORE.into(); room.first],
+            second: vec![BEFORE.into(); room.second],
+            prices: vec![BEFORE.into(); room.prices],
+            owners: vec![BEFORE.into(); room.owners],
+            others: vec![BEFORE; room.others],
         };
-        let [want_first, want_second, want_prices] = tracks;
-        self.same(
-            &format!("reading {text:?}"),
-            (code, counts, groups, first, second, prices),
-            (want_code, want_counts, want_groups, want_first, want_second, want_prices),
-        )
+        let (mut came, mut counts) = (before.clone(), [7; READ_COUNTS]);
+        let lent = Lent {
+            groups: &mut came.groups,
+            first: &mut came.first,
+            second: &mut came.second,
+            prices: &mut came.prices,
+            owners: &mut came.owners,
+            others: &mut came.others,
+        };
+        let code = (self.library.read)(text.as_bytes(), lent, &mut counts);
+        let (mut after, mut want_code, mut want_counts) = (before, 0, [7; READ_COUNTS]);
+        match want {
+            Err(refused) => want_code = one_number(refused),
+            Ok(((groups, tracks), pairs)) => {
+                after.groups[..groups.len()].copy_from_slice(groups);
+                for (i, &(u, v, price)) in tracks.iter().enumerate() {
+                    (after.first[i], after.second[i], after.prices[i]) = (u, v, price);
+                }
+                for (i, &pair) in pairs.iter().enumerate() {
+                    (after.owners[i], after.others[i]) = pair;
+                }
+                want_counts = [groups.len(), tracks.len(), pairs.len()].map(|count| count as u64);
+            }
+        }
+        self.same(&format!("reading {text:?} into {room:?}"), (code, counts, came), (want_code, want_counts, after))
     }
 
     fn reading(&mut self) -> Result<(), String> {
-        let enough = [MAX_JUNCTIONS, MAX_TRACKS, MAX_TRACKS, MAX_TRACKS];
         for (text, want) in TEXTS {
-            self.read(text, enough, want)?;
+            self.read(text, Lengths::ENOUGH, want.map(|tracks| (tracks, &[][..])))?;
         }
         // Every text that stops early is refused at its length.
+        let just = Lengths { groups: 3, first: 2, second: 2, prices: 2, owners: 0, others: 0 };
         for length in 0..P3.len() {
-            self.read(&P3[..length], [3, 2, 2, 2], Err((16, length as u64)))?;
+            self.read(&P3[..length], just, Err((16, length as u64)))?;
         }
+        let short = Lengths { groups: 1, first: 1, second: 1, prices: 0, owners: 0, others: 0 };
         for (text, want) in TEXTS_SHORT {
-            self.read(text, [1, 1, 1, 0], want)?;
+            self.read(text, short, want.map(|tracks| (tracks, &[][..])))?;
         }
-        Ok(())
+        for (alsos, [owners, others], want) in ALSOS {
+            let room = Lengths { owners, others, ..just };
+            self.read(&format!("{THREE}{alsos}"), room, want.map(|pairs| ((&[1, 0, 2][..], &[][..]), pairs)))?;
+        }
+        self.reading_many()
+    }
+
+    /// Up to 256 also lines, what stands where a 257th would, and the longest text.
+    fn reading_many(&mut self) -> Result<(), String> {
+        let all = (0..2).flat_map(|v| (2..=255).map(move |group| (v, group)));
+        let rising: Vec<(u32, u8)> = all.take(MAX_PAIRS + 1).collect();
+        let head = "nodes=2\nlinks=1\nnode=1\nnode=1\n";
+        let lines =
+            |many: usize| -> String { rising[..many].iter().map(|(v, group)| format!("also={v},{group}\n")).collect() };
+        let tracks: Tracks = (&[1, 1], &[(0, 1, 3)]);
+        for many in [MAX_PAIRS - 1, MAX_PAIRS] {
+            let text = format!("{head}{}link=0,1,3\n", lines(many));
+            self.read(&text, Lengths::ENOUGH, Ok((tracks, &rising[..many])))?;
+            let short = Lengths { others: many - 1, ..Lengths::ENOUGH };
+            self.read(&text, short, Err((7, 0)))?;
+        }
+        let full = format!("{head}{}", lines(MAX_PAIRS));
+        for behind in ["a", "also=1,4\n", "also=1,255\nlink=0,1,3\n", "also=9,999\n", "\n", ""] {
+            self.read(&format!("{full}{behind}"), Lengths::ENOUGH, Err((16, full.len() as u64)))?;
+        }
+        // 300 equal lines: the second.
+        let equal = format!("{head}{}link=0,1,3\n", "also=0,2\n".repeat(300));
+        self.read(&equal, Lengths::ENOUGH, Err((18, 1)))?;
+        let longest = [
+            "nodes=256\nlinks=2048\n".to_string(),
+            "node=9999999\n".repeat(256),
+            "also=999,999\n".repeat(256),
+            "link=999,999,9999999\n".repeat(2_048),
+        ];
+        self.same("the longest text", longest.concat().len(), MAX_TEXT)?;
+        self.read(&longest.concat(), Lengths::ENOUGH, Err((17, 0)))?;
+        let text = format!("{}{}{}{}", longest[0], "node=255\n".repeat(256), longest[2], longest[3]);
+        self.read(&text, Lengths::ENOUGH, Err((17, 999)))
     }
 
     /// The code and counts of planning, the marks, and the records that were written.
@@ -422,14 +534,26 @@ impl Cases<'_> {
             |library: &Library, out: &mut [u8], counts: &mut [u64]| (library.print_survey)(p3.view(), out, counts);
         self.print("printing P3's survey", 1_024, text, Ok(P3))?;
         self.print("printing P3's survey, a byte short", P3.len() - 1, text, Err((7, 0)))?;
-        let mut torn = p3.clone();
-        torn.prices.pop();
-        self.print(
-            "printing a survey with a price too few",
-            1_024,
-            |library, out, counts| (library.print_survey)(torn.view(), out, counts),
-            Err((2, 0)),
-        )?;
+        let shared = Survey::new(SHARED.0, SHARED.1).with_pairs(&[(1, 2), (9_999, 0)]);
+        let listed =
+            |library: &Library, out: &mut [u8], counts: &mut [u64]| (library.print_survey)(shared.view(), out, counts);
+        let shared_text = "nodes=3\nlinks=2\nnode=1\nnode=1\nnode=2\nalso=1,2\nalso=9999,0\nlink=0,1,3\nlink=1,2,4\n";
+        self.print("printing a survey with pairs", shared_text.len(), listed, Ok(shared_text))?;
+        self.print("printing a survey with pairs, a byte short", shared_text.len() - 1, listed, Err((7, 0)))?;
+        let [mut dear, mut owned, mut other] = [p3.clone(), p3.clone(), p3.clone()];
+        dear.prices.pop();
+        owned.owners.push(1);
+        other.others.push(1);
+        for (what, torn) in [("price too few", dear), ("owner too many", owned), ("group too many", other)] {
+            for room in [1_024, 0] {
+                self.print(
+                    &format!("printing a survey with a {what}, {room} bytes"),
+                    room,
+                    |library, out, counts| (library.print_survey)(torn.view(), out, counts),
+                    Err((2, 0)),
+                )?;
+            }
+        }
         let moats: Vec<u8> = PLANS[2].moats.iter().flat_map(|&moat| record(moat)).collect();
         let plan = |library: &Library, out: &mut [u8], counts: &mut [u64]| {
             (library.print_plan)(PLANS[2].figures, PLANS[2].marks, &moats, out, counts)

@@ -3,8 +3,8 @@
 use crate::gen::Rng;
 use crate::plan::KEPT;
 use crate::{
-    Survey, AMOUNT_BYTES, MAX_AMOUNT, MAX_GROUP, MAX_INPUT, MAX_JUNCTIONS, MAX_PAIRS, MAX_PRICE, MAX_RECORDS,
-    MAX_TRACKS, RECORD_BYTES,
+    highest, Survey, AMOUNT_BYTES, END_DIGITS, MAX_AMOUNT, MAX_GROUP, MAX_INPUT, MAX_JUNCTIONS, MAX_PAIRS, MAX_PRICE,
+    MAX_RECORDS, MAX_TRACKS, RECORD_BYTES,
 };
 
 /// Two at a time are put into each input; `Nothing` leaves room for one alone, and for none.
@@ -53,6 +53,18 @@ pub enum Fault {
     FirstShort,
     SecondShort,
     PricesShort,
+    OwnersShort,
+    OthersShort,
+    EndWide,
+    AlsoHigh,
+    AlsoOut,
+    AlsoNone,
+    AlsoOwn,
+    AlsoFalls,
+    AlsoTwice,
+    AlsoMany,
+    AlsoWide,
+    AlsoElsewhere,
     RecordLength,
     OutShort,
 }
@@ -73,7 +85,19 @@ pub const READ_FAULTS: &[Fault] = &[
     FirstShort,
     SecondShort,
     PricesShort,
+    OwnersShort,
+    OthersShort,
     CountsShort,
+    EndWide,
+    AlsoHigh,
+    AlsoOut,
+    AlsoNone,
+    AlsoOwn,
+    AlsoFalls,
+    AlsoTwice,
+    AlsoMany,
+    AlsoWide,
+    AlsoElsewhere,
 ];
 pub const PLAN_FAULTS: &[Fault] = &[
     Nothing,
@@ -130,16 +154,36 @@ pub const CHECK_FAULTS: &[Fault] = &[
 ];
 /// The faults of pairs that are 18.
 pub const PAIR_FAULTS: &[Fault] = &[PairOut, PairNone, PairOwn, PairsFall, PairTwice, ManyPairs];
+/// The faults of also lines, and the refusal of each.
+pub const ALSO_FAULTS: &[(Fault, u64)] = &[
+    (AlsoHigh, 17),
+    (AlsoOut, 18),
+    (AlsoNone, 18),
+    (AlsoOwn, 18),
+    (AlsoFalls, 18),
+    (AlsoTwice, 18),
+    (AlsoMany, 16),
+    (AlsoWide, 16),
+    (AlsoElsewhere, 16),
+    (OwnersShort, 7),
+    (OthersShort, 7),
+];
 pub const PRINT_MOAT_FAULTS: &[Fault] = &[Nothing, RecordLength, OutShort, CountsShort];
 pub const PRINT_PLAN_FAULTS: &[Fault] = &[Nothing, OutShort, CountsShort];
-pub const PRINT_SURVEY_FAULTS: &[Fault] = &[Nothing, SecondUnequal, PricesUnequal, OutShort, CountsShort];
+pub const PRINT_SURVEY_FAULTS: &[Fault] = &[Nothing, SecondUnequal, PricesUnequal, PairsUnequal, OutShort, CountsShort];
 
 /// The refusals that can be due together in one call: each with those before which it is given. Where two stand in both orders the place decides: of
 /// tracks the lower, and in a text what is complete first.
 pub type Pairs = &'static [(u64, &'static [u64])];
 
-pub const READ_PAIRS: Pairs =
-    &[(1, &[3, 7, 16, 17]), (3, &[7, 16, 17]), (7, &[3, 16, 17]), (16, &[1, 3, 7, 17]), (17, &[16])];
+pub const READ_PAIRS: Pairs = &[
+    (1, &[3, 7, 16, 17, 18]),
+    (3, &[7, 16, 17, 18]),
+    (7, &[3, 16, 17, 18]),
+    (16, &[1, 3, 7, 17, 18]),
+    (17, &[7, 16, 18]),
+    (18, &[7, 16, 17]),
+];
 pub const PLAN_PAIRS: Pairs = &[
     (1, &[2, 3, 4, 5, 6, 18, 7, 8]),
     (2, &[3, 4, 5, 6, 18, 7, 8]),
@@ -199,7 +243,7 @@ pub fn harm(rng: &mut Rng, survey: &mut Survey, fault: Fault) {
         }
         EndOut if m > 0 => {
             let track = rng.below(m);
-            let end = (n + rng.pick(&[0, 0, 1, 200])) as u32;
+            let end = (n as u32).saturating_add(rng.pick(&[0, 0, 1, 200, u32::MAX]));
             if rng.chance(1, 2) || survey.second.len() <= track {
                 survey.first[track] = end;
             } else {
@@ -215,7 +259,7 @@ pub fn harm(rng: &mut Rng, survey: &mut Survey, fault: Fault) {
         PriceHigh if m > 0 => {
             let track = rng.below(m);
             if let Some(price) = survey.prices.get_mut(track) {
-                *price = MAX_PRICE + rng.pick(&[1, 1, 2, 1_000_000]);
+                *price = MAX_PRICE + rng.pick(&[1, 1, 2, MAX_PRICE, u32::MAX - MAX_PRICE]);
             }
         }
         Unjoinable if n < MAX_JUNCTIONS => {
@@ -372,16 +416,85 @@ pub fn damage(rng: &mut Rng, text: &mut Vec<u8>, fault: Fault) {
         }
         ByteChanged if !text.is_empty() => {
             let at = rng.below(text.len());
-            text[at] = rng.pick(b"0123456789,=:\n\r nlx");
+            text[at] = rng.pick(b"0123456789,=:\n\r nalx");
         }
         TextCut => text.truncate(rng.below(text.len() + 1)),
         TextLonger => {
-            let more = rng.pick(&[&b"\n"[..], b"node=1\n", b"x", b"link=0,1,1\n"]);
+            let more = rng.pick(&[&b"\n"[..], b"node=1\n", b"x", b"link=0,1,1\n", b"also=0,9\n"]);
             text.extend(more);
             if rng.chance(1, 16) {
                 text.resize(MAX_INPUT + rng.below(9_999), b'\n');
             }
         }
+        EndWide => {
+            let (wide, price) = (highest(END_DIGITS) + rng.pick(&[1, 1, 99_000]), rng.below(9));
+            let ends = if rng.chance(1, 2) { format!("{wide},0") } else { format!("0,{wide}") };
+            let nth = rng.below(3);
+            value(text, b"link=", nth, &format!("{ends},{price}"));
+        }
+        _ if ALSO_FAULTS.iter().any(|also| also.0 == fault) => damage_alsos(rng, text, fault),
         _ => {}
     }
+}
+
+/// A text with a fault in its also lines, which come after the node lines.
+fn damage_alsos(rng: &mut Rng, text: &mut Vec<u8>, fault: Fault) {
+    let mut lines: Vec<Vec<u8>> = text.split_inclusive(|&byte| byte == b'\n').map(|line| line.to_vec()).collect();
+    let is = |line: &[u8], key: &[u8]| line.starts_with(key);
+    let Some(last) = lines.iter().rposition(|line| is(line, b"node=")) else { return };
+    let from = last + 1;
+    let many = lines[from..].iter().take_while(|line| is(line, b"also=")).count();
+    let groups: Vec<String> = lines
+        .iter()
+        .filter(|line| is(line, b"node="))
+        .map(|line| String::from_utf8_lossy(&line[5..]).trim_end().to_string())
+        .collect();
+    let n = groups.len();
+    let also = |v: &dyn std::fmt::Display, group: &dyn std::fmt::Display| format!("also={v},{group}\n").into_bytes();
+    let any = rng.below(n);
+    let high = highest(END_DIGITS) as usize;
+    let mut at = from + rng.below(many + 1);
+    let mut repeat = 1;
+    let line = match fault {
+        AlsoHigh => also(&rng.pick(&[any, any, n, high]), &rng.pick(&[256, 256, high])),
+        AlsoOut => also(&rng.pick(&[n, n, n + 1, high]), &rng.between(1, 255)),
+        AlsoNone => also(&any, &0),
+        AlsoOwn => also(&any, &groups[any]),
+        AlsoFalls if many > 0 => {
+            at = at.max(from + 1);
+            let before = String::from_utf8_lossy(&lines[at - 1]).into_owned();
+            let v: usize = before[5..].split(',').next().and_then(|v| v.parse().ok()).unwrap_or(0);
+            also(&v.saturating_sub(rng.below(2)), &1)
+        }
+        AlsoTwice if many > 0 => {
+            at = at.max(from + 1);
+            repeat = rng.pick(&[1, 1, 299]);
+            lines[at - 1].clone()
+        }
+        AlsoMany => {
+            let all = (0..n).flat_map(|v| (1..=255u32).map(move |group| (v, group)));
+            let rising = all.filter(|(v, group)| groups[*v] != group.to_string());
+            let rising: Vec<Vec<u8>> =
+                rising.take(MAX_PAIRS + rng.pick(&[1, 1, 44])).map(|(v, group)| also(&v, &group)).collect();
+            lines.splice(from..from + many, rising);
+            *text = lines.concat();
+            return;
+        }
+        AlsoWide => match rng.below(4) {
+            0 => also(&(high + 1), &1),
+            1 => also(&any, &(high + 1)),
+            2 => also(&any, &format!("0{any}")),
+            _ => also(&format!("0{any}"), &1),
+        },
+        AlsoElsewhere => {
+            let (before, behind) = (rng.below(from), rng.between(from + many, lines.len()));
+            at = if rng.chance(1, 2) { before } else { behind.max(from + many + 1).min(lines.len()) };
+            also(&any, &9)
+        }
+        _ => return,
+    };
+    for _ in 0..repeat {
+        lines.insert(at.min(lines.len()), line.clone());
+    }
+    *text = lines.concat();
 }

@@ -5,7 +5,8 @@ use super::{Figures, Library, CHECK_COUNTS, PLAN_COUNTS, PRINT_COUNTS, READ_COUN
 use crate::gen::{overlap, survey, Rng, Size};
 use crate::plan::{fast, owned, record_room};
 use crate::print::survey_text;
-use crate::{Survey, AMOUNT_BYTES, MAX_JUNCTIONS, RECORD_BYTES};
+use crate::read::Lent;
+use crate::{Survey, AMOUNT_BYTES, MAX_JUNCTIONS, MAX_PAIRS, RECORD_BYTES};
 use Fault::*;
 
 /// What a call answers, and what its lent buffers then hold, with what stands behind each.
@@ -122,12 +123,14 @@ fn sound_lists(rng: &mut Rng) -> Survey {
     survey
 }
 
-/// A sound survey without pairs, rarely as large as can be.
+/// The same, rarely as large as can be.
 fn sound_or_full(rng: &mut Rng) -> Survey {
     if rng.chance(1, 200) {
-        return survey(rng, Size::Full);
+        let mut survey = survey(rng, Size::Full);
+        overlap(rng, &mut survey);
+        return survey;
     }
-    sound(rng)
+    sound_lists(rng)
 }
 
 /// A buffer with some entries behind it that are not lent.
@@ -141,24 +144,27 @@ struct Read {
     first: Vec<u32>,
     second: Vec<u32>,
     prices: Vec<u32>,
+    owners: Vec<u32>,
+    others: Vec<u8>,
     counts: Vec<u64>,
 }
 
 impl Call for Read {
     fn run(&self, library: &Library) -> Answer {
-        let mut groups = before_others(&self.groups, 0xa5);
-        let [mut first, mut second, mut prices] =
-            [&self.first, &self.second, &self.prices].map(|buffer| before_others(buffer, 0xa5a5));
+        let [mut groups, mut others] = [&self.groups, &self.others].map(|buffer| before_others(buffer, 0xa5));
+        let [mut first, mut second, mut prices, mut owners] =
+            [&self.first, &self.second, &self.prices, &self.owners].map(|buffer| before_others(buffer, 0xa5a5));
         let mut counts = before_others(&self.counts, 0xa5a5);
-        let code = (library.read)(
-            &self.text,
-            &mut groups[..self.groups.len()],
-            &mut first[..self.first.len()],
-            &mut second[..self.second.len()],
-            &mut prices[..self.prices.len()],
-            &mut counts[..self.counts.len()],
-        );
-        Answer { code, bytes: vec![groups], words: vec![first, second, prices], counts }
+        let lent = Lent {
+            groups: &mut groups[..self.groups.len()],
+            first: &mut first[..self.first.len()],
+            second: &mut second[..self.second.len()],
+            prices: &mut prices[..self.prices.len()],
+            owners: &mut owners[..self.owners.len()],
+            others: &mut others[..self.others.len()],
+        };
+        let code = (library.read)(&self.text, lent, &mut counts[..self.counts.len()]);
+        Answer { code, bytes: vec![groups, others], words: vec![first, second, prices, owners], counts }
     }
 
     fn says(&self) -> String {
@@ -168,7 +174,7 @@ impl Call for Read {
 
 fn read_input(streams: &Streams, faults: [Fault; 2]) -> Box<dyn Call> {
     let survey = sound_or_full(&mut streams.base());
-    let (n, m) = (survey.groups.len(), survey.first.len());
+    let (n, m, pairs) = (survey.groups.len(), survey.first.len(), survey.owners.len());
     let mut text = survey_text(&survey);
     for (i, fault) in faults.into_iter().enumerate() {
         damage(&mut streams.fault(i), &mut text, fault);
@@ -177,12 +183,16 @@ fn read_input(streams: &Streams, faults: [Fault; 2]) -> Box<dyn Call> {
     let groups = room(rng, n, faults.contains(&GroupsShort));
     let [first, second, prices] =
         [FirstShort, SecondShort, PricesShort].map(|fault| room(rng, m, faults.contains(&fault)));
+    let pairs = if faults.contains(&AlsoMany) { MAX_PAIRS } else { pairs };
+    let [owners, others] = [OwnersShort, OthersShort].map(|fault| room(rng, pairs, faults.contains(&fault)));
     Box::new(Read {
         text,
         groups: bytes(rng, groups),
         first: words(rng, first),
         second: words(rng, second),
         prices: words(rng, prices),
+        owners: words(rng, owners),
+        others: bytes(rng, others),
         counts: counts(rng, READ_COUNTS, faults),
     })
 }
@@ -355,12 +365,15 @@ fn print_survey_input(streams: &Streams, faults: [Fault; 2]) -> Box<dyn Call> {
     let mut survey = sound_or_full(rng);
     if rng.chance(1, 3) {
         // Printing looks at lengths alone.
-        for buffer in [&mut survey.first, &mut survey.second, &mut survey.prices] {
+        for buffer in [&mut survey.first, &mut survey.second, &mut survey.prices, &mut survey.owners] {
             *buffer = words(rng, buffer.len());
         }
+        survey.others = bytes(rng, survey.others.len());
     }
     if rng.chance(1, 16) {
         survey.groups.resize(MAX_JUNCTIONS + 44, 7);
+        survey.owners.resize(MAX_PAIRS + 44, 3);
+        survey.others.resize(MAX_PAIRS + 44, 3);
     }
     let need = need(&survey, with);
     for (i, fault) in faults.into_iter().enumerate() {

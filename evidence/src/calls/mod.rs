@@ -12,7 +12,7 @@ pub mod generated;
 use crate::check::check;
 use crate::plan::{fast, Counts, Plan};
 use crate::print::{moat_line, plan_lines, survey_text};
-use crate::read::read;
+use crate::read::{read, Lent};
 use crate::{Refusal, Survey, View, RECORD_BYTES};
 
 /// The figures of a printed plan: sites, cost, bound and rounds.
@@ -21,7 +21,7 @@ pub type Figures = [u64; 4];
 /// The operations in the form that crosses.
 #[derive(Clone, Copy)]
 pub struct Library {
-    pub read: fn(&[u8], &mut [u8], &mut [u32], &mut [u32], &mut [u32], &mut [u64]) -> u64,
+    pub read: fn(&[u8], Lent, &mut [u64]) -> u64,
     pub plan: fn(View, &mut [u8], &mut [u8], &mut [u64]) -> u64,
     pub check: fn(View, &[u8], &[u8], &mut [u64]) -> u64,
     pub print_moat: fn(&[u8], &mut [u8], &mut [u64]) -> u64,
@@ -29,8 +29,8 @@ pub struct Library {
     pub print_survey: fn(View, &mut [u8], &mut [u64]) -> u64,
 }
 
-/// Entries of the counts: n and m of reading; sites, cost, bound, rounds and moats of planning; sites, cost and bound of checking; a length of printing.
-pub const READ_COUNTS: usize = 2;
+/// Entries of the counts: n, m and the number of pairs of reading; sites, cost, bound, rounds and moats of planning; sites, cost and bound of checking; a length of printing.
+pub const READ_COUNTS: usize = 3;
 pub const PLAN_COUNTS: usize = 5;
 pub const CHECK_COUNTS: usize = 3;
 pub const PRINT_COUNTS: usize = 1;
@@ -53,22 +53,15 @@ fn stored<const N: usize>(answer: Result<[u64; N], Refusal>, counts: &mut [u64])
     }
 }
 
-fn read_call(
-    text: &[u8],
-    groups: &mut [u8],
-    first: &mut [u32],
-    second: &mut [u32],
-    prices: &mut [u32],
-    counts: &mut [u64],
-) -> u64 {
+fn read_call(text: &[u8], lent: Lent, counts: &mut [u64]) -> u64 {
     if counts.len() < READ_COUNTS {
         // No group fits a buffer of no length, so this is the finding up to the nodes line, 7 if there is no other.
-        return match read(text, &mut [], first, second, prices) {
+        return match read(text, Lent { groups: &mut [], ..lent }) {
             Ok(_) => SHORT,
             Err(refusal) => code(refusal),
         };
     }
-    stored(read(text, groups, first, second, prices).map(|(n, m)| [n, m]), counts)
+    stored(read(text, lent), counts)
 }
 
 /// Out of line: inlined beside the tests before it, its large frame is set up between the test and the use of a length, and rustc 1.95 loses the length.
@@ -125,15 +118,17 @@ fn print_plan_call(figures: Figures, marks: &[u8], records: &[u8], out: &mut [u8
 }
 
 fn print_survey_call(survey: View, out: &mut [u8], counts: &mut [u64]) -> u64 {
-    if survey.second.len() != survey.first.len() || survey.prices.len() != survey.first.len() {
+    let View { groups, first, second, prices, owners, others } = survey;
+    if second.len() != first.len() || prices.len() != first.len() || owners.len() != others.len() {
         return 2;
     }
     let text = survey_text(&Survey {
-        groups: survey.groups.to_vec(),
-        first: survey.first.to_vec(),
-        second: survey.second.to_vec(),
-        prices: survey.prices.to_vec(),
-        ..Survey::default()
+        groups: groups.to_vec(),
+        first: first.to_vec(),
+        second: second.to_vec(),
+        prices: prices.to_vec(),
+        owners: owners.to_vec(),
+        others: others.to_vec(),
     });
     printed(&text, out, counts)
 }

@@ -1,11 +1,15 @@
 //! Plans for the checker, sound and damaged.
 
-use super::surveys::{refused_survey, survey, Size};
+use super::surveys::{overlap, refused_pairs, refused_survey, survey, Size};
 use super::Rng;
 use crate::check::{amount, check, Passed};
 use crate::plan::{fast, owned, Counts, Plan, KEPT};
 use crate::print::{moat_line, plan_lines, survey_text};
-use crate::{refuse, Refusal, Survey, AMOUNT_BYTES, MAX_AMOUNT, MAX_JUNCTIONS, MAX_RECORDS, MAX_TRACKS, RECORD_BYTES};
+use crate::read::{parse, Lengths};
+use crate::{
+    highest, refuse, Refusal, Survey, AMOUNT_BYTES, END_DIGITS, MAX_AMOUNT, MAX_JUNCTIONS, MAX_RECORDS, PRICE_DIGITS,
+    RECORD_BYTES,
+};
 
 /// What the checker is given.
 #[derive(Clone, Debug, PartialEq, Eq)]
@@ -58,7 +62,7 @@ pub enum Damage {
     FewerRecords,
     /// Any byte of marks or records (any).
     AnyByte,
-    /// A survey due 1 to 6.
+    /// A survey due 1 to 6, or 18.
     Survey,
 }
 
@@ -96,10 +100,13 @@ fn record(amount: u64, members: impl Iterator<Item = usize>) -> [u8; RECORD_BYTE
     record
 }
 
-/// A survey whose groups can all be joined, and its plan.
+/// A survey whose groups can all be joined, half of them with pairs, and its plan.
 fn planned(rng: &mut Rng, size: Size) -> (Survey, Plan) {
     loop {
-        let survey = survey(rng, size);
+        let mut survey = survey(rng, size);
+        if rng.chance(1, 2) {
+            overlap(rng, &mut survey);
+        }
         if let Ok(plan) = owned(fast, survey.view()) {
             return (survey, plan);
         }
@@ -115,32 +122,36 @@ pub fn damaged_plan(seed: u64, case: u64) -> (Damage, PlanCase) {
     (damage, damaged_plan_of(rng, damage, survey, plan))
 }
 
+/// The largest amount that a text can show.
+const SHOWN: u64 = highest(PRICE_DIGITS) as u64;
+
 /// A survey text with a printed plan behind it, the plan, and what its check comes to. Only what a text can show is
-/// left of a damaged plan: kept tracks and whole moats with amounts of at most seven digits. A false figure is 25.
+/// left of a damaged plan: kept tracks and whole moats with amounts of no more digits than a price. What reading finds
+/// in the survey's text comes first, and a false figure, 25, last.
 pub fn plan_text_case(seed: u64, case: u64) -> (Plan, Vec<u8>, Result<Passed, Refusal>) {
     let (_, PlanCase { mut survey, mut marks, mut records }) = damaged_plan(seed, case);
     let rng = &mut Rng::of_case(!seed, case);
     let m = survey.first.len();
     survey.second.resize(m, 0);
     survey.prices.resize(m, 0);
-    for number in survey.first.iter_mut().chain(&mut survey.second).chain(&mut survey.prices) {
-        *number = (*number).min(9_999_999);
+    for number in survey.first.iter_mut().chain(&mut survey.second).chain(&mut survey.owners) {
+        *number = (*number).min(highest(END_DIGITS));
+    }
+    for price in &mut survey.prices {
+        *price = (*price).min(highest(PRICE_DIGITS));
     }
     marks.resize(m, 0);
     marks.iter_mut().filter(|mark| **mark != KEPT).for_each(|mark| *mark = 0);
     records.truncate(records.len() / RECORD_BYTES * RECORD_BYTES);
-    for record in records.chunks_exact_mut(RECORD_BYTES).filter(|record| amount(record) > 9_999_999) {
-        record[..AMOUNT_BYTES].copy_from_slice(&9_999_999u64.to_le_bytes());
+    for record in records.chunks_exact_mut(RECORD_BYTES).filter(|record| amount(record) > SHOWN) {
+        record[..AMOUNT_BYTES].copy_from_slice(&SHOWN.to_le_bytes());
     }
-    let found = if survey.groups.is_empty() || survey.groups.len() > MAX_JUNCTIONS {
-        refuse(1, 0)
-    } else if m > MAX_TRACKS {
-        refuse(3, 0)
-    } else if records.len() > MAX_RECORDS * RECORD_BYTES {
-        refuse(28, MAX_RECORDS)
-    } else {
+    let found = parse(&survey_text(&survey), Lengths::ENOUGH).and_then(|_| {
+        if records.len() > MAX_RECORDS * RECORD_BYTES {
+            return refuse(28, MAX_RECORDS);
+        }
         check(survey.view(), &marks, &records)
-    };
+    });
     let Passed { sites, cost, bound } = found.unwrap_or(Passed { sites: 0, cost: 0, bound: 0 });
     let mut claims = [sites, cost, bound];
     let mut expected = found;
@@ -327,7 +338,7 @@ pub fn damaged_plan_of(rng: &mut Rng, damage: Damage, mut survey: Survey, plan: 
                 }
             }
         }
-        Damage::Survey => match rng.below(8) {
+        Damage::Survey => match rng.below(9) {
             0 => survey.groups.clear(),
             1 => survey.groups.resize(MAX_JUNCTIONS + 1, 0),
             2 => drop(survey.second.pop()),
@@ -338,6 +349,7 @@ pub fn damaged_plan_of(rng: &mut Rng, damage: Damage, mut survey: Survey, plan: 
                 survey.second.resize(more, 1);
                 survey.prices.resize(more, 0);
             }
+            5 => refused_pairs(rng, &mut survey),
             _ => refused_survey(rng, &mut survey),
         },
     }

@@ -1,7 +1,7 @@
 //! Surveys: a shape gives the ends, a scheme the prices, another the groups, and a further one the pairs, where there are any.
 
 use super::Rng;
-use crate::{Survey, MAX_JUNCTIONS, MAX_PAIRS, MAX_PRICE, MAX_TRACKS};
+use crate::{highest, Survey, END_DIGITS, MAX_JUNCTIONS, MAX_PAIRS, MAX_PRICE, MAX_TRACKS, PRICE_DIGITS};
 use std::collections::BTreeSet;
 
 /// Groups by junction, then tracks (end, end, price).
@@ -473,10 +473,10 @@ pub fn refused_survey(rng: &mut Rng, survey: &mut Survey) {
         let t = rng.below(m);
         match rng.below(6) {
             0 => survey.first[t] = n,
-            1 => survey.second[t] = rng.pick(&[n, n + 1, 256, 9_999_999]).max(n),
+            1 => survey.second[t] = rng.pick(&[n, n + 1, 256, highest(END_DIGITS)]).max(n),
             2 => survey.second[t] = survey.first[t],
             3 => survey.prices[t] = MAX_PRICE + 1,
-            4 => survey.prices[t] = 9_999_999,
+            4 => survey.prices[t] = highest(PRICE_DIGITS),
             _ => {
                 survey.first[t] = n;
                 survey.second[t] = n;
@@ -484,4 +484,36 @@ pub fn refused_survey(rng: &mut Rng, survey: &mut Survey) {
             }
         }
     }
+}
+
+/// Damages the pairs of a survey so that 18 is due, in a text as far as the numbers have no more digits than they may
+/// have there, and 16 where there are more than 256 also lines.
+pub fn refused_pairs(rng: &mut Rng, survey: &mut Survey) {
+    let n = survey.groups.len() as u32;
+    if survey.owners.is_empty() {
+        survey.owners.push(rng.below(n as usize) as u32);
+        survey.others.push(rng.between(1, 255) as u8);
+    }
+    let pair = rng.below(survey.owners.len());
+    let (v, group) = (survey.owners[pair], survey.others[pair]);
+    let own = survey.groups[v.min(n - 1) as usize];
+    let (at, many, v, group) = match rng.below(8) {
+        0 => (pair + 1, 1, rng.pick(&[n, n + 1, highest(END_DIGITS)]).max(n), group),
+        1 => (pair, 1, v, 0),
+        2 => (pair, 1, v, own),
+        3 => (pair + 1, 1, v, group),
+        4 => (pair + 1, 1, v, group.saturating_sub(1)),
+        5 => (pair + 1, 1, v.saturating_sub(1), group),
+        6 => (pair, 299, v, group),
+        _ => {
+            let all = (0..n).flat_map(|v| (1..=255u8).map(move |group| (v, group)));
+            let rising: Vec<(u32, u8)> = all.filter(|&(v, group)| survey.groups[v as usize] != group).collect();
+            let many = MAX_PAIRS + rng.between(1, 3);
+            let first = rng.below(rising.len().saturating_sub(many) + 1);
+            (survey.owners, survey.others) = rising[first..].iter().copied().take(many).unzip();
+            return;
+        }
+    };
+    survey.owners.splice(at..at, vec![v; many]);
+    survey.others.splice(at..at, vec![group; many]);
 }

@@ -1,21 +1,26 @@
 //! Survey texts, sound and damaged.
 
-use super::surveys::{full, refused_survey, survey, Size, WORKED};
+use super::also;
+use super::surveys::{full, overlap, refused_pairs, refused_survey, survey, Size, WORKED};
 use super::Rng;
 use crate::print::survey_text;
-use crate::{Survey, MAX_INPUT, MAX_JUNCTIONS, MAX_PAIRS, MAX_PRICE, MAX_TEXT, MAX_TRACKS};
+use crate::{
+    highest, Survey, COUNT_DIGITS, END_DIGITS, MAX_INPUT, MAX_JUNCTIONS, MAX_PAIRS, MAX_PRICE, MAX_TEXT, MAX_TRACKS,
+    PRICE_DIGITS,
+};
 use std::sync::OnceLock;
 
 /// Numbers at the boundaries of counts, groups, ends, prices and digits, and some that are no number.
 #[rustfmt::skip]
-const TOKENS: [&str; 40] = [
+pub(super) const TOKENS: [&str; 40] = [
     "0", "1", "2", "3", "9", "10", "00", "01", "03", "010", "99", "100", "254", "255", "256", "257", "300", "999",
     "1000", "2047", "2048", "2049", "65535", "65536", "99999", "999999", "1000000", "1000001", "9999999", "10000000",
     "99999999", "4294967296", "18446744073709551616", "", "-1", "+1", " 1", "1 ", "1.0", "x",
 ];
 
 /// Bytes that stand for the classes in the text, and some that occur nowhere.
-const BYTES: [u8; 16] = [b'0', b'1', b'9', b'/', b':', b',', b'=', b'\n', b'\r', b'n', b'l', b'N', b' ', 0, 128, 255];
+pub(super) const BYTES: [u8; 17] =
+    [b'0', b'1', b'9', b'/', b':', b',', b'=', b'\n', b'\r', b'a', b'n', b'l', b'N', b' ', 0, 128, 255];
 
 /// The runs of digits in a text, as start and end.
 fn numbers(text: &[u8]) -> Vec<(usize, usize)> {
@@ -34,7 +39,7 @@ fn numbers(text: &[u8]) -> Vec<(usize, usize)> {
     runs
 }
 
-fn splice(text: &[u8], start: usize, end: usize, by: &[u8]) -> Vec<u8> {
+pub(super) fn splice(text: &[u8], start: usize, end: usize, by: &[u8]) -> Vec<u8> {
     [&text[..start], by, &text[end..]].concat()
 }
 
@@ -139,17 +144,23 @@ fn build_directed() -> Vec<Vec<u8>> {
         all.push(survey_text(&Survey::new(&[1, 1], &vec![(0, 1, MAX_PRICE); m])));
         all.push(survey_text(&Survey::new(&[1, 0], &vec![(1, 0, 0); m])));
     }
-    let longest = [
-        format!("nodes={MAX_JUNCTIONS}\nlinks={MAX_TRACKS}\n"),
-        "node=9999999\n".repeat(MAX_JUNCTIONS),
-        format!("{}{}", "also=999,999\n".repeat(MAX_PAIRS), "link=999,999,9999999\n".repeat(MAX_TRACKS)),
-    ];
-    let in_groups = [longest[0].clone(), "node=255\n".repeat(MAX_JUNCTIONS), longest[2].clone()].concat();
-    let longest = longest.concat();
-    assert_eq!(longest.len(), MAX_TEXT);
+    let (count, end, price) = (highest(COUNT_DIGITS), highest(END_DIGITS), highest(PRICE_DIGITS));
+    let head = format!("nodes={MAX_JUNCTIONS}\nlinks={MAX_TRACKS}\n");
+    let links = format!("link={end},{end},{price}\n").repeat(MAX_TRACKS);
+    let longest = |groups: &str, alsos: &str| [&head, groups, alsos, &links].concat();
+    let groups = format!("node={count}\n").repeat(MAX_JUNCTIONS);
+    let alsos = format!("also={end},{end}\n").repeat(MAX_PAIRS);
+    let in_groups = "node=255\n".repeat(MAX_JUNCTIONS);
     let mut rng = Rng::new(1);
     let large = survey_text(&full(&mut rng, MAX_JUNCTIONS));
-    for text in [longest.into_bytes(), in_groups.into_bytes(), large] {
+    assert_eq!(longest(&groups, &alsos).len(), MAX_TEXT);
+    for text in [
+        longest(&groups, &alsos).into_bytes(),
+        longest(&in_groups, &alsos).into_bytes(),
+        longest(&in_groups, &also::widest()).into_bytes(),
+        longest(&in_groups, "").into_bytes(),
+        large,
+    ] {
         for length in [text.len() + 1, MAX_INPUT - 1, MAX_INPUT, MAX_INPUT + 1, 3 * MAX_INPUT] {
             let mut longer = text.clone();
             longer.resize(length, b'\n');
@@ -160,6 +171,7 @@ fn build_directed() -> Vec<Vec<u8>> {
     }
     all.push(vec![b'x'; 2 * MAX_INPUT]);
     all.push([b"nodes=".to_vec(), vec![b'1'; 2 * MAX_INPUT]].concat());
+    also::directed(&mut all);
     all
 }
 
@@ -170,7 +182,7 @@ fn damage(rng: &mut Rng, mut text: Vec<u8>) -> Vec<u8> {
             return text;
         }
         let at = rng.below(text.len());
-        text = match rng.below(12) {
+        text = match rng.below(14) {
             0 => {
                 text[at] ^= 1 << rng.below(8);
                 text
@@ -225,6 +237,22 @@ fn damage(rng: &mut Rng, mut text: Vec<u8>) -> Vec<u8> {
                 }
                 lines.concat()
             }
+            // An also line, mostly behind the node lines or between also lines.
+            11..=12 => {
+                let mut lines = lines(&text);
+                let nodes = lines.iter().filter(|line| line.starts_with(b"node=")).count();
+                let alsos = lines.iter().filter(|line| line.starts_with(b"also=")).count();
+                let v = rng.pick(&[0, 0, nodes / 2, nodes, nodes + 1, 999, 1_000]);
+                let group = rng.pick(&[0, 1, 2, 255, 256, 256, 999, 1_000]);
+                let first = (nodes + 2).min(lines.len());
+                let at = if rng.chance(1, 4) {
+                    rng.below(lines.len())
+                } else {
+                    (first + rng.below(alsos + 1)).min(lines.len())
+                };
+                lines.insert(at, format!("also={v},{group}\n").into_bytes());
+                lines.concat()
+            }
             _ => {
                 let more = rng.between(1, 20);
                 for _ in 0..more {
@@ -237,8 +265,8 @@ fn damage(rng: &mut Rng, mut text: Vec<u8>) -> Vec<u8> {
     text
 }
 
-/// The input of a case: first the directed texts, then for every seed its own. Three in five are sound surveys, some
-/// of which can't be joined; the others are surveys due 4, 5 or 6, and damaged texts.
+/// The input of a case: first the directed texts, then for every seed its own. More than half are sound surveys, some
+/// of which can't be joined, half of them with also lines; the others are surveys due 4, 5, 6 or 18, and damaged texts.
 pub fn text_case(seed: u64, case: u64) -> Vec<u8> {
     if let Some(text) = directed_texts().get(case as usize) {
         return text.clone();
@@ -252,10 +280,17 @@ pub fn text_case(seed: u64, case: u64) -> Vec<u8> {
         _ => Size::Full,
     };
     let mut survey = survey(rng, size);
+    if rng.chance(1, 2) {
+        overlap(rng, &mut survey);
+    }
     match rng.below(100) {
-        0..=59 => survey_text(&survey),
-        60..=67 => {
+        0..=54 => survey_text(&survey),
+        55..=61 => {
             refused_survey(rng, &mut survey);
+            survey_text(&survey)
+        }
+        62..=68 => {
+            refused_pairs(rng, &mut survey);
             survey_text(&survey)
         }
         _ => damage(rng, survey_text(&survey)),

@@ -29,9 +29,15 @@ pub struct Growth {
     pub moats: Vec<Moat>,
 }
 
-/// Is the set growing: has some list members inside and outside?
-fn is_growing(lists: &[Vec<usize>], holds: &[bool]) -> bool {
-    lists.iter().any(|members| members.iter().any(|&v| holds[v]) && members.iter().any(|&v| !holds[v]))
+/// Which components grow: those of the members of a list that lie in more than one. `component[v]` is v's.
+fn growing(lists: &[Vec<usize>], component: &[usize]) -> Vec<bool> {
+    let mut growing = vec![false; component.len()];
+    for members in lists {
+        if members.iter().any(|&v| component[v] != component[members[0]]) {
+            members.iter().for_each(|&v| growing[component[v]] = true);
+        }
+    }
+    growing
 }
 
 /// The rounds of a survey whose groups can all be joined.
@@ -45,15 +51,14 @@ pub fn growth(survey: View) -> Growth {
     loop {
         // `component[v]` is the lowest junction of v's component.
         let component = survey.components(|t| picked[t]);
-        let set_of = |c: usize| -> Vec<bool> { (0..n).map(|v| component[v] == c).collect() };
-        let growing: Vec<bool> = (0..n).map(|c| component[c] == c && is_growing(&lists, &set_of(c))).collect();
+        let growing = growing(&lists, &component);
         if !growing.contains(&true) {
             return Growth { rounds, picked, moats };
         }
 
         // The load of a junction: the amounts of all moats that hold it.
         let mut load = vec![0; n];
-        for moat in &moats {
+        for moat in moats.iter().filter(|moat| moat.amount != 0) {
             for v in (0..n).filter(|&v| moat.holds[v]) {
                 load[v] += moat.amount;
             }

@@ -17,8 +17,10 @@ use Rattle.base_limits.specs.declared.Verdict.the-variants.{Fine, Refused}
 use Rattle.base_limits.specs.Laws.Verdict.{before-none, refuse-false}
 use Rattle.survey_core.specs.Survey.{Survey, vertexCount}
 use Rattle.survey_core.specs.Refusal.{surveyRefusal}
-use Rattle.api_handset.specs.Words.{wordBytes, wordAt, wordsIn, isRagged}
-use Rattle.api_handset.specs.Call.{surveyIn, sizeRefusal, anyRagged, raggedRefusal, planWith, planCall, checkWith, checkCall}
+use Rattle.api_words.specs.Words.{wordBytes, wordAt, wordsIn}
+use Rattle.api_code.specs.Code.{withCounts}
+use Rattle.api_lengths.specs.Slices.{surveyIn, isRagged, sizeRefusal, anyRagged, raggedRefusal}
+use Rattle.api_handset.specs.Call.{planWith, handsetPlan, checkWith, handsetCheck}
 use Rattle.api_handset.specs.Crossing.{inBytes, Fit, crossing}
 
 length-crossed : (l : List ℕ) → length (inBytes l) ≡ wordBytes * length l
@@ -93,15 +95,15 @@ unfolding sizeRefusal surveyRefusal vertexCount
 size-first s w = found-first (sizeRefusal (length (s .groups))) _ w
 
 module _ (s : Survey) (f : Fit (s .firsts)) (g : Fit (s .seconds)) (w : Fit (s .weights)) (o : Fit (s .owners)) (marks records result : List ℕ) where
-  pub plan-crossed : planCall (crossing s) marks records result ≡ planWith s marks records result
-  unfolding planCall planWith
+  pub plan-crossed : handsetPlan (crossing s) marks records result ≡ planWith s marks records result
+  unfolding handsetPlan planWith withCounts
   plan-crossed =
       ap (λ t. raggedRefusal (crossing s) before planWith t marks records result) (survey-back s f g w o)
       ∙ ap (λ v. v before planWith s marks records result) (crossed-size s)
       ∙ size-first s _
 
-  pub check-crossed : checkCall (crossing s) marks records result ≡ checkWith s marks records result
-  unfolding checkCall checkWith
+  pub check-crossed : handsetCheck (crossing s) marks records result ≡ checkWith s marks records result
+  unfolding handsetCheck checkWith withCounts
   check-crossed =
       ap (λ t. raggedRefusal (crossing s) before checkWith t marks records result) (survey-back s f g w o)
       ∙ ap (λ v. v before checkWith s marks records result) (crossed-size s)

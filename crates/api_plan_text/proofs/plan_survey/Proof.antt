@@ -3,9 +3,8 @@ use native.Mathlib.Omega.{arith}
 use borrow.Author.Needs.{needs}
 use mathlib.Core.Path.{ap}
 use Rattle.base_limits.specs.Limits.{planRoom}
-use Rattle.survey_core.specs.Survey.{surveyFrom, edgeCount}
+use Rattle.survey_core.specs.Survey.{surveyWith, edgeCount}
 use Rattle.survey_core.specs.Sound.{ByteGroups}
-use Rattle.survey_core.specs.Laws.Group.{plain-bytes}
 use Rattle.plan_core.specs.Answer.{plannedOutcome}
 use Rattle.format_print.specs.Laws.Print.{prints-as}
 use Rattle.api_plan_text.specs.Laws.Output.{plan-buffers, refusal-fits, unplanned-output, planned-few, planned-output, planned-fits}
@@ -16,33 +15,36 @@ mul-size : tie.Need-mul-size
 unfolding plannedOutcome
 mul-size c =
     let call = c .before .before .before .before .before in
+    let others = call .before .before .before .before in
     let known = call .before .before .before .before .before .before .before .before .before in
     let a = known .before .args in
-    let s = surveyFrom (a .groups .now) (a .firsts .now) (a .seconds .now) (a .weights .now) in
+    let s = surveyWith (a .groups .now) (a .firsts .now) (a .seconds .now) (a .weights .now) (a .owners .now) (a .others .now) in
     let few = planned-few s plan-buffers (call .plan .ensures .0)
-    (plain-bytes _ _ _ _ (λ v. omega (arith, known .shared-slice-known .given v))) (ap plannedOutcome (c .before .terminals .given .1)) in
+    (record { own-byte = λ v. omega (arith, known .shared-slice-known .given v); other-byte = λ i. omega (arith, others .shared-slice-known6 .given i) }) (ap plannedOutcome (c .before .terminals .given .1)) in
     omega (arith, few .1)
 
 part-print-plan-end : tie.Need-part-print-plan-end
 unfolding plannedOutcome edgeCount
 part-print-plan-end c =
     let call = c .before .before .before .before .before .before in
+    let others = call .before .before .before .before in
     let known = call .before .before .before .before .before .before .before .before .before in
     let a = known .before .args in
-    let s = surveyFrom (a .groups .now) (a .firsts .now) (a .seconds .now) (a .weights .now) in
+    let s = surveyWith (a .groups .now) (a .firsts .now) (a .seconds .now) (a .weights .now) (a .owners .now) (a .others .now) in
     let few = planned-few s plan-buffers (call .plan .ensures .0)
-    (plain-bytes _ _ _ _ (λ v. omega (arith, known .shared-slice-known .given v))) (ap plannedOutcome (c .before .before .terminals .given .1)) in
+    (record { own-byte = λ v. omega (arith, known .shared-slice-known .given v); other-byte = λ i. omega (arith, others .shared-slice-known6 .given i) }) (ap plannedOutcome (c .before .before .terminals .given .1)) in
     search (needs, few .0)
 
 part-print-plan-end-2 : tie.Need-part-print-plan-end-2
 unfolding plannedOutcome
 part-print-plan-end-2 c =
     let call = c .before .before .before .before .before .before .before .before in
+    let others = call .before .before .before .before in
     let known = call .before .before .before .before .before .before .before .before .before in
     let a = known .before .args in
-    let s = surveyFrom (a .groups .now) (a .firsts .now) (a .seconds .now) (a .weights .now) in
+    let s = surveyWith (a .groups .now) (a .firsts .now) (a .seconds .now) (a .weights .now) (a .owners .now) (a .others .now) in
     let few = planned-few s plan-buffers (call .plan .ensures .0)
-    (plain-bytes _ _ _ _ (λ v. omega (arith, known .shared-slice-known .given v))) (ap plannedOutcome (c .before .before .before .before .terminals .given .1)) in
+    (record { own-byte = λ v. omega (arith, known .shared-slice-known .given v); other-byte = λ i. omega (arith, others .shared-slice-known6 .given i) }) (ap plannedOutcome (c .before .before .before .before .terminals .given .1)) in
     search (needs, few .1)
 
 -- the refusal of planning
@@ -51,7 +53,7 @@ unfolding plannedOutcome
 returns c =
     let call = c .before .before .before .before .before .before .before .before .before in
     let a = call .before .before .before .before .before .before .before .before .before .before .args in
-    let s = surveyFrom (a .groups .now) (a .firsts .now) (a .seconds .now) (a .weights .now) in
+    let s = surveyWith (a .groups .now) (a .firsts .now) (a .seconds .now) (a .weights .now) (a .owners .now) (a .others .now) in
     let text = unplanned-output s plan-buffers (call .plan .ensures .0) (ap plannedOutcome (c .before .before .before .before .before .number .given .1)) in
     prints-as planRoom (a .out .now) text (c .before .before .print-refusal .ensures) (refusal-fits _ _ (omega arith) (omega arith))
 
@@ -60,12 +62,13 @@ returns-2 : tie.Need-returns-2
 unfolding plannedOutcome edgeCount
 returns-2 c =
     let call = c .before .before .before .before .before .before .before .before .before .before .before .before .before in
+    let others = call .before .before .before .before in
     let known = call .before .before .before .before .before .before .before .before .before in
     let a = known .before .args in
-    let s = surveyFrom (a .groups .now) (a .firsts .now) (a .seconds .now) (a .weights .now) in
+    let s = surveyWith (a .groups .now) (a .firsts .now) (a .seconds .now) (a .weights .now) (a .owners .now) (a .others .now) in
     let told = ap plannedOutcome (c .before .before .before .before .before .before .before .before .before .terminals .given .1) in
     let words = c .before .before .before .before .before .before .before .before .known-told2 .given in
-    let numbered : ByteGroups s = plain-bytes _ _ _ _ (λ v. omega (arith, known .shared-slice-known .given v)) in
+    let numbered : ByteGroups s = record { own-byte = λ v. omega (arith, known .shared-slice-known .given v); other-byte = λ i. omega (arith, others .shared-slice-known6 .given i) } in
     let text = planned-output s plan-buffers (call .plan .ensures .0) numbered told (call .plan .ensures .1 .0) (call .plan .ensures .1 .1 .0) in
     let fits = planned-fits s plan-buffers (call .plan .ensures .0) numbered told (omega (arith, words)) (omega (arith, words)) (omega (arith, words)) (omega (arith, words)) in
     prints-as planRoom (a .out .now) text (c .before .before .print-plan .ensures) (rw text fits)
@@ -74,8 +77,6 @@ pub plan-survey-spec : {M : Type 1} → statement M
 plan-survey-spec =
     tie.close
     (tie.spec
-    (λ c. search needs)
-    (λ c. search needs)
     (λ c. search needs)
     (λ c. search needs)
     (λ c κs. search needs)

@@ -1,51 +1,24 @@
 -- Whatever passes obeys the accuracy rule, for the survey that the text begins with and the k and the cost reported.
-use Prim.Native.Nat.{ℕ, zero, suc, _+_, _<_}
+use Prim.Native.Nat.{ℕ}
 use native.Mathlib.Omega.{arith}
 use mathlib.Core.Path.{_≡_, refl, subst}
 use mathlib.Core.Bool.{Bool, true, false, not}
 use mathlib.Core.List.{List}
-use lib.ListN.{getD}
 use lib.Dec.{eqb}
 use borrow.Author.Tests.{eqb-true}
-use Rattle.base_limits.specs.Limits.{maxVertices, maxEdges, groupNumbers}
 use Rattle.base_limits.specs.Verdict.{refuseIf, _before_, Outcome, refusal, answer, outcome}
 use Rattle.base_limits.specs.declared.Verdict.{Verdict}
 use Rattle.base_limits.specs.declared.Verdict.the-variants.{Fine, Refused}
 use Rattle.format_grammar.specs.Step.{Step, found, refused}
-use Rattle.format_grammar.specs.Lines.{following, linesFrom}
-use Rattle.format_survey_lines.specs.Line.{testsFor, groupTest, groupLine, groupLines, countsAt, linesAt, linesOf}
-use Rattle.format_survey.specs.Reading.{surveyOf, SurveyText}
-use Rattle.format_grammar.specs.Laws.Step.{then-value}
-use Rattle.format_survey_lines.specs.Laws.Tests.{group-below}
+use Rattle.format_survey_lines.specs.Line.{widest}
+use Rattle.format_survey.specs.Reading.{SurveyText}
 use Rattle.survey_core.specs.Survey.{edgeCount}
-use Rattle.survey_core.specs.Sound.{ByteGroups}
-use Rattle.survey_core.specs.Laws.Group.{plain-bytes}
 use Rattle.check_rule.specs.Check.{Checked, checking}
 use Rattle.check_rule.specs.Laws.Accuracy.{checking-accurate}
 use Rattle.format_plan.specs.Plan.{Claims, PrintedPlan, marksOf, dualRecords}
-use Rattle.check_text.specs.Verify.{surveyLinesAt, prefixAt, claimTest, claimsJudged, planVerified, planFrom, verifiedFrom, verifying}
-use Rattle.check_text.specs.Pair.{surveyIn, Claimed, Worth}
-
-groups-below : (t : List ℕ) (count i at v : ℕ) → getD (linesFrom (groupLine groupTest t) count i at .values) v 0 < groupNumbers
-unfolding linesFrom following
-groups-below t zero i at v = omega arith
-groups-below t (suc count) i at v = by-line (groupLine groupTest t i at) v refl (λ next w. groups-below t count (i + 1) next w)
-  where
-    by-line : (s : Step ℕ) (v : ℕ) → groupLine groupTest t i at ≡ s → ((next w : ℕ) → getD (linesFrom (groupLine groupTest t) count (i + 1) next .values) w 0 < groupNumbers)
-        → getD (following s (λ a next. linesFrom (groupLine groupTest t) count (i + 1) next) .values) v 0 < groupNumbers
-    by-line (found g next) zero e ih = group-below t i at e
-    by-line (found g next) (suc v) e ih = ih next v
-    by-line (refused n p) v e ih = omega arith
-
--- Groups that are read are group numbers.
-pub prefix-numbered : (a b c d : ℕ) (t : List ℕ) {s : SurveyText} {at : ℕ} → prefixAt (testsFor a b c d) t ≡ found s at → ByteGroups (surveyIn s)
-unfolding prefixAt surveyLinesAt linesAt linesOf surveyOf groupLines
-prefix-numbered a b c d t {s} {at} e =
-    let one = then-value (countsAt (testsFor a b c d) t) _ e in
-    let two = then-value (linesAt t (one .0 .vertices) (one .0 .edges) (one .1) .end) _ (one .3) in
-    let body = linesAt t (one .0 .vertices) (one .0 .edges) (one .1) in
-    let same : surveyOf (one .0) (body .groups) (body .edges) ≡ s = cc (two .3) in
-    subst (λ x. ByteGroups (surveyIn x)) same (plain-bytes _ _ _ _ (λ v. groups-below t (one .0 .vertices) 0 (one .1) v))
+use Rattle.check_text.specs.Verify.{prefixAt, surveyIn, claimTest, claimsJudged, planVerified, planFrom, verifiedFrom, verifying}
+use Rattle.check_text.specs.Worth.{Claimed, Worth}
+use Rattle.check_text.specs.Laws.Prefix.{prefix-numbered}
 
 judged-answer : (o : Outcome Checked) (k c b : ℕ) {x : Checked} → claimsJudged o k c b ≡ answer x → o ≡ answer x
 unfolding claimsJudged outcome
@@ -75,7 +48,7 @@ pub record Parts (t : List ℕ) (c : Checked) : Type 0 where
   pub survey : SurveyText
   pub next : ℕ
   pub plan : PrintedPlan
-  pub read : prefixAt (testsFor maxVertices maxEdges maxEdges maxEdges) t ≡ found survey next
+  pub read : prefixAt widest t ≡ found survey next
   pub behind : planFrom t (surveyIn survey) next ≡ answer plan
   pub passes : checking (surveyIn survey) (marksOf (edgeCount (surveyIn survey)) (plan .kept)) (dualRecords (plan .duals)) ≡ answer c
   pub claims : Claimed (plan .claims) c
@@ -83,14 +56,14 @@ pub record Parts (t : List ℕ) (c : Checked) : Type 0 where
 -- Nothing else passes.
 pub verified-parts : (t : List ℕ) (c : Checked) → verifying t ≡ answer c → Parts t c
 unfolding verifying verifiedFrom planVerified
-verified-parts t c e = by-survey (prefixAt (testsFor maxVertices maxEdges maxEdges maxEdges) t) refl e
+verified-parts t c e = by-survey (prefixAt widest t) refl e
   where
-    by-plan : (s : SurveyText) (at : ℕ) (o : Outcome PrintedPlan) → prefixAt (testsFor maxVertices maxEdges maxEdges maxEdges) t ≡ found s at → planFrom t (surveyIn s) at ≡ o
+    by-plan : (s : SurveyText) (at : ℕ) (o : Outcome PrintedPlan) → prefixAt widest t ≡ found s at → planFrom t (surveyIn s) at ≡ o
         → planVerified (surveyIn s) o ≡ answer c → Parts t c
     by-plan s at (refusal n p) q b e = let z : _≡_ {A = ℕ} 0 1 = cc in absurd (omega arith)
     by-plan s at (answer p) q b e = record { survey = s; next = at; plan = p; read = q; behind = b; passes = judged-answer _ _ _ _ e; claims = judged-claims _ (p .claims) e }
 
-    by-survey : (x : Step SurveyText) → prefixAt (testsFor maxVertices maxEdges maxEdges maxEdges) t ≡ x → verifiedFrom t x ≡ answer c → Parts t c
+    by-survey : (x : Step SurveyText) → prefixAt widest t ≡ x → verifiedFrom t x ≡ answer c → Parts t c
     by-survey (found s at) q e = by-plan s at (planFrom t (surveyIn s) at) q refl e
     by-survey (refused n p) q e = let z : _≡_ {A = ℕ} 0 1 = cc in absurd (omega arith)
 
@@ -102,5 +75,5 @@ verified-accurate t c e =
       survey = v .survey;
       next = v .next;
       read = v .read;
-      accurate = checking-accurate s (prefix-numbered maxVertices maxEdges maxEdges maxEdges t (v .read)) (marksOf (edgeCount s) (v .plan .kept)) (dualRecords (v .plan .duals)) c (v .passes);
+      accurate = checking-accurate s (prefix-numbered widest t (v .read)) (marksOf (edgeCount s) (v .plan .kept)) (dualRecords (v .plan .duals)) c (v .passes);
     }

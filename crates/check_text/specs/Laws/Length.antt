@@ -16,7 +16,7 @@ use Rattle.format_write.specs.Decimal.{decimal}
 use Rattle.format_write.specs.Text.{lineOf, listed, keptLine}
 use Rattle.format_print.specs.Laws.Room.{roomBelow, room-of-members, length-dual, kept-line-le, length-count-lines}
 use Rattle.format_grammar.specs.Step.{found}
-use Rattle.format_survey_lines.specs.Line.{testsFor}
+use Rattle.format_survey_lines.specs.Line.{Lengths, widest, testsFor}
 use Rattle.format_survey.specs.Reading.{SurveyText}
 use Rattle.format_grammar.specs.Lines.{textOf}
 use Rattle.format_survey.specs.Render.{render, longestText}
@@ -29,8 +29,7 @@ use Rattle.check_rule.specs.Check.{Checked}
 use Rattle.format_grammar.specs.Language.{Each, none, more}
 use Rattle.format_plan_lines.specs.Lines.{separator, memberNumbers, PrintedDual}
 use Rattle.format_plan.specs.Plan.{PrintedPlan, planAt}
-use Rattle.check_text.specs.Verify.{prefixAt, planFrom, verifying}
-use Rattle.check_text.specs.Pair.{surveyIn}
+use Rattle.check_text.specs.Verify.{prefixAt, surveyIn, planFrom, verifying}
 use Rattle.check_text.specs.Laws.Accuracy.{verified-parts}
 use Rattle.check_text.specs.Laws.Prefix.{prefix-content}
 use Rattle.format_plan.specs.Laws.Room.{room-answer}
@@ -131,18 +130,17 @@ words-most m p few w =
     omega arith
 
 -- A survey at the start of a text ends no later than the longest survey.
-pub prefix-most : (a b c d : ℕ) (t : List ℕ) {s : SurveyText} {at : ℕ} → prefixAt (testsFor a b c d) t ≡ found s at → at ≤ longestText
-prefix-most a b c d t {s} {at} e =
-    let tests = testsFor a b c d in
-    let g = then-value (contentAt tests t 0) _ (sym (prefix-content a b c d t) ∙ e) in
-    let w = reads-content tests (never-malformed _ _ _ _) .sound t 0 (g .0) (g .1) (omega arith) (g .2) in
-    let l = longest-within (accepted-within a b c d (w .member)) in
-    let same : length (w .word) ≡ length (render (g .0 .groups) (g .0 .edges)) = ap length (w .member .word) in
+pub prefix-most : (lent : Lengths) (t : List ℕ) {s : SurveyText} {at : ℕ} → prefixAt lent t ≡ found s at → at ≤ longestText
+prefix-most lent t {s} {at} e =
+    let g = then-value (contentAt (testsFor lent) t 0) _ (sym (prefix-content lent t) ∙ e) in
+    let w = reads-content (testsFor lent) (never-malformed lent) .sound t 0 (g .0) (g .1) (omega arith) (g .2) in
+    let l = longest-within (accepted-within lent (w .member)) in
+    let same : length (w .word) ≡ length (render (g .0 .groups) (g .0 .pairs) (g .0 .edges)) = ap length (w .member .word) in
     let x = w .ends in
     let y : g .1 ≡ at = cc (g .3) in
     omega arith
 
--- What passes has at most 563,669 bytes: a survey's text and a plan's.
+-- What passes is no longer than a survey's longest text and a plan's.
 pub verified-length : (t : List ℕ) (c : Checked) → verifying t ≡ answer c → length t ≤ longestText + planRoom
 unfolding planFrom
 verified-length t c e =
@@ -150,7 +148,7 @@ verified-length t c e =
     let m = edgeCount (surveyIn (v .survey)) in
     let a = room-answer (planAt t m (v .next)) m maxEdges (recordBytes * maxDuals) (v .behind) in
     let r = found-rendering t m (v .next) (a .1) in
-    let h = prefix-most maxVertices maxEdges maxEdges maxEdges t (v .read) in
+    let h = prefix-most widest t (v .read) in
     let w = words-most m (v .plan) (a .2) (r .printable) in
     let x = r .ends in
     omega arith

@@ -1,16 +1,17 @@
--- Every plan that the checker passes, printedWith behind the text of its survey, passes the check of both with the same counts.
+-- Every plan that the checker passes, printed behind the text of its survey, passes the check of both with the same counts.
 use Prim.Native.Nat.{ℕ, _+_, _^_, _≤_, _<_}
 use native.Mathlib.Omega.{arith}
 use mathlib.Core.Path.{_≡_, refl, ap, sym, _∙_, subst}
-use mathlib.Core.List.{List, [], _++_}
+use mathlib.Core.List.{List, _++_}
 use lib.ListN.{length, length-append}
-use Rattle.base_limits.specs.Limits.{maxVertices, maxEdges, figureDigits, planRoom}
+use Rattle.base_limits.specs.Limits.{maxEdges, figureDigits, planRoom}
 use Rattle.base_limits.specs.Verdict.{answer}
 use Rattle.format_record.specs.Bits.{Bytes}
 use Rattle.format_write.specs.Text.{planText}
 use Rattle.format_print.specs.Laws.Room.{plan-text-le}
 use Rattle.format_grammar.specs.Step.{found}
-use Rattle.format_survey_lines.specs.Line.{Edge}
+use Rattle.format_also.specs.Pair.{Pair}
+use Rattle.format_survey_lines.specs.Line.{Edge, Lengths}
 use Rattle.format_survey.specs.Reading.{stepOutcome, reading, SurveyText}
 use Rattle.format_survey.specs.Render.{render, longestText}
 use Rattle.format_survey.specs.WellFormed.{WithinCounts, surveyOfText}
@@ -23,13 +24,11 @@ use Rattle.check_core.specs.Stage.{DualsFit, CountsFit}
 use Rattle.check_rule.specs.Laws.Accuracy.{checking-passing}
 use Rattle.check_core.specs.Laws.Duals.{counts-fit}
 use Rattle.format_plan.specs.Plan.{Claims, planAt}
-use Rattle.check_text.specs.Verify.{planVerified, planFrom, verifiedFrom, verifying}
+use Rattle.check_text.specs.Verify.{surveyIn, planVerified, planFrom, verifiedFrom, verifying}
 use Rattle.check_text.specs.Laws.Verify.{claim-fine, room-suffices}
-use Rattle.check_text.specs.Pair.{surveyIn}
-use Rattle.check_text.specs.Laws.Accuracy.{prefix-numbered}
 use Rattle.format_plan.specs.WellFormed.{planIn, PrintFits}
 use Rattle.format_plan.specs.Laws.Printed.{read-back}
-use Rattle.check_text.specs.Laws.Prefix.{prefix-render}
+use Rattle.check_text.specs.Laws.Prefix.{within-numbered, plan-behind, prefix-render}
 use Rattle.check_text.specs.Laws.Same.{drawn-passes}
 
 -- The counts of a plan with these figures.
@@ -41,7 +40,7 @@ abbrev pub printedWith : Checked → (rounds : ℕ) (marks records : List ℕ) �
 printedWith c rounds marks records = planText (c .terminals) (c .cost) (c .bound) rounds marks records
 
 module _ (s : Survey) (numbered : ByteGroups s) (marks records : List ℕ) (c : Checked) (passed : checking s marks records ≡ answer c) where
-  -- What passes fits the digits and the limits of a printedWith plan.
+  -- What passes fits the digits and the limits of a printed plan.
   passed-fits : (rounds : ℕ) → rounds < 10 ^ figureDigits → PrintFits (claimsOf c rounds) marks records
   unfolding checkedOf dualAt edgeCount
   passed-fits rounds h =
@@ -94,38 +93,35 @@ module _ (s : Survey) (numbered : ByteGroups s) (marks records : List ℕ) (c : 
       ap (planVerified s) (room-suffices t s (length u) (p .survey .edges-few) ∙ ap stepOutcome read)
       ∙ claim-fine (c .terminals) (c .cost) (c .bound) (drawn-passes s numbered marks records c bytes passed) refl refl refl
 
--- The groups of a rendering are group numbers.
-render-numbered : (groups : List ℕ) (edges : List Edge) → WithinCounts groups edges → ByteGroups (surveyIn (surveyOfText groups edges))
-render-numbered groups edges w = prefix-numbered maxVertices maxEdges maxEdges maxEdges (render groups edges ++ []) (prefix-render groups edges [] w)
-
--- So are those of a text that is read.
-pub read-numbered : (t gb fb sb wb : List ℕ) (s : SurveyText) → reading t gb fb sb wb ≡ answer s → ByteGroups (surveyIn s)
-read-numbered t gb fb sb wb s e =
-    let a = accepted-render gb fb sb wb t s e in
-    subst (λ (x : SurveyText). ByteGroups (surveyIn x)) (sym (a .says)) (render-numbered (a .groups) (a .edges) (a .within))
+-- The groups and pairs of a text that is read are group numbers.
+pub read-numbered : (t : List ℕ) (lent : Lengths) (s : SurveyText) → reading t lent ≡ answer s → ByteGroups (surveyIn s)
+read-numbered t lent s e =
+    let a = accepted-render lent t s e in
+    subst (λ (x : SurveyText). ByteGroups (surveyIn x)) (sym (a .says)) (within-numbered (a .groups) (a .pairs) (a .edges) (a .within))
 
 -- Behind a rendering.
-render-passes : (groups : List ℕ) (edges : List Edge) → WithinCounts groups edges → (marks records : List ℕ) → Bytes records → (rounds : ℕ) → rounds < 10 ^ figureDigits → (c : Checked)
-    → checking (surveyIn (surveyOfText groups edges)) marks records ≡ answer c → verifying (render groups edges ++ printedWith c rounds marks records) ≡ answer c
+render-passes : (groups : List ℕ) (pairs : List Pair) (edges : List Edge) → WithinCounts groups pairs edges → (marks records : List ℕ) → Bytes records → (rounds : ℕ) → rounds < 10 ^ figureDigits → (c : Checked)
+    → checking (surveyIn (surveyOfText groups pairs edges)) marks records ≡ answer c → verifying (render groups pairs edges ++ printedWith c rounds marks records) ≡ answer c
 unfolding verifying verifiedFrom
-render-passes groups edges w marks records bytes rounds h c passed =
-    let t = render groups edges ++ printedWith c rounds marks records in
-    let read = prefix-render groups edges (printedWith c rounds marks records) w in
-    ap (verifiedFrom t) read
-    ∙ plan-passes (surveyIn (surveyOfText groups edges)) (render-numbered groups edges w) marks records c passed bytes (render groups edges) rounds h
+render-passes groups pairs edges w marks records bytes rounds h c passed =
+    let u = render groups pairs edges in
+    let p = printedWith c rounds marks records in
+    let read = prefix-render groups pairs edges p w (plan-behind u (c .terminals) (c .cost) (c .bound) rounds marks records) in
+    ap (verifiedFrom (u ++ p)) read
+    ∙ plan-passes (surveyIn (surveyOfText groups pairs edges)) (within-numbered groups pairs edges w) marks records c passed bytes u rounds h
 
-module _ (t gb fb sb wb : List ℕ) (s : SurveyText) (read : reading t gb fb sb wb ≡ answer s) (marks records : List ℕ) (bytes : Bytes records) (rounds : ℕ) (few : rounds < 10 ^ figureDigits) where
-  -- A plan that the checker passes for the survey of a text, printedWith behind this text, passes with the same counts.
+module _ (t : List ℕ) (lent : Lengths) (s : SurveyText) (read : reading t lent ≡ answer s) (marks records : List ℕ) (bytes : Bytes records) (rounds : ℕ) (few : rounds < 10 ^ figureDigits) where
+  -- A plan that the checker passes for the survey of a text, printed behind this text, passes with the same counts.
   pub printed-passes : (c : Checked) → checking (surveyIn s) marks records ≡ answer c → verifying (t ++ printedWith c rounds marks records) ≡ answer c
   printed-passes c passed =
-      let a = accepted-render gb fb sb wb t s read in
+      let a = accepted-render lent t s read in
       ap (λ (u : List ℕ). verifying (u ++ printedWith c rounds marks records)) (a .word)
-      ∙ render-passes (a .groups) (a .edges) (a .within) marks records bytes rounds few c (subst (λ (x : SurveyText). checking (surveyIn x) marks records ≡ answer c) (a .says) passed)
+      ∙ render-passes (a .groups) (a .pairs) (a .edges) (a .within) marks records bytes rounds few c (subst (λ (x : SurveyText). checking (surveyIn x) marks records ≡ answer c) (a .says) passed)
 
-  -- Both texts together have at most 563,669 bytes.
+  -- Both texts together are no longer than a survey's longest text and a plan's.
   pub printed-length : (c : Checked) → checking (surveyIn s) marks records ≡ answer c → length (t ++ printedWith c rounds marks records) ≤ longestText + planRoom
   printed-length c passed =
       let l = length-append t (printedWith c rounds marks records) in
-      let a = longest-read t gb fb sb wb s read in
-      let b = passed-length (surveyIn s) (read-numbered t gb fb sb wb s read) marks records c passed bytes rounds few in
+      let a = longest-read t lent s read in
+      let b = passed-length (surveyIn s) (read-numbered t lent s read) marks records c passed bytes rounds few in
       omega arith

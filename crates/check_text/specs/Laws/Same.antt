@@ -1,4 +1,4 @@
--- Marks and records that are drawn for a printedWith plan say to the checker what the printedWith ones say: the tracks marked 2 are kept, and whole records of bytes come back byte for byte.
+-- Marks and records that are drawn for a printed plan say to the checker what the printed ones say: the tracks marked 2 are kept, and whole records of bytes come back byte for byte.
 use Prim.Native.Nat.{ℕ, zero, suc, _+_, _*_, _-_, _/_, _%_, _≤_, _<_}
 use native.Mathlib.Omega.{arith}
 use native.Mathlib.Decide.{ℕ-discrete}
@@ -176,7 +176,7 @@ marks-pass s numbered marks marks′ records c long known same h =
     ∙ sym (checking-passing s numbered marks records .1 p)
     ∙ h
 
--- What is drawn for a printedWith plan passes if what was printedWith does, with the same counts.
+-- What is drawn for a printed plan passes if what was printed does, with the same counts.
 pub drawn-passes : (s : Survey) → ByteGroups s → (marks records : List ℕ) (c : Checked) → Bytes records → checking s marks records ≡ answer c
     → checking s (marksOf (edgeCount s) (keptIn marks)) (dualRecords (printedDuals records)) ≡ answer c
 drawn-passes s numbered marks records c bytes h =

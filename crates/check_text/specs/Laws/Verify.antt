@@ -4,19 +4,19 @@ use native.Mathlib.Omega.{arith}
 use native.Mathlib.Nat.{sub-zero}
 use mathlib.Core.Path.{_≡_, refl, ap, sym, _∙_, subst}
 use mathlib.Core.List.{List, [], _∷_}
-use lib.ListN.{length, take, drop, length-map, length-append}
+use lib.ListN.{length, take, drop, length-map, length-append, length-take}
 use lib.Seq.{sets, take-at}
 use borrow.Author.Tests.{eq-eqb, ne-eqb}
-use Rattle.format_survey_lines.specs.Laws.Body.{lines-sizes}
+use Rattle.format_survey_lines.specs.Laws.Body.{lines-sizes, lines-room, with-room, sets-filled}
 use Rattle.base_finite.specs.Laws.Below.{length-tabulate}
-use Rattle.base_limits.specs.Limits.{recordBytes, maxEdges, maxVertices}
+use Rattle.base_limits.specs.Limits.{recordBytes, maxEdges, maxVertices, maxPairs}
 use Rattle.base_limits.specs.Verdict.{refuseIf, Outcome, refusal, answer, outcome, _before_}
 use Rattle.format_grammar.specs.Step.{Step, found, refused, _then_}
 use Rattle.format_survey.specs.Reading.{surveyOf, stepOutcome}
-use Rattle.format_survey_lines.specs.Line.{SurveyCounts, testsFor, countsAt, firstsOf, secondsOf, weightsOf, SurveyLines, linesAt}
+use Rattle.format_also.specs.Pair.{ownersOf, othersOf}
+use Rattle.format_survey_lines.specs.Line.{SurveyCounts, widest, testsFor, countsAt, firstsOf, secondsOf, weightsOf, SurveyLines, linesAt, linesWith}
 use Rattle.format_survey_lines.specs.Laws.Tests.{counts-passed}
-use Rattle.format_survey.specs.Laws.Reading.{sets-filled}
-use Rattle.survey_core.specs.Survey.{Survey, surveyFrom, edgeCount}
+use Rattle.survey_core.specs.Survey.{Survey, surveyWith, edgeCount}
 use Rattle.check_rule.specs.Check.{Checked, checking}
 use Rattle.format_plan_lines.specs.Lines.{PrintedDual, dualRecord}
 use Rattle.format_plan.specs.Plan.{Claims, PrintedPlan, planAt, withRoom, marksOf, dualRecords, marksRead, recordsRead}
@@ -109,54 +109,81 @@ room-suffices t s at h = room-enough t (edgeCount s) at h
 take-stored : (values old : List ℕ) (n : ℕ) {new : List ℕ} → length values ≡ n → n ≤ length old → new ≡ sets old 0 values → take n new ≡ values
 take-stored values old n h k e = ap (take n) (e ∙ sets-filled values old (omega arith)) ∙ take-at values (drop (length values) old) n h
 
--- What the parts of the buffers are, once the lines of the survey are read.
-record Parts (b : SurveyLines) (n m : ℕ) (groups firsts seconds weights : List ℕ) : Type 0 where
-  groupsPart : take n groups ≡ b .groups
-  firstsPart : take m firsts ≡ firstsOf (b .edges)
-  secondsPart : take m seconds ≡ secondsOf (b .edges)
-  weightsPart : take m weights ≡ weightsOf (b .edges)
+-- A part of a buffer is no longer than what is asked of it.
+pub part-few : (l : List ℕ) (m n : ℕ) → m ≤ n → length (take (m - 0) l) ≤ n
+part-few l m n h = let a = length-take (m - 0) l in omega arith
 
-survey-parts : (t : List ℕ) (n m at : ℕ) (groups firsts seconds weights : List ℕ) {z p : ℕ} {groups′ firsts′ seconds′ weights′ : List ℕ}
-    → linesAt t n m at .end ≡ found z p → groups′ ≡ sets groups 0 (linesAt t n m at .groups) → firsts′ ≡ sets firsts 0 (firstsOf (linesAt t n m at .edges))
-    → seconds′ ≡ sets seconds 0 (secondsOf (linesAt t n m at .edges)) → weights′ ≡ sets weights 0 (weightsOf (linesAt t n m at .edges))
-    → n ≤ length groups → m ≤ length firsts → m ≤ length seconds → m ≤ length weights → Parts (linesAt t n m at) n m groups′ firsts′ seconds′ weights′
-unfolding firstsOf secondsOf weightsOf
-survey-parts t n m at groups firsts seconds weights e g u v w hg hf hs hw =
-    let z = lines-sizes t n m at e in
-    record {
-      groupsPart = take-stored _ groups n (z .groups) hg g;
-      firstsPart = take-stored _ firsts m (length-map (linesAt t n m at .edges) (λ x. x .first) ∙ z .edges) hf u;
-      secondsPart = take-stored _ seconds m (length-map (linesAt t n m at .edges) (λ x. x .second) ∙ z .edges) hs v;
-      weightsPart = take-stored _ weights m (length-map (linesAt t n m at .edges) (λ x. x .weight) ∙ z .edges) hw w;
-    }
+-- What a text says of a survey, in buffers: the parts of them that are read.
+abbrev pub partsOf : (n m k : ℕ) (groups firsts seconds weights owners others : List ℕ) → Survey
+partsOf n m k groups firsts seconds weights owners others =
+    surveyWith (take (n - 0) groups) (take (m - 0) firsts) (take (m - 0) seconds) (take (m - 0) weights) (take (k - 0) owners) (take (k - 0) others)
+
+-- The buffers before the lines of a survey are read: room for all that its counts ask.
+pub record BeforeLines (n m : ℕ) (groups firsts seconds weights owners others : List ℕ) : Type 0 where
+  pub groups-long : n ≤ length groups
+  pub firsts-long : m ≤ length firsts
+  pub seconds-long : m ≤ length seconds
+  pub weights-long : m ≤ length weights
+  pub owners-long : maxPairs ≤ length owners
+  pub others-long : maxPairs ≤ length others
+
+-- The buffers after that.
+pub record AfterLines (b : SurveyLines) (groups firsts seconds weights owners others groups′ firsts′ seconds′ weights′ owners′ others′ : List ℕ) : Type 0 where
+  pub groups-set : groups′ ≡ sets groups 0 (b .groups)
+  pub firsts-set : firsts′ ≡ sets firsts 0 (firstsOf (b .edges))
+  pub seconds-set : seconds′ ≡ sets seconds 0 (secondsOf (b .edges))
+  pub weights-set : weights′ ≡ sets weights 0 (weightsOf (b .edges))
+  pub owners-set : owners′ ≡ sets owners 0 (ownersOf (b .pairs))
+  pub others-set : others′ ≡ sets others 0 (othersOf (b .pairs))
 
 -- The lines of a survey and the plan behind them: a refusal stays, and the plan is held against what was read.
 module _ (t : List ℕ) (n m at : ℕ) {step : Step ℕ} where
-  pub lines-refused : {x y : ℕ} → step ≡ linesAt t n m at .end → step ≡ refused x y → refusal x y ≡ verifiedFrom t (surveyLinesAt t (record { vertices = n; edges = m }) at)
+  pub lines-refused : (lent : ℕ) → n ≤ lent → {x y : ℕ} → step ≡ linesWith lent maxPairs t n m at .end → step ≡ refused x y
+      → refusal x y ≡ verifiedFrom t (surveyLinesAt maxPairs t (record { vertices = n; edges = m }) at)
   unfolding verifiedFrom surveyLinesAt _then_
-  lines-refused s e = rw (sym s ∙ e)
+  lines-refused lent h s e = rw (sym (s ∙ ap (λ (b : SurveyLines). b .end) (with-room maxPairs t n m at h)) ∙ e)
 
-  pub lines-verified : (groups firsts seconds weights : List ℕ) {z q : ℕ} {groups′ firsts′ seconds′ weights′ : List ℕ} → n ≤ length groups → m ≤ length firsts → m ≤ length seconds → m ≤ length weights
-      → step ≡ linesAt t n m at .end → groups′ ≡ sets groups 0 (linesAt t n m at .groups) → firsts′ ≡ sets firsts 0 (firstsOf (linesAt t n m at .edges))
-      → seconds′ ≡ sets seconds 0 (secondsOf (linesAt t n m at .edges)) → weights′ ≡ sets weights 0 (weightsOf (linesAt t n m at .edges)) → step ≡ found z q
-      → planVerified (surveyFrom (take (n - 0) groups′) (take (m - 0) firsts′) (take (m - 0) seconds′) (take (m - 0) weights′)) (planFrom t (surveyFrom (take (n - 0) groups′) (take (m - 0) firsts′) (take (m - 0) seconds′) (take (m - 0) weights′)) q)
-      ≡ verifiedFrom t (surveyLinesAt t (record { vertices = n; edges = m }) at)
-  unfolding verifiedFrom surveyLinesAt _then_ surveyOf
-  lines-verified groups firsts seconds weights hg hf hs hw s g u v w e =
-      let p = survey-parts t n m at groups firsts seconds weights (sym s ∙ e) g u v w hg hf hs hw in
-      rw (sub-zero n, sub-zero m, sym s ∙ e, p .groupsPart, p .firstsPart, p .secondsPart, p .weightsPart) refl
+  -- No more pairs are read than there is room for.
+  pub lines-pairs : (lent : ℕ) → n ≤ lent → {k q : ℕ} → step ≡ linesWith lent maxPairs t n m at .end → step ≡ found k q → k ≤ maxPairs
+  lines-pairs lent h s e =
+      let end = sym (s ∙ ap (λ (b : SurveyLines). b .end) (with-room maxPairs t n m at h)) ∙ e in
+      subst (λ (i : ℕ). i ≤ maxPairs) (lines-sizes maxPairs t n m at end .pairs) (lines-room maxPairs t n m at)
+
+  pub lines-verified : (groups firsts seconds weights owners others : List ℕ) {k q : ℕ} {groups′ firsts′ seconds′ weights′ owners′ others′ : List ℕ} → BeforeLines n m groups firsts seconds weights owners others
+      → step ≡ linesWith (length groups) maxPairs t n m at .end
+      → AfterLines (linesWith (length groups) maxPairs t n m at) groups firsts seconds weights owners others groups′ firsts′ seconds′ weights′ owners′ others′ → step ≡ found k q
+      → planVerified (partsOf n m k groups′ firsts′ seconds′ weights′ owners′ others′) (planFrom t (partsOf n m k groups′ firsts′ seconds′ weights′ owners′ others′) q)
+      ≡ verifiedFrom t (surveyLinesAt maxPairs t (record { vertices = n; edges = m }) at)
+  unfolding verifiedFrom surveyLinesAt _then_ surveyOf firstsOf secondsOf weightsOf ownersOf othersOf
+  lines-verified groups firsts seconds weights owners others {k} {q} {groups′} {firsts′} {seconds′} {weights′} {owners′} {others′} h s w e =
+      let whole = with-room maxPairs t n m at (h .groups-long) in
+      let end : linesAt maxPairs t n m at .end ≡ found k q = sym (s ∙ ap (λ (b : SurveyLines). b .end) whole) ∙ e in
+      let v = subst (λ (b : SurveyLines). AfterLines b groups firsts seconds weights owners others groups′ firsts′ seconds′ weights′ owners′ others′) whole w in
+      let z = lines-sizes maxPairs t n m at end in
+      let few = lines-pairs (length groups) (h .groups-long) s e in
+      let es = linesAt maxPairs t n m at .edges in
+      let ps = linesAt maxPairs t n m at .pairs in
+      let pairs-there : k ≤ length owners = omega (arith, h .owners-long, few) in
+      let others-there : k ≤ length others = omega (arith, h .others-long, few) in
+      let g = take-stored (linesAt maxPairs t n m at .groups) groups n (z .groups) (h .groups-long) (v .groups-set) in
+      let x = take-stored (firstsOf es) firsts m (length-map es (λ e. e .first) ∙ z .edges) (h .firsts-long) (v .firsts-set) in
+      let y = take-stored (secondsOf es) seconds m (length-map es (λ e. e .second) ∙ z .edges) (h .seconds-long) (v .seconds-set) in
+      let p = take-stored (weightsOf es) weights m (length-map es (λ e. e .weight) ∙ z .edges) (h .weights-long) (v .weights-set) in
+      let o = take-stored (ownersOf ps) owners k (length-map ps (λ e. e .owner) ∙ z .pairs) pairs-there (v .owners-set) in
+      let i = take-stored (othersOf ps) others k (length-map ps (λ e. e .other) ∙ z .pairs) others-there (v .others-set) in
+      rw (sub-zero n, sub-zero m, sub-zero k, end, g, x, y, p, o, i) refl
 
 -- ---- the whole
 
-module _ (t : List ℕ) {step : Step SurveyCounts} (read : step ≡ countsAt (testsFor maxVertices maxEdges maxEdges maxEdges) t) where
+module _ (t : List ℕ) {step : Step SurveyCounts} (read : step ≡ countsAt (testsFor widest .vertices) (testsFor widest .edges) t) where
   pub verified-uncounted : {n p : ℕ} → step ≡ refused n p → refusal n p ≡ verifying t
   unfolding verifying verifiedFrom prefixAt _then_
   verified-uncounted e = rw (sym read ∙ e)
 
   module _ {n m at : ℕ} (counted : step ≡ found (record { vertices = n; edges = m }) at) where
-    pub verified-counted : verifiedFrom t (surveyLinesAt t (record { vertices = n; edges = m }) at) ≡ verifying t
+    pub verified-counted : verifiedFrom t (surveyLinesAt maxPairs t (record { vertices = n; edges = m }) at) ≡ verifying t
     unfolding verifying prefixAt _then_
     verified-counted = rw (sym read ∙ counted) refl
 
     pub counted-few : (n ≤ maxVertices) × (m ≤ maxEdges)
-    counted-few = let f = counts-passed maxVertices maxEdges maxEdges maxEdges t (sym read ∙ counted) in (f .vertices .most, f .edges .most)
+    counted-few = let f = counts-passed widest t (sym read ∙ counted) in (f .vertices .most, f .edges .most)

@@ -3,11 +3,12 @@ use Prim.Native.Nat.{ℕ, _^_, _≤_, _<_}
 use native.Mathlib.Omega.{arith}
 use mathlib.Core.Path.{_≡_, refl, ap, sym, _∙_, subst}
 use mathlib.Core.List.{List, _++_}
-use lib.ListN.{length, replicate}
-use Rattle.base_limits.specs.Limits.{maxVertices, maxEdges, recordsRoom, figureDigits, surveyRoom, verifyRoom}
+use lib.ListN.{length}
+use Rattle.base_limits.specs.Limits.{maxEdges, recordsRoom, figureDigits, surveyRoom, verifyRoom}
 use Rattle.base_limits.specs.Verdict.{Outcome, refusal, answer}
 use Rattle.base_limits.specs.Laws.Verdict.{answer-fine}
 use Rattle.base_limits.specs.declared.Verdict.the-variants.{Fine}
+use Rattle.format_survey_lines.specs.Line.{Lengths, widest}
 use Rattle.format_survey.specs.Reading.{reading, SurveyText}
 use Rattle.format_survey.specs.Laws.Longest.{longest-read}
 use Rattle.theory_steiner.specs.Laws.Rounds.{rounds-lt, grown-reached}
@@ -21,12 +22,10 @@ use Rattle.plan_core.specs.Plan.{Plan, planOf, planRefusal, planning}
 use Rattle.plan_core.specs.Promise.{Ready}
 use Rattle.plan_core.specs.Laws.Ready.{fine-ready}
 use Rattle.plan_core.specs.Laws.Passes.{finished-passes}
-use Rattle.check_text.specs.Verify.{verifying}
-use Rattle.check_text.specs.Pair.{surveyIn}
+use Rattle.check_text.specs.Verify.{surveyIn, verifying}
 use Rattle.check_text.specs.Laws.Passes.{read-numbered, printed-passes, printed-length}
 use Rattle.check_text.specs.Laws.Length.{verified-length}
 use Rattle.api_plan_text.specs.Output.{surveyRead, surveyPlan, readPlan, textPlan, outcomeText, planOutput}
-use Rattle.api_plan_text.specs.Laws.Output.{survey-buffers, reading-whole}
 use Rattle.api_verify_text.specs.Output.{passedText, findingsText, verifyOutput}
 use Rattle.theorems.specs.Printed.{planFor, printedPlan}
 
@@ -44,9 +43,9 @@ pub passed-fits : (t : List ℕ) (c : Checked) → verifying t ≡ answer c → 
 passed-fits t c e = let l = verified-length t c e in omega arith
 
 -- A survey's text, read with any buffers.
-module _ (t gb fb sb wb : List ℕ) (s : SurveyText) (read : reading t gb fb sb wb ≡ answer s) where
+module _ (t : List ℕ) (lent : Lengths) (s : SurveyText) (read : reading t lent ≡ answer s) where
   numbered : ByteGroups (surveyIn s)
-  numbered = read-numbered t gb fb sb wb s read
+  numbered = read-numbered t lent s read
 
   module _ (marksLength recordsLength : ℕ) (fine : planRefusal (surveyIn s) marksLength recordsLength ≡ Fine) where
     ready : Ready (surveyIn s) marksLength recordsLength
@@ -56,7 +55,7 @@ module _ (t gb fb sb wb : List ℕ) (s : SurveyText) (read : reading t gb fb sb 
     pub plan-passes : verifying (t ++ printedPlan (planFor s)) ≡ answer (record { terminals = planFor s .terminals; cost = planFor s .cost; bound = planFor s .bound })
     plan-passes =
         let p = planFor s in
-        printed-passes t gb fb sb wb s read (p .marks) (recordsOf (p .duals)) (bytes-records (p .duals)) (p .rounds) (rounds-few (surveyIn s) (ready .survey))
+        printed-passes t lent s read (p .marks) (recordsOf (p .duals)) (bytes-records (p .duals)) (p .rounds) (rounds-few (surveyIn s) (ready .survey))
         (record { terminals = p .terminals; cost = p .cost; bound = p .bound }) (finished-passes (surveyIn s) (ready .survey) (ready .joinable) numbered)
 
     -- The checking program reads both texts whole.
@@ -64,7 +63,7 @@ module _ (t gb fb sb wb : List ℕ) (s : SurveyText) (read : reading t gb fb sb 
     plan-fits =
         let p = planFor s in
         let l =
-        printed-length t gb fb sb wb s read (p .marks) (recordsOf (p .duals)) (bytes-records (p .duals)) (p .rounds) (rounds-few (surveyIn s) (ready .survey))
+        printed-length t lent s read (p .marks) (recordsOf (p .duals)) (bytes-records (p .duals)) (p .rounds) (rounds-few (surveyIn s) (ready .survey))
         (record { terminals = p .terminals; cost = p .cost; bound = p .bound }) (finished-passes (surveyIn s) (ready .survey) (ready .joinable) numbered) in
         omega arith
 
@@ -89,16 +88,10 @@ module _ (t : List ℕ) (p : Plan) (finished : textPlan t ≡ answer p) where
   from : Source t p
   from = source t p finished
 
-  groups : List ℕ
-  groups = replicate maxVertices 0
-
-  edges : List ℕ
-  edges = replicate maxEdges 0
-
   -- Its survey, read with buffers of the limits' sizes.
-  read : reading t groups edges edges edges ≡ answer (from .survey)
-  unfolding groups edges
-  read = reading-whole t survey-buffers ∙ from .read
+  read : reading t widest ≡ answer (from .survey)
+  unfolding surveyRead
+  read = from .read
 
   -- The program `plan` prints the plan,
   pub call-prints : planOutput t ≡ printedPlan p
@@ -112,13 +105,13 @@ module _ (t : List ℕ) (p : Plan) (finished : textPlan t ≡ answer p) where
   pub call-passes : verifyOutput (t ++ planOutput t) ≡ passedText (p .terminals) (p .cost) (p .bound)
   unfolding verifyOutput findingsText
   call-passes =
-      ap findingsText (ap (λ (w : List ℕ). verifying (t ++ w)) printed-from ∙ plan-passes t groups edges edges edges (from .survey) read maxEdges recordsRoom (from .fine))
+      ap findingsText (ap (λ (w : List ℕ). verifying (t ++ w)) printed-from ∙ plan-passes t widest (from .survey) read maxEdges recordsRoom (from .fine))
       ∙ ap (λ (x : Plan). passedText (x .terminals) (x .cost) (x .bound)) (from .plan)
 
   -- Each program reads its input whole.
   pub call-reads : length t ≤ surveyRoom
-  call-reads = let l = longest-read t groups edges edges edges (from .survey) read in omega arith
+  call-reads = let l = longest-read t widest (from .survey) read in omega arith
 
   pub call-fits : length (t ++ planOutput t) ≤ verifyRoom
   call-fits =
-      subst (λ (w : List ℕ). length (t ++ w) ≤ verifyRoom) (sym printed-from) (plan-fits t groups edges edges edges (from .survey) read maxEdges recordsRoom (from .fine))
+      subst (λ (w : List ℕ). length (t ++ w) ≤ verifyRoom) (sym printed-from) (plan-fits t widest (from .survey) read maxEdges recordsRoom (from .fine))

@@ -1,4 +1,0 @@
-pub mod Small
-pub mod Call
-pub mod Reading
-pub mod Text

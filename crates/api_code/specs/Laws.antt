@@ -1,0 +1,3 @@
+pub mod Encodable
+pub mod Ends
+pub mod Lending

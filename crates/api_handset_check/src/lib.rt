@@ -1,0 +1,143 @@
+// Checking from the handset: bytes in, one number and counts as bytes out. Definitions in api_handset.
+ghost use mathlib.Core.Path.{_≡_};
+ghost use lib.ListN.{length};
+ghost use Rattle.base_buffer.specs.Lent.{old, new};
+ghost use Rattle.base_limits.specs.declared.Verdict.the-variants.{Fine};
+ghost use Rattle.survey_core.specs.Survey.{lentWith};
+ghost use Rattle.check_rule.specs.Check.{checkedOf};
+ghost use Rattle.api_code.specs.Code.{codeOf};
+ghost use Rattle.api_check.specs.Call.{checkFiguresOf};
+ghost use Rattle.api_lengths.specs.Slices.{lentSlices, lengthsRefusal};
+ghost use Rattle.api_handset.specs.Call.{resultAfter, checkWith, handsetCheck, handsetCheckResult};
+use api_check::CHECK_FIGURES;
+use api_lengths::lengths_refusal;
+use api_lengths::pairs_seen;
+use api_words::WORD_BYTES;
+use api_words::edge_words;
+use api_words::pair_words;
+use base_limits::VALUE_BYTES;
+use base_limits::Verdict;
+
+// Bytes of the counts.
+const CHECK_BYTES: usize = CHECK_FIGURES * VALUE_BYTES;
+
+// Checks a plan against a survey in numbers: no entry for counts is lent on where the result is too short.
+fn check_words(
+    groups: &[u8],
+    firsts: &[u32],
+    seconds: &[u32],
+    weights: &[u32],
+    owners: &[u32],
+    others: &[u8],
+    marks: &[u8],
+    records: &[u8],
+    result: &mut [u8],
+) -> u64
+    ensures { λ r. let s = lentWith groups firsts seconds weights owners others in
+        ⌜ r ≡ codeOf (checkWith s (old marks) (old records) (old result)) ⌝ }
+    ensures { λ _. let s = lentWith groups firsts seconds weights owners others in
+        let figures = checkFiguresOf (checkedOf s (old marks) (old records)) in
+        ⌜ new result ≡ resultAfter (checkWith s (old marks) (old records) (old result)) figures (old result) ⌝ }
+{
+    let mut counts = [0u64; CHECK_FIGURES];
+    let room = api_code::lent_on(result.len(), CHECK_BYTES, CHECK_FIGURES);
+    let found = api_check::check_call(
+        groups,
+        firsts,
+        seconds,
+        weights,
+        owners,
+        others,
+        marks,
+        records,
+        &mut counts[0..room],
+    );
+    if 0 < found {
+        return found;
+    }
+    api_words::write_counts(result, &counts);
+    found
+}
+
+// Checks a plan against a survey whose lengths are in order.
+fn check_bytes(
+    groups: &[u8],
+    firsts: &[u8],
+    seconds: &[u8],
+    weights: &[u8],
+    owners: &[u8],
+    others: &[u8],
+    marks: &[u8],
+    records: &[u8],
+    result: &mut [u8],
+) -> u64
+    requires { ⌜ lengthsRefusal (length (now groups)) (length (now firsts)) (length (now seconds)) (length (now weights))
+        (length (now owners)) (length (now others)) ≡ Fine ⌝ }
+    ensures code { λ r.
+        let b = lentSlices groups firsts seconds weights owners others in
+        ⌜ r ≡ codeOf (handsetCheck b (old marks) (old records) (old result)) ⌝ }
+    ensures result { λ _.
+        let b = lentSlices groups firsts seconds weights owners others in
+        ⌜ new result ≡ handsetCheckResult b (old marks) (old records) (old result) ⌝ }
+{
+    let first_words = edge_words(firsts);
+    let second_words = edge_words(seconds);
+    let weight_words = edge_words(weights);
+    let owner_words = pair_words(owners);
+    let m = firsts.len() / WORD_BYTES;
+    let p = pairs_seen(others.len());
+    check_words(
+        groups,
+        &first_words[0..m],
+        &second_words[0..m],
+        &weight_words[0..m],
+        &owner_words[0..p],
+        &others[0..p],
+        marks,
+        records,
+        result,
+    )
+}
+
+// Checks marks and moat records against a survey. `result` gets k, the kept cost and the bound.
+pub fn handset_check(
+    groups: &[u8],
+    firsts: &[u8],
+    seconds: &[u8],
+    weights: &[u8],
+    owners: &[u8],
+    others: &[u8],
+    marks: &[u8],
+    records: &[u8],
+    result: &mut [u8],
+) -> u64
+    ensures code { λ r.
+        let b = lentSlices groups firsts seconds weights owners others in
+        ⌜ r ≡ codeOf (handsetCheck b (old marks) (old records) (old result)) ⌝ }
+    ensures result { λ _.
+        let b = lentSlices groups firsts seconds weights owners others in
+        ⌜ new result ≡ handsetCheckResult b (old marks) (old records) (old result) ⌝ }
+{
+    let odd = lengths_refusal(
+        groups.len(),
+        firsts.len(),
+        seconds.len(),
+        weights.len(),
+        owners.len(),
+        others.len(),
+    );
+    if let Verdict::Refused { number, place } = odd {
+        return api_code::code(number, place);
+    }
+    check_bytes(
+        groups,
+        firsts,
+        seconds,
+        weights,
+        owners,
+        others,
+        marks,
+        records,
+        result,
+    )
+}

@@ -1,0 +1,41 @@
+-- Planning with lent counts: what the call answers and leaves in its buffers, by the library's own definitions.
+use Prim.Native.Nat.{ℕ}
+use mathlib.Core.List.{List, [], _∷_, _++_}
+use lib.ListN.{length, drop}
+use Rattle.base_limits.specs.Verdict.{written}
+use Rattle.base_limits.specs.declared.Verdict.{Verdict}
+use Rattle.survey_core.specs.Survey.{Survey, edgeCount, problemOf}
+use Rattle.plan_duals.specs.Drawing.{recordsOver}
+use Rattle.plan_core.specs.Plan.{PlanCounts, planRefusal, planOf, planCountsOf}
+use Rattle.api_code.specs.Code.{withCounts, countsAfter}
+
+-- entries of the counts of planning: k, cost, bound, rounds and the number of moats
+abbrev pub planFigures : ℕ
+planFigures = 5
+
+unfoldable pub planFiguresOf : PlanCounts → List ℕ
+planFiguresOf c = c .terminals ∷ c .cost ∷ c .bound ∷ c .rounds ∷ c .duals ∷ []
+
+-- 1 to 6, 18, then 7 for any buffer that is too short, then 8.
+unfoldable pub planCall : Survey → (marks records counts : List ℕ) → Verdict
+planCall s marks records counts = withCounts s planFigures (length counts) (planRefusal s (length marks) (length records))
+
+-- The plan's marks and records, with what stood behind them, and its counts.
+unfoldable pub drawnMarks : Survey → List ℕ → List ℕ
+drawnMarks s marks = planOf (problemOf s) .marks ++ drop (edgeCount s) marks
+
+unfoldable pub drawnRecords : Survey → List ℕ → List ℕ
+drawnRecords s records = recordsOver (planOf (problemOf s) .duals) records
+
+unfoldable pub drawnFigures : Survey → List ℕ
+drawnFigures s = planFiguresOf (planCountsOf (planOf (problemOf s)))
+
+-- The three lent buffers at the end.
+unfoldable pub planMarks : Survey → (marks records counts : List ℕ) → List ℕ
+planMarks s marks records counts = written (planCall s marks records counts) (drawnMarks s marks) marks
+
+unfoldable pub planRecords : Survey → (marks records counts : List ℕ) → List ℕ
+planRecords s marks records counts = written (planCall s marks records counts) (drawnRecords s records) records
+
+unfoldable pub planCounts : Survey → (marks records counts : List ℕ) → List ℕ
+planCounts s marks records counts = countsAfter (planCall s marks records counts) (drawnFigures s) counts

@@ -1,0 +1,258 @@
+// The library for programs in other languages: every operation as a function that C can call. A slice crosses as a pointer
+// and a length in items; the answer is 0, or a refusal's number plus 256 times its place. include/foamsickle.h declares them.
+ghost use mathlib.Core.Path.{_≡_};
+ghost use Rattle.base_buffer.specs.Lent.{old, new};
+ghost use Rattle.survey_core.specs.Survey.{lentWith};
+ghost use Rattle.format_write.specs.Text.{planText};
+ghost use Rattle.format_survey.specs.Reading.{filled};
+ghost use Rattle.format_survey.specs.Answer.{countsOf};
+ghost use Rattle.api_code.specs.Code.{codeOf, capped, verdictOf, countsFor};
+ghost use Rattle.api_read.specs.Call.{readFiguresOf, readCall};
+ghost use Rattle.api_plan.specs.Call.{planCall, planMarks, planRecords, planCounts};
+ghost use Rattle.api_check.specs.Call.{checkFiguresOf, checkCall, checkCounts};
+ghost use Rattle.api_print.specs.Call.{dualCall, dualOut, dualCounts};
+ghost use Rattle.api_print.specs.Call.{textCall, textOut, textCounts, surveyCall, surveyOut, surveyCounts};
+ghost use Rattle.api_verify.specs.Call.{verifyCall};
+ghost use Rattle.api_lengths.specs.Slices.{lentSlices};
+ghost use Rattle.api_handset.specs.Call.{handsetPlan, handsetMarks, handsetRecords, handsetPlanResult};
+ghost use Rattle.api_handset.specs.Call.{handsetCheck, handsetCheckResult};
+
+// Reads a survey's text. `counts` gets n and m.
+#[no_mangle]
+pub extern "C" fn foamsickle_read(
+    text: &[u8],
+    groups: &mut [u8],
+    firsts: &mut [u32],
+    seconds: &mut [u32],
+    weights: &mut [u32],
+    counts: &mut [u64],
+) -> u64
+    ensures code { λ r.
+        let read = readCall (old text) (old groups) (old firsts) (old seconds) (old weights) (old counts) in
+        ⌜ r ≡ codeOf (verdictOf read) ⌝ }
+    ensures groups { λ _.
+        let read = readCall (old text) (old groups) (old firsts) (old seconds) (old weights) (old counts) in
+        ⌜ new groups ≡ filled read (λ s. s .groups) (old groups) ⌝ }
+    ensures firsts { λ _.
+        let read = readCall (old text) (old groups) (old firsts) (old seconds) (old weights) (old counts) in
+        ⌜ new firsts ≡ filled read (λ s. s .firsts) (old firsts) ⌝ }
+    ensures seconds { λ _.
+        let read = readCall (old text) (old groups) (old firsts) (old seconds) (old weights) (old counts) in
+        ⌜ new seconds ≡ filled read (λ s. s .seconds) (old seconds) ⌝ }
+    ensures weights { λ _.
+        let read = readCall (old text) (old groups) (old firsts) (old seconds) (old weights) (old counts) in
+        ⌜ new weights ≡ filled read (λ s. s .weights) (old weights) ⌝ }
+    ensures counts { λ _.
+        let read = readCall (old text) (old groups) (old firsts) (old seconds) (old weights) (old counts) in
+        ⌜ new counts ≡ countsFor (countsOf read) readFiguresOf (old counts) ⌝ }
+{
+    api_read::read_call(text, groups, firsts, seconds, weights, counts)
+}
+
+// Plans a survey with pairs (owners, others). `counts` gets k, cost, bound, rounds and the number of moats.
+#[no_mangle]
+pub extern "C" fn foamsickle_plan(
+    groups: &[u8],
+    firsts: &[u32],
+    seconds: &[u32],
+    weights: &[u32],
+    owners: &[u32],
+    others: &[u8],
+    marks: &mut [u8],
+    records: &mut [u8],
+    counts: &mut [u64],
+) -> u64
+    ensures code { λ r.
+        let s = lentWith groups firsts seconds weights owners others in
+        ⌜ r ≡ codeOf (planCall s (old marks) (old records) (old counts)) ⌝ }
+    ensures marks { λ _.
+        let s = lentWith groups firsts seconds weights owners others in
+        ⌜ new marks ≡ planMarks s (old marks) (old records) (old counts) ⌝ }
+    ensures records { λ _.
+        let s = lentWith groups firsts seconds weights owners others in
+        ⌜ new records ≡ planRecords s (old marks) (old records) (old counts) ⌝ }
+    ensures counts { λ _.
+        let s = lentWith groups firsts seconds weights owners others in
+        ⌜ new counts ≡ planCounts s (old marks) (old records) (old counts) ⌝ }
+{
+    api_plan::plan_call(
+        groups,
+        firsts,
+        seconds,
+        weights,
+        owners,
+        others,
+        marks,
+        records,
+        counts,
+    )
+}
+
+// Checks marks and moat records against a survey with pairs. `counts` gets k, the kept cost and the bound.
+#[no_mangle]
+pub extern "C" fn foamsickle_check(
+    groups: &[u8],
+    firsts: &[u32],
+    seconds: &[u32],
+    weights: &[u32],
+    owners: &[u32],
+    others: &[u8],
+    marks: &[u8],
+    records: &[u8],
+    counts: &mut [u64],
+) -> u64
+    ensures code { λ r.
+        let s = lentWith groups firsts seconds weights owners others in
+        ⌜ r ≡ codeOf (checkCall s (old marks) (old records) (old counts)) ⌝ }
+    ensures counts { λ _.
+        let s = lentWith groups firsts seconds weights owners others in
+        ⌜ new counts ≡ checkCounts s (old marks) (old records) (old counts) ⌝ }
+{
+    api_check::check_call(
+        groups,
+        firsts,
+        seconds,
+        weights,
+        owners,
+        others,
+        marks,
+        records,
+        counts,
+    )
+}
+
+// Prints the line of a moat record. `counts` gets its length.
+#[no_mangle]
+pub extern "C" fn foamsickle_print_dual(part: &[u8], out: &mut [u8], counts: &mut [u64]) -> u64
+    ensures code { λ r. ⌜ r ≡ codeOf (dualCall (old part) (old out) (old counts)) ⌝ }
+    ensures out { λ _. ⌜ new out ≡ dualOut (old part) (old out) (old counts) ⌝ }
+    ensures counts { λ _. ⌜ new counts ≡ dualCounts (old part) (old out) (old counts) ⌝ }
+{
+    api_print::print_dual_call(part, out, counts)
+}
+
+// Prints a plan from its figures, marks and moat records. `counts` gets the text's length.
+#[no_mangle]
+pub extern "C" fn foamsickle_print_plan(
+    terminals: u64,
+    cost: u64,
+    bound: u64,
+    rounds: u64,
+    marks: &[u8],
+    records: &[u8],
+    out: &mut [u8],
+    counts: &mut [u64],
+) -> u64
+    ensures code { λ r.
+        let text = planText terminals cost bound rounds (old marks) (old records) in
+        ⌜ r ≡ codeOf (textCall text (old out) (old counts)) ⌝ }
+    ensures out { λ _.
+        let text = planText terminals cost bound rounds (old marks) (old records) in
+        ⌜ new out ≡ textOut text (old out) (old counts) ⌝ }
+    ensures counts { λ _.
+        let text = planText terminals cost bound rounds (old marks) (old records) in
+        ⌜ new counts ≡ textCounts text (old out) (old counts) ⌝ }
+{
+    api_print::print_plan_call(terminals, cost, bound, rounds, marks, records, out, counts)
+}
+
+// Prints a survey's text. `counts` gets its length.
+#[no_mangle]
+pub extern "C" fn foamsickle_print_survey(
+    groups: &[u8],
+    firsts: &[u32],
+    seconds: &[u32],
+    weights: &[u32],
+    out: &mut [u8],
+    counts: &mut [u64],
+) -> u64
+    ensures code { λ r.
+        ⌜ r ≡ codeOf (surveyCall (old groups) (old firsts) (old seconds) (old weights) (old out) (old counts)) ⌝ }
+    ensures out { λ _.
+        ⌜ new out ≡ surveyOut (old groups) (old firsts) (old seconds) (old weights) (old out) (old counts) ⌝ }
+    ensures counts { λ _.
+        ⌜ new counts ≡ surveyCounts (old groups) (old firsts) (old seconds) (old weights) (old out) (old counts) ⌝ }
+{
+    api_print::print_survey_call(groups, firsts, seconds, weights, out, counts)
+}
+
+// Checks a survey's text with a printed plan behind it. `counts` gets k, the kept cost and the bound.
+#[no_mangle]
+pub extern "C" fn foamsickle_verify(text: &[u8], counts: &mut [u64]) -> u64
+    ensures code { λ r. ⌜ r ≡ capped (codeOf (verdictOf (verifyCall (old text) (old counts)))) ⌝ }
+    ensures counts { λ _. ⌜ new counts ≡ countsFor (verifyCall (old text) (old counts)) checkFiguresOf (old counts) ⌝ }
+{
+    api_verify::verify_call(text, counts)
+}
+
+// Plans a survey. `result` gets k, cost, bound, rounds and the number of moats.
+#[no_mangle]
+pub extern "C" fn foamsickle_handset_plan(
+    groups: &[u8],
+    firsts: &[u8],
+    seconds: &[u8],
+    weights: &[u8],
+    owners: &[u8],
+    others: &[u8],
+    marks: &mut [u8],
+    records: &mut [u8],
+    result: &mut [u8],
+) -> u64
+    ensures code { λ r.
+        let b = lentSlices groups firsts seconds weights owners others in
+        ⌜ r ≡ codeOf (handsetPlan b (old marks) (old records) (old result)) ⌝ }
+    ensures marks { λ _.
+        let b = lentSlices groups firsts seconds weights owners others in
+        ⌜ new marks ≡ handsetMarks b (old marks) (old records) (old result) ⌝ }
+    ensures records { λ _.
+        let b = lentSlices groups firsts seconds weights owners others in
+        ⌜ new records ≡ handsetRecords b (old marks) (old records) (old result) ⌝ }
+    ensures result { λ _.
+        let b = lentSlices groups firsts seconds weights owners others in
+        ⌜ new result ≡ handsetPlanResult b (old marks) (old records) (old result) ⌝ }
+{
+    api_handset_plan::handset_plan(
+        groups,
+        firsts,
+        seconds,
+        weights,
+        owners,
+        others,
+        marks,
+        records,
+        result,
+    )
+}
+
+// Checks marks and moat records against a survey. `result` gets k, the kept cost and the bound.
+#[no_mangle]
+pub extern "C" fn foamsickle_handset_check(
+    groups: &[u8],
+    firsts: &[u8],
+    seconds: &[u8],
+    weights: &[u8],
+    owners: &[u8],
+    others: &[u8],
+    marks: &[u8],
+    records: &[u8],
+    result: &mut [u8],
+) -> u64
+    ensures code { λ r.
+        let b = lentSlices groups firsts seconds weights owners others in
+        ⌜ r ≡ codeOf (handsetCheck b (old marks) (old records) (old result)) ⌝ }
+    ensures result { λ _.
+        let b = lentSlices groups firsts seconds weights owners others in
+        ⌜ new result ≡ handsetCheckResult b (old marks) (old records) (old result) ⌝ }
+{
+    api_handset_check::handset_check(
+        groups,
+        firsts,
+        seconds,
+        weights,
+        owners,
+        others,
+        marks,
+        records,
+        result,
+    )
+}

@@ -1,0 +1,122 @@
+//! The calls as they cross: slices in, one number out. Everything that is not Rust stands in this file.
+//!
+//! No call has a condition that Rust's types do not already keep: a slice has the length that is passed with it, what is
+//! lent for writing overlaps nothing else since it is `&mut`, and nothing is kept after the call. Any lengths and any
+//! bytes may be passed: what does not fit is refused, and then every slice holds what it held.
+
+/// The six slices of a survey: n groups, m first ends, second ends and prices, and the pairs.
+#[derive(Clone, Copy, Debug)]
+pub struct Slices<'a> {
+    pub groups: &'a [u8],
+    pub firsts: &'a [u32],
+    pub seconds: &'a [u32],
+    pub weights: &'a [u32],
+    pub owners: &'a [u32],
+    pub others: &'a [u8],
+}
+
+/// The same in bytes alone: four for each end, price and owner, lowest first.
+#[derive(Clone, Copy, Debug)]
+pub struct Bytes<'a> {
+    pub groups: &'a [u8],
+    pub firsts: &'a [u8],
+    pub seconds: &'a [u8],
+    pub weights: &'a [u8],
+    pub owners: &'a [u8],
+    pub others: &'a [u8],
+}
+
+/// Declares a C function and a safe one of the same parameters; `in` is a slice to read, `out` one to write, `by` a number.
+macro_rules! calls {
+    ($($(#[$about:meta])* $safe:ident = $name:ident($($param:ident: $way:tt $kind:ty),* $(,)?);)*) => {
+        calls!(@declare $($name($($param: $way $kind),*);)*);
+        $(calls!(@define $(#[$about])* $safe $name [] [] $($param: $way $kind,)*);)*
+    };
+    (@declare $($name:ident($($param:ident: $way:tt $kind:ty),*);)*) => {
+        mod c {
+            $(calls!(@one $name [] $($param: $way $kind,)*);)*
+        }
+    };
+    (@one $name:ident [$($p:tt)*]) => { extern "C" { pub fn $name($($p)*) -> u64; } };
+    (@one $name:ident [$($p:tt)*] $x:ident: in $t:ty, $($rest:tt)*) => { calls!(@one $name [$($p)* _: *const $t, _: usize,] $($rest)*); };
+    (@one $name:ident [$($p:tt)*] $x:ident: out $t:ty, $($rest:tt)*) => { calls!(@one $name [$($p)* _: *mut $t, _: usize,] $($rest)*); };
+    (@one $name:ident [$($p:tt)*] $x:ident: by $t:ty, $($rest:tt)*) => { calls!(@one $name [$($p)* _: $t,] $($rest)*); };
+    (@define $(#[$about:meta])* $safe:ident $name:ident [$($p:tt)*] [$($a:tt)*]) => {
+        $(#[$about])*
+        #[allow(clippy::too_many_arguments)]
+        pub fn $safe($($p)*) -> u64 {
+            // Each pointer comes with the length of the slice that it is taken from, and the slices outlive the call.
+            unsafe { c::$name($($a)*) }
+        }
+    };
+    (@define $(#[$about:meta])* $safe:ident $name:ident [$($p:tt)*] [$($a:tt)*] $x:ident: in $t:ty, $($rest:tt)*) => {
+        calls!(@define $(#[$about])* $safe $name [$($p)* $x: &[$t],] [$($a)* $x.as_ptr(), $x.len(),] $($rest)*);
+    };
+    (@define $(#[$about:meta])* $safe:ident $name:ident [$($p:tt)*] [$($a:tt)*] $x:ident: out $t:ty, $($rest:tt)*) => {
+        calls!(@define $(#[$about])* $safe $name [$($p)* $x: &mut [$t],] [$($a)* $x.as_mut_ptr(), $x.len(),] $($rest)*);
+    };
+    (@define $(#[$about:meta])* $safe:ident $name:ident [$($p:tt)*] [$($a:tt)*] $x:ident: by $t:ty, $($rest:tt)*) => {
+        calls!(@define $(#[$about])* $safe $name [$($p)* $x: $t,] [$($a)* $x,] $($rest)*);
+    };
+}
+
+/// The functions of libfoamsickle.a, one parameter for each of its slices; include/foamsickle.h says what each does.
+mod flat {
+    calls! {
+        read = foamsickle_read(
+            text: in u8, groups: out u8, firsts: out u32, seconds: out u32, weights: out u32, counts: out u64,
+        );
+        plan = foamsickle_plan(
+            groups: in u8, firsts: in u32, seconds: in u32, weights: in u32, owners: in u32, others: in u8,
+            marks: out u8, records: out u8, counts: out u64,
+        );
+        check = foamsickle_check(
+            groups: in u8, firsts: in u32, seconds: in u32, weights: in u32, owners: in u32, others: in u8,
+            marks: in u8, records: in u8, counts: out u64,
+        );
+        print_dual = foamsickle_print_dual(part: in u8, out: out u8, counts: out u64);
+        print_plan = foamsickle_print_plan(
+            terminals: by u64, cost: by u64, bound: by u64, rounds: by u64, marks: in u8, records: in u8, out: out u8,
+            counts: out u64,
+        );
+        print_survey = foamsickle_print_survey(
+            groups: in u8, firsts: in u32, seconds: in u32, weights: in u32, out: out u8, counts: out u64,
+        );
+        verify = foamsickle_verify(text: in u8, counts: out u64);
+        handset_plan = foamsickle_handset_plan(
+            groups: in u8, firsts: in u8, seconds: in u8, weights: in u8, owners: in u8, others: in u8, marks: out u8,
+            records: out u8, result: out u8,
+        );
+        handset_check = foamsickle_handset_check(
+            groups: in u8, firsts: in u8, seconds: in u8, weights: in u8, owners: in u8, others: in u8, marks: in u8,
+            records: in u8, result: out u8,
+        );
+    }
+}
+
+pub use flat::{print_dual, print_plan, read, verify};
+
+/// `counts` takes sites, cost, bound, rounds and moats.
+pub fn plan(s: Slices, marks: &mut [u8], records: &mut [u8], counts: &mut [u64]) -> u64 {
+    flat::plan(s.groups, s.firsts, s.seconds, s.weights, s.owners, s.others, marks, records, counts)
+}
+
+/// `counts` takes sites, cost and bound.
+pub fn check(s: Slices, marks: &[u8], records: &[u8], counts: &mut [u64]) -> u64 {
+    flat::check(s.groups, s.firsts, s.seconds, s.weights, s.owners, s.others, marks, records, counts)
+}
+
+/// Pairs are not printed. `counts` takes the text's length.
+pub fn print_survey(s: Slices, out: &mut [u8], counts: &mut [u64]) -> u64 {
+    flat::print_survey(s.groups, s.firsts, s.seconds, s.weights, out, counts)
+}
+
+/// `result` takes sites, cost, bound, rounds and moats, eight bytes each.
+pub fn handset_plan(b: Bytes, marks: &mut [u8], records: &mut [u8], result: &mut [u8]) -> u64 {
+    flat::handset_plan(b.groups, b.firsts, b.seconds, b.weights, b.owners, b.others, marks, records, result)
+}
+
+/// `result` takes sites, cost and bound, eight bytes each.
+pub fn handset_check(b: Bytes, marks: &[u8], records: &[u8], result: &mut [u8]) -> u64 {
+    flat::handset_check(b.groups, b.firsts, b.seconds, b.weights, b.owners, b.others, marks, records, result)
+}

@@ -1,0 +1,320 @@
+//! Foamsickle from Rust: slices in, an enum out.
+//!
+//! Build the library first (`rt staticlib foamsickle`), then
+//!
+//! ```
+//! let survey = foamsickle::Survey::new(&[1, 1], &[0], &[1], &[5])?;
+//! let plan = foamsickle::plan(&survey)?;
+//! assert_eq!(plan.kept().collect::<Vec<_>>(), [0]);
+//! # Ok::<(), foamsickle::Refusal>(())
+//! ```
+//!
+//! A `Survey` has had its lengths tested, and what an operation writes is sized here, so that the refusals of short
+//! buffers never come; whoever lends buffers of his own uses `call`, which tests nothing beforehand.
+
+pub mod call;
+
+use call::Slices;
+
+/// The limits of include/foamsickle.h.
+pub const MAX_VERTICES: usize = 256;
+pub const MAX_EDGES: usize = 2_048;
+pub const RECORD_BYTES: usize = 40;
+pub const DUAL_ROOM: usize = 1_024;
+
+/// Entries of the counts of each operation.
+pub const READ_FIGURES: usize = 2;
+pub const PLAN_FIGURES: usize = 5;
+pub const CHECK_FIGURES: usize = 3;
+pub const PRINT_FIGURES: usize = 1;
+
+/// Why an operation refused; the field is the place.
+#[derive(Clone, Copy, Debug, PartialEq, Eq)]
+pub enum Refusal {
+    /// 1: no junction, or too many
+    VertexCount,
+    /// 2: slices that are read side by side differ in length
+    Lengths,
+    /// 3: too many tracks
+    EdgeCount,
+    /// 4: an end of this track is no junction
+    Endpoint(u64),
+    /// 5: both ends of this track are one
+    SameEndpoints(u64),
+    /// 6: the price of this track is too high
+    Weight(u64),
+    /// 7: a buffer to be written is too short
+    Short,
+    /// 8: no set of tracks joins this group
+    Unjoinable(u64),
+    /// 9: marks or records of a wrong length
+    Shape,
+    /// 10: the mark of this track is above 2
+    Mark(u64),
+    /// 11: amount or members of this record are out of range
+    Dual(u64),
+    /// 12: this moat parts no group
+    Separation(u64),
+    /// 13: the moats over this track are too heavy
+    Load(u64),
+    /// 14: the kept tracks leave this group apart
+    Unjoined(u64),
+    /// 15: the cost is more than the moats prove
+    Accuracy,
+    /// 16: the text is malformed from this byte on
+    Malformed(u64),
+    /// 17: the group of this junction is over 255
+    Group(u64),
+    /// 18: this pair
+    Pair(u64),
+    /// any other number and its place, as of a printed plan: 25 to 28
+    Other(u8, u64),
+}
+
+impl Refusal {
+    /// The refusal that an answer other than 0 tells.
+    pub fn from_answer(answer: u64) -> Refusal {
+        use Refusal::*;
+        let place = answer / 256;
+        match answer % 256 {
+            1 => VertexCount,
+            2 => Lengths,
+            3 => EdgeCount,
+            4 => Endpoint(place),
+            5 => SameEndpoints(place),
+            6 => Weight(place),
+            7 => Short,
+            8 => Unjoinable(place),
+            9 => Shape,
+            10 => Mark(place),
+            11 => Dual(place),
+            12 => Separation(place),
+            13 => Load(place),
+            14 => Unjoined(place),
+            15 => Accuracy,
+            16 => Malformed(place),
+            17 => Group(place),
+            18 => Pair(place),
+            number => Other(number as u8, place),
+        }
+    }
+}
+
+/// An answer of 0 is `Ok`.
+fn answered(answer: u64) -> Result<(), Refusal> {
+    match answer {
+        0 => Ok(()),
+        _ => Err(Refusal::from_answer(answer)),
+    }
+}
+
+/// A survey whose slices fit together: neither 1, 2 nor 3 comes.
+#[derive(Clone, Copy, Debug)]
+pub struct Survey<'a>(Slices<'a>);
+
+impl<'a> Survey<'a> {
+    /// A survey without pairs.
+    pub fn new(
+        groups: &'a [u8],
+        firsts: &'a [u32],
+        seconds: &'a [u32],
+        weights: &'a [u32],
+    ) -> Result<Survey<'a>, Refusal> {
+        Survey::with_pairs(groups, firsts, seconds, weights, &[], &[])
+    }
+
+    /// A survey in which junction owners[i] belongs to group others[i] besides its own.
+    pub fn with_pairs(
+        groups: &'a [u8],
+        firsts: &'a [u32],
+        seconds: &'a [u32],
+        weights: &'a [u32],
+        owners: &'a [u32],
+        others: &'a [u8],
+    ) -> Result<Survey<'a>, Refusal> {
+        if groups.is_empty() || groups.len() > MAX_VERTICES {
+            return Err(Refusal::VertexCount);
+        }
+        if seconds.len() != firsts.len() || weights.len() != firsts.len() || owners.len() != others.len() {
+            return Err(Refusal::Lengths);
+        }
+        if firsts.len() > MAX_EDGES {
+            return Err(Refusal::EdgeCount);
+        }
+        Ok(Survey(Slices { groups, firsts, seconds, weights, owners, others }))
+    }
+
+    pub fn slices(&self) -> Slices<'a> {
+        self.0
+    }
+}
+
+/// What was found of a plan: sites, the cost of the kept tracks, and the bound in half price units.
+#[derive(Clone, Copy, Debug, PartialEq, Eq)]
+pub struct Found {
+    pub sites: u64,
+    pub cost: u64,
+    pub bound: u64,
+}
+
+/// A finished plan: what it is worth, its rounds, a mark for each track (2 is kept), and its moat records.
+#[derive(Clone, Debug, PartialEq, Eq)]
+pub struct Plan {
+    pub found: Found,
+    pub rounds: u64,
+    pub marks: Vec<u8>,
+    pub records: Vec<u8>,
+}
+
+impl Plan {
+    /// The numbers of the kept tracks, rising.
+    pub fn kept(&self) -> impl Iterator<Item = usize> + '_ {
+        self.marks.iter().enumerate().filter(|(_, &mark)| mark == 2).map(|(edge, _)| edge)
+    }
+}
+
+/// Plans a survey.
+pub fn plan(survey: &Survey) -> Result<Plan, Refusal> {
+    let slices = survey.slices();
+    let mut marks = vec![0; slices.firsts.len()];
+    let mut records = vec![0; RECORD_BYTES * (2 * slices.groups.len() - 1)];
+    let mut counts = [0; PLAN_FIGURES];
+    answered(call::plan(slices, &mut marks, &mut records, &mut counts))?;
+    let [sites, cost, bound, rounds, moats] = counts;
+    records.truncate(RECORD_BYTES * moats as usize);
+    Ok(Plan { found: Found { sites, cost, bound }, rounds, marks, records })
+}
+
+/// Checks marks and moat records against a survey.
+pub fn check(survey: &Survey, marks: &[u8], records: &[u8]) -> Result<Found, Refusal> {
+    let mut counts = [0; CHECK_FIGURES];
+    answered(call::check(survey.slices(), marks, records, &mut counts))?;
+    let [sites, cost, bound] = counts;
+    Ok(Found { sites, cost, bound })
+}
+
+/// A survey that was read: groups, first ends, second ends and prices.
+#[derive(Clone, Debug, PartialEq, Eq)]
+pub struct SurveyText {
+    pub groups: Vec<u8>,
+    pub firsts: Vec<u32>,
+    pub seconds: Vec<u32>,
+    pub weights: Vec<u32>,
+}
+
+impl SurveyText {
+    pub fn survey(&self) -> Result<Survey<'_>, Refusal> {
+        Survey::new(&self.groups, &self.firsts, &self.seconds, &self.weights)
+    }
+}
+
+/// Reads a survey's text.
+pub fn read(text: &[u8]) -> Result<SurveyText, Refusal> {
+    let mut groups = vec![0; MAX_VERTICES];
+    let [mut firsts, mut seconds, mut weights] = [(); 3].map(|_| vec![0; MAX_EDGES]);
+    let mut counts = [0; READ_FIGURES];
+    answered(call::read(text, &mut groups, &mut firsts, &mut seconds, &mut weights, &mut counts))?;
+    let [n, m] = counts.map(|count| count as usize);
+    groups.truncate(n);
+    for buffer in [&mut firsts, &mut seconds, &mut weights] {
+        buffer.truncate(m);
+    }
+    Ok(SurveyText { groups, firsts, seconds, weights })
+}
+
+/// A text of so many bytes at first, and of more where it does not fit.
+fn printed(room: usize, print: impl Fn(&mut [u8], &mut [u64]) -> u64) -> Result<Vec<u8>, Refusal> {
+    let mut out = vec![0; room];
+    loop {
+        let mut counts = [0; PRINT_FIGURES];
+        match answered(print(&mut out, &mut counts)) {
+            Err(Refusal::Short) => out.resize(2 * out.len(), 0),
+            answer => {
+                answer?;
+                out.truncate(counts[0] as usize);
+                return Ok(out);
+            }
+        }
+    }
+}
+
+/// The line of a moat record.
+pub fn print_moat(record: &[u8]) -> Result<Vec<u8>, Refusal> {
+    printed(DUAL_ROOM, |out, counts| call::print_dual(record, out, counts))
+}
+
+/// A plan's text.
+pub fn print_plan(plan: &Plan) -> Result<Vec<u8>, Refusal> {
+    let Found { sites, cost, bound } = plan.found;
+    let [marks, records] = [&plan.marks, &plan.records];
+    printed(1 << 16, |out, counts| call::print_plan(sites, cost, bound, plan.rounds, marks, records, out, counts))
+}
+
+/// A survey's text, without its pairs.
+pub fn print_survey(survey: &Survey) -> Result<Vec<u8>, Refusal> {
+    printed(1 << 16, |out, counts| call::print_survey(survey.slices(), out, counts))
+}
+
+/// Checks a plan's text against a survey's.
+pub fn verify(survey: &[u8], plan: &[u8]) -> Result<Found, Refusal> {
+    let mut counts = [0; CHECK_FIGURES];
+    answered(call::verify(&[survey, plan].concat(), &mut counts))?;
+    let [sites, cost, bound] = counts;
+    Ok(Found { sites, cost, bound })
+}
+
+#[cfg(test)]
+mod tests {
+    use super::*;
+
+    const P3: &str = "nodes=3\nlinks=2\nnode=1\nnode=0\nnode=1\nlink=0,1,3\nlink=1,2,4\n";
+    const P3_PLAN: &str = "sites=2\ncost=7\nbound=14\nrounds=2\nkeep=0\nkeep=1\nmoat=6:0\nmoat=7:2\nmoat=1:0,1\n";
+
+    #[test]
+    fn a_text_is_read_planned_printed_and_verified() {
+        let text = read(P3.as_bytes()).unwrap();
+        let survey = text.survey().unwrap();
+        let plan = plan(&survey).unwrap();
+        assert_eq!(plan.kept().collect::<Vec<_>>(), [0, 1]);
+        assert_eq!(plan.found, Found { sites: 2, cost: 7, bound: 14 });
+        assert_eq!(check(&survey, &plan.marks, &plan.records), Ok(plan.found));
+        assert_eq!(print_survey(&survey).unwrap(), P3.as_bytes());
+        assert_eq!(print_plan(&plan).unwrap(), P3_PLAN.as_bytes());
+        assert_eq!(print_moat(&plan.records[80..]).unwrap(), b"moat=1:0,1\n");
+        assert_eq!(verify(P3.as_bytes(), P3_PLAN.as_bytes()), Ok(plan.found));
+    }
+
+    #[test]
+    fn refusals_are_told() {
+        assert_eq!(read(b"nodes=03"), Err(Refusal::Malformed(7)));
+        assert_eq!(Survey::new(&[], &[], &[], &[]).err(), Some(Refusal::VertexCount));
+        assert_eq!(Survey::new(&[1, 1], &[0], &[], &[5]).err(), Some(Refusal::Lengths));
+        let apart = Survey::new(&[1, 1], &[], &[], &[]).unwrap();
+        assert_eq!(plan(&apart), Err(Refusal::Unjoinable(1)));
+        let lists = Survey::with_pairs(&[1, 1], &[0], &[1], &[5], &[0, 0], &[3, 2]).unwrap();
+        assert_eq!(plan(&lists), Err(Refusal::Pair(1)));
+        assert_eq!(verify(P3.as_bytes(), P3_PLAN.replace("cost=7", "cost=6").as_bytes()), Err(Refusal::Other(25, 1)));
+    }
+
+    #[test]
+    fn bytes_cross_as_numbers_do() {
+        let words = |numbers: &[u32]| numbers.iter().flat_map(|x| x.to_le_bytes()).collect::<Vec<u8>>();
+        let [firsts, seconds, weights] = [words(&[0, 1]), words(&[1, 2]), words(&[3, 4])];
+        let bytes = call::Bytes {
+            groups: &[1, 0, 1],
+            firsts: &firsts,
+            seconds: &seconds,
+            weights: &weights,
+            owners: &[],
+            others: &[],
+        };
+        let (mut marks, mut records, mut result) = ([0; 2], [0; 200], [0xa5; 41]);
+        assert_eq!(call::handset_plan(bytes, &mut marks, &mut records, &mut result), 0);
+        let count = |i: usize| u64::from_le_bytes(result[8 * i..8 * i + 8].try_into().unwrap());
+        assert_eq!([0, 1, 2, 3, 4].map(count), [2, 7, 14, 2, 3]);
+        assert_eq!((marks, result[40]), ([2, 2], 0xa5));
+        let mut found = [0; 24];
+        assert_eq!(call::handset_check(bytes, &marks, &records[..120], &mut found), 0);
+        assert_eq!(found, result[..24]);
+    }
+}

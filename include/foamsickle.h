@@ -1,0 +1,209 @@
+/* Foamsickle for C and C++: libfoamsickle.a, which `rt staticlib foamsickle` writes.
+ *
+ * Slices. Each slice is a pointer and, right behind it, its length in items, not in bytes. A slice of length 0 may have
+ * any pointer that is not null. A slice that is lent for writing must not overlap any other slice of the call.
+ *
+ * Answers. A call returns 0, or a refusal: its number is FOAMSICKLE_NUMBER(answer), its place FOAMSICKLE_PLACE(answer).
+ * On a refusal nothing is written: every lent slice holds what it held. On an answer, entries behind those that are named
+ * keep their values.
+ *
+ * A survey has n junctions and m tracks: `groups` has n bytes (the group of each junction, 0 for none), `firsts`,
+ * `seconds` and `weights` have m numbers each (the two ends and the price of each track). The pairs (owners[i],
+ * others[i]) give junction owners[i] the group others[i] besides its own; there may be none.
+ * A survey is refused, in this order, with
+ *   1  n is 0 or over FOAMSICKLE_MAX_VERTICES                                              place 0
+ *   2  firsts, seconds and weights differ in length, or owners and others do               place 0
+ *   3  over FOAMSICKLE_MAX_EDGES tracks                                                    place 0
+ *   4  an end is no junction, 5 both ends are one, 6 the price is over FOAMSICKLE_MAX_WEIGHT   the lowest such track
+ *  18  a pair is not in rising order (by owner, then group), past FOAMSICKLE_MAX_PAIRS, of no junction, of group 0
+ *      or of the owner's own group                                                        the lowest such pair
+ *
+ * No call allocates, keeps a pointer, or reads or writes anything but its slices; calls from several threads do not
+ * disturb each other. Numbers are lowest byte first where they cross as bytes. Amounts and the bound are in half price
+ * units.
+ */
+#ifndef FOAMSICKLE_H
+#define FOAMSICKLE_H
+
+#include <stddef.h>
+#include <stdint.h>
+
+#ifdef __cplusplus
+extern "C" {
+#endif
+
+/* Limits: junctions, tracks, a track's price, a moat's amount in half units, pairs; group numbers lie below the last. */
+#define FOAMSICKLE_MAX_VERTICES 256
+#define FOAMSICKLE_MAX_EDGES 2048
+#define FOAMSICKLE_MAX_WEIGHT 1000000
+#define FOAMSICKLE_MAX_VALUE (2 * FOAMSICKLE_MAX_WEIGHT)
+#define FOAMSICKLE_MAX_PAIRS 256
+#define FOAMSICKLE_GROUP_NUMBERS 256
+
+/* A moat record: the amount in the first bytes, then the members, junction v at bit v % 8 of byte v / 8. */
+#define FOAMSICKLE_VALUE_BYTES 8
+#define FOAMSICKLE_MEMBER_BYTES (FOAMSICKLE_MAX_VERTICES / 8)
+#define FOAMSICKLE_RECORD_BYTES (FOAMSICKLE_VALUE_BYTES + FOAMSICKLE_MEMBER_BYTES)
+
+/* Moats, at most, and the bytes of so many records, which hold the moats of every plan. */
+#define FOAMSICKLE_MAX_DUALS (2 * FOAMSICKLE_MAX_VERTICES - 1)
+#define FOAMSICKLE_RECORDS_ROOM (FOAMSICKLE_RECORD_BYTES * FOAMSICKLE_MAX_DUALS)
+
+/* Bytes that hold every moat line; every plan's text; the text of every survey that planning takes; both of them. */
+#define FOAMSICKLE_DUAL_ROOM 1024
+#define FOAMSICKLE_PLAN_ROOM 500928
+#define FOAMSICKLE_SURVEY_ROOM 65536
+#define FOAMSICKLE_VERIFY_ROOM 1048576
+
+/* Entries of `counts`: planning, checking and verifying, reading, printing. */
+#define FOAMSICKLE_PLAN_FIGURES 5
+#define FOAMSICKLE_CHECK_FIGURES 3
+#define FOAMSICKLE_READ_FIGURES 2
+#define FOAMSICKLE_PRINT_FIGURES 1
+
+/* Bytes of the handset's `result`: planning, checking. */
+#define FOAMSICKLE_PLAN_BYTES (8 * FOAMSICKLE_PLAN_FIGURES)
+#define FOAMSICKLE_CHECK_BYTES (8 * FOAMSICKLE_CHECK_FIGURES)
+
+/* Bytes of stack that a call takes, at most. */
+#define FOAMSICKLE_STACK 131072
+
+/* What an answer other than 0 says. */
+#define FOAMSICKLE_NUMBER(answer) ((unsigned)((answer) % 256))
+#define FOAMSICKLE_PLACE(answer) ((answer) / 256)
+
+/* Reads a survey's text (lines nodes=, links=, node=, link=; no pairs).
+ * Writes the first n groups, the first m firsts, seconds and weights; counts[0] n, counts[1] m.
+ * Refuses what stands first in the text: 16 where it is malformed (place: the byte's offset), 1 and 3 when the line of a
+ * count is complete, then 7 if the slices for it are short (for n also where counts has less than 2 entries), 17 for a
+ * group over 255 (place: the junction). 4, 5 and 6 are left to planning.
+ * Enough for every text: FOAMSICKLE_MAX_VERTICES groups, FOAMSICKLE_MAX_EDGES firsts, seconds and weights. */
+uint64_t foamsickle_read(
+    const uint8_t *text, size_t text_length,
+    uint8_t *groups, size_t groups_length,
+    uint32_t *firsts, size_t firsts_length,
+    uint32_t *seconds, size_t seconds_length,
+    uint32_t *weights, size_t weights_length,
+    uint64_t *counts, size_t counts_length);
+
+/* Plans a survey.
+ * Writes the first m marks (0 not picked, 1 picked and dropped, 2 kept), the moat records one after the other, and
+ * counts[0] sites, counts[1] cost of the kept tracks, counts[2] bound, counts[3] rounds, counts[4] moats.
+ * Refuses 1 to 6 and 18 as above, then 7 (marks, records or counts too short), then 8 (a group that no set of tracks
+ * joins; place: the lowest such group).
+ * Needed: m marks, FOAMSICKLE_RECORD_BYTES * (2 * n - 1) bytes of records, FOAMSICKLE_PLAN_FIGURES counts. */
+uint64_t foamsickle_plan(
+    const uint8_t *groups, size_t groups_length,
+    const uint32_t *firsts, size_t firsts_length,
+    const uint32_t *seconds, size_t seconds_length,
+    const uint32_t *weights, size_t weights_length,
+    const uint32_t *owners, size_t owners_length,
+    const uint8_t *others, size_t others_length,
+    uint8_t *marks, size_t marks_length,
+    uint8_t *records, size_t records_length,
+    uint64_t *counts, size_t counts_length);
+
+/* Checks marks and moat records, whoever drew them, against a survey.
+ * Writes counts[0] sites, counts[1] cost of the kept tracks, counts[2] bound.
+ * Refuses 1 to 6 and 18 as above, then 7 (counts too short), then 9 (marks not m long, records no multiple of
+ * FOAMSICKLE_RECORD_BYTES or over FOAMSICKLE_MAX_DUALS), 10 (a mark above 2; track), 11 (an amount of 0 or over
+ * FOAMSICKLE_MAX_VALUE, or a member that is no junction; record), 12 (a moat that parts no group; record), 13 (moats
+ * over a track sum to more than twice its price; track), 14 (the kept tracks leave a group apart; group), 15 (the cost
+ * is more than the moats prove; 0), each over all its items, the lowest first.
+ * Needed: FOAMSICKLE_CHECK_FIGURES counts. */
+uint64_t foamsickle_check(
+    const uint8_t *groups, size_t groups_length,
+    const uint32_t *firsts, size_t firsts_length,
+    const uint32_t *seconds, size_t seconds_length,
+    const uint32_t *weights, size_t weights_length,
+    const uint32_t *owners, size_t owners_length,
+    const uint8_t *others, size_t others_length,
+    const uint8_t *marks, size_t marks_length,
+    const uint8_t *records, size_t records_length,
+    uint64_t *counts, size_t counts_length);
+
+/* Prints the line of one moat record.
+ * Writes the line into out; counts[0] its length.
+ * Refuses 9 (part is not FOAMSICKLE_RECORD_BYTES long), then 7 (the line does not fit out, or counts is empty).
+ * Enough for every line: FOAMSICKLE_DUAL_ROOM bytes. */
+uint64_t foamsickle_print_dual(
+    const uint8_t *part, size_t part_length,
+    uint8_t *out, size_t out_length,
+    uint64_t *counts, size_t counts_length);
+
+/* Prints a plan: its four figures, a keep line for each mark 2, a moat line for each whole record.
+ * Writes the text into out; counts[0] its length.
+ * Refuses 7 (the text does not fit out, or counts is empty).
+ * Enough for every plan within the limits: FOAMSICKLE_PLAN_ROOM bytes. */
+uint64_t foamsickle_print_plan(
+    uint64_t terminals,
+    uint64_t cost,
+    uint64_t bound,
+    uint64_t rounds,
+    const uint8_t *marks, size_t marks_length,
+    const uint8_t *records, size_t records_length,
+    uint8_t *out, size_t out_length,
+    uint64_t *counts, size_t counts_length);
+
+/* Prints a survey without pairs, also one that planning would refuse.
+ * Writes the text into out; counts[0] its length.
+ * Refuses 2 (firsts, seconds and weights differ in length), then 7 (the text does not fit out, or counts is empty).
+ * Enough for every survey that planning takes: FOAMSICKLE_SURVEY_ROOM bytes. */
+uint64_t foamsickle_print_survey(
+    const uint8_t *groups, size_t groups_length,
+    const uint32_t *firsts, size_t firsts_length,
+    const uint32_t *seconds, size_t seconds_length,
+    const uint32_t *weights, size_t weights_length,
+    uint8_t *out, size_t out_length,
+    uint64_t *counts, size_t counts_length);
+
+/* Checks a printed plan against a survey's text: text is the survey's bytes with the plan's right behind them.
+ * Writes counts[0] sites, counts[1] cost of the kept tracks, counts[2] bound, as the checker finds them.
+ * Refuses what reading refuses of the survey but 7; 16, 26 (a kept track that is none or does not rise; its line), 27
+ * (members of a moat over 255 or not rising; its line) and 28 (over FOAMSICKLE_MAX_DUALS moats; line) of the plan,
+ * whichever stands first; then 4 to 6 and 11 to 15 as foamsickle_check; 25 (a figure that the checker does not find; 0
+ * sites, 1 cost, 2 bound); last 7 (counts too short).
+ * Needed: FOAMSICKLE_CHECK_FIGURES counts. */
+uint64_t foamsickle_verify(
+    const uint8_t *text, size_t text_length,
+    uint64_t *counts, size_t counts_length);
+
+/* foamsickle_plan for callers with bytes alone: firsts, seconds, weights and owners have four bytes for each number,
+ * lowest first, and all lengths are in bytes.
+ * Writes marks and records as foamsickle_plan; result gets sites, cost, bound, rounds and moats, eight bytes each,
+ * lowest first.
+ * Refuses 1, then 2 (also where one of those four is no multiple of four long), 3 to 6, 18, then 7 (marks, records or
+ * result too short), then 8.
+ * Needed: as foamsickle_plan, and FOAMSICKLE_PLAN_BYTES of result. */
+uint64_t foamsickle_handset_plan(
+    const uint8_t *groups, size_t groups_length,
+    const uint8_t *firsts, size_t firsts_length,
+    const uint8_t *seconds, size_t seconds_length,
+    const uint8_t *weights, size_t weights_length,
+    const uint8_t *owners, size_t owners_length,
+    const uint8_t *others, size_t others_length,
+    uint8_t *marks, size_t marks_length,
+    uint8_t *records, size_t records_length,
+    uint8_t *result, size_t result_length);
+
+/* foamsickle_check for callers with bytes alone, as foamsickle_handset_plan.
+ * Writes sites, cost of the kept tracks and bound into result, eight bytes each, lowest first.
+ * Refuses 1, then 2 (also where firsts, seconds, weights or owners is no multiple of four long), 3 to 6, 18, then 7
+ * (result too short), then 9 to 15.
+ * Needed: FOAMSICKLE_CHECK_BYTES of result. */
+uint64_t foamsickle_handset_check(
+    const uint8_t *groups, size_t groups_length,
+    const uint8_t *firsts, size_t firsts_length,
+    const uint8_t *seconds, size_t seconds_length,
+    const uint8_t *weights, size_t weights_length,
+    const uint8_t *owners, size_t owners_length,
+    const uint8_t *others, size_t others_length,
+    const uint8_t *marks, size_t marks_length,
+    const uint8_t *records, size_t records_length,
+    uint8_t *result, size_t result_length);
+
+#ifdef __cplusplus
+}
+#endif
+
+#endif

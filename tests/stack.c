@@ -1,0 +1,159 @@
+/* How much stack the library's calls take: each runs in a thread whose stack is painted before, and what is no longer
+ * painted afterwards was used. The surveys are as large as can be. Prints the bytes of each call, and ends with 1 if one
+ * takes more than FOAMSICKLE_STACK, or than the number given, or does not answer. */
+#include "foamsickle.h"
+
+#include <pthread.h>
+#include <stdio.h>
+#include <stdlib.h>
+#include <string.h>
+
+enum { N = FOAMSICKLE_MAX_VERTICES, M = FOAMSICKLE_MAX_EDGES, PAIRS = FOAMSICKLE_MAX_PAIRS, AREA = 16 << 20, PAINT = 0xa5 };
+
+static uint8_t groups[N], others[PAIRS], marks[M], records[FOAMSICKLE_RECORDS_ROOM];
+static uint32_t firsts[M], seconds[M], weights[M], owners[PAIRS];
+static uint8_t first_bytes[4 * M], second_bytes[4 * M], weight_bytes[4 * M], owner_bytes[4 * PAIRS];
+static uint8_t result[FOAMSICKLE_PLAN_BYTES], text[FOAMSICKLE_VERIFY_ROOM];
+static uint64_t counts[FOAMSICKLE_PLAN_FIGURES], figures[FOAMSICKLE_PLAN_FIGURES];
+static size_t moat_bytes, survey_length, text_length;
+static uint64_t answer;
+
+static void spell(uint8_t *bytes, const uint32_t *numbers, size_t count) {
+    for (size_t i = 0; i < count; i++)
+        for (size_t k = 0; k < 4; k++)
+            bytes[4 * i + k] = (uint8_t)(numbers[i] >> (8 * k));
+}
+
+/* All junctions in one group, and each but the last two in another by a pair; the last tracks are a path on which each is
+ * dearer than the one before it, so that there are as many moats as can be. */
+static void prepare(void) {
+    for (size_t v = 0; v < N; v++)
+        groups[v] = 255;
+    for (size_t e = 0; e < M; e++) {
+        size_t k = e < M - (N - 1) ? 0 : e - (M - (N - 1));
+        firsts[e] = (uint32_t)(N - 2 - k);
+        seconds[e] = (uint32_t)(N - 1 - k);
+        weights[e] = e < M - (N - 1) ? FOAMSICKLE_MAX_WEIGHT : (uint32_t)(100000 + 3500 * k);
+    }
+    for (size_t i = 0; i < PAIRS; i++) {
+        owners[i] = (uint32_t)(i % N);
+        others[i] = (uint8_t)(1 + i % 2);
+    }
+    spell(first_bytes, firsts, M);
+    spell(second_bytes, seconds, M);
+    spell(weight_bytes, weights, M);
+    spell(owner_bytes, owners, PAIRS);
+}
+
+static void nothing(void) { answer = 0; }
+
+static void plan(void) {
+    answer = foamsickle_plan(groups, N, firsts, M, seconds, M, weights, M, owners, PAIRS, others, PAIRS, marks, M, records,
+                             sizeof records, figures, FOAMSICKLE_PLAN_FIGURES);
+    moat_bytes = FOAMSICKLE_RECORD_BYTES * (size_t)figures[4];
+}
+
+/* Texts have no pairs, so the plan that is printed and verified is drawn without. */
+static void plan_alone(void) {
+    answer = foamsickle_plan(groups, N, firsts, M, seconds, M, weights, M, owners, 0, others, 0, marks, M, records,
+                             sizeof records, figures, FOAMSICKLE_PLAN_FIGURES);
+    moat_bytes = FOAMSICKLE_RECORD_BYTES * (size_t)figures[4];
+}
+
+static void check(void) {
+    answer = foamsickle_check(groups, N, firsts, M, seconds, M, weights, M, owners, PAIRS, others, PAIRS, marks, M, records,
+                              moat_bytes, counts, FOAMSICKLE_CHECK_FIGURES);
+}
+
+static void handset_plan(void) {
+    answer = foamsickle_handset_plan(groups, N, first_bytes, 4 * M, second_bytes, 4 * M, weight_bytes, 4 * M, owner_bytes,
+                                     4 * PAIRS, others, PAIRS, marks, M, records, sizeof records, result, sizeof result);
+}
+
+static void handset_check(void) {
+    answer = foamsickle_handset_check(groups, N, first_bytes, 4 * M, second_bytes, 4 * M, weight_bytes, 4 * M, owner_bytes,
+                                      4 * PAIRS, others, PAIRS, marks, M, records, moat_bytes, result,
+                                      FOAMSICKLE_CHECK_BYTES);
+}
+
+static void print_survey(void) {
+    answer = foamsickle_print_survey(groups, N, firsts, M, seconds, M, weights, M, text, sizeof text, counts, 1);
+    survey_length = (size_t)counts[0];
+}
+
+static void read_survey(void) {
+    answer = foamsickle_read(text, survey_length, groups, N, firsts, M, seconds, M, weights, M, counts,
+                             FOAMSICKLE_READ_FIGURES);
+}
+
+static void print_plan(void) {
+    answer = foamsickle_print_plan(figures[0], figures[1], figures[2], figures[3], marks, M, records, moat_bytes,
+                                   text + survey_length, sizeof text - survey_length, counts, 1);
+    text_length = survey_length + (size_t)counts[0];
+}
+
+static void print_moat(void) {
+    uint8_t line[FOAMSICKLE_DUAL_ROOM];
+    answer = foamsickle_print_dual(records + moat_bytes - FOAMSICKLE_RECORD_BYTES, FOAMSICKLE_RECORD_BYTES, line,
+                                   sizeof line, counts, 1);
+}
+
+static void verify(void) { answer = foamsickle_verify(text, text_length, counts, FOAMSICKLE_CHECK_FIGURES); }
+
+static void *run(void *call) {
+    (*(void (**)(void))call)();
+    return NULL;
+}
+
+/* The bytes that a thread used which ran this. */
+static size_t used(void (*call)(void), uint8_t *area) {
+    pthread_t thread;
+    pthread_attr_t attr;
+    memset(area, PAINT, AREA);
+    if (pthread_attr_init(&attr) || pthread_attr_setstack(&attr, area, AREA) || pthread_create(&thread, &attr, run, &call) ||
+        pthread_join(thread, NULL)) {
+        fprintf(stderr, "stack: no thread\n");
+        exit(2);
+    }
+    pthread_attr_destroy(&attr);
+    size_t clean = 0;
+    while (clean < AREA && area[clean] == PAINT)
+        clean++;
+    return AREA - clean;
+}
+
+int main(int argc, char **argv) {
+    static const struct {
+        const char *name;
+        void (*call)(void);
+    } calls[] = {
+        {"foamsickle_plan", plan},
+        {"foamsickle_check", check},
+        {"foamsickle_handset_plan", handset_plan},
+        {"foamsickle_handset_check", handset_check},
+        {"foamsickle_print_survey", print_survey},
+        {"foamsickle_read", read_survey},
+        {"foamsickle_plan without pairs", plan_alone},
+        {"foamsickle_print_plan", print_plan},
+        {"foamsickle_print_dual", print_moat},
+        {"foamsickle_verify", verify},
+    };
+    size_t limit = argc == 2 ? (size_t)strtoul(argv[1], NULL, 10) : FOAMSICKLE_STACK;
+    uint8_t *area = aligned_alloc(4096, AREA);
+    int over = 0;
+    prepare();
+    size_t empty = used(nothing, area);
+    printf("a thread without a call: %zu bytes\n", empty);
+    for (size_t i = 0; i < sizeof calls / sizeof *calls; i++) {
+        size_t bytes = used(calls[i].call, area) - empty;
+        printf("%s: %zu bytes more, of %zu\n", calls[i].name, bytes, limit);
+        if (answer != 0) {
+            printf("%s answers %llu\n", calls[i].name, (unsigned long long)answer);
+            over = 1;
+        }
+        if (bytes > limit)
+            over = 1;
+    }
+    free(area);
+    return over;
+}
