@@ -8,7 +8,7 @@ use Rattle.base_limits.specs.Verdict.{written, Outcome}
 use Rattle.base_limits.specs.declared.Verdict.{Verdict}
 use Rattle.survey_core.specs.Survey.{Survey, edgeCount, problemOf}
 use Rattle.plan_duals.specs.Drawing.{recordsOver}
-use Rattle.plan_core.specs.Plan.{planRefusal, planOf, planCountsOf}
+use Rattle.plan_rule.specs.Plan.{planRefusal, planOf, planCountsOf}
 use Rattle.check_rule.specs.Check.{checkRefusal, checkedOf}
 use Rattle.format_survey.specs.Reading.{SurveyText, reading}
 use Rattle.format_write.specs.Text.{dualLine}

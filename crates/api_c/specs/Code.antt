@@ -9,7 +9,7 @@ use Rattle.base_limits.specs.declared.Verdict.{Verdict}
 use Rattle.base_limits.specs.declared.Verdict.the-variants.{Fine, Refused}
 use Rattle.survey_core.specs.Survey.{Survey}
 use Rattle.survey_core.specs.Refusal.{surveyRefusal}
-use Rattle.plan_core.specs.Plan.{PlanCounts}
+use Rattle.plan_rule.specs.Plan.{PlanCounts}
 use Rattle.check_rule.specs.Check.{Checked}
 use Rattle.format_survey_lines.specs.Line.{SurveyCounts}
 use Rattle.format_print.specs.declared.Printed.{Printed}

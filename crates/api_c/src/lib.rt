@@ -25,7 +25,7 @@ use format_print::print_dual;
 use format_print::print_plan;
 use format_survey::Reading;
 use format_survey_print::print_survey;
-use plan_core::Planned;
+use plan_rule::Planned;
 
 // A refusal's place counts this many times.
 const PLACE_UNIT: u64 = 256;

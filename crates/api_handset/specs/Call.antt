@@ -12,7 +12,7 @@ use Rattle.survey_core.specs.Survey.{Survey, surveyWith, edgeCount, problemOf}
 use Rattle.survey_core.specs.Refusal.{surveyRefusal}
 use Rattle.check_rule.specs.Check.{checkRefusal, checkedOf}
 use Rattle.plan_duals.specs.Drawing.{recordsOver}
-use Rattle.plan_core.specs.Plan.{planRefusal, planOf, planCountsOf}
+use Rattle.plan_rule.specs.Plan.{planRefusal, planOf, planCountsOf}
 use Rattle.api_handset.specs.Words.{wordBytes, wordsIn, isRagged}
 use Rattle.api_handset.specs.Code.{planBytes, checkBytes, resultAfter, planFiguresOf, checkFiguresOf}
 

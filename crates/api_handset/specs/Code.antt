@@ -6,7 +6,7 @@ use Rattle.base_limits.specs.Verdict.{written}
 use Rattle.base_limits.specs.declared.Verdict.{Verdict}
 use Rattle.base_limits.specs.declared.Verdict.the-variants.{Fine, Refused}
 use Rattle.format_record.specs.Bits.{lowBytes}
-use Rattle.plan_core.specs.Plan.{PlanCounts}
+use Rattle.plan_rule.specs.Plan.{PlanCounts}
 use Rattle.check_rule.specs.Check.{Checked}
 
 -- a place counts this many times in the one number

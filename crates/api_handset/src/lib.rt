@@ -28,7 +28,7 @@ use base_limits::MAX_VERTICES;
 use base_limits::VALUE_BYTES;
 use base_limits::Verdict;
 use check_core::Checking;
-use plan_core::Planned;
+use plan_rule::Planned;
 
 // A refusal's place counts this many times.
 const PLACE_UNIT: u64 = 256;

@@ -12,10 +12,10 @@ use Rattle.base_limits.specs.Laws.Verdict.{before-fine, before-refused, answer-
 use Rattle.survey_core.specs.Survey.{Survey, edgeCount, problemOf}
 use Rattle.plan_duals.specs.Drawing.{recordsOver}
 use Rattle.survey_core.specs.Refusal.{surveyRefusal}
-use Rattle.plan_core.specs.Plan.{planRefusal, planOf, counting, marksAfter, recordsAfter}
-use Rattle.plan_core.specs.Answer.{plannedOutcome as planOutcome}
-use Rattle.plan_core.specs.declared.Planned.{Planned}
-use Rattle.plan_core.specs.declared.Planned.the-variants.{Finished, Refused as PlanRefused}
+use Rattle.plan_rule.specs.Plan.{planRefusal, planOf, counting, marksAfter, recordsAfter}
+use Rattle.plan_rule.specs.Answer.{plannedOutcome as planOutcome}
+use Rattle.plan_rule.specs.declared.Planned.{Planned}
+use Rattle.plan_rule.specs.declared.Planned.the-variants.{Finished, Refused as PlanRefused}
 use Rattle.check_rule.specs.Check.{checkRefusal, checking}
 use Rattle.check_core.specs.Stage.{checkedOutcome as checkOutcome}
 use Rattle.check_core.specs.declared.Checking.{Checking}

@@ -16,10 +16,10 @@ use Rattle.check_rule.specs.Check.{checkRefusal, checking, checkedOf}
 use Rattle.check_core.specs.Stage.{checkedOutcome as checkOutcome}
 use Rattle.check_core.specs.declared.Checking.{Checking}
 use Rattle.check_core.specs.declared.Checking.the-variants.{Passed, Refused as CheckRefused}
-use Rattle.plan_core.specs.Plan.{planRefusal, counting, marksAfter, recordsAfter}
-use Rattle.plan_core.specs.Answer.{plannedOutcome as planOutcome}
-use Rattle.plan_core.specs.declared.Planned.{Planned}
-use Rattle.plan_core.specs.declared.Planned.the-variants.{Finished, Refused as PlanRefused}
+use Rattle.plan_rule.specs.Plan.{planRefusal, counting, marksAfter, recordsAfter}
+use Rattle.plan_rule.specs.Answer.{plannedOutcome as planOutcome}
+use Rattle.plan_rule.specs.declared.Planned.{Planned}
+use Rattle.plan_rule.specs.declared.Planned.the-variants.{Finished, Refused as PlanRefused}
 use Rattle.api_handset.specs.Code.{placeUnit, planBytes, checkBytes, codeOf, spelled, resultAfter, planFiguresOf, checkFiguresOf}
 use Rattle.api_handset.specs.Call.{Slices, surveyIn, raggedRefusal, checkWith, checkCall, checkResult}
 use Rattle.api_handset.specs.Call.{planWith, drawnMarks, drawnRecords, drawnFigures, planCall, planMarks, planRecords, planResult}

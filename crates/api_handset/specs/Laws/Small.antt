@@ -22,7 +22,7 @@ use Rattle.survey_core.specs.Laws.Pairs.{fine-pair}
 use Rattle.survey_core.specs.Refusal.{edgeRefusal, surveyRefusal, groupRefusal}
 use Rattle.survey_core.specs.Laws.Refusal.{fine-survey}
 use Rattle.check_rule.specs.Check.{checkRefusal, shapeRefusal, dualRefusal, ruleRefusal}
-use Rattle.plan_core.specs.Plan.{planRefusal}
+use Rattle.plan_rule.specs.Plan.{planRefusal}
 use Rattle.api_handset.specs.Code.{placeUnit}
 use Rattle.api_handset.specs.Call.{sizeRefusal, lengthsRefusal}
 
