@@ -60,7 +60,7 @@ fn short_counts(
         let s = lentWith groups firsts seconds weights owners others in
         ⌜ r ≡ codeOf (surveyRefusal s before Refused 7 0) ⌝ }
 {
-    let found = survey_lists::survey_refusal(groups, firsts, seconds, weights, owners, others);
+    let found = survey_pairs::survey_refusal(groups, firsts, seconds, weights, owners, others);
     match found {
         Verdict::Refused { number, place } => code(number, place),
         Verdict::Fine => 7,

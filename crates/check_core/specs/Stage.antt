@@ -1,4 +1,4 @@
--- The stages of the checker as its code takes them: a moat record as the dual that it is, refusals that are found together, what each stage leaves
+-- The stages of the checker as its code takes them: refusals that are found together, what each stage leaves
 -- to the next, and what an answer of the call says.
 use Prim.Native.Nat.{ℕ, _*_, _/_, _≤_, _<_}
 use mathlib.Core.Bool.{not, xor}
@@ -8,18 +8,14 @@ use lib.Dec.{ltb}
 use Rattle.base_limits.specs.Limits.{maxVertices, maxEdges, maxWeight, maxValue, recordBytes, maxDuals}
 use Rattle.base_limits.specs.Verdict.{refuseIf, _before_, lowestBelow, Outcome, refusal, answer}
 use Rattle.base_limits.specs.declared.Verdict.{Verdict}
-use Rattle.format_record.specs.Record.{valueIn, memberIn, recordAt}
+use Rattle.format_record.specs.Record.{valueIn, recordAt}
 use Rattle.theory_steiner.specs.Problem.{separates, terminals, cost}
-use Rattle.theory_steiner.specs.Dual.{Dual, weigh, total, dualLoad}
+use Rattle.theory_steiner.specs.Dual.{weigh, total, dualLoad}
 use Rattle.survey_core.specs.Survey.{Survey, surveyFrom, groupsAlone, edgeCount, problemOf}
 use Rattle.survey_core.specs.Refusal.{surveyRefusal, groupRefusal}
 use Rattle.check_rule.specs.Check.{Checked, dualAt, dualsIn, keptBy, shapeRefusal, dualRefusal}
 use Rattle.check_core.specs.declared.Checking.{Checking}
 use Rattle.check_core.specs.declared.Checking.the-variants.{Passed, Refused}
-
--- The dual that the bytes of one record draw.
-abbrev pub dualOfRecord : List ℕ → Dual
-dualOfRecord part = record { value = valueIn part; holds = memberIn part }
 
 -- The dual load of an edge between u and v.
 unfoldable pub loadBetween : List ℕ → (u v : ℕ) → ℕ

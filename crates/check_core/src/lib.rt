@@ -4,7 +4,7 @@ ghost use mathlib.Core.Path.{_≡_};
 ghost use mathlib.Core.List.{[]};
 ghost use Prim.Native.Nat.{_≤_, _/_};
 ghost use lib.ListN.{length};
-ghost use Rattle.base_limits.specs.Limits.{maxVertices, maxDuals, recordBytes};
+ghost use Rattle.base_limits.specs.Limits.{maxDuals, recordBytes};
 ghost use Rattle.base_limits.specs.Verdict.{outcome, answer};
 ghost use Rattle.survey_core.specs.Survey.{surveyFrom, lentSurvey, lentWith};
 ghost use Rattle.survey_core.specs.Accuracy.{Accurate};
@@ -14,7 +14,6 @@ ghost use Rattle.check_core.specs.Stage.{inputRefusal, dualsRefusal, Pla
 use base_limits::Verdict;
 use survey_components::Chosen;
 
-mod cuts;
 mod duals;
 mod rule;
 
@@ -45,7 +44,7 @@ fn input_refusal(
     ensures { λ r. let s = lentWith groups firsts seconds weights owners others in
         ⌜ r ≡ inputRefusal s (old marks) (old records) ⌝ }
 {
-    let unsound = survey_lists::survey_refusal(groups, firsts, seconds, weights, owners, others);
+    let unsound = survey_pairs::survey_refusal(groups, firsts, seconds, weights, owners, others);
     let Verdict::Fine = unsound else {
         return unsound;
     };
@@ -64,14 +63,14 @@ fn duals_refusal(
     weights: &[u32],
     records: &[u8],
 ) -> Verdict
-    requires { ⌜ (length (now groups) ≤ maxVertices) × (length (now records) / recordBytes ≤ maxDuals) ⌝ }
+    requires { ⌜ length (now records) / recordBytes ≤ maxDuals ⌝ }
     ensures { λ r. ⌜ r ≡ dualsRefusal (lentSurvey groups firsts seconds weights) (old records) ⌝ }
 {
-    let unfit = duals::values_refusal(groups, records);
+    let unfit = check_values::values_refusal(groups, records);
     let Verdict::Fine = unfit else {
         return unfit;
     };
-    let whole = cuts::cuts_refusal(groups, records);
+    let whole = check_cuts::cuts_refusal(groups, records);
     let Verdict::Fine = whole else {
         return whole;
     };
@@ -139,7 +138,7 @@ pub fn check(
     if let Verdict::Refused { number, place } = unsound {
         return Checking::Refused { number, place };
     }
-    let apart = survey_lists::group_refusal(
+    let apart = survey_split::group_refusal(
         groups,
         firsts,
         seconds,

@@ -4,7 +4,7 @@ use mathlib.Core.Path.{_≡_}
 use mathlib.Core.Bool.{Bool, cond}
 use mathlib.Core.List.{List}
 use Rattle.base_finite.specs.Below.{counted, countBelow, tabulate}
-use Rattle.survey_components.specs.Labels.{endsJoined}
+use Rattle.survey_labels.specs.Labels.{endsJoined}
 use Rattle.plan_cuts.specs.Word.{ownWord, edgeTaken}
 
 pub record Taken : Type 0 where

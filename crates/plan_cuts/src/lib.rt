@@ -6,7 +6,8 @@ ghost use lib.ListN.{getD, length};
 ghost use lib.Dec.{eqb};
 ghost use Rattle.base_finite.specs.Below.{counted};
 ghost use Rattle.base_limits.specs.Limits.{maxVertices};
-ghost use Rattle.survey_components.specs.Labels.{pickedIn, endsJoined};
+ghost use Rattle.survey_components.specs.Labels.{pickedIn};
+ghost use Rattle.survey_labels.specs.Labels.{endsJoined};
 ghost use Rattle.plan_cuts.specs.Word.{ownWord, turned, turnedAll, edgeTaken};
 ghost use Rattle.plan_cuts.specs.Taken.{EdgeStep, takenBelow};
 use base_buffer::at64;
@@ -76,7 +77,7 @@ fn take_ends(a: u32, b: u32, own: u64, labels: &mut [u32], words: &mut [u64])
     let y = base_buffer::at32(labels, v);
     let delta = at64(words, u) ^ at64(words, v);
     turn_all(x, y, delta, own, labels, words);
-    survey_components::relabel(labels, x, y, x);
+    survey_labels::relabel(labels, x, y, x);
 }
 
 // Edge e comes in, if it is picked; the answer is the next index.
@@ -120,7 +121,7 @@ pub fn side_words(
         ⌜ r ≡ takenBelow maxVertices first second (pickedIn (old picked)) base (length (old firsts)) .words ⌝ }
 {
     let mut labels = [0u32; MAX_VERTICES];
-    survey_components::own_labels(&mut labels);
+    survey_labels::own_labels(&mut labels);
     let mut words = [0u64; MAX_VERTICES];
     let mut i = 0;
     let mut e = 0;

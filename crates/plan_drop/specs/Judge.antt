@@ -12,7 +12,7 @@ use Rattle.theory_steiner.specs.Pruning.{needed, markOf}
 use Rattle.base_limits.specs.Verdict.{written}
 use Rattle.survey_core.specs.Survey.{Survey, groupsAlone, edgeCount, problemOf}
 use Rattle.survey_components.specs.Labels.{pickedIn}
-use Rattle.survey_components.specs.Forest.{forestRefusal}
+use Rattle.survey_forest.specs.Forest.{forestRefusal}
 use Rattle.base_buffer.specs.Store.{remade}
 use Rattle.plan_cuts.specs.Word.{wordBits, inBatch}
 

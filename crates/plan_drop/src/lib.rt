@@ -9,7 +9,7 @@ ghost use Rattle.base_limits.specs.Limits.{maxEdges};
 ghost use Rattle.theory_steiner.specs.Pruning.{markOf};
 ghost use Rattle.survey_core.specs.Survey.{lentSurvey};
 ghost use Rattle.survey_components.specs.Labels.{pickedIn};
-ghost use Rattle.survey_components.specs.Forest.{forestRefusal};
+ghost use Rattle.survey_forest.specs.Forest.{forestRefusal};
 ghost use Rattle.plan_drop.specs.Prunable.{Prunable, unweighted};
 ghost use Rattle.plan_drop.specs.Judge.{droppedMarks, batchMarks, prunedMarks, marksPruned};
 use base_buffer::put8;
@@ -99,7 +99,7 @@ pub fn prune(
     ensures { λ r. ⌜ r ≡ forestRefusal (lentSurvey groups firsts seconds weights) (old picked) ⌝ }
     ensures { λ _. ⌜ new marks ≡ marksPruned (lentSurvey groups firsts seconds weights) (old picked) (old marks) ⌝ }
 {
-    let found = survey_components::forest_refusal(groups, firsts, seconds, weights, picked);
+    let found = survey_forest::forest_refusal(groups, firsts, seconds, weights, picked);
     let Verdict::Fine = found else {
         return found;
     };

@@ -12,7 +12,7 @@ use Rattle.base_limits.specs.Limits.{maxVertices, recordBytes}
 use Rattle.theory_steiner.specs.Problem.{Problem}
 use Rattle.theory_steiner.specs.Growth.{winner, edge, stateAt, grown}
 use Rattle.theory_steiner.specs.Dual.{Dual}
-use Rattle.survey_components.specs.Labels.{relabelled}
+use Rattle.survey_labels.specs.Labels.{relabelled}
 use Rattle.plan_duals.specs.Drawing.{dualsBelow}
 
 -- Rounds are counted from 0; `first` and `second` are the ends of the edge that a round picked, and `value` is that of a component number.

@@ -56,7 +56,7 @@ fn plan_refusal(
 ) -> Verdict
     ensures { λ r. ⌜ r ≡ planRefusal (lentWith groups firsts seconds weights owners others) marks records ⌝ }
 {
-    let unsound = survey_lists::survey_refusal(groups, firsts, seconds, weights, owners, others);
+    let unsound = survey_pairs::survey_refusal(groups, firsts, seconds, weights, owners, others);
     let Verdict::Fine = unsound else {
         return unsound;
     };
@@ -64,7 +64,7 @@ fn plan_refusal(
     let Verdict::Fine = short else {
         return short;
     };
-    survey_lists::group_refusal(
+    survey_split::group_refusal(
         groups,
         firsts,
         seconds,
@@ -116,7 +116,7 @@ fn grow_poured(
     let rounds = grown.rounds;
     let bound = grown.bound;
     copy_picks(&picked, marks, firsts.len());
-    let duals = plan_duals::draw(
+    let duals = plan_draw::draw(
         groups.len(),
         firsts,
         seconds,

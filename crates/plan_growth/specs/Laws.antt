@@ -1,4 +1,3 @@
-pub mod Flags
 pub mod Raise
 pub mod Round
 pub mod Rounds

@@ -1,22 +1,11 @@
--- What a round does to the flags, the values and the loads.
+-- What a round does to the values and the loads.
 use Prim.Native.Nat.{ℕ, _+_, _*_, _<_, _≤_, _^_}
-use mathlib.Core.Bool.{cond}
 use mathlib.Core.List.{List}
-use lib.ListN.{getD, set}
+use lib.ListN.{getD}
 use lib.Dec.{eqb}
-use Rattle.base_finite.specs.Below.{counted, tabulate}
+use Rattle.base_finite.specs.Below.{counted}
 use Rattle.base_limits.specs.Limits.{maxVertices, maxDuals}
 use Rattle.base_buffer.specs.Store.{remade}
-use Rattle.theory_steiner.specs.Growth.{active}
-use Rattle.survey_core.specs.Survey.{groupsAlone, problemOf}
-
--- The flags after a vertex with this label, of a group with this summary (1: split).
-unfoldable pub flagged : (flags : List ℕ) → (summary label : ℕ) → List ℕ
-flagged flags summary label = cond (eqb summary 1) (set flags label 1) flags
-
--- 1 for each active component number, by the groups and the labels of the vertices.
-unfoldable pub activeFlags : (groups labels : List ℕ) → List ℕ
-activeFlags groups labels = tabulate maxDuals (λ c. counted (active (problemOf (groupsAlone groups)) (λ v. getD labels v 0) c) 1)
 
 -- Every value, and every load of the first n vertices, raised by d where the component is active.
 unfoldable pub raisedValues : (flags : List ℕ) → (d : ℕ) → (values : List ℕ) → List ℕ

@@ -11,7 +11,7 @@ ghost use Rattle.survey_core.specs.Refusal.{surveyRefusal};
 ghost use Rattle.theory_steiner.specs.Growth.{winner, stateAt};
 ghost use Rattle.survey_core.specs.Survey.{surveyFrom, lentSurvey, problemOf};
 ghost use Rattle.plan_delay.specs.Between.{delayIn};
-ghost use Rattle.plan_growth.specs.Tables.{flagged, activeFlags, raisedValues, raisedLoads, RaiseFits, SumFits};
+ghost use Rattle.plan_growth.specs.Tables.{raisedValues, raisedLoads, RaiseFits, SumFits};
 ghost use Rattle.plan_growth.specs.Represents.{arraysFrom, newArrays, roundsAfter, timeAfter, Represents};
 ghost use Rattle.theory_steiner.specs.Minima.{winnerDelay};
 ghost use Rattle.plan_growth.specs.Grown.{growthFrom, GrownAfter};
@@ -37,30 +37,6 @@ pub struct Growth {
     pub values: [u64; MAX_DUALS],
     pub picked: [u8; MAX_EDGES],
     pub order: [u32; MAX_VERTICES],
-}
-
-// The component of a vertex of a split group is active.
-fn flag_label(flags: &mut [u8; MAX_DUALS], summary: u64, label: u32)
-    ensures { λ r. ⌜ new flags ≡ flagged (old flags) summary label ⌝ }
-{
-    if summary == 1 {
-        put8(flags, base_buffer::index32(label), 1);
-    }
-}
-
-// 1 for each active component number, 0 for the others.
-fn active_flags(groups: &[u8], labels: &[u32; MAX_VERTICES]) -> [u8; MAX_DUALS]
-    ensures { λ r. ⌜ r ≡ activeFlags (old groups) (old labels) ⌝ }
-{
-    let table = survey_groups::spreads(groups, labels);
-    let mut flags = [0u8; MAX_DUALS];
-    let mut v = 0;
-    while v < groups.len() {
-        let summary = at64(&table, base_buffer::index8(base_buffer::at8(groups, v)));
-        flag_label(&mut flags, summary, base_buffer::at32(labels, v));
-        v += 1;
-    }
-    flags
 }
 
 // A value raised by d where its flag is set.
@@ -143,7 +119,7 @@ fn round(
         let a = newArrays labels loads values picked order keys floors in
         ⌜ Represents s (roundsAfter r (delayIn x)) (timeAfter time (delayIn x)) a ⌝ }
 {
-    let flags = active_flags(groups, labels);
+    let flags = plan_active::active_flags(groups, labels);
     let found = plan_winner::find_winner(
         firsts,
         seconds,
@@ -161,7 +137,7 @@ fn round(
     raise_values(values, &flags, d);
     raise_loads(loads, labels, &flags, groups.len(), d);
     let z = (groups.len() + r) as u32;
-    survey_components::merge(
+    survey_labels::merge(
         labels,
         base_buffer::at32(firsts, e),
         base_buffer::at32(seconds, e),
@@ -220,7 +196,7 @@ fn grow_rounds(groups: &[u8], firsts: &[u32], seconds: &[u32], weights: &[u32]) 
     let mut order = [0u32; MAX_VERTICES];
     let mut keys = [0u64; MAX_EDGES];
     let mut floors = [0u64; MAX_BLOCKS];
-    survey_components::own_labels(&mut labels);
+    survey_labels::own_labels(&mut labels);
     let most = groups.len() - 1;
     let mut time = 0;
     let mut r = 0;
@@ -254,7 +230,7 @@ fn no_rounds() -> Growth
     ensures { λ r. ⌜ ((p : Problem) → GrownAfter p 0 r) ⌝ }
 {
     let mut labels = [0u32; MAX_VERTICES];
-    survey_components::own_labels(&mut labels);
+    survey_labels::own_labels(&mut labels);
     Growth {
         rounds: 0,
         bound: 0,

@@ -62,7 +62,7 @@ fn marked_refusal(
 ) -> Verdict
     ensures { λ r. ⌜ r ≡ markedRefusal (lentWith groups firsts seconds weights owners others) (old marks) ⌝ }
 {
-    let unsound = survey_lists::survey_refusal(groups, firsts, seconds, weights, owners, others);
+    let unsound = survey_pairs::survey_refusal(groups, firsts, seconds, weights, owners, others);
     let Verdict::Fine = unsound else {
         return unsound;
     };
@@ -116,7 +116,7 @@ fn list_refusal(
         return Verdict::Fine;
     };
     if number == 14 {
-        return survey_lists::group_refusal(
+        return survey_split::group_refusal(
             groups,
             firsts,
             seconds,

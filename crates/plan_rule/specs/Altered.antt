@@ -19,7 +19,7 @@ use Rattle.survey_core.specs.Pairs.{isRising, pairRefusal, pairsRefusal}
 use Rattle.survey_core.specs.Survey.{Survey, surveyFrom, vertexCount, edgeCount, member, sameGroup, problemOf, groupJoined, componentsOf}
 use Rattle.survey_core.specs.Refusal.{edgeRefusal, surveyRefusal, groupRefusal}
 use Rattle.survey_components.specs.Labels.{pickedIn}
-use Rattle.survey_components.specs.Forest.{closesLoop, loopRefusal}
+use Rattle.survey_forest.specs.Forest.{closesLoop, loopRefusal}
 use Rattle.check_rule.specs.Check.{Checked, dualAt, dualsIn, keptBy, shapeRefusal, dualRefusal, ruleRefusal, checkedOf, checkRefusal, checking}
 use Rattle.plan_duals.specs.Drawing.{recordsOf}
 use Rattle.plan_rule.specs.Plan.{planOf}

@@ -1,4 +1,4 @@
--- Component labels as they stand in a buffer, and the sets of edges that are joined.
+-- The sets of edges that are joined, and the labels of the components that they make.
 use Prim.Native.Nat.{ℕ, _<_}
 use mathlib.Core.Path.{_≡_}
 use mathlib.Core.Bool.{Bool, true, not}
@@ -6,11 +6,10 @@ use mathlib.Core.List.{List}
 use lib.ListN.{length, getD}
 use lib.Dec.{eqb}
 use Rattle.base_finite.specs.Below.{tabulate}
-use Rattle.theory_graph.specs.Component.{merged, components}
+use Rattle.theory_graph.specs.Component.{components}
 use Rattle.base_limits.specs.Limits.{maxVertices}
 use Rattle.survey_components.specs.declared.Chosen.{Chosen}
 use Rattle.survey_components.specs.declared.Chosen.the-variants.{All, Kept}
-use Rattle.base_buffer.specs.Store.{remade}
 use Rattle.survey_core.specs.Survey.{Survey}
 
 -- All tracks, or those marked 2.
@@ -24,14 +23,6 @@ chosen set marks e = chosenMark set (getD marks e 0)
 -- The edges that a buffer of marks picks: those with anything but 0.
 unfoldable pub pickedIn : (marks : List ℕ) → ℕ → Bool
 pickedIn marks e = not (eqb (getD marks e 0) 0)
-
--- z in place of x and of y.
-unfoldable pub relabelled : (x y z : ℕ) → List ℕ → List ℕ
-relabelled x y z labels = remade (λ v. merged x y z (λ l. l)) (length labels) labels
-
--- The components of vertices a and b become a's.
-unfoldable pub endsJoined : (a b : ℕ) → List ℕ → List ℕ
-endsJoined a b labels = relabelled (getD labels a 0) (getD labels b 0) (getD labels a 0) labels
 
 -- Every end has a label in the buffer.
 pub record EndsFit (firsts seconds labels : List ℕ) : Type 0 where

@@ -2,4 +2,3 @@ pub mod Home
 pub mod Pouring
 pub mod Plan
 pub mod Room
-pub mod Split

@@ -1,4 +1,3 @@
 pub mod Pouring
-pub mod Split
 pub mod Examples
 pub mod Laws

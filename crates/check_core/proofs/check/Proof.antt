@@ -5,7 +5,7 @@ use Rattle.survey_lists.specs.Laws.Room.{part-poured}
 use Rattle.check_rule.specs.Check.{ruleRefusal}
 use Rattle.check_rule.specs.Laws.Accuracy.{promises}
 use Rattle.check_core.specs.Stage.{checkedOutcome}
-use Rattle.check_core.specs.Laws.Stage.{input-sound, input-few, input-stops, group-found, duals-stop, groups-stop, rule-decides, part-few, duals-poured, poured-fits, checked-poured}
+use Rattle.check_core.specs.Laws.Stage.{input-sound, input-few, input-stops, group-found, duals-stop, groups-stop, rule-decides, duals-poured, poured-fits, checked-poured}
 use native.Mathlib.Omega.{arith}
 use borrow.Author.Needs.{needs}
 use Rattle.check_core.proofs.check.Statement.{statement}
@@ -26,8 +26,7 @@ part-duals-refusal-end c =
 duals-refusal-requires : tie.Need-duals-refusal-requires
 duals-refusal-requires c κs =
     let input = sym (c .before .before .before .before .before .input-refusal .ensures) ∙ c .before .before .before .enum-told .given .1 in
-    let sound = input-sound _ _ _ input in
-    (part-few _ sound (part-poured _ (sound .few) (c .before .before .pour .ensures)), input-few _ _ _ input)
+    input-few _ _ _ input
 
 -- 11, 12 or 13
 returns-2 : tie.Need-returns-2

@@ -19,9 +19,6 @@ returns : tie.Need-returns
 unfolding dualsRefusal dualRefusal separates dualLoad problemOf vertexCount edgeCount sameGroup member
 returns c = passed-on (c .before .before .values-refusal .ensures) (c .enum-told2 .given .1) _
 
-cuts-refusal-requires : tie.Need-cuts-refusal-requires
-cuts-refusal-requires c κs = c .before .before .before .before .before .before .before .before .pre .0
-
 -- 12
 returns-2 : tie.Need-returns-2
 unfolding dualsRefusal dualRefusal separates dualLoad problemOf vertexCount edgeCount sameGroup member
@@ -33,7 +30,7 @@ loads-refusal-requires : tie.Need-loads-refusal-requires
 loads-refusal-requires c κs =
     let found = c .before .before .before in
     let start = found .before .before .before .before .before .before .before .before in
-    duals-fit _ _ (start .pre .1) (sym (found .before .before .values-refusal .ensures) ∙ found .enum-told .given .1)
+    duals-fit _ _ (start .pre) (sym (found .before .before .values-refusal .ensures) ∙ found .enum-told .given .1)
 
 -- 13 or nothing
 returns-3 : tie.Need-returns-3
@@ -51,7 +48,7 @@ duals-refusal-spec =
     enum-told
     (λ c. search needs)
     returns
-    cuts-refusal-requires
+    (λ c κs. search needs)
     (λ c. search needs)
     (λ c. search needs)
     returns-2

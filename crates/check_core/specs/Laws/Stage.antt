@@ -89,9 +89,6 @@ module _ (s : Survey) (sound : SurveySound s) {part : List ℕ} (part-is : part 
   into-is : into ≡ pouredSurvey s
   into-is = ap (λ (groups : List ℕ). surveyFrom groups (s .firsts) (s .seconds) (s .weights)) part-is
 
-  pub part-few : length part ≤ maxVertices
-  part-few = let few = sound .few in omega (arith, ap length part-is, length-poured (listsOf s))
-
   -- 11, 12 and 13 are those of the lists.
   value-poured : (d : Dual) (i : ℕ) → dualRefusal (pouredSurvey s) d i ≡ dualRefusal s d i
   unfolding dualRefusal vertexCount

@@ -14,7 +14,7 @@ use Rattle.theory_graph.specs.Laws.Component.{components-right}
 use Rattle.theory_steiner.specs.Problem.{Problem, Sound, Joins, separates, Bounded}
 use Rattle.theory_steiner.specs.Pruning.{needed}
 use Rattle.theory_steiner.specs.Laws.Cut.{needed-by-cut}
-use Rattle.survey_components.specs.Laws.Forest.{forest-apart}
+use Rattle.survey_forest.specs.Laws.Forest.{forest-apart}
 use Rattle.plan_cuts.specs.Side.{sideStep, sides}
 
 -- ---- exclusive or

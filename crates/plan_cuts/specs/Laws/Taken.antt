@@ -12,8 +12,8 @@ use Rattle.base_finite.specs.Laws.Below.{counted-true, counted-false, length-ta
 use Rattle.base_finite.specs.Laws.Test.{either}
 use Rattle.theory_graph.specs.Component.{components}
 use Rattle.base_buffer.specs.Laws.Store.{length-remade}
-use Rattle.survey_components.specs.Labels.{relabelled, endsJoined}
-use Rattle.survey_components.specs.Laws.Labels.{components-none, components-more}
+use Rattle.survey_labels.specs.Labels.{relabelled, endsJoined}
+use Rattle.survey_labels.specs.Laws.Labels.{components-none, components-more}
 use Rattle.plan_cuts.specs.Word.{ownWord, turnedAll, edgeTaken, sideWords}
 use Rattle.plan_cuts.specs.Taken.{taken, takenBelow, EdgeStep}
 use Rattle.plan_cuts.specs.Laws.Word.{words-none, words-more}

@@ -18,7 +18,7 @@ use Rattle.theory_graph.specs.Component.{components}
 use Rattle.format_record.specs.Bits.{bitAt, withBit}
 use Rattle.format_record.specs.Laws.Bits.{bit-of-zero, bit-set, bit-set-other, with-bit-clear}
 use Rattle.base_buffer.specs.Laws.Store.{remade-table, tabulate-cong}
-use Rattle.survey_components.specs.Labels.{relabelled, endsJoined}
+use Rattle.survey_labels.specs.Labels.{relabelled, endsJoined}
 use Rattle.plan_cuts.specs.Side.{sideStep, sides}
 use Rattle.plan_cuts.specs.Word.{wordBits, inBatch, ownWord, turned, sideWords, turnedAll, edgeTaken}
 

@@ -13,8 +13,8 @@ use borrow.Author.Tests.{lt-ltb, le-ltb}
 use Rattle.base_finite.specs.Below.{tabulate}
 use Rattle.base_finite.specs.Laws.Below.{lt-or-ge, getD-tabulate}
 use Rattle.base_limits.specs.Limits.{maxVertices}
-use Rattle.survey_components.specs.Labels.{relabelled}
-use Rattle.survey_components.specs.Laws.Labels.{relabelled-table}
+use Rattle.survey_labels.specs.Labels.{relabelled}
+use Rattle.survey_labels.specs.Laws.Labels.{relabelled-table}
 use Rattle.plan_duals.specs.Drawing.{recordsFrom, dualIf, dualsBelow, withLabel, DualsWritten}
 use Rattle.plan_duals.specs.Trace.{Trace, labelAfter, arisen, memberOf, traceDuals, Drawable}
 use Rattle.plan_duals.specs.Laws.Drawing.{written-none, written-more, written-end}

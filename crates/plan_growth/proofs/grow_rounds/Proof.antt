@@ -3,9 +3,8 @@ use Prim.Native.Nat.{_-_}
 use native.Mathlib.Omega.{arith}
 use mathlib.Core.Path.{refl}
 use Rattle.survey_core.specs.Survey.{surveyFrom}
-use Rattle.plan_delay.specs.Between.{delayIn}
-use Rattle.plan_growth.specs.Represents.{arraysFrom, roundsAfter, timeAfter, Represents}
-use Rattle.plan_growth.specs.Laws.Rounds.{represents-start, time-fits, sum-fits, grown-end, grown-full}
+use Rattle.plan_growth.specs.Represents.{arraysFrom, Represents}
+use Rattle.plan_growth.specs.Laws.Rounds.{represents-start, represents-over, represents-won, time-fits, sum-fits, grown-end, grown-full}
 use borrow.Author.Needs.{needs}
 use Rattle.plan_growth.proofs.grow_rounds.Statement.{statement}
 use Rattle.plan_growth.proofs.grow_rounds.Tie as tie
@@ -28,36 +27,23 @@ enum-told : tie.Need-enum-told Inv-loop μ-loop
 enum-told c = search needs
 
 finished-requires : tie.Need-finished-requires Inv-loop μ-loop
-unfolding delayIn roundsAfter timeAfter
-finished-requires c κs =
-    let call = c .before .before in
-    let after = rw (c .enum-told .given .1) at (call .round .ensures .1) in
-    sum-fits after
+finished-requires c κs = sum-fits (represents-over _ _ (c .before .before .round .ensures .1) (c .enum-told .given .1))
 
 -- a round without a winner
 returns : tie.Need-returns Inv-loop μ-loop
-unfolding delayIn roundsAfter timeAfter
 returns c =
     let call = c .before .before .before in
-    let after = rw (c .before .enum-told .given .1) at (call .round .ensures .1) in
-    grown-end after (call .round .ensures .0) (c .before .enum-told .given .1) (c .finished .ensures)
+    let told = c .before .enum-told .given .1 in
+    grown-end (represents-over _ _ (call .round .ensures .1) told) (call .round .ensures .0) told (c .finished .ensures)
 
 add-time : tie.Need-add-time Inv-loop μ-loop
-unfolding delayIn roundsAfter timeAfter
-add-time c =
-    let call = c .before .before .before in
-    let after = rw (c .before .wait .given .1) at (call .round .ensures .1) in
-    record { fits = time-fits after }
+add-time c = record { fits = time-fits (represents-won _ _ (c .before .before .before .round .ensures .1) (c .before .wait .given .1)) }
 
 loop-less : tie.Need-loop-less Inv-loop μ-loop
 loop-less c = omega arith
 
 loop-again : tie.Need-loop-again Inv-loop μ-loop
-unfolding delayIn roundsAfter timeAfter
-loop-again c =
-    let call = c .before .before .before in
-    let after = rw (c .before .wait .given .1) at (call .round .ensures .1) in
-    after
+loop-again c = represents-won _ _ (c .before .before .before .round .ensures .1) (c .before .wait .given .1)
 
 finished-requires-2 : tie.Need-finished-requires-2 Inv-loop μ-loop
 finished-requires-2 c κs = sum-fits (c .before .loop .inv)

@@ -23,10 +23,10 @@ use Rattle.theory_steiner.specs.Laws.Partition.{label-below, winner-below}
 use Rattle.theory_steiner.specs.Laws.Weighed.{load-pick}
 use Rattle.survey_core.specs.Lists.{isPaired, inList, sameList}
 use Rattle.survey_core.specs.Survey.{Survey, surveyWith, groupsAlone, vertexCount, edgeCount, sameGroup, member, problemOf}
-use Rattle.survey_components.specs.Labels.{relabelled}
+use Rattle.survey_labels.specs.Labels.{relabelled}
 use Rattle.survey_core.specs.Laws.Refusal.{survey-sound}
 use Rattle.base_buffer.specs.Laws.Store.{tabulate-cong, set-table, remade-table, remade-part}
-use Rattle.survey_components.specs.Laws.Labels.{relabelled-table}
+use Rattle.survey_labels.specs.Laws.Labels.{relabelled-table}
 use Rattle.plan_delay.specs.Between.{delayIn, winnerIn, delayBetween}
 use Rattle.plan_delay.specs.declared.Delay.the-variants.{Never, After}
 use Rattle.plan_delay.specs.declared.Winner.{Winner}
@@ -35,7 +35,8 @@ use Rattle.plan_winner.specs.Scan.{timeLimit, key, cappedTime, Scan, scanOf, Ke
 use Rattle.plan_winner.specs.Tables.{Tables, tablesFrom, delayBy, keyBetween, keyBy, passBy}
 use Rattle.plan_winner.specs.Laws.Scan.{capped-is, scan-wins, keyed-next}
 use Rattle.plan_winner.specs.Laws.Blocks.{passes-scan, passes-cong}
-use Rattle.plan_growth.specs.Tables.{activeFlags, raisedValues, raisedLoads, RaiseFits}
+use Rattle.plan_active.specs.Flags.{activeFlags}
+use Rattle.plan_growth.specs.Tables.{raisedValues, raisedLoads, RaiseFits}
 use Rattle.plan_growth.specs.Represents.{winnerEdge, pickAt, Arrays, arraysFrom, roundsAfter, timeAfter, Represents}
 use Rattle.theory_steiner.specs.Minima.{winnerDelay}
 

@@ -27,10 +27,10 @@ use Rattle.plan_winner.specs.Scan.{maxBlocks}
 use Rattle.plan_winner.specs.Laws.Scan.{keyed-start, floored-start}
 use Rattle.plan_delay.specs.Between.{delayIn}
 use Rattle.plan_delay.specs.declared.Delay.{Delay}
-use Rattle.plan_delay.specs.declared.Delay.the-variants.{Never}
+use Rattle.plan_delay.specs.declared.Delay.the-variants.{Never, After}
 use Rattle.plan_growth.specs.declared.Growth.{Growth}
 use Rattle.plan_growth.specs.Tables.{SumFits}
-use Rattle.plan_growth.specs.Represents.{winnerEdge, pickAt, Arrays, arraysFrom, Represents}
+use Rattle.plan_growth.specs.Represents.{winnerEdge, pickAt, Arrays, arraysFrom, roundsAfter, timeAfter, Represents}
 use Rattle.theory_steiner.specs.Minima.{winnerDelay}
 use Rattle.plan_growth.specs.Grown.{growthFrom, GrownAfter}
 use Rattle.plan_growth.specs.Laws.Round.{going, weights-light}
@@ -74,6 +74,17 @@ represents-start {s} sound plain h =
       keyed = keyed-start (problemOf s) maxEdges (replicate-table maxEdges 0);
       floored = floored-start (length (s .firsts)) maxBlocks _ (replicate-table maxBlocks 0);
     }
+
+-- ---- after a round, by what it answered
+
+module _ {s : Survey} (r time : ℕ) {a : Arrays} {x : Delay} (h : Represents s (roundsAfter r (delayIn x)) (timeAfter time (delayIn x)) a) where
+  pub represents-over : x ≡ Never → Represents s r time a
+  unfolding delayIn roundsAfter timeAfter
+  represents-over t = rw t at h
+
+  pub represents-won : {d : ℕ} → x ≡ After d → Represents s (r + 1) (time + d) a
+  unfolding delayIn roundsAfter timeAfter
+  represents-won t = rw t at h
 
 -- ---- when no candidate is left
 

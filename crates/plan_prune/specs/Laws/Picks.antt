@@ -29,12 +29,12 @@ use Rattle.survey_core.specs.Laws.Refusal.{survey-fine}
 use Rattle.survey_core.specs.Laws.Group.{group-refused}
 use Rattle.survey_components.specs.Labels.{chosen, chosenMark, pickedIn}
 use Rattle.survey_components.specs.declared.Chosen.the-variants.{Kept}
-use Rattle.survey_components.specs.Forest.{closesLoop, loopRefusal, forestRefusal}
-use Rattle.survey_components.specs.Laws.Forest.{picked-below}
+use Rattle.survey_forest.specs.Forest.{closesLoop, loopRefusal, forestRefusal}
+use Rattle.survey_components.specs.Laws.Picked.{picked-below}
 use Rattle.survey_lists.specs.Pouring.{pouredGroups, pouredSurvey}
 use Rattle.survey_lists.specs.Laws.Pouring.{length-poured}
 use Rattle.survey_lists.specs.Laws.Plan.{poured-sound}
-use Rattle.survey_lists.specs.Laws.Split.{poured-refusal}
+use Rattle.survey_split.specs.Laws.Split.{poured-refusal}
 use Rattle.check_rule.specs.Check.{keptBy}
 use Rattle.plan_drop.specs.Judge.{prunedMarks, marksPruned}
 use Rattle.plan_rule.specs.Plan.{Plan, planOf}

@@ -1,7 +1,7 @@
 -- `is_picked` meets its contract: an arm for each mark.
 use native.Mathlib.Omega.{arith}
 use mathlib.Core.Path.{sym}
-use Rattle.survey_components.specs.Laws.Forest.{picked-not, picked-is}
+use Rattle.survey_components.specs.Laws.Picked.{picked-not, picked-is}
 use borrow.Author.Needs.{needs}
 use Rattle.survey_components.proofs.is_picked.Statement.{statement}
 use Rattle.survey_components.proofs.is_picked.Tie as tie

@@ -8,7 +8,7 @@ use Rattle.theory_graph.specs.Component.{components}
 use Rattle.base_limits.specs.Limits.{maxVertices}
 use Rattle.survey_components.specs.Labels.{chosen}
 use Rattle.base_buffer.specs.Laws.Store.{remade-table}
-use Rattle.survey_components.specs.Laws.Labels.{components-none, components-more, components-end}
+use Rattle.survey_labels.specs.Laws.Labels.{components-none, components-more, components-end}
 use native.Mathlib.Omega.{arith}
 use borrow.Author.Needs.{needs}
 use Rattle.survey_components.proofs.label_components.Statement.{statement}

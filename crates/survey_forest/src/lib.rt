@@ -1,0 +1,93 @@
+// Tracks that close a loop: what keeps marks from being those of a forest that joins every group.
+ghost use Rattle.base_buffer.specs.Lent.{old, new};
+ghost use mathlib.Core.Path.{_≡_};
+ghost use mathlib.Core.Bool.{cond, _&&_};
+ghost use mathlib.Core.List.{[]};
+ghost use lib.ListN.{getD};
+ghost use lib.Dec.{eqb};
+ghost use Rattle.base_limits.specs.Verdict.{refuseIf, _before_};
+ghost use Rattle.survey_core.specs.Survey.{surveyFrom, lentSurvey};
+ghost use Rattle.survey_core.specs.Refusal.{groupRefusal};
+ghost use Rattle.survey_labels.specs.Labels.{endsJoined};
+ghost use Rattle.survey_components.specs.Labels.{pickedIn};
+ghost use Rattle.survey_forest.specs.Forest.{EndsBelow, loopRefusal, forestRefusal};
+use base_limits::MAX_VERTICES;
+use base_limits::Verdict;
+use survey_components::is_picked;
+use survey_labels::join_ends;
+
+// The ends of edge e become linked, if it is picked; 21 where they are linked already.
+fn join_picked(
+    firsts: &[u32],
+    seconds: &[u32],
+    picked: &[u8],
+    labels: &mut [u32],
+    e: usize,
+) -> Verdict
+    ensures closed { λ r. let first = getD (old firsts) e 0 in
+        let second = getD (old seconds) e 0 in
+        let one = eqb (getD (old labels) first 0) (getD (old labels) second 0) in
+        ⌜ r ≡ refuseIf (pickedIn (old picked) e && one) 21 e ⌝ }
+    ensures joined { λ r. let joined = endsJoined (getD (old firsts) e 0) (getD (old seconds) e 0) (old labels) in
+        ⌜ new labels ≡ cond (pickedIn (old picked) e) joined (old labels) ⌝ }
+{
+    if is_picked(picked, e) {
+        let linked = join_ends(
+            labels,
+            base_buffer::at32(firsts, e),
+            base_buffer::at32(seconds, e),
+        );
+        if linked {
+            return Verdict::Refused {
+                number: 21,
+                place: e,
+            };
+        }
+        return Verdict::Fine;
+    }
+    Verdict::Fine
+}
+
+// 21 at the lowest picked track whose ends are linked already, then 14.
+fn loop_refusal(groups: &[u8], firsts: &[u32], seconds: &[u32], picked: &[u8]) -> Verdict
+    requires { ⌜ EndsBelow (now groups) (now firsts) (now seconds) ⌝ }
+    ensures { λ r. let s = surveyFrom (old groups) (old firsts) (old seconds) [] in
+        let picks = pickedIn (old picked) in
+        ⌜ r ≡ (loopRefusal s picks before groupRefusal s 14 picks) ⌝ }
+{
+    let mut labels = [0u32; MAX_VERTICES];
+    survey_labels::own_labels(&mut labels);
+    let mut e = 0;
+    while e < firsts.len() {
+        let found = join_picked(firsts, seconds, picked, &mut labels, e);
+        let Verdict::Fine = found else {
+            return found;
+        };
+        e += 1;
+    }
+    survey_groups::split_refusal(groups, &labels, 14)
+}
+
+// What keeps marks from being those of a forest that joins every group: 1 to 6, 9 for marks not m long, 21, then 14 for
+// the picked tracks.
+pub fn forest_refusal(
+    groups: &[u8],
+    firsts: &[u32],
+    seconds: &[u32],
+    weights: &[u32],
+    picked: &[u8],
+) -> Verdict
+    ensures { λ r. ⌜ r ≡ forestRefusal (lentSurvey groups firsts seconds weights) (old picked) ⌝ }
+{
+    let found = survey_core::survey_refusal(groups, firsts, seconds, weights);
+    let Verdict::Fine = found else {
+        return found;
+    };
+    if picked.len() != firsts.len() {
+        return Verdict::Refused {
+            number: 9,
+            place: 0,
+        };
+    }
+    loop_refusal(groups, firsts, seconds, picked)
+}
