@@ -1,4 +1,4 @@
-// Growing: planning's refusals 1 to 8 and 18, then the rounds, with the picked tracks as marks and the moats as records.
+// Growing: planning's refusals 1 to 8 and 18, then the rounds; the picked tracks as marks, the moats as records.
 ghost use Rattle.base_buffer.specs.Lent.{old, new};
 ghost use mathlib.Core.Path.{_≡_};
 ghost use mathlib.Core.Bool.{_||_};

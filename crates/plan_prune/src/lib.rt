@@ -141,7 +141,8 @@ fn prune_marked(
     others: &[u8],
     marks: &mut [u8],
 ) -> Dropped
-    requires { ⌜ Marked (surveyWith (now groups) (now firsts) (now seconds) (now weights) (now owners) (now others)) (now marks) ⌝ }
+    requires { ⌜ Marked (surveyWith (now groups) (now firsts) (now seconds) (now weights) (now owners) (now others))
+        (now marks) ⌝ }
     ensures { λ r. let s = lentWith groups firsts seconds weights owners others in
         ⌜ droppedOutcome r ≡ dropping s (old marks) ⌝ }
     ensures { λ _. let s = lentWith groups firsts seconds weights owners others in

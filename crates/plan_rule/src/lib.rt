@@ -1,7 +1,7 @@
 // What planning, growing and dropping answer, and what each promises: definitions and laws in specs/, no functions.
 
-// What planning answers, and growing, with cost 0: k, cost, bound, rounds and the number of moats; or a refusal's number
-// and place.
+// What planning answers, and growing with cost 0: k, cost, bound, rounds and the number of moats; or a refusal's
+// number and place.
 pub enum Planned {
     Finished {
         terminals: u64,
