@@ -7,7 +7,7 @@ use Rattle.base_limits.specs.Verdict.{_before_, written}
 use Rattle.base_limits.specs.declared.Verdict.{Verdict}
 use Rattle.survey_core.specs.Survey.{Survey}
 use Rattle.check_rule.specs.Check.{checkRefusal, checkedOf}
-use Rattle.plan_core.specs.Plan.{planRefusal}
+use Rattle.plan_rule.specs.Plan.{planRefusal}
 use Rattle.api_code.specs.Code.{withCounts}
 use Rattle.api_plan.specs.Call.{planFigures, drawnMarks, drawnRecords, drawnFigures}
 use Rattle.api_check.specs.Call.{checkFigures, checkFiguresOf}

@@ -6,7 +6,7 @@ use Rattle.base_limits.specs.Verdict.{written}
 use Rattle.base_limits.specs.declared.Verdict.{Verdict}
 use Rattle.survey_core.specs.Survey.{Survey, edgeCount, problemOf}
 use Rattle.plan_duals.specs.Drawing.{recordsOver}
-use Rattle.plan_core.specs.Plan.{PlanCounts, planRefusal, planOf, planCountsOf}
+use Rattle.plan_rule.specs.Plan.{PlanCounts, planRefusal, planOf, planCountsOf}
 use Rattle.api_code.specs.Code.{withCounts, countsAfter}
 
 -- entries of the counts of planning: k, cost, bound, rounds and the number of moats

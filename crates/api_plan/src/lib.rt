@@ -4,7 +4,7 @@ ghost use Rattle.base_buffer.specs.Lent.{old, new};
 ghost use Rattle.survey_core.specs.Survey.{lentWith};
 ghost use Rattle.api_code.specs.Code.{codeOf};
 ghost use Rattle.api_plan.specs.Call.{planCall, planMarks, planRecords, planCounts};
-use plan_core::Planned;
+use plan_rule::Planned;
 
 // Entries of the counts.
 pub const PLAN_FIGURES: usize = 5;

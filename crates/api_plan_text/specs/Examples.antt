@@ -13,7 +13,7 @@ use Rattle.survey_core.specs.Pairs.{isRising, pairRefusal, pairsRefusal}
 use Rattle.survey_core.specs.Survey.{vertexCount, edgeCount, member, sameGroup, problemOf, groupJoined, componentsOf}
 use Rattle.survey_core.specs.Refusal.{edgeRefusal, surveyRefusal, groupRefusal}
 use Rattle.plan_duals.specs.Drawing.{recordsOf}
-use Rattle.plan_core.specs.Plan.{planOf, planRefusal, planning}
+use Rattle.plan_rule.specs.Plan.{planOf, planRefusal, planning}
 use Rattle.format_record.specs.Bits.{bitAt, byteOf, bytesOf, memberAt, lowBytes, numberOf}
 use Rattle.format_record.specs.Record.{recordOf, valueIn, memberIn, recordAt}
 use Rattle.format_key.specs.Key.{ascii, terminalsKey, costKey, boundKey, roundsKey, keptKey, dualKey, refusedKey, placeKey}

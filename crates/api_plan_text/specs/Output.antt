@@ -7,7 +7,7 @@ use Rattle.base_limits.specs.Verdict.{Outcome, refusal, answer}
 use Rattle.format_survey_lines.specs.Line.{widest}
 use Rattle.format_survey.specs.Reading.{SurveyText, reading}
 use Rattle.format_write.specs.Text.{planText, refusalText}
-use Rattle.plan_core.specs.Plan.{Plan, planning}
+use Rattle.plan_rule.specs.Plan.{Plan, planning}
 use Rattle.plan_duals.specs.Drawing.{recordsOf}
 use Rattle.survey_core.specs.Survey.{Survey, surveyWith}
 

@@ -17,7 +17,7 @@ use base_limits::RECORD_BYTES;
 use base_limits::RECORDS_ROOM;
 use format_print::Printed;
 use format_survey::Reading;
-use plan_core::Planned;
+use plan_rule::Planned;
 
 // Plans a survey and prints the plan, or the refusal's two lines.
 fn plan_survey(

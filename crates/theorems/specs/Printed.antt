@@ -4,7 +4,7 @@ use mathlib.Core.List.{List}
 use Rattle.check_text.specs.Verify.{surveyIn}
 use Rattle.format_survey.specs.Reading.{SurveyText}
 use Rattle.format_write.specs.Text.{planText}
-use Rattle.plan_core.specs.Plan.{Plan, planOf}
+use Rattle.plan_rule.specs.Plan.{Plan, planOf}
 use Rattle.plan_duals.specs.Drawing.{recordsOf}
 use Rattle.survey_core.specs.Survey.{problemOf}
 

@@ -13,7 +13,7 @@ use Rattle.api_handset.specs.Laws.Result.{across-code, across-written, r
 use Rattle.survey_core.specs.Survey.{Survey}
 use Rattle.survey_core.specs.Refusal.{surveyRefusal}
 use Rattle.check_rule.specs.Check.{checkRefusal, checkedOf}
-use Rattle.plan_core.specs.Plan.{planRefusal}
+use Rattle.plan_rule.specs.Plan.{planRefusal}
 use Rattle.api_code.specs.Code.{placeUnit, codeOf, capped, withCounts, lentOn}
 use Rattle.api_code.specs.Laws.Encodable.{Encodable, exact-code, encodable-before, encodable-refuse, at-zero}
 use Rattle.api_plan.specs.Call.{planFigures, planFiguresOf, planCall, drawnMarks, drawnRecords, drawnFigures, planMarks, planRecords, planCounts}

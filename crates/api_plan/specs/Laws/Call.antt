@@ -10,10 +10,10 @@ use Rattle.base_limits.specs.declared.Verdict.{Verdict}
 use Rattle.base_limits.specs.declared.Verdict.the-variants.{Refused}
 use Rattle.survey_core.specs.Survey.{Survey}
 use Rattle.survey_core.specs.Refusal.{surveyRefusal}
-use Rattle.plan_core.specs.Plan.{planRefusal, counting, marksAfter, recordsAfter}
-use Rattle.plan_core.specs.Answer.{plannedOutcome as planOutcome}
-use Rattle.plan_core.specs.declared.Planned.{Planned}
-use Rattle.plan_core.specs.declared.Planned.the-variants.{Finished, Refused as PlanRefused}
+use Rattle.plan_rule.specs.Plan.{planRefusal, counting, marksAfter, recordsAfter}
+use Rattle.plan_rule.specs.Answer.{plannedOutcome as planOutcome}
+use Rattle.plan_rule.specs.declared.Planned.{Planned}
+use Rattle.plan_rule.specs.declared.Planned.the-variants.{Finished, Refused as PlanRefused}
 use Rattle.api_code.specs.Code.{placeUnit, codeOf, capped, countsAfter}
 use Rattle.api_code.specs.Laws.Encodable.{Encodable, encodable-before, encodable-refuse, at-zero, survey-encodable, group-encodable}
 use Rattle.api_code.specs.Laws.Ends.{counts-long, counts-short, counts-encodable}

@@ -5,7 +5,7 @@ use mathlib.Core.Path.{ap}
 use Rattle.base_limits.specs.Limits.{planRoom}
 use Rattle.survey_core.specs.Survey.{surveyWith, edgeCount}
 use Rattle.survey_core.specs.Sound.{ByteGroups}
-use Rattle.plan_core.specs.Answer.{plannedOutcome}
+use Rattle.plan_rule.specs.Answer.{plannedOutcome}
 use Rattle.format_print.specs.Laws.Print.{prints-as}
 use Rattle.api_plan_text.specs.Laws.Output.{plan-buffers, refusal-fits, unplanned-output, planned-few, planned-output, planned-fits}
 use Rattle.api_plan_text.proofs.plan_survey.Statement.{statement}

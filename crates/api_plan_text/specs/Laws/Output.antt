@@ -28,10 +28,10 @@ use Rattle.survey_core.specs.Sound.{SurveySound, ByteGroups}
 use Rattle.survey_core.specs.Laws.Refusal.{survey-sound}
 use Rattle.plan_duals.specs.Drawing.{recordsOf}
 use Rattle.plan_duals.specs.Laws.Drawing.{bytes-records, length-records}
-use Rattle.plan_core.specs.Plan.{Plan, planOf, planRefusal, planning, PlanCounts, planCountsOf, counting, marksAfter, recordsAfter}
-use Rattle.plan_core.specs.Promise.{Ready}
-use Rattle.plan_core.specs.Laws.Ready.{fine-ready}
-use Rattle.plan_core.specs.Laws.Promise.{cut-marks, cut-records}
+use Rattle.plan_rule.specs.Plan.{Plan, planOf, planRefusal, planning, PlanCounts, planCountsOf, counting, marksAfter, recordsAfter}
+use Rattle.plan_rule.specs.Promise.{Ready}
+use Rattle.plan_rule.specs.Laws.Ready.{fine-ready}
+use Rattle.plan_rule.specs.Laws.Promise.{cut-marks, cut-records}
 use Rattle.api_plan_text.specs.Output.{surveyRead, surveyPlan, readPlan, textPlan, outcomeText, surveyOutput, planOutput}
 
 -- ---- reading

@@ -18,10 +18,10 @@ use Rattle.survey_core.specs.Laws.Refusal.{survey-sound}
 use Rattle.check_rule.specs.Check.{Checked}
 use Rattle.plan_duals.specs.Drawing.{recordsOf}
 use Rattle.plan_duals.specs.Laws.Drawing.{bytes-records}
-use Rattle.plan_core.specs.Plan.{Plan, planOf, planRefusal, planning}
-use Rattle.plan_core.specs.Promise.{Ready}
-use Rattle.plan_core.specs.Laws.Ready.{fine-ready}
-use Rattle.plan_core.specs.Laws.Passes.{finished-passes}
+use Rattle.plan_rule.specs.Plan.{Plan, planOf, planRefusal, planning}
+use Rattle.plan_rule.specs.Promise.{Ready}
+use Rattle.plan_rule.specs.Laws.Ready.{fine-ready}
+use Rattle.plan_rule.specs.Laws.Passes.{finished-passes}
 use Rattle.check_text.specs.Verify.{surveyIn, verifying}
 use Rattle.check_text.specs.Laws.Passes.{read-numbered, printed-passes, printed-length}
 use Rattle.check_text.specs.Laws.Length.{verified-length}

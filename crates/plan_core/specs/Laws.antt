@@ -1,5 +1,0 @@
-pub mod Ready
-pub mod Passes
-pub mod Promise
-pub mod Finish
-pub mod Poured

@@ -1,0 +1,11 @@
+pub mod Plan
+pub mod Growing
+pub mod Dropping
+pub mod Poured
+pub mod Promise
+pub mod DropPromise
+pub mod Stages
+pub mod Answer
+pub mod Examples
+pub mod Altered
+pub mod Laws
