@@ -5,7 +5,7 @@ use mathlib.Core.List.{List}
 use lib.ListN.{getD, set}
 use lib.Dec.{eqb}
 use Rattle.base_finite.specs.Below.{counted, tabulate}
-use Rattle.base_limits.specs.Limits.{maxVertices, maxDuals}
+use Rattle.base_limits.specs.Limits.{maxVertices, maxValue, maxDuals}
 use Rattle.base_buffer.specs.Store.{remade}
 use Rattle.theory_steiner.specs.Growth.{active}
 use Rattle.survey_core.specs.Survey.{groupsAlone, problemOf}
@@ -29,7 +29,7 @@ raisedLoads labels flags n d loads = remade (λ v x. x + counted (eqb (getD flag
 pub record RaiseFits (l : List ℕ) (d : ℕ) : Type 0 where
   pub fits : (i : ℕ) → getD l i 0 + d < 2 ^ 64
 
--- Sums of these values stay within 64 bits.
+-- Sums of these values stay within 64 bits: no round raises a value by more than the largest that a dual can have.
 pub record SumFits (values : List ℕ) (count : ℕ) : Type 0 where
   pub few : count ≤ 2 * maxVertices
-  pub low : (c : ℕ) → getD values c 0 ≤ 2 ^ 32
+  pub low : (c : ℕ) → getD values c 0 ≤ maxVertices * maxValue

@@ -122,7 +122,7 @@ module _ (t gb fb sb wb : List ℕ) (s : SurveyText) (read : reading t gb fb sb 
       ap (λ (u : List ℕ). verifying (u ++ printedWith c rounds marks records)) (a .word)
       ∙ render-passes (a .groups) (a .edges) (a .within) marks records bytes rounds few c (subst (λ (x : SurveyText). checking (surveyIn x) marks records ≡ answer c) (a .says) passed)
 
-  -- Both texts together have at most 563,669 bytes.
+  -- Both texts together are no longer than the longest survey's and the longest plan's.
   pub printed-length : (c : Checked) → checking (surveyIn s) marks records ≡ answer c → length (t ++ printedWith c rounds marks records) ≤ longestText + planRoom
   printed-length c passed =
       let l = length-append t (printedWith c rounds marks records) in

@@ -1,11 +1,11 @@
--- How long a well-formed text within the counts can be (document 01, 'Survey text and printed plan': 62,741 bytes).
-use Prim.Native.Nat.{ℕ, _+_, _*_, _≤_}
+-- How long a well-formed text within the counts can be (document 01, 'Survey text and printed plan'; document 02, No. 6).
+use Prim.Native.Nat.{ℕ, _+_, _*_, _≤_, _<_}
 use native.Mathlib.Omega.{arith}
 use mathlib.Core.Path.{_≡_, refl, ap, sym, subst}
 use mathlib.Core.List.{List, [], _∷_, _++_}
 use lib.ListN.{length, length-append}
 use Rattle.format_number.specs.Laws.NumberWord.{digits-most}
-use Rattle.base_limits.specs.Limits.{maxVertices, maxEdges, groupDigits, endpointDigits, weightDigits}
+use Rattle.base_limits.specs.Limits.{maxVertices, maxEdges, groupDigits, endpointDigits, weightDigits, surveyRoom}
 use Rattle.base_limits.specs.Verdict.{answer}
 use Rattle.format_key.specs.Key.{nodesKey, linksKey, nodeKey, linkKey, comma, newline}
 use Rattle.format_write.specs.Decimal.{decimal}
@@ -101,5 +101,9 @@ longest-read t gb fb sb wb s e =
     let a = accepted-render gb fb sb wb t s e in
     subst (λ (x : List ℕ). length x ≤ longestText) (sym (a .word)) (longest-within (a .within))
 
-pub longest-is : longestText ≡ 62741
+pub longest-is : longestText ≡ 50453
 longest-is = refl
+
+-- The programs read it whole.
+pub longest-fits : longestText < surveyRoom
+longest-fits = omega arith
