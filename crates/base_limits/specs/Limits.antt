@@ -1,6 +1,6 @@
 -- The limits of document 01 ('Refused surveys and plans', 'What a plan holds', 'Survey text and printed plan'), each in this one place, with
 -- what follows from them. src/lib.rt has the same numbers for the code.
-use Prim.Native.Nat.{ℕ, _+_, _*_, _-_, _/_}
+use Prim.Native.Nat.{ℕ, _+_, _*_, _-_, _/_, _^_, _<_, _≤_}
 
 -- junctions, at most
 abbrev pub maxVertices : ℕ
@@ -12,7 +12,7 @@ maxEdges = 2048
 
 -- a track's price, at most
 abbrev pub maxWeight : ℕ
-maxWeight = 1000000
+maxWeight = 100000000
 
 -- a moat's amount, at most, in half units
 abbrev pub maxValue : ℕ
@@ -58,20 +58,25 @@ abbrev pub endpointDigits : ℕ
 endpointDigits = 3
 
 abbrev pub weightDigits : ℕ
-weightDigits = 7
+weightDigits = 9
 
 abbrev pub alsoDigits : ℕ
 alsoDigits = 3
 
--- digits of a number in a printed plan, at most: a figure (sites, cost, bound, rounds), a kept track, an amount, a member
+-- No number up to the largest has more decimal digits, and the largest has so many.
+pub record HasDigits (largest digits : ℕ) : Type 0 where
+  pub enough : largest < 10 ^ digits
+  pub least : 10 ^ digits ≤ 10 * largest
+
+-- digits of a number in a printed plan, at most (Laws/Limits has why): a figure (sites, cost, bound, rounds), a kept track, an amount, a member
 abbrev pub figureDigits : ℕ
-figureDigits = 10
+figureDigits = 12
 
 abbrev pub keptDigits : ℕ
 keptDigits = 7
 
 abbrev pub valueDigits : ℕ
-valueDigits = 7
+valueDigits = 9
 
 abbrev pub memberDigits : ℕ
 memberDigits = 7

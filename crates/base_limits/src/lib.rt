@@ -6,7 +6,7 @@ pub const MAX_VERTICES: usize = 256;
 
 pub const MAX_EDGES: usize = 2048;
 
-pub const MAX_WEIGHT: u32 = 1000000;
+pub const MAX_WEIGHT: u32 = 100000000;
 
 pub const MAX_VALUE: u64 = 2 * (MAX_WEIGHT as u64);
 
@@ -35,17 +35,17 @@ pub const GROUP_DIGITS: usize = 7;
 
 pub const ENDPOINT_DIGITS: usize = 3;
 
-pub const WEIGHT_DIGITS: usize = 7;
+pub const WEIGHT_DIGITS: usize = 9;
 
 pub const ALSO_DIGITS: usize = 3;
 
 // Digits of a number in a printed plan, at most: a figure (sites, cost, bound, rounds), a kept edge, a dual's value,
 // a member.
-pub const FIGURE_DIGITS: usize = 10;
+pub const FIGURE_DIGITS: usize = 12;
 
 pub const KEPT_DIGITS: usize = 7;
 
-pub const VALUE_DIGITS: usize = 7;
+pub const VALUE_DIGITS: usize = 9;
 
 pub const MEMBER_DIGITS: usize = 7;
 

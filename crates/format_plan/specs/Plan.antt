@@ -64,7 +64,7 @@ unfoldable pub dualRecords : List PrintedDual → List ℕ
 dualRecords [] = []
 dualRecords (d ∷ ds) = dualRecord d ++ dualRecords ds
 
--- 7 where a buffer is short, once the text is read: m marks and 40 bytes for each moat are wanted.
+-- 7 where a buffer is short, once the text is read: m marks and a record for each moat are wanted.
 unfoldable pub roomTest : (m count marks records : ℕ) → Verdict
 roomTest m count marks records = refuseIf (ltb marks m || ltb (records / recordBytes) count) 7 0
 

@@ -47,7 +47,7 @@ pub record ClaimDigits (c : Claims) : Type 0 where
 unfoldable pub claimsText : Claims → List ℕ
 claimsText c = countLines (c .terminals) (c .cost) (c .bound) (c .rounds)
 
--- A plan as it is printed, and what makes it fit: counts of ten digits, tracks that rise below m, moats that rise and are few.
+-- A plan as it is printed, and what makes it fit: counts within the digits of a figure, tracks that rise below m, moats that rise and are few.
 unfoldable pub planWords : PrintedPlan → List ℕ
 planWords p = claimsText (p .claims) ++ textOf (lineOf keptKey) (p .kept) ++ textOf dualText (p .duals)
 
@@ -84,7 +84,7 @@ pub record RoomFor (m : ℕ) (p : PrintedPlan) (marks records : List ℕ) : Type
   pub tracks : m ≤ length marks
   pub duals : recordBytes * length (p .duals) ≤ length records
 
--- A plan of m tracks keeps at most m, and has at most 511 moats of at most 256 members.
+-- A plan of m tracks keeps at most m, and has no more moats, and they no more members, than the limits allow.
 pub record FewParts (m : ℕ) (p : PrintedPlan) : Type 0 where
   pub kept : length (p .kept) ≤ m
   pub duals : length (p .duals) ≤ maxDuals
@@ -104,7 +104,7 @@ printedDuals records = tabulate (length records / recordBytes) (λ i. printedDua
 unfoldable pub planIn : Claims → (marks records : List ℕ) → PrintedPlan
 planIn claims marks records = record { claims = claims; kept = keptIn marks; duals = printedDuals records }
 
--- What a printed plan is asked: counts of at most ten digits, tracks and moats within the limits, amounts of at most seven digits.
+-- What a printed plan is asked: counts within the digits of a figure, tracks and moats within the limits, amounts within their digits.
 pub record PrintFits (claims : Claims) (marks records : List ℕ) : Type 0 where
   pub few : ClaimDigits claims
   pub tracks : length marks ≤ maxEdges

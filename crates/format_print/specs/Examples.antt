@@ -23,7 +23,7 @@ unfolding counted sumBelow thoseBelow tabulate bitAt byteOf bytesOf memberAt low
     boundKey roundsKey keptKey dualKey digitsWithin decimal lineOf listed membersOf dualLine textBelow keptLine keptLines dualLines countLines planText
 p3-printed = refl
 
-pub no-member-printed : dualLine (recordOf 2000000 (λ v. false)) ≡ ascii "moat=2000000:\n"
+pub no-member-printed : dualLine (recordOf 200000000 (λ v. false)) ≡ ascii "moat=200000000:\n"
 unfolding counted sumBelow thoseBelow tabulate bitAt byteOf bytesOf memberAt lowBytes numberOf recordOf valueIn memberIn dualKey digitsWithin decimal
     listed membersOf dualLine
 no-member-printed = refl

@@ -4,7 +4,7 @@ use mathlib.Core.List.{List}
 use lib.ListN.{getD}
 use lib.Dec.{eqb}
 use Rattle.base_finite.specs.Below.{counted}
-use Rattle.base_limits.specs.Limits.{maxVertices, maxDuals}
+use Rattle.base_limits.specs.Limits.{maxVertices, maxValue, maxDuals}
 use Rattle.base_buffer.specs.Store.{remade}
 
 -- Every value, and every load of the first n vertices, raised by d where the component is active.
@@ -18,7 +18,7 @@ raisedLoads labels flags n d loads = remade (λ v x. x + counted (eqb (getD flag
 pub record RaiseFits (l : List ℕ) (d : ℕ) : Type 0 where
   pub fits : (i : ℕ) → getD l i 0 + d < 2 ^ 64
 
--- Sums of these values stay within 64 bits.
+-- Sums of these values stay within 64 bits: no round raises a value by more than the largest that a dual can have.
 pub record SumFits (values : List ℕ) (count : ℕ) : Type 0 where
   pub few : count ≤ 2 * maxVertices
-  pub low : (c : ℕ) → getD values c 0 ≤ 2 ^ 32
+  pub low : (c : ℕ) → getD values c 0 ≤ maxVertices * maxValue

@@ -9,7 +9,7 @@ use lib.ListN.{length, length-append}
 use Rattle.format_number.specs.Laws.NumberWord.{digits-most}
 use Rattle.base_finite.specs.Below.{sumBelow}
 use Rattle.base_finite.specs.Laws.Below.{lt-or-ge}
-use Rattle.base_limits.specs.Limits.{recordBytes, maxVertices, maxEdges, maxDuals, valueDigits, longestDual, planRoom}
+use Rattle.base_limits.specs.Limits.{recordBytes, maxVertices, maxEdges, maxDuals, valueDigits, longestMembers, longestDual, planRoom}
 use Rattle.base_limits.specs.Verdict.{answer}
 use Rattle.format_key.specs.Key.{keptKey, comma}
 use Rattle.format_write.specs.Decimal.{decimal}
@@ -63,8 +63,8 @@ followers-most {n} {low} h (rising {e = v} {es = vs} a b r) =
     let y = length-append (comma ∷ []) (decimal v) in
     omega arith
 
--- Printed members take at most 913 bytes.
-listed-most : (vs : List ℕ) → Rising memberNumbers 0 vs → length (listed vs) ≤ 913
+-- Printed members take no more than all of them.
+listed-most : (vs : List ℕ) → Rising memberNumbers 0 vs → length (listed vs) ≤ longestMembers
 unfolding listed memberWords separator followers
 listed-most [] r = omega arith
 listed-most (v ∷ vs) r =

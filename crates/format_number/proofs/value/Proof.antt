@@ -1,4 +1,4 @@
--- `format_number::value` meets its contract: what has been read and what is left write the number, and ten digits fit.
+-- `format_number::value` meets its contract: what has been read and what is left write the number, and so many digits fit.
 use native.Mathlib.Omega.{arith}
 use borrow.Author.Needs.{needs}
 use Prim.Native.Nat.{ℕ, _+_, _*_, _-_, _^_, _≤_}

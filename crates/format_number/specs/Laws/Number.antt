@@ -10,6 +10,7 @@ use lib.ListN.{length, getD, take, drop, drop-of-length-le, length-take, length-
 use lib.Dec.{eqb, leb}
 use lib.Seq.{take-nil, drop-cons}
 use borrow.Author.Tests.{eqb-true, leb-true, leb-false}
+use Rattle.base_limits.specs.Limits.{maxDigits}
 use Rattle.format_write.specs.Decimal.{spelledAfter}
 use Rattle.format_number.specs.Number.{classOf, isDigit, digitsEnd, numeralEnd, numeralAt}
 use Rattle.format_number.specs.Laws.Byte.{digit-inside}
@@ -83,8 +84,10 @@ numeral-past t limit at h = by-start (leb at (length t)) refl
 pub value-step : (n d i : ℕ) → n + 23 ≤ 23 * 10 ^ i → d < 256 → n * 10 + (d - 48) + 23 ≤ 23 * 10 ^ (i + 1)
 value-step n d i h k = rw (add-one, pow-suc) (omega arith)
 
-pub spelled-fits : (n i : ℕ) → n + 23 ≤ 23 * 10 ^ i → i < 10 → n ≤ 23000000000
-spelled-fits n i h k = let p : 10 ^ i ≤ 10 ^ 9 = pow-le-pow-right {n = 10} (omega arith) {i = i} {j = 9} (omega arith) in omega arith
+-- Within the digit limit that comes to far less than 64 bits hold.
+pub spelled-fits : (n i : ℕ) → n + 23 ≤ 23 * 10 ^ i → i < maxDigits → n ≤ 23 * 10 ^ maxDigits
+spelled-fits n i h k =
+    let p : 10 ^ i ≤ 10 ^ maxDigits = pow-le-pow-right {n = 10} (omega arith) {i = i} {j = maxDigits} (omega arith) in omega arith
 
 pub spelled-more : (n i : ℕ) (s : List ℕ) → i < length s → spelledAfter n (drop i s) ≡ spelledAfter (n * 10 + (getD s i 0 - 48)) (drop (i + 1) s)
 unfolding spelledAfter

@@ -72,7 +72,7 @@ line-passed t i at e =
     let two = then-value (membersAt t (one .1) .end) _ (one .3) in
     dual-passed i (two .0) (checked-fine _ _ _ (two .3)) .1
 
--- No more than 511 moats are read.
+-- No more moats are read than there can be.
 items-few : (t : List ℕ) (fuel low i at : ℕ) → i ≤ maxDuals → length (itemsFrom (dualReader t) fuel low i at .values) + i ≤ maxDuals
 unfolding itemsFrom following dualReader
 items-few t zero low i at h = omega arith

@@ -1,8 +1,9 @@
 -- `sum_values` meets its contract: it sums upwards.
-use Prim.Native.Nat.{_≤_, _-_, _^_}
+use Prim.Native.Nat.{_≤_, _-_, _*_}
 use mathlib.Core.Path.{_≡_, refl}
 use lib.ListN.{getD}
 use Rattle.base_finite.specs.Below.{sumBelow}
+use Rattle.base_limits.specs.Limits.{maxVertices, maxValue}
 use Rattle.base_finite.specs.Laws.Below.{sum-limit}
 use Rattle.base_finite.specs.Laws.Count.{sum-more, sum-end}
 use native.Mathlib.Omega.{arith}
@@ -26,7 +27,7 @@ add-sum c =
     let fits = c .before .before .before .before .pre in
     let few = fits .few in
     let low = fits .low (turn .loop .c) in
-    let b = sum-limit (turn .loop .c) (2 ^ 32) (λ i. getD (c .before .before .before .before .args .values .now) i 0) (λ i _. fits .low i) in
+    let b = sum-limit (turn .loop .c) (maxVertices * maxValue) (λ i. getD (c .before .before .before .before .args .values .now) i 0) (λ i _. fits .low i) in
     let e = turn .loop .inv .1 in
     let g = c .at64 .ensures in
     omega arith

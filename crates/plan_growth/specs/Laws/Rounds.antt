@@ -1,6 +1,6 @@
 -- One round after another: what the arrays represent before the first and after each, and the growth that they are when no candidate is left (001, Algorithm 22.3).
 -- `grow_rounds` and `no_rounds` cite it.
-use Prim.Native.Nat.{ℕ, suc, _+_, _-_, _<_, _≤_, _^_}
+use Prim.Native.Nat.{ℕ, suc, _+_, _*_, _-_, _<_, _≤_, _^_}
 use native.Mathlib.Omega.{arith}
 use mathlib.Core.Path.{_≡_, refl, ap, sym, _∙_}
 use mathlib.Core.Logic.{_⊎_, inl, inr}
@@ -11,7 +11,7 @@ use lib.Dec.{ltb}
 use borrow.Author.Tests.{lt-ltb, le-ltb}
 use Rattle.base_finite.specs.Below.{counted, sumBelow, tabulate}
 use Rattle.base_finite.specs.Laws.Below.{sum-cong, sum-zero, length-tabulate, getD-tabulate, counted-false, lt-or-ge}
-use Rattle.base_limits.specs.Limits.{maxVertices, maxEdges, maxWeight, maxDuals}
+use Rattle.base_limits.specs.Limits.{maxVertices, maxEdges, maxWeight, maxValue, maxDuals}
 use Rattle.theory_steiner.specs.Problem.{Problem}
 use Rattle.theory_steiner.specs.Growth.{Winner, nobody, edge, never, winner, numbers, start, stateAt}
 use Rattle.theory_steiner.specs.Pruning.{dualBound}
@@ -118,7 +118,7 @@ module _ {s : Survey} {r time : ℕ} {a : Arrays} (h : Represents s r time a) wh
       let g = going h in
       record { few = omega arith; low = λ c. by c (lt-or-ge c maxDuals) }
     where
-      by : (c : ℕ) → (c < maxDuals) ⊎ (maxDuals ≤ c) → getD (a .values) c 0 ≤ 2 ^ 32
+      by : (c : ℕ) → (c < maxDuals) ⊎ (maxDuals ≤ c) → getD (a .values) c 0 ≤ maxVertices * maxValue
       by c (inl b) =
           let k = value-at c b in
           let q = value-bounded (problemOf s) (survey-sound s (h .sound)) maxWeight (weights-light h) (stateAt-reached (problemOf s) r) c in
