@@ -37,7 +37,7 @@ text-same f a (suc n) =
 
 -- The longest line of each kind.
 longEdge : Edge
-longEdge = record { first = 999; second = 999; weight = 9999999 }
+longEdge = record { first = 999; second = 999; weight = 999999999 }
 
 node-long : length (lineOf nodeKey 9999999) ≡ lineBytes nodeKey groupDigits
 unfolding lineOf decimal digitsWithin
