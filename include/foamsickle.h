@@ -35,7 +35,7 @@ extern "C" {
 /* Limits: junctions, tracks, a track's price, a moat's amount in half units, pairs; group numbers lie below the last. */
 #define FOAMSICKLE_MAX_VERTICES 256
 #define FOAMSICKLE_MAX_EDGES 2048
-#define FOAMSICKLE_MAX_WEIGHT 1000000
+#define FOAMSICKLE_MAX_WEIGHT 100000000
 #define FOAMSICKLE_MAX_VALUE (2 * FOAMSICKLE_MAX_WEIGHT)
 #define FOAMSICKLE_MAX_PAIRS 256
 #define FOAMSICKLE_GROUP_NUMBERS 256

@@ -1,6 +1,6 @@
-//! Track planning by moats, a second time: every operation of document 01 ("01" below), with request No. 2 of document
-//! 02 ("No. 2": groups as lists that may overlap), written from those papers alone, in their words and their order. The
-//! product is held against what stands here.
+//! Track planning by moats, a second time: every operation of document 01 ("01" below), with requests of document 02
+//! ("No. 2": groups as lists that may overlap; "No. 6": prices for bridge decks), written from those papers alone, in
+//! their words and their order. The product is held against what stands here.
 //!
 //! | module  | what it answers |
 //! |---------|-----------------|
@@ -31,12 +31,12 @@ pub mod verifying;
 pub const MAX_JUNCTIONS: usize = 256;
 /// 01, refusal 3: more tracks are refused.
 pub const MAX_TRACKS: usize = 2_048;
-/// 01, refusal 6: a higher price is refused.
-pub const MAX_PRICE: u32 = 1_000_000;
+/// 01, refusal 6, and No. 6: a higher price is refused.
+pub const MAX_PRICE: u32 = 100_000_000;
 /// No. 2, refusal 18: more pairs are refused.
 pub const MAX_PAIRS: usize = 256;
-/// 01, refusal 11: a larger amount is refused.
-pub const MAX_AMOUNT: u64 = 2_000_000;
+/// 01, refusal 11, and No. 6: a larger amount is refused.
+pub const MAX_AMOUNT: u64 = 200_000_000;
 /// 01, refusal 9: more records are refused.
 pub const MAX_RECORDS: usize = 511;
 /// 01, refusal 17: a higher group number is refused.
@@ -47,13 +47,13 @@ pub const RECORD_BYTES: usize = 40;
 pub const AMOUNT_BYTES: usize = 8;
 /// 01: the most digits of a count and of a node line's group in a text.
 pub const COUNT_DIGITS: usize = 7;
-/// 01: the most digits of a price in a text.
-pub const PRICE_DIGITS: usize = 7;
+/// No. 6: the most digits of a price in a text.
+pub const PRICE_DIGITS: usize = 9;
 /// No. 2: the most digits of an end and of both numbers of an also line.
 pub const END_DIGITS: usize = 3;
 /// The longest well-formed text that neither 1 nor 3 refuses: all lines that there can be, each number as long as it
 /// can be.
-pub const MAX_TEXT: usize = 49_685;
+pub const MAX_TEXT: usize = 53_781;
 /// The program reads no more of its standard input.
 pub const MAX_INPUT: usize = 65_536;
 

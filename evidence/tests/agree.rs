@@ -5,7 +5,7 @@ use evidence::check::{check, Passed};
 use evidence::gen::{overlap, refused_survey, survey, text_case, tiny, Rng, Size};
 use evidence::plan::{fast, growth, owned, record_room, reference, Workspace, KEPT};
 use evidence::print::program;
-use evidence::{brute, Survey};
+use evidence::{brute, Survey, MAX_AMOUNT};
 
 fn planners_agree(survey: &Survey, workspace: &mut Workspace) {
     let plain = owned(reference, survey.view());
@@ -91,7 +91,7 @@ fn amounts_stay_within_the_checkers_limit() {
         let survey = tiny(&mut Rng::of_case(23, case));
         let growth = growth(survey.view());
         assert_eq!(growth.moats.len(), survey.groups.len() + growth.rounds.len());
-        assert!(growth.moats.iter().all(|moat| moat.amount <= 2_000_000));
+        assert!(growth.moats.iter().all(|moat| moat.amount <= MAX_AMOUNT));
     }
 }
 

@@ -46,8 +46,8 @@ fn each_refusal_by_hand() {
     assert_eq!(check(view, &[255, 3], &records(&[(0, &[])])), refused(10, 0));
 
     assert_eq!(check(view, &[2, 2], &records(&[(6, &[0]), (0, &[2])])), refused(11, 1));
-    assert_eq!(check(view, &[2, 2], &records(&[(2_000_001, &[0])])), refused(11, 0));
-    assert_eq!(check(view, &[2, 2], &records(&[(2_000_000, &[0])])), refused(13, 0));
+    assert_eq!(check(view, &[2, 2], &records(&[(200_000_001, &[0])])), refused(11, 0));
+    assert_eq!(check(view, &[2, 2], &records(&[(200_000_000, &[0])])), refused(13, 0));
     assert_eq!(check(view, &[2, 2], &records(&[(1 << 63, &[0])])), refused(11, 0));
     assert_eq!(check(view, &[2, 2], &records(&[(1, &[0, 3])])), refused(11, 0));
     assert_eq!(check(view, &[2, 2], &records(&[(1, &[0, 255])])), refused(11, 0));

@@ -118,12 +118,12 @@ fn cycles() {
 #[test]
 fn price_limit() {
     for planner in PLANNERS {
-        let plan = owned(planner, Survey::new(&[1, 1], &[(0, 1, 1_000_000)]).view()).unwrap();
-        assert_eq!(plan.counts.cost, 1_000_000);
+        let plan = owned(planner, Survey::new(&[1, 1], &[(0, 1, 100_000_000)]).view()).unwrap();
+        assert_eq!(plan.counts.cost, 100_000_000);
         let one_grows =
-            owned(planner, Survey::new(&[1, 0, 1], &[(0, 1, 1_000_000), (1, 2, 1_000_000)]).view()).unwrap();
-        assert_eq!(one_grows.counts.bound, 4_000_000);
-        let over = Survey::new(&[1, 1], &[(0, 1, 1_000_001)]);
+            owned(planner, Survey::new(&[1, 0, 1], &[(0, 1, 100_000_000), (1, 2, 100_000_000)]).view()).unwrap();
+        assert_eq!(one_grows.counts.bound, 400_000_000);
+        let over = Survey::new(&[1, 1], &[(0, 1, 100_000_001)]);
         assert_eq!(owned(planner, over.view()), Err(refused(6, 0)));
         assert_eq!(check(over.view(), &[2], &[]), Err(refused(6, 0)));
     }
@@ -135,10 +135,15 @@ fn junction_limit() {
         assert!(owned(planner, Survey::new(&[0; 256], &[]).view()).is_ok());
         assert_eq!(owned(planner, Survey::new(&[0; 257], &[]).view()), Err(refused(1, 0)));
         assert_eq!(owned(planner, Survey::new(&[], &[]).view()), Err(refused(1, 0)));
-        let path: Vec<_> = (1..256).map(|v| (v - 1, v, 1_000_000)).collect();
+        let path: Vec<_> = (1..256).map(|v| (v - 1, v, 100_000_000)).collect();
         let plan = owned(planner, Survey::new(&[255; 256], &path).view()).unwrap();
         assert_eq!((plan.counts.rounds, plan.counts.moats), (255, 256));
-        assert_eq!(plan.counts.cost, 255_000_000);
+        assert_eq!(plan.counts.cost, 25_500_000_000);
+        // Two sites at the ends: the load of each passes 32 bits.
+        let mut ends = [0; 256];
+        (ends[0], ends[255]) = (255, 255);
+        let plan = owned(planner, Survey::new(&ends, &path).view()).unwrap();
+        assert_eq!((plan.counts.rounds, plan.counts.cost, plan.counts.bound), (255, 25_500_000_000, 51_000_000_000));
     }
 }
 
@@ -155,7 +160,7 @@ fn track_limit() {
 #[test]
 fn refusals_of_planning_in_their_order() {
     for planner in PLANNERS {
-        let mut survey = Survey::new(&[1, 1], &[(2, 2, 1_000_001), (1, 1, 1_000_001), (0, 1, 1_000_001)]);
+        let mut survey = Survey::new(&[1, 1], &[(2, 2, 100_000_001), (1, 1, 100_000_001), (0, 1, 100_000_001)]);
         assert_eq!(owned(planner, survey.view()), Err(refused(4, 0)));
         survey.first[0] = 0;
         assert_eq!(owned(planner, survey.view()), Err(refused(4, 0)));
@@ -213,7 +218,7 @@ fn buffers_of_planning() {
         assert_eq!(planner(worked(12).view(), &mut [], &mut [0; 119]), Err(refused(7, 0)));
         assert_eq!(planner(worked(12).view(), &mut [], &mut [0; 120]), Err(refused(8, 1)));
         assert_eq!(planner(worked(7).view(), &mut [0], &mut [0; 119]), Err(refused(7, 0)));
-        assert_eq!(planner(Survey::new(&[0, 0], &[(0, 1, 1_000_001)]).view(), &mut [], &mut []), Err(refused(6, 0)));
+        assert_eq!(planner(Survey::new(&[0, 0], &[(0, 1, 100_000_001)]).view(), &mut [], &mut []), Err(refused(6, 0)));
         // With k 0 the marks are 0 and every record byte stays.
         let (mut marks, mut records) = ([9; 2], [9; 120]);
         assert!(planner(worked(7).view(), &mut marks, &mut records).is_ok());
@@ -260,8 +265,8 @@ fn reading_counts_and_digits() {
     assert_eq!(parsed("nodes=1\nlinks=0\nnode=0\n\n"), Err(refused(16, 23)));
     assert_eq!(parsed("nodes=1\nlinks=0\nnode=0"), Err(refused(16, 22)));
     // 4, 5 and 6 wait for planning.
-    let all_wrong = "nodes=1\nlinks=1\nnode=255\nlink=999,999,9999999\n";
-    assert_eq!(parsed(all_wrong), Ok(Survey::new(&[255], &[(999, 999, 9_999_999)])));
+    let all_wrong = "nodes=1\nlinks=1\nnode=255\nlink=999,999,999999999\n";
+    assert_eq!(parsed(all_wrong), Ok(Survey::new(&[255], &[(999, 999, 999_999_999)])));
     assert_eq!(program(reference, all_wrong.as_bytes()), "refused=4\nplace=0\n");
 }
 
@@ -324,17 +329,17 @@ fn lent_by(survey: &mut Survey) -> Lent<'_> {
 fn longest_text() {
     let nodes = "node=9999999\n".repeat(256);
     let alsos = "also=999,999\n".repeat(256);
-    let links = "link=999,999,9999999\n".repeat(2_048);
+    let links = "link=999,999,999999999\n".repeat(2_048);
     let text = format!("nodes=256\nlinks=2048\n{nodes}{alsos}{links}");
-    assert_eq!(text.len(), 49_685);
-    assert_eq!(MAX_TEXT, 49_685);
+    assert_eq!(text.len(), 53_781);
+    assert_eq!(MAX_TEXT, 53_781);
     assert_eq!(MAX_INPUT, 65_536);
     assert_eq!(parsed(&text), Err(refused(17, 0)));
     let nodes = "node=255\n".repeat(256);
     let text = format!("nodes=256\nlinks=2048\n{nodes}{alsos}{links}");
     assert_eq!(parsed(&text), Err(refused(17, 999)));
     let text = format!("nodes=256\nlinks=2048\n{nodes}{links}");
-    assert_eq!(parsed(&text).unwrap().prices, [9_999_999; 2_048]);
+    assert_eq!(parsed(&text).unwrap().prices, [999_999_999; 2_048]);
     // What stands past the last line is found at once, and what stands past 65,536 bytes isn't looked at.
     let mut longer = text.clone().into_bytes();
     longer.resize(MAX_INPUT + 10, b'\n');

@@ -10,7 +10,7 @@ type Kind = (&'static str, &'static [usize]);
 
 const NODE: Kind = ("node=", &[7]);
 const ALSO: Kind = ("also=", &[3, 3]);
-const LINK: Kind = ("link=", &[3, 3, 7]);
+const LINK: Kind = ("link=", &[3, 3, 9]);
 
 /// The kind of a line among these, the last of which may be open. Behind the node lines the lines that begin with an a
 /// are also lines, as far as there are not more than 256 of them.
@@ -220,7 +220,7 @@ fn every_short_end() {
         "nodes=1\nlinks=1\nnode=0\nlink=",
         "nodes=1\nlinks=1\nnode=0\nlink=99",
         "nodes=1\nlinks=1\nnode=0\nlink=1,1,",
-        "nodes=1\nlinks=1\nnode=0\nlink=1,1,999999",
+        "nodes=1\nlinks=1\nnode=0\nlink=1,1,99999999",
         "nodes=256\nlinks=204",
         "nodes=999999",
         "nodes=9999999",

@@ -9,7 +9,7 @@
 use evidence::check::check;
 use evidence::gen::{damaged_plan_of, tiny, Rng, DAMAGES};
 use evidence::plan::{owned, reference};
-use evidence::{brute, Survey};
+use evidence::{brute, Survey, MAX_PRICE};
 use std::collections::BTreeMap;
 use std::process::ExitCode;
 
@@ -60,7 +60,8 @@ fn main() -> ExitCode {
 
     let mut surveys: Vec<Survey> = Vec::new();
     for k in 2..=7 {
-        surveys.extend([hub(k, 1, 2), hub(k, 10, 19), hub(k, 1_000_000, 1_000_000), hub(k, 500_000, 999_999)]);
+        let dear = [hub(k, MAX_PRICE, MAX_PRICE), hub(k, MAX_PRICE / 2, MAX_PRICE - 1)];
+        surveys.extend([hub(k, 1, 2), hub(k, 10, 19)].into_iter().chain(dear));
     }
     let hubs = surveys.len() as u64;
 

@@ -57,11 +57,11 @@ pub const P3: &str = "nodes=3\nlinks=2\nnode=1\nnode=0\nnode=1\nlink=0,1,3\nlink
 pub const P3_PLAN: &str = "sites=2\ncost=7\nbound=14\nrounds=2\nkeep=0\nkeep=1\nmoat=6:0\nmoat=7:2\nmoat=1:0,1\n";
 
 /// Texts, read into buffers that hold every survey.
-const TEXTS: [(&str, Result<Tracks, Refused>); 24] = [
+const TEXTS: [(&str, Result<Tracks, Refused>); 27] = [
     (P3, Ok((&[1, 0, 1], &[(0, 1, 3), (1, 2, 4)]))),
     ("nodes=1\nlinks=0\nnode=0\n", Ok((&[0], &[]))),
     // 4, 5 and 6 wait for planning.
-    ("nodes=2\nlinks=1\nnode=255\nnode=1\nlink=0,999,1000001\n", Ok((&[255, 1], &[(0, 999, 1_000_001)]))),
+    ("nodes=2\nlinks=1\nnode=255\nnode=1\nlink=0,999,100000001\n", Ok((&[255, 1], &[(0, 999, 100_000_001)]))),
     ("", Err((16, 0))),
     ("nodes=03", Err((16, 7))),
     ("nodes=300", Err((16, 9))),
@@ -83,7 +83,11 @@ const TEXTS: [(&str, Result<Tracks, Refused>); 24] = [
     // Ends have at most three digits.
     ("nodes=2\nlinks=1\nnode=1\nnode=1\nlink=1000,1,5\n", Err((16, 38))),
     ("nodes=2\nlinks=1\nnode=1\nnode=1\nlink=0,1000,5\n", Err((16, 40))),
-    ("nodes=2\nlinks=1\nnode=1\nnode=1\nlink=0,1,10000000\n", Err((16, 46))),
+    // Prices nine, counts and groups seven.
+    ("nodes=1\nlinks=1\nnode=1\nlink=0,0,999999999\n", Ok((&[1], &[(0, 0, 999_999_999)]))),
+    ("nodes=2\nlinks=1\nnode=1\nnode=1\nlink=0,1,1000000000\n", Err((16, 48))),
+    ("nodes=1\nlinks=10000000\n", Err((16, 21))),
+    ("nodes=1\nlinks=0\nnode=10000000\n", Err((16, 28))),
 ];
 
 /// The beginning of a text with three junctions of groups 1, 0 and 2: 37 bytes, and no link line, so that it may end
@@ -345,7 +349,7 @@ impl Cases<'_> {
             "nodes=256\nlinks=2048\n".to_string(),
             "node=9999999\n".repeat(256),
             "also=999,999\n".repeat(256),
-            "link=999,999,9999999\n".repeat(2_048),
+            "link=999,999,999999999\n".repeat(2_048),
         ];
         self.same("the longest text", longest.concat().len(), MAX_TEXT)?;
         self.read(&longest.concat(), Lengths::ENOUGH, Err((17, 0)))?;
@@ -381,8 +385,8 @@ impl Cases<'_> {
         }
         self.same("planning P12", self.plan(&worked(12)).0, one_number((8, 1)))?;
         for (what, survey, want) in [
-            ("price 1,000,000", Survey::new(&[1, 1], &[(0, 1, MAX_PRICE)]), 0),
-            ("price 1,000,001", Survey::new(&[1, 1], &[(0, 1, MAX_PRICE + 1)]), 6),
+            ("price 100,000,000", Survey::new(&[1, 1], &[(0, 1, MAX_PRICE)]), 0),
+            ("price 100,000,001", Survey::new(&[1, 1], &[(0, 1, MAX_PRICE + 1)]), 6),
             ("256 junctions", Survey::new(&[0; MAX_JUNCTIONS], &[]), 0),
             ("257 junctions", Survey::new(&[0; MAX_JUNCTIONS + 1], &[]), 1),
             ("2,048 tracks", Survey::new(&[1, 1], &[(0, 1, 3); MAX_TRACKS]), 0),

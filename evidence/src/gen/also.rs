@@ -37,7 +37,7 @@ const SOUND: [&str; 14] = [
     // A junction needs its list by the pair alone.
     "nodes=4\nlinks=3\nnode=1\nnode=0\nnode=0\nnode=1\nalso=2,1\nlink=0,1,1\nlink=1,3,1\nlink=1,2,1\n",
     // 4, 5 and 6 wait for planning.
-    "nodes=3\nlinks=3\nnode=1\nnode=1\nnode=2\nalso=1,2\nlink=0,1,3\nlink=999,999,9999999\nlink=1,1,1\n",
+    "nodes=3\nlinks=3\nnode=1\nnode=1\nnode=2\nalso=1,2\nlink=0,1,3\nlink=999,999,999999999\nlink=1,1,1\n",
 ];
 
 /// Also lines of the survey with three junctions of groups 1, 0 and 2.

@@ -40,7 +40,7 @@ pub enum Damage {
     HighMark,
     /// An amount 0 (11).
     NoAmount,
-    /// An amount over 2,000,000 (11).
+    /// An amount over 200,000,000 (11).
     HighAmount,
     /// A member n or more (11).
     Stranger,

@@ -12,10 +12,10 @@ use std::sync::OnceLock;
 
 /// Numbers at the boundaries of counts, groups, ends, prices and digits, and some that are no number.
 #[rustfmt::skip]
-pub(super) const TOKENS: [&str; 40] = [
+pub(super) const TOKENS: [&str; 44] = [
     "0", "1", "2", "3", "9", "10", "00", "01", "03", "010", "99", "100", "254", "255", "256", "257", "300", "999",
     "1000", "2047", "2048", "2049", "65535", "65536", "99999", "999999", "1000000", "1000001", "9999999", "10000000",
-    "99999999", "4294967296", "18446744073709551616", "", "-1", "+1", " 1", "1 ", "1.0", "x",
+    "99999999", "100000000", "100000001", "999999999", "1000000000", "4294967296", "18446744073709551616", "", "-1", "+1", " 1", "1 ", "1.0", "x",
 ];
 
 /// Bytes that stand for the classes in the text, and some that occur nowhere.
@@ -77,7 +77,7 @@ fn build_directed() -> Vec<Vec<u8>> {
             all.push(format!("nodes=2\nlinks=2\nnode=1\nnode=1\nlink=0,1,7\nlink={track}\n").into_bytes());
         }
     }
-    for digits in 1..=9 {
+    for digits in 1..=11 {
         for digit in ["0", "1", "9"] {
             all.push(format!("nodes={}\n", digit.repeat(digits)).into_bytes());
             all.push(format!("nodes=1\nlinks={}\n", digit.repeat(digits)).into_bytes());
@@ -122,11 +122,12 @@ fn build_directed() -> Vec<Vec<u8>> {
     all.push(b"nodes=257\nlinks=2049\n".to_vec());
     all.push(b"nodes=2\nlinks=2049\nnode=256\n".to_vec());
     all.push(b"nodes=2\nlinks=0\nnode=256\nnode=0256\n".to_vec());
-    all.push(b"nodes=2\nlinks=1\nnode=1\nnode=256\nlink=9,9,1000001\n".to_vec());
-    all.push(b"nodes=2\nlinks=1\nnode=1\nnode=1\nlink=9,9,1000001\nx".to_vec());
-    all.push(b"nodes=2\nlinks=1\nnode=1\nnode=1\nlink=9,9,1000001\n".to_vec());
-    all.push(b"nodes=2\nlinks=1\nnode=1\nnode=1\nlink=1,1,1000001\n".to_vec());
-    all.push(b"nodes=2\nlinks=2\nnode=1\nnode=1\nlink=0,1,1000001\nlink=2,0,1\n".to_vec());
+    let dear = MAX_PRICE + 1;
+    all.push(format!("nodes=2\nlinks=1\nnode=1\nnode=256\nlink=9,9,{dear}\n").into_bytes());
+    all.push(format!("nodes=2\nlinks=1\nnode=1\nnode=1\nlink=9,9,{dear}\nx").into_bytes());
+    all.push(format!("nodes=2\nlinks=1\nnode=1\nnode=1\nlink=9,9,{dear}\n").into_bytes());
+    all.push(format!("nodes=2\nlinks=1\nnode=1\nnode=1\nlink=1,1,{dear}\n").into_bytes());
+    all.push(format!("nodes=2\nlinks=2\nnode=1\nnode=1\nlink=0,1,{dear}\nlink=2,0,1\n").into_bytes());
     all.push(b"nodes=3\nlinks=1\nnode=5\nnode=5\nnode=5\nlink=0,1,1\n".to_vec());
     all.push(b"nodes=4\nlinks=0\nnode=9\nnode=3\nnode=3\nnode=9\n".to_vec());
     all.push(b"nodes=5\nlinks=1\nnode=9\nnode=3\nnode=0\nnode=3\nnode=9\nlink=1,3,0\n".to_vec());

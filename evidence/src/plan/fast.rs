@@ -4,11 +4,11 @@
 use super::{admitted, Counts, DROPPED, KEPT, NOT_PICKED};
 use crate::{Refusal, View, AMOUNT_BYTES, MAX_JUNCTIONS, MAX_RECORDS, MAX_TRACKS, RECORD_BYTES};
 
-/// Bits of a key that hold the track number; the wait stands above them. A wait is at most twice the highest price,
-/// below 2^21, and a track number is below 2^11, so a key fits 32 bits and the smallest key is the winner.
+/// Bits of a key that hold the track number; the wait, which is at most twice the highest price, stands above them. So
+/// the smallest key is the winner.
 const TRACK_BITS: u32 = 11;
 /// The key of no track.
-const NOBODY: u32 = u32::MAX;
+const NOBODY: u64 = u64::MAX;
 const NONE: u16 = u16::MAX;
 
 /// A track whose ends may still lie in different components, in one word: its ends in the lowest two bytes, its number
@@ -19,14 +19,17 @@ fn live(u: u32, v: u32, number: usize, price: u32) -> Live {
     u64::from(u) | u64::from(v) << 8 | (number as u64) << 16 | u64::from(2 * price) << 32
 }
 
-/// What a round needs of a junction, in one word: its load in the lower half, then whether its component grows, and
-/// from `COMPONENT` on the component. Two of them add up without a carry into the component.
+/// What a round needs of a junction, in one word: its load, then whether its component grows, and from `COMPONENT` on
+/// the component. A load is at most n - 1 waits of twice the highest price each, below 2^39, so two of them add up
+/// without a carry into the component.
 type State = u64;
-const GROWS: u32 = 32;
-const COMPONENT: u32 = 40;
+const GROWS: u32 = 40;
+const COMPONENT: u32 = 48;
+/// The load of a state, or of the sum of two.
+const LOAD: u64 = (1 << GROWS) - 1;
 
-fn state(load: u32, grows: bool, component: usize) -> State {
-    u64::from(load) | u64::from(grows) << GROWS | (component as u64) << COMPONENT
+fn state(load: u64, grows: bool, component: usize) -> State {
+    load | u64::from(grows) << GROWS | (component as u64) << COMPONENT
 }
 
 /// The lists of each junction of a sound survey: its own group, 0 for none, and the groups of its pairs, which stand in
@@ -226,12 +229,12 @@ impl Workspace {
             self.picked[rounds] = track as u16;
 
             // Every growing component is raised.
-            *bound += u64::from(wait) * growing as u64;
+            *bound += wait * growing as u64;
             for &component in &self.growing[..growing] {
-                self.amount[component as usize] += u64::from(wait);
+                self.amount[component as usize] += wait;
             }
             for state in &mut self.state[..n] {
-                *state += (*state >> GROWS & 1) * u64::from(wait);
+                *state += (*state >> GROWS & 1) * wait;
             }
 
             // The two components become one, which grows if some list is inside and outside it. No other
@@ -252,7 +255,7 @@ impl Workspace {
             let grows = members(&self.members[merged])
                 .any(|v| lists.of_junction(v).any(|group| self.inside[group] < self.total[group]));
             for v in members(&self.members[merged]) {
-                self.state[v] = state(self.state[v] as u32, grows, merged);
+                self.state[v] = state(self.state[v] & LOAD, grows, merged);
             }
             let mut kept = 0;
             for i in 0..growing {
@@ -271,7 +274,7 @@ impl Workspace {
     }
 
     /// The smallest key among the live tracks. Those inside one component leave the list for good.
-    fn winner(&mut self, alive: &mut usize) -> u32 {
+    fn winner(&mut self, alive: &mut usize) -> u64 {
         let mut winner = NOBODY;
         let mut left = 0;
         for i in 0..(*alive).min(MAX_TRACKS) {
@@ -283,8 +286,8 @@ impl Workspace {
             left += usize::from(apart);
             let both = one + other;
             let growers = (both >> GROWS) as u32 & 3;
-            let remains = ((track >> 32) as u32).wrapping_sub(both as u32);
-            let key = (remains >> (growers >> 1)) << TRACK_BITS | (track >> 16) as u16 as u32;
+            let remains = (track >> 32).wrapping_sub(both & LOAD);
+            let key = (remains >> (growers >> 1)) << TRACK_BITS | (track >> 16) as u16 as u64;
             winner = winner.min(if apart & (growers != 0) { key } else { NOBODY });
         }
         *alive = left;
