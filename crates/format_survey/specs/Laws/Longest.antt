@@ -101,7 +101,7 @@ longest-read t gb fb sb wb s e =
     let a = accepted-render gb fb sb wb t s e in
     subst (λ (x : List ℕ). length x ≤ longestText) (sym (a .word)) (longest-within (a .within))
 
-pub longest-is : longestText ≡ 50453
+pub longest-is : longestText ≡ 52949
 longest-is = refl
 
 -- The programs read it whole.
