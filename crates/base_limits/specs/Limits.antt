@@ -4,7 +4,7 @@ use Prim.Native.Nat.{ℕ, _+_, _*_, _-_, _/_, _^_, _<_, _≤_}
 
 -- junctions, at most
 abbrev pub maxVertices : ℕ
-maxVertices = 256
+maxVertices = 448
 
 -- tracks, at most
 abbrev pub maxEdges : ℕ
@@ -99,7 +99,7 @@ longestDual = 7 + wordDigits + longestMembers
 
 -- bytes that hold every moat line
 abbrev pub dualRoom : ℕ
-dualRoom = 1024
+dualRoom = 2048
 
 -- bytes that hold every plan within the limits: four counts behind 24 bytes of keys, a line of at most 10 bytes for each track, the moat lines
 abbrev pub planRoom : ℕ
@@ -115,4 +115,4 @@ surveyRoom = 65536
 
 -- bytes that the program `verify` reads, at most: every survey's text with a plan's behind it
 abbrev pub verifyRoom : ℕ
-verifyRoom = 1048576
+verifyRoom = 2097152

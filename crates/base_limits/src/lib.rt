@@ -2,7 +2,7 @@
 // specs/Limits.antt has the same names.
 
 // Vertices, edges, an edge's weight, a dual's value in half units: at most.
-pub const MAX_VERTICES: usize = 256;
+pub const MAX_VERTICES: usize = 448;
 
 pub const MAX_EDGES: usize = 2048;
 
@@ -62,7 +62,7 @@ pub const LONGEST_MEMBERS: usize = 4 * MAX_VERTICES - 111;
 pub const LONGEST_DUAL: usize = 7 + WORD_DIGITS + LONGEST_MEMBERS;
 
 // Bytes that hold every dual line, every plan within the limits.
-pub const DUAL_ROOM: usize = 1024;
+pub const DUAL_ROOM: usize = 2048;
 
 pub const PLAN_ROOM: usize = 24 + 4 * (WORD_DIGITS + 1) + 10 * MAX_EDGES + LONGEST_DUAL * MAX_DUALS;
 
@@ -70,7 +70,7 @@ pub const PLAN_ROOM: usize = 24 + 4 * (WORD_DIGITS + 1) + 10 * MAX_EDGES + LONGE
 // behind it.
 pub const SURVEY_ROOM: usize = 65536;
 
-pub const VERIFY_ROOM: usize = 1048576;
+pub const VERIFY_ROOM: usize = 2097152;
 
 // A refusal is its number and its place; `Fine` where none applies.
 pub enum Verdict {

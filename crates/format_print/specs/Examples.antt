@@ -1,9 +1,12 @@
--- The printout of document 01 ('Survey text and printed plan'), and a moat line with no member, by computation.
+-- The printout of document 01 ('Survey text and printed plan'), a moat line with no member, and the longest, by computation.
 use mathlib.Core.Path.{_≡_, refl}
-use mathlib.Core.Bool.{false, _||_}
+use Prim.Native.Nat.{_-_, _^_}
+use mathlib.Core.Bool.{true, false, _||_}
 use mathlib.Core.List.{[], _∷_, _++_}
 use lib.Dec.{eqb}
+use lib.ListN.{length}
 use Rattle.base_finite.specs.Below.{counted, sumBelow, thoseBelow, tabulate}
+use Rattle.base_limits.specs.Limits.{longestDual}
 use Rattle.format_record.specs.Bits.{bitAt, byteOf, bytesOf, memberAt, lowBytes, numberOf}
 use Rattle.format_record.specs.Record.{recordOf, valueIn, memberIn, recordAt}
 use Rattle.format_key.specs.Key.{ascii, terminalsKey, costKey, boundKey, roundsKey, keptKey, dualKey}
@@ -27,3 +30,9 @@ pub no-member-printed : dualLine (recordOf 200000000 (λ v. false)) ≡ ascii "m
 unfolding counted sumBelow thoseBelow tabulate bitAt byteOf bytesOf memberAt lowBytes numberOf recordOf valueIn memberIn dualKey digitsWithin decimal
     listed membersOf dualLine
 no-member-printed = refl
+
+-- The largest amount that eight bytes hold, and every member.
+pub longest-printed : length (dualLine (recordOf (2 ^ 64 - 1) (λ v. true))) ≡ longestDual
+unfolding counted sumBelow thoseBelow tabulate bitAt byteOf bytesOf memberAt lowBytes numberOf recordOf valueIn memberIn dualKey digitsWithin decimal
+    listed membersOf dualLine
+longest-printed = refl

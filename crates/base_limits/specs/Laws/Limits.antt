@@ -1,9 +1,9 @@
--- The limits are the papers' (document 02, No. 6), and the digit limits follow from them: a price and an amount at the limit, and the largest
+-- The limits are the papers' (document 02, No. 6 and No. 8), and the digit limits follow from them: a price and an amount at the limit, and the largest
 -- cost and bound that a plan can have, are written with just so many digits.
 use Prim.Native.Nat.{ℕ, _+_, _*_, _^_, _<_, _≤_}
 use native.Mathlib.Omega.{arith}
 use mathlib.Core.Path.{_≡_, refl}
-use Rattle.base_limits.specs.Limits.{maxEdges, maxWeight, maxValue, maxDuals, countDigits, groupDigits, weightDigits, figureDigits, valueDigits, HasDigits}
+use Rattle.base_limits.specs.Limits.{maxVertices, maxEdges, maxWeight, maxValue, groupNumbers, maxPairs, valueBytes, memberBytes, recordBytes, maxDuals, countDigits, groupDigits, weightDigits, figureDigits, valueDigits, longestDual, dualRoom, HasDigits}
 
 -- ---- document 02, No. 6
 
@@ -21,6 +21,40 @@ count-digits = refl
 
 pub group-digits : groupDigits ≡ 7
 group-digits = refl
+
+-- ---- document 02, No. 8
+
+pub vertex-limit : maxVertices ≡ 448
+vertex-limit = refl
+
+pub dual-limit : maxDuals ≡ 895
+dual-limit = refl
+
+pub record-bytes : recordBytes ≡ 64
+record-bytes = refl
+
+pub value-bytes : valueBytes ≡ 8
+value-bytes = refl
+
+pub member-bytes : memberBytes ≡ 56
+member-bytes = refl
+
+-- Every vertex has its bit, and every bit its vertex.
+pub member-bits : 8 * memberBytes ≡ maxVertices
+member-bits = refl
+
+-- Group numbers and pairs stay as they were.
+pub group-numbers : groupNumbers ≡ 256
+group-numbers = refl
+
+pub pair-limit : maxPairs ≡ 256
+pair-limit = refl
+
+pub longest-line : longestDual ≡ 1708
+longest-line = refl
+
+pub line-fits : longestDual ≤ dualRoom
+line-fits = omega arith
 
 -- ---- what has so many digits
 

@@ -11,38 +11,86 @@ use lib.Dec.{eqb}
 use Rattle.base_finite.specs.Below.{thoseBelow}
 use Rattle.base_limits.specs.Limits.{valueBytes, memberBytes, recordBytes}
 use Rattle.format_record.specs.Bits.{Bytes, bytesOf, memberAt, lowBytes, numberOf}
-use Rattle.format_record.specs.Record.{recordOf, valueIn, memberIn, recordAt, overwritten, withMemberIn, startedAs}
+use Rattle.format_record.specs.Record.{recordWith, recordOf, valueIn, memberIn, recordAt, overwritten, withMemberIn, startedAs, RecordsHold}
 use Rattle.format_record.specs.Laws.Bits.{length-bytes, bytes-bytes, member-of-bytes, bytes-add, those-cong}
 use Rattle.format_record.specs.Laws.Bytes.{length-low, low-bytes, bytes-append, number-of-low, number-part-lt, bytes-part, low-append, bytes-of-none}
 
+-- ---- any number of bytes of members
+
+module _ (count : ℕ) where
+  long-with : (value : ℕ) (S : ℕ → Bool) → length (recordWith count value S) ≡ valueBytes + count
+  long-with value S =
+      let a : length (lowBytes valueBytes value) ≡ valueBytes = length-low valueBytes value in
+      let b : length (bytesOf count S) ≡ count = length-bytes count S in
+      let c = length-append (lowBytes valueBytes value) (bytesOf count S) in
+      omega arith
+
+  value-with : (value : ℕ) (S : ℕ → Bool) → value < 256 ^ valueBytes → valueIn (recordWith count value S) ≡ value
+  unfolding valueIn
+  value-with value S h =
+      ap numberOf (take-at (lowBytes valueBytes value) (bytesOf count S) valueBytes (length-low valueBytes value))
+      ∙ number-of-low valueBytes value h
+
+  member-with : (value : ℕ) (S : ℕ → Bool) (v : ℕ) → v < 8 * count → memberIn (recordWith count value S) v ≡ S v
+  unfolding memberIn
+  member-with value S v h =
+      ap (λ l. memberAt l v) (drop-at (lowBytes valueBytes value) (bytesOf count S) valueBytes (length-low valueBytes value))
+      ∙ member-of-bytes count S v h
+
+  none-with : (value : ℕ) → value < 256 ^ valueBytes → recordWith count value (λ v. false) ≡ lowBytes (valueBytes + count) value
+  none-with value h = ap (λ l. lowBytes valueBytes value ++ l) (bytes-of-none count) ∙ sym (low-append valueBytes count value h)
+
+  added-with : (value : ℕ) (S : ℕ → Bool) (v : ℕ) → v < 8 * count
+      → withMemberIn (recordWith count value S) v ≡ recordWith count value (λ w. S w || eqb w v)
+  unfolding withMemberIn
+  added-with value S v h =
+      let low = lowBytes valueBytes value in
+      let members = bytesOf count S in
+      rw (take-at low members valueBytes (length-low valueBytes value), drop-at low members valueBytes (length-low valueBytes value))
+      (ap (λ l. low ++ l) (bytes-add count S v h))
+
+  pub records-hold : RecordsHold count
+  records-hold =
+      record {
+        long = long-with;
+        bytes = λ value S. bytes-append (lowBytes valueBytes value) (bytesOf count S) (low-bytes valueBytes value) (bytes-bytes count S);
+        value-back = value-with;
+        member-back = member-with;
+        members-back = λ value S. those-cong (8 * count) _ _ (member-with value S);
+        no-member = none-with;
+        member-added = added-with;
+      }
+
+-- Document 01's records, and those of document 02, No. 8.
+pub records-of-32 : RecordsHold 32
+records-of-32 = records-hold 32
+
+pub records-of-56 : RecordsHold 56
+records-of-56 = records-hold 56
+
+-- ---- the records of the limits
+
 pub length-record : (value : ℕ) (S : ℕ → Bool) → length (recordOf value S) ≡ recordBytes
 unfolding recordOf
-length-record value S =
-    let a : length (lowBytes valueBytes value) ≡ valueBytes = length-low valueBytes value in
-    let b : length (bytesOf memberBytes S) ≡ memberBytes = length-bytes memberBytes S in
-    let c = length-append (lowBytes valueBytes value) (bytesOf memberBytes S) in
-    omega arith
+length-record value S = records-hold memberBytes .long value S
 
 -- A record is one of bytes.
 pub bytes-record : (value : ℕ) (S : ℕ → Bool) → Bytes (recordOf value S)
 unfolding recordOf
-bytes-record value S = bytes-append (lowBytes valueBytes value) (bytesOf memberBytes S) (low-bytes valueBytes value) (bytes-bytes memberBytes S)
+bytes-record value S = records-hold memberBytes .bytes value S
 
 -- Reading back the value and the members.
 pub value-of-record : (value : ℕ) (S : ℕ → Bool) → value < 256 ^ valueBytes → valueIn (recordOf value S) ≡ value
-unfolding recordOf valueIn
-value-of-record value S h =
-    ap numberOf (take-at (lowBytes valueBytes value) (bytesOf memberBytes S) valueBytes (length-low valueBytes value))
-    ∙ number-of-low valueBytes value h
+unfolding recordOf
+value-of-record value S h = records-hold memberBytes .value-back value S h
 
 pub member-of-record : (value : ℕ) (S : ℕ → Bool) (v : ℕ) → v < 8 * memberBytes → memberIn (recordOf value S) v ≡ S v
-unfolding recordOf memberIn
-member-of-record value S v h =
-    ap (λ l. memberAt l v) (drop-at (lowBytes valueBytes value) (bytesOf memberBytes S) valueBytes (length-low valueBytes value))
-    ∙ member-of-bytes memberBytes S v h
+unfolding recordOf
+member-of-record value S v h = records-hold memberBytes .member-back value S v h
 
 pub members-of-record : (value : ℕ) (S : ℕ → Bool) → thoseBelow (8 * memberBytes) (memberIn (recordOf value S)) ≡ thoseBelow (8 * memberBytes) S
-members-of-record value S = those-cong (8 * memberBytes) _ _ (member-of-record value S)
+unfolding recordOf
+members-of-record value S = records-hold memberBytes .members-back value S
 
 -- The value of a record of bytes fits its bytes.
 pub value-lt : (r : List ℕ) → Bytes r → valueIn r < 256 ^ valueBytes
@@ -75,16 +123,11 @@ started-whole r value h = overwritten-whole r _ (h ∙ sym (length-record value 
 -- A record with no member is its value in all its bytes.
 pub record-of-none : (value : ℕ) → value < 256 ^ valueBytes → recordOf value (λ v. false) ≡ lowBytes recordBytes value
 unfolding recordOf
-record-of-none value h =
-    ap (λ l. lowBytes valueBytes value ++ l) (bytes-of-none memberBytes) ∙ sym (low-append valueBytes memberBytes value h)
+record-of-none value h = records-hold memberBytes .no-member value h
 
 pub member-added-record : (value : ℕ) (S : ℕ → Bool) (v : ℕ) → v < 8 * memberBytes → withMemberIn (recordOf value S) v ≡ recordOf value (λ w. S w || eqb w v)
-unfolding recordOf withMemberIn
-member-added-record value S v h =
-    let low = lowBytes valueBytes value in
-    let members = bytesOf memberBytes S in
-    rw (take-at low members valueBytes (length-low valueBytes value), drop-at low members valueBytes (length-low valueBytes value))
-    (ap (λ l. low ++ l) (bytes-add memberBytes S v h))
+unfolding recordOf
+member-added-record value S v h = records-hold memberBytes .member-added value S v h
 
 -- A byte stored past the value is stored among the members.
 pub set-past : (n i x : ℕ) (r : List ℕ) → set r (n + i) x ≡ take n r ++ set (drop n r) i x

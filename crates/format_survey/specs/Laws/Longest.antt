@@ -1,5 +1,5 @@
 -- How long a well-formed text within the counts can be (document 01, 'Survey text and printed plan'; with the also lines and ends of document 02, No. 2,
--- and the prices of No. 6, 53,781 bytes), and that there is one so long.
+-- the prices of No. 6 and the junctions of No. 8, 56,277 bytes), and that there is one so long.
 use Prim.Native.Nat.{ℕ, _+_, _*_, _≤_, _<_}
 use native.Mathlib.Omega.{arith}
 use mathlib.Core.Path.{_≡_, refl, ap, sym, subst}
@@ -105,7 +105,7 @@ longest-read t lent s e =
     let a = accepted-render lent t s e in
     subst (λ (x : List ℕ). length x ≤ longestText) (sym (a .word)) (longest-within (a .within))
 
-pub longest-is : longestText ≡ 53781
+pub longest-is : longestText ≡ 56277
 longest-is = refl
 
 -- The program reads more.
