@@ -6,7 +6,7 @@ use crate::gen::{overlap, survey, Rng, Size};
 use crate::plan::{fast, owned, record_room};
 use crate::print::survey_text;
 use crate::read::Lent;
-use crate::{Survey, AMOUNT_BYTES, MAX_JUNCTIONS, MAX_PAIRS, RECORD_BYTES};
+use crate::{Survey, AMOUNT_BYTES, MAX_JUNCTIONS, MAX_LINE, MAX_PAIRS, RECORD_BYTES};
 use Fault::*;
 
 /// What a call answers, and what its lent buffers then hold, with what stands behind each.
@@ -295,7 +295,7 @@ impl<T: std::fmt::Debug> Call for Print<T> {
 
 /// The bytes that the second implementation wants for a text.
 fn need<T>(what: &T, with: fn(&Library, &T, &mut [u8], &mut [u64]) -> u64) -> usize {
-    let (mut out, mut length) = (vec![0; 1_024], [0]);
+    let (mut out, mut length) = (vec![0; MAX_LINE], [0]);
     while with(&SECOND, what, &mut out, &mut length) == SHORT {
         out.resize(4 * out.len(), 0);
     }
