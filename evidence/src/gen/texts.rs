@@ -276,8 +276,8 @@ pub fn text_case(seed: u64, case: u64) -> Vec<u8> {
     let size = match rng.below(100) {
         0..=29 => Size::Tiny,
         30..=64 => Size::Small,
-        65..=89 => Size::Middle,
-        90..=97 => Size::Large,
+        65..=93 => Size::Middle,
+        94..=98 => Size::Large,
         _ => Size::Full,
     };
     let mut survey = survey(rng, size);
