@@ -1,5 +1,5 @@
 //! Track planning by moats, a second time: every operation of document 01 ("01" below), with requests of document 02
-//! ("No. 2": groups as lists that may overlap; "No. 6": prices for bridge decks; "No. 8": larger districts), written from
+//! ("No. 2": groups as lists that may overlap; "No. 6": prices for bridge decks; "No. 7": growing and dropping on their own; "No. 8": larger districts), written from
 //! those papers alone, in their words and their order. The product is held against what stands here.
 //!
 //! | module  | what it answers |
@@ -7,6 +7,7 @@
 //! | `read`  | a survey text |
 //! | `plan`  | the plan of a survey, by `reference` (slow, plain) and by `fast` |
 //! | `check` | a plan drawn by anyone |
+//! | `stages` | growing and dropping, each on its own (No. 7) |
 //! | `print` | a moat line, a printed plan, a refusal, and the whole program's answer |
 //! | `brute` | the cheapest joining set of a tiny survey |
 //! | `gen`   | seeded surveys, texts and plans, sound and damaged |
@@ -22,6 +23,7 @@ pub mod native;
 pub mod plan;
 pub mod print;
 pub mod read;
+pub mod stages;
 
 /// 01, refusal 1, and No. 8: more junctions are refused.
 pub const MAX_JUNCTIONS: usize = 448;

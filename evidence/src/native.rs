@@ -56,6 +56,46 @@ extern "C" {
         counts: *mut u64,
         counts_length: usize,
     ) -> u64;
+    /// As planning; the cost is 0.
+    fn foamsickle_grow(
+        groups: *const u8,
+        groups_length: usize,
+        first: *const u32,
+        first_length: usize,
+        second: *const u32,
+        second_length: usize,
+        prices: *const u32,
+        prices_length: usize,
+        owners: *const u32,
+        owners_length: usize,
+        others: *const u8,
+        others_length: usize,
+        marks: *mut u8,
+        marks_length: usize,
+        records: *mut u8,
+        records_length: usize,
+        counts: *mut u64,
+        counts_length: usize,
+    ) -> u64;
+    /// `counts` takes sites and cost.
+    fn foamsickle_drop(
+        groups: *const u8,
+        groups_length: usize,
+        first: *const u32,
+        first_length: usize,
+        second: *const u32,
+        second_length: usize,
+        prices: *const u32,
+        prices_length: usize,
+        owners: *const u32,
+        owners_length: usize,
+        others: *const u8,
+        others_length: usize,
+        marks: *mut u8,
+        marks_length: usize,
+        counts: *mut u64,
+        counts_length: usize,
+    ) -> u64;
     /// `counts` takes sites, cost and bound.
     fn foamsickle_check(
         groups: *const u8,
@@ -143,6 +183,54 @@ fn plan_call(survey: View, marks: &mut [u8], records: &mut [u8], counts: &mut [u
             marks.len(),
             records.as_mut_ptr(),
             records.len(),
+            counts.as_mut_ptr(),
+            counts.len(),
+        )
+    }
+}
+
+fn grow_call(survey: View, marks: &mut [u8], records: &mut [u8], counts: &mut [u64]) -> u64 {
+    unsafe {
+        foamsickle_grow(
+            survey.groups.as_ptr(),
+            survey.groups.len(),
+            survey.first.as_ptr(),
+            survey.first.len(),
+            survey.second.as_ptr(),
+            survey.second.len(),
+            survey.prices.as_ptr(),
+            survey.prices.len(),
+            survey.owners.as_ptr(),
+            survey.owners.len(),
+            survey.others.as_ptr(),
+            survey.others.len(),
+            marks.as_mut_ptr(),
+            marks.len(),
+            records.as_mut_ptr(),
+            records.len(),
+            counts.as_mut_ptr(),
+            counts.len(),
+        )
+    }
+}
+
+fn drop_call(survey: View, marks: &mut [u8], counts: &mut [u64]) -> u64 {
+    unsafe {
+        foamsickle_drop(
+            survey.groups.as_ptr(),
+            survey.groups.len(),
+            survey.first.as_ptr(),
+            survey.first.len(),
+            survey.second.as_ptr(),
+            survey.second.len(),
+            survey.prices.as_ptr(),
+            survey.prices.len(),
+            survey.owners.as_ptr(),
+            survey.owners.len(),
+            survey.others.as_ptr(),
+            survey.others.len(),
+            marks.as_mut_ptr(),
+            marks.len(),
             counts.as_mut_ptr(),
             counts.len(),
         )
@@ -258,6 +346,8 @@ pub const LIBRARY: Library = Library {
     read: read_call,
     plan: plan_call,
     check: check_call,
+    grow: grow_call,
+    drop: drop_call,
     print_moat: print_moat_call,
     print_plan: print_plan_call,
     print_survey: print_survey_call,

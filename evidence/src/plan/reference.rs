@@ -89,7 +89,8 @@ pub fn growth(survey: View) -> Growth {
         // Raise every growing component, then make the winner's two components one.
         // Of the moats that hold a junction the last to arise is its component's.
         for c in (0..n).filter(|&c| growing[c]) {
-            let moat = moats.iter_mut().rev().find(|moat| moat.members.contains(&c)).expect("each component has arisen");
+            let moat =
+                moats.iter_mut().rev().find(|moat| moat.members.contains(&c)).expect("each component has arisen");
             moat.amount += wait;
         }
         rounds.push(Round { winner, wait, growing: growing.iter().filter(|&&g| g).count() as u64 });
