@@ -1,12 +1,13 @@
 //! Track planning by moats, a second time: every operation of document 01 ("01" below), with requests of document 02
-//! ("No. 2": groups as lists that may overlap; "No. 6": prices for bridge decks), written from those papers alone, in
-//! their words and their order. The product is held against what stands here.
+//! ("No. 2": groups as lists that may overlap; "No. 6": prices for bridge decks; "No. 7": growing and dropping on their own; "No. 8": larger districts), written from
+//! those papers alone, in their words and their order. The product is held against what stands here.
 //!
 //! | module  | what it answers |
 //! |---------|-----------------|
 //! | `read`  | a survey text |
 //! | `plan`  | the plan of a survey, by `reference` (slow, plain) and by `fast` |
 //! | `check` | a plan drawn by anyone |
+//! | `stages` | growing and dropping, each on its own (No. 7) |
 //! | `print` | a moat line, a printed plan, a refusal, and the whole program's answer |
 //! | `brute` | the cheapest joining set of a tiny survey |
 //! | `handset` | planning and checking over bytes alone, and their generated cases |
@@ -26,9 +27,10 @@ pub mod plan;
 pub mod print;
 pub mod read;
 pub mod verifying;
+pub mod stages;
 
-/// 01, refusal 1: more junctions are refused.
-pub const MAX_JUNCTIONS: usize = 256;
+/// 01, refusal 1, and No. 8: more junctions are refused.
+pub const MAX_JUNCTIONS: usize = 448;
 /// 01, refusal 3: more tracks are refused.
 pub const MAX_TRACKS: usize = 2_048;
 /// 01, refusal 6, and No. 6: a higher price is refused.
@@ -37,12 +39,14 @@ pub const MAX_PRICE: u32 = 100_000_000;
 pub const MAX_PAIRS: usize = 256;
 /// 01, refusal 11, and No. 6: a larger amount is refused.
 pub const MAX_AMOUNT: u64 = 200_000_000;
-/// 01, refusal 9: more records are refused.
-pub const MAX_RECORDS: usize = 511;
+/// 01, refusal 9, and No. 8: more records are refused.
+pub const MAX_RECORDS: usize = 895;
 /// 01, refusal 17: a higher group number is refused.
 pub const MAX_GROUP: u32 = 255;
-/// Bytes of a moat record, of which the first `AMOUNT_BYTES` are the amount.
-pub const RECORD_BYTES: usize = 40;
+/// Group numbers, 0 for no group among them.
+pub const GROUPS: usize = MAX_GROUP as usize + 1;
+/// No. 8: bytes of a moat record, of which the first `AMOUNT_BYTES` are the amount.
+pub const RECORD_BYTES: usize = 64;
 /// Bytes of a record's amount, lowest first.
 pub const AMOUNT_BYTES: usize = 8;
 /// 01: the most digits of a count and of a node line's group in a text.
@@ -53,7 +57,9 @@ pub const PRICE_DIGITS: usize = 9;
 pub const END_DIGITS: usize = 3;
 /// The longest well-formed text that neither 1 nor 3 refuses: all lines that there can be, each number as long as it
 /// can be.
-pub const MAX_TEXT: usize = 53_781;
+pub const MAX_TEXT: usize = 56_277;
+/// No. 8: so many bytes hold every printed line.
+pub const MAX_LINE: usize = 2_048;
 /// The program reads no more of its standard input.
 pub const MAX_INPUT: usize = 65_536;
 
@@ -184,7 +190,7 @@ impl View<'_> {
 
     /// The members of each group, rising: by their own group or by a pair. Group 0 is no group and has none.
     pub fn members_by_group(&self) -> Vec<Vec<usize>> {
-        let mut members = vec![Vec::new(); 256];
+        let mut members = vec![Vec::new(); GROUPS];
         let own = self.groups.iter().copied().zip(0..);
         let paired = self.others.iter().copied().zip(self.owners.iter().map(|&v| v as usize));
         for (group, v) in own.chain(paired).filter(|&(group, _)| group != 0) {

@@ -5,14 +5,14 @@ use crate::plan::{owned, Plan, Planner, KEPT};
 use crate::read::{parse, Lengths};
 use crate::{refuse, Refusal, Survey, AMOUNT_BYTES, MAX_INPUT, RECORD_BYTES};
 
-/// The line of a 40-byte record. Any amount and any member bit is printed as it stands.
+/// The line of a record. Any amount and any member bit is printed as it stands.
 fn line(record: &[u8]) -> String {
     let members: Vec<String> =
         (0..8 * (RECORD_BYTES - AMOUNT_BYTES)).filter(|&v| holds(record, v)).map(|v| v.to_string()).collect();
     format!("moat={}:{}\n", amount(record), members.join(","))
 }
 
-/// Writes a moat line and answers with its length; 9 if the record isn't 40 bytes long, 7 if the line doesn't fit.
+/// Writes a moat line and answers with its length; 9 if the record has another length, 7 if the line doesn't fit.
 pub fn moat_line(record: &[u8], out: &mut [u8]) -> Result<u64, Refusal> {
     if record.len() != RECORD_BYTES {
         return refuse(9, 0);

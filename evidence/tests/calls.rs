@@ -8,7 +8,7 @@ use evidence::calls::generated::OPERATIONS;
 use evidence::calls::{code, Figures, Library, PLAN_COUNTS, READ_COUNTS, SECOND};
 use evidence::check::check;
 use evidence::read::{parse, Lengths, Lent};
-use evidence::{refuse, Refusal, View, MAX_PAIRS, MAX_TRACKS, RECORD_BYTES};
+use evidence::{refuse, Refusal, View, MAX_JUNCTIONS, MAX_PAIRS, MAX_TRACKS, RECORD_BYTES};
 use std::cell::RefCell;
 use std::collections::BTreeMap;
 
@@ -17,7 +17,7 @@ fn plan(survey: View, marks: &mut [u8], records: &mut [u8], counts: &mut [u64]) 
 }
 
 fn three_before_two(survey: View, marks: &mut [u8], records: &mut [u8], counts: &mut [u64]) -> u64 {
-    if survey.m() > MAX_TRACKS && (1..=256).contains(&survey.n()) {
+    if survey.m() > MAX_TRACKS && (1..=MAX_JUNCTIONS).contains(&survey.n()) {
         return 3;
     }
     plan(survey, marks, records, counts)

@@ -8,7 +8,7 @@ use std::collections::BTreeMap;
 
 fn record(amount: u64, members: &[usize]) -> Vec<u8> {
     let mut record = amount.to_le_bytes().to_vec();
-    record.resize(40, 0);
+    record.resize(64, 0);
     for v in members {
         record[8 + v / 8] |= 1 << (v % 8);
     }
@@ -38,9 +38,9 @@ fn each_refusal_by_hand() {
 
     assert_eq!(check(view, &[2], &sound), refused(9, 0));
     assert_eq!(check(view, &[2, 2, 2], &sound), refused(9, 0));
-    assert_eq!(check(view, &[2, 2], &sound[..119]), refused(9, 0));
-    assert_eq!(check(view, &[2, 2], &record(1, &[]).repeat(512)), refused(9, 0));
-    assert_eq!(check(view, &[2, 2], &record(1, &[]).repeat(511)), refused(12, 0));
+    assert_eq!(check(view, &[2, 2], &sound[..191]), refused(9, 0));
+    assert_eq!(check(view, &[2, 2], &record(1, &[]).repeat(896)), refused(9, 0));
+    assert_eq!(check(view, &[2, 2], &record(1, &[]).repeat(895)), refused(12, 0));
 
     assert_eq!(check(view, &[2, 3], &sound), refused(10, 1));
     assert_eq!(check(view, &[255, 3], &records(&[(0, &[])])), refused(10, 0));
@@ -51,6 +51,7 @@ fn each_refusal_by_hand() {
     assert_eq!(check(view, &[2, 2], &records(&[(1 << 63, &[0])])), refused(11, 0));
     assert_eq!(check(view, &[2, 2], &records(&[(1, &[0, 3])])), refused(11, 0));
     assert_eq!(check(view, &[2, 2], &records(&[(1, &[0, 255])])), refused(11, 0));
+    assert_eq!(check(view, &[2, 2], &records(&[(1, &[0, 447])])), refused(11, 0));
     // 11 over all records before 12.
     assert_eq!(check(view, &[2, 2], &records(&[(1, &[]), (0, &[0])])), refused(11, 1));
 
@@ -104,7 +105,7 @@ fn products() {
     let moats = records(&[(1, &[0]), (1, &[1]), (1, &[2])]);
     assert_eq!(check(survey.view(), &[2, 2, 0], &moats), Ok(Passed { sites: 3, cost: 2, bound: 3 }));
     assert_eq!(check(survey.view(), &[2, 2, 2], &moats), refused(15, 0));
-    assert_eq!(check(survey.view(), &[2, 2, 0], &moats[..80]), refused(15, 0));
+    assert_eq!(check(survey.view(), &[2, 2, 0], &moats[..128]), refused(15, 0));
 }
 
 #[test]

@@ -19,11 +19,11 @@ fn worked(p: usize) -> Survey {
 }
 
 fn moats(plan: &Plan) -> Vec<(u64, Vec<usize>)> {
-    let records = plan.records.chunks_exact(40);
+    let records = plan.records.chunks_exact(64);
     records
         .map(|record| {
             let amount = (0..8).map(|i| u64::from(record[i]) << (8 * i)).sum();
-            (amount, (0..256).filter(|v| record[8 + v / 8] & (1 << (v % 8)) != 0).collect())
+            (amount, (0..448).filter(|v| record[8 + v / 8] & (1 << (v % 8)) != 0).collect())
         })
         .collect()
 }
@@ -132,18 +132,18 @@ fn price_limit() {
 #[test]
 fn junction_limit() {
     for planner in PLANNERS {
-        assert!(owned(planner, Survey::new(&[0; 256], &[]).view()).is_ok());
-        assert_eq!(owned(planner, Survey::new(&[0; 257], &[]).view()), Err(refused(1, 0)));
+        assert!(owned(planner, Survey::new(&[0; 448], &[]).view()).is_ok());
+        assert_eq!(owned(planner, Survey::new(&[0; 449], &[]).view()), Err(refused(1, 0)));
         assert_eq!(owned(planner, Survey::new(&[], &[]).view()), Err(refused(1, 0)));
-        let path: Vec<_> = (1..256).map(|v| (v - 1, v, 100_000_000)).collect();
-        let plan = owned(planner, Survey::new(&[255; 256], &path).view()).unwrap();
-        assert_eq!((plan.counts.rounds, plan.counts.moats), (255, 256));
-        assert_eq!(plan.counts.cost, 25_500_000_000);
+        let path: Vec<_> = (1..448).map(|v| (v - 1, v, 100_000_000)).collect();
+        let plan = owned(planner, Survey::new(&[255; 448], &path).view()).unwrap();
+        assert_eq!((plan.counts.rounds, plan.counts.moats), (447, 448));
+        assert_eq!(plan.counts.cost, 44_700_000_000);
         // Two sites at the ends: the load of each passes 32 bits.
-        let mut ends = [0; 256];
-        (ends[0], ends[255]) = (255, 255);
+        let mut ends = [0; 448];
+        (ends[0], ends[447]) = (255, 255);
         let plan = owned(planner, Survey::new(&ends, &path).view()).unwrap();
-        assert_eq!((plan.counts.rounds, plan.counts.cost, plan.counts.bound), (255, 25_500_000_000, 51_000_000_000));
+        assert_eq!((plan.counts.rounds, plan.counts.cost, plan.counts.bound), (447, 44_700_000_000, 89_400_000_000));
     }
 }
 
@@ -201,28 +201,28 @@ fn buffers_of_planning() {
     for planner in PLANNERS {
         let survey = worked(3);
         let room = record_room(3);
-        assert_eq!(room, 200);
-        for (marks, records, finished) in [(2, 200, true), (1, 200, false), (2, 199, false), (5, 333, true)] {
+        assert_eq!(room, 320);
+        for (marks, records, finished) in [(2, 320, true), (1, 320, false), (2, 319, false), (5, 333, true)] {
             let (mut marks, mut records) = (vec![0xa5; marks], vec![0x5a; records]);
             let answer = planner(survey.view(), &mut marks, &mut records);
             if finished {
                 assert_eq!(answer.unwrap().moats, 3);
                 assert!(marks[2..].iter().all(|&byte| byte == 0xa5));
-                assert!(records[120..].iter().all(|&byte| byte == 0x5a));
+                assert!(records[192..].iter().all(|&byte| byte == 0x5a));
             } else {
                 assert_eq!(answer, Err(refused(7, 0)));
                 assert!(marks.iter().all(|&byte| byte == 0xa5) && records.iter().all(|&byte| byte == 0x5a));
             }
         }
         // 7 before 8, and after 6; the need is the same where k is 0.
-        assert_eq!(planner(worked(12).view(), &mut [], &mut [0; 119]), Err(refused(7, 0)));
-        assert_eq!(planner(worked(12).view(), &mut [], &mut [0; 120]), Err(refused(8, 1)));
-        assert_eq!(planner(worked(7).view(), &mut [0], &mut [0; 119]), Err(refused(7, 0)));
+        assert_eq!(planner(worked(12).view(), &mut [], &mut [0; 191]), Err(refused(7, 0)));
+        assert_eq!(planner(worked(12).view(), &mut [], &mut [0; 192]), Err(refused(8, 1)));
+        assert_eq!(planner(worked(7).view(), &mut [0], &mut [0; 191]), Err(refused(7, 0)));
         assert_eq!(planner(Survey::new(&[0, 0], &[(0, 1, 100_000_001)]).view(), &mut [], &mut []), Err(refused(6, 0)));
         // With k 0 the marks are 0 and every record byte stays.
-        let (mut marks, mut records) = ([9; 2], [9; 120]);
+        let (mut marks, mut records) = ([9; 2], [9; 192]);
         assert!(planner(worked(7).view(), &mut marks, &mut records).is_ok());
-        assert_eq!((marks, records), ([0, 9], [9; 120]));
+        assert_eq!((marks, records), ([0, 9], [9; 192]));
     }
 }
 
@@ -246,16 +246,16 @@ fn parsed(text: &str) -> Result<Survey, Refusal> {
 #[test]
 fn reading_counts_and_digits() {
     assert_eq!(parsed("nodes=03"), Err(refused(16, 7)));
-    assert_eq!(parsed("nodes=300"), Err(refused(16, 9)));
-    assert_eq!(parsed("nodes=300x"), Err(refused(16, 9)));
-    assert_eq!(parsed("nodes=300\n"), Err(refused(1, 0)));
+    assert_eq!(parsed("nodes=500"), Err(refused(16, 9)));
+    assert_eq!(parsed("nodes=500x"), Err(refused(16, 9)));
+    assert_eq!(parsed("nodes=500\n"), Err(refused(1, 0)));
     assert_eq!(parsed("nodes=0\n"), Err(refused(1, 0)));
     assert_eq!(parsed("nodes=10000000"), Err(refused(16, 13)));
     assert_eq!(parsed("nodes=10000000\n"), Err(refused(16, 13)));
     assert_eq!(parsed("nodes=9999999\n"), Err(refused(1, 0)));
-    assert_eq!(parsed("nodes=257\nlinks=2049\n"), Err(refused(1, 0)));
-    assert_eq!(parsed("nodes=256\nlinks=2049\n"), Err(refused(3, 0)));
-    assert_eq!(parsed("nodes=256\nlinks=2049"), Err(refused(16, 20)));
+    assert_eq!(parsed("nodes=449\nlinks=2049\n"), Err(refused(1, 0)));
+    assert_eq!(parsed("nodes=448\nlinks=2049\n"), Err(refused(3, 0)));
+    assert_eq!(parsed("nodes=448\nlinks=2049"), Err(refused(16, 20)));
     assert_eq!(parsed("nodes=1\nlinks=0\nnode=256"), Err(refused(16, 24)));
     assert_eq!(parsed("nodes=2\nlinks=0\nnode=0\nnode=256\n"), Err(refused(17, 1)));
     assert_eq!(parsed("nodes=2\nlinks=0\nnode=256\nnode=x"), Err(refused(17, 0)));
@@ -327,18 +327,18 @@ fn lent_by(survey: &mut Survey) -> Lent<'_> {
 
 #[test]
 fn longest_text() {
-    let nodes = "node=9999999\n".repeat(256);
+    let nodes = "node=9999999\n".repeat(448);
     let alsos = "also=999,999\n".repeat(256);
     let links = "link=999,999,999999999\n".repeat(2_048);
-    let text = format!("nodes=256\nlinks=2048\n{nodes}{alsos}{links}");
-    assert_eq!(text.len(), 53_781);
-    assert_eq!(MAX_TEXT, 53_781);
+    let text = format!("nodes=448\nlinks=2048\n{nodes}{alsos}{links}");
+    assert_eq!(text.len(), 56_277);
+    assert_eq!(MAX_TEXT, 56_277);
     assert_eq!(MAX_INPUT, 65_536);
     assert_eq!(parsed(&text), Err(refused(17, 0)));
-    let nodes = "node=255\n".repeat(256);
-    let text = format!("nodes=256\nlinks=2048\n{nodes}{alsos}{links}");
+    let nodes = "node=255\n".repeat(448);
+    let text = format!("nodes=448\nlinks=2048\n{nodes}{alsos}{links}");
     assert_eq!(parsed(&text), Err(refused(17, 999)));
-    let text = format!("nodes=256\nlinks=2048\n{nodes}{links}");
+    let text = format!("nodes=448\nlinks=2048\n{nodes}{links}");
     assert_eq!(parsed(&text).unwrap().prices, [999_999_999; 2_048]);
     // What stands past the last line is found at once, and what stands past 65,536 bytes isn't looked at.
     let mut longer = text.clone().into_bytes();
@@ -348,8 +348,8 @@ fn longest_text() {
 
 #[test]
 fn moat_lines() {
-    let mut record = [0; 40];
-    let mut out = [b'.'; 1_024];
+    let mut record = [0; 64];
+    let mut out = [b'.'; 2_048];
     assert_eq!(moat_line(&record, &mut out), Ok(8));
     assert_eq!(&out[..9], b"moat=0:\n.");
     record[0] = 1;
@@ -359,17 +359,17 @@ fn moat_lines() {
     out.fill(b'.');
     assert_eq!(moat_line(&record, &mut out[..10]), Err(refused(7, 0)));
     assert!(out.iter().all(|&byte| byte == b'.'));
-    for length in [0, 39, 41, 80] {
+    for length in [0, 40, 63, 65, 128] {
         assert_eq!(moat_line(&vec![0; length], &mut []), Err(refused(9, 0)));
     }
     // The longest: the highest amount and every member.
     record.fill(255);
-    assert_eq!(moat_line(&record, &mut out), Ok(940));
+    assert_eq!(moat_line(&record, &mut out), Ok(1_708));
     assert!(out.starts_with(b"moat=18446744073709551615:0,1,2,"));
-    assert!(out[..940].ends_with(b",254,255\n"));
-    assert_eq!(out[940], b'.');
-    assert_eq!(moat_line(&record, &mut [0; 939]), Err(refused(7, 0)));
-    assert!(moat_line(&record, &mut [0; 940]).is_ok());
+    assert!(out[..1_708].ends_with(b",446,447\n"));
+    assert_eq!(out[1_708], b'.');
+    assert_eq!(moat_line(&record, &mut [0; 1_707]), Err(refused(7, 0)));
+    assert!(moat_line(&record, &mut [0; 1_708]).is_ok());
 }
 
 #[test]
@@ -381,8 +381,8 @@ fn printed_shapes() {
     // Printing what it holds, a plan line for line, is what the single calls print.
     let plan = owned(fast, worked(10).view()).unwrap();
     let mut lines = Vec::new();
-    for record in plan.records.chunks_exact(40) {
-        let mut out = [0; 1_024];
+    for record in plan.records.chunks_exact(64) {
+        let mut out = [0; 2_048];
         let length = moat_line(record, &mut out).unwrap() as usize;
         lines.extend_from_slice(&out[..length]);
     }

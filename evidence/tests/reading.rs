@@ -83,7 +83,7 @@ fn finding(prefix: &[u8], lengths: Lengths) -> Option<Refusal> {
         let Some(kind) = kind(&lines, i, n, m) else { return malformed };
         let Some(values) = numbers(line, kind) else { return malformed };
         match i {
-            0 if values[0] == 0 || values[0] > 256 => return refuse(1, 0),
+            0 if values[0] == 0 || values[0] > 448 => return refuse(1, 0),
             0 if values[0] > lengths.groups as u64 => return refuse(7, 0),
             0 => n = values[0] as usize,
             1 if values[0] > 2_048 => return refuse(3, 0),
@@ -221,7 +221,8 @@ fn every_short_end() {
         "nodes=1\nlinks=1\nnode=0\nlink=99",
         "nodes=1\nlinks=1\nnode=0\nlink=1,1,",
         "nodes=1\nlinks=1\nnode=0\nlink=1,1,99999999",
-        "nodes=256\nlinks=204",
+        "nodes=448\nlinks=204",
+        "nodes=44",
         "nodes=999999",
         "nodes=9999999",
     ];
@@ -251,7 +252,7 @@ fn generated() {
         let mut rng = Rng::of_case(12, case);
         let mut length = |enough: usize| if rng.chance(1, 2) { enough } else { rng.below(20) };
         let lengths = Lengths {
-            groups: length(256),
+            groups: length(448),
             first: length(2_048),
             second: length(2_048),
             prices: length(2_048),

@@ -1,5 +1,5 @@
-//! Nanoseconds per plan on seeded surveys of 64, 128 and 256 junctions with 2,048 tracks, and of 256 junctions with
-//! fewer tracks; then the same surveys with up to 256 pairs that leave the plan as it is, beside the own groups, and in
+//! Nanoseconds per plan on seeded surveys of 64, 128, 256 and 448 junctions with 2,048 tracks, and of 256 and 448
+//! junctions with fewer tracks; then the same surveys with up to 256 pairs that leave the plan as it is, beside the own groups, and in
 //! place of them:
 //!
 //!     bench [--seed S] [--surveys N] [--repeats R]
@@ -73,7 +73,7 @@ fn main() -> ExitCode {
     #[cfg(feature = "native")]
     let mut outside = evidence::native::plan;
 
-    for (n, m) in [(64, 2048), (128, 2048), (256, 2048), (256, 1024), (256, 512)] {
+    for (n, m) in [(64, 2048), (128, 2048), (256, 2048), (256, 1024), (256, 512), (448, 2048), (448, 1024)] {
         let mut sums = vec![[0; 2]; 3 * PLANNERS];
         let mut rounds = 0;
         for i in 0..surveys {

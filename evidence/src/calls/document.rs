@@ -5,7 +5,9 @@ use super::{Library, CHECK_COUNTS, PLAN_COUNTS, PRINT_COUNTS, READ_COUNTS};
 use crate::gen::WORKED;
 use crate::plan::record_room;
 use crate::read::{Lengths, Lent};
-use crate::{Survey, MAX_AMOUNT, MAX_JUNCTIONS, MAX_PAIRS, MAX_PRICE, MAX_RECORDS, MAX_TEXT, MAX_TRACKS, RECORD_BYTES};
+use crate::{
+    Survey, MAX_AMOUNT, MAX_JUNCTIONS, MAX_LINE, MAX_PAIRS, MAX_PRICE, MAX_RECORDS, MAX_TEXT, MAX_TRACKS, RECORD_BYTES,
+};
 
 /// An amount and members.
 pub type Moat = (u64, &'static [usize]);
@@ -64,11 +66,11 @@ const TEXTS: [(&str, Result<Tracks, Refused>); 27] = [
     ("nodes=2\nlinks=1\nnode=255\nnode=1\nlink=0,999,100000001\n", Ok((&[255, 1], &[(0, 999, 100_000_001)]))),
     ("", Err((16, 0))),
     ("nodes=03", Err((16, 7))),
-    ("nodes=300", Err((16, 9))),
-    ("nodes=300x", Err((16, 9))),
+    ("nodes=500", Err((16, 9))),
+    ("nodes=500x", Err((16, 9))),
     ("nodes=10000000", Err((16, 13))),
     ("nodes=9999999\n", Err((1, 0))),
-    ("nodes=257\nlinks=0\n", Err((1, 0))),
+    ("nodes=449\nlinks=0\n", Err((1, 0))),
     ("nodes=0\n", Err((1, 0))),
     ("nodes=1\nlinks=2049\n", Err((3, 0))),
     ("nodes=1\nlinks=2049", Err((16, 18))),
@@ -79,7 +81,7 @@ const TEXTS: [(&str, Result<Tracks, Refused>); 27] = [
     ("nodes=2\nlinks=1\nnode=1\nnode=1\nlink=0,1\n", Err((16, 38))),
     ("nodes=2\nlinks=1\nnode=1\nnode=1\nlink=0,1,00\n", Err((16, 40))),
     ("nodes=1\r\nlinks=0\nnode=0\n", Err((16, 7))),
-    ("nodes=256\nlinks=2048\nx", Err((16, 21))),
+    ("nodes=448\nlinks=2048\nx", Err((16, 21))),
     // Ends have at most three digits.
     ("nodes=2\nlinks=1\nnode=1\nnode=1\nlink=1000,1,5\n", Err((16, 38))),
     ("nodes=2\nlinks=1\nnode=1\nnode=1\nlink=0,1000,5\n", Err((16, 40))),
@@ -235,10 +237,11 @@ const SHARED_CHECKED: [(&[u8], &[Moat], Result<[u64; 3], Refused>); 6] = [
 ];
 
 /// Moats, the length of the buffer for the line, and the line or the refusal.
-const LINES: [(Moat, usize, Result<&str, Refused>); 4] = [
-    ((u64::MAX, &[]), 1_024, Ok("moat=18446744073709551615:\n")),
+const LINES: [(Moat, usize, Result<&str, Refused>); 5] = [
+    ((u64::MAX, &[]), MAX_LINE, Ok("moat=18446744073709551615:\n")),
     ((10, &[9, 255]), 14, Ok("moat=10:9,255\n")),
     ((10, &[9, 255]), 13, Err((7, 0))),
+    ((10, &[0, 256, 447]), 18, Ok("moat=10:0,256,447\n")),
     ((0, &[]), 7, Err((7, 0))),
 ];
 
@@ -346,14 +349,14 @@ impl Cases<'_> {
         let equal = format!("{head}{}link=0,1,3\n", "also=0,2\n".repeat(300));
         self.read(&equal, Lengths::ENOUGH, Err((18, 1)))?;
         let longest = [
-            "nodes=256\nlinks=2048\n".to_string(),
-            "node=9999999\n".repeat(256),
+            "nodes=448\nlinks=2048\n".to_string(),
+            "node=9999999\n".repeat(448),
             "also=999,999\n".repeat(256),
             "link=999,999,999999999\n".repeat(2_048),
         ];
         self.same("the longest text", longest.concat().len(), MAX_TEXT)?;
         self.read(&longest.concat(), Lengths::ENOUGH, Err((17, 0)))?;
-        let text = format!("{}{}{}{}", longest[0], "node=255\n".repeat(256), longest[2], longest[3]);
+        let text = format!("{}{}{}{}", longest[0], "node=255\n".repeat(448), longest[2], longest[3]);
         self.read(&text, Lengths::ENOUGH, Err((17, 999)))
     }
 
@@ -387,8 +390,8 @@ impl Cases<'_> {
         for (what, survey, want) in [
             ("price 100,000,000", Survey::new(&[1, 1], &[(0, 1, MAX_PRICE)]), 0),
             ("price 100,000,001", Survey::new(&[1, 1], &[(0, 1, MAX_PRICE + 1)]), 6),
-            ("256 junctions", Survey::new(&[0; MAX_JUNCTIONS], &[]), 0),
-            ("257 junctions", Survey::new(&[0; MAX_JUNCTIONS + 1], &[]), 1),
+            ("448 junctions", Survey::new(&[0; MAX_JUNCTIONS], &[]), 0),
+            ("449 junctions", Survey::new(&[0; MAX_JUNCTIONS + 1], &[]), 1),
             ("2,048 tracks", Survey::new(&[1, 1], &[(0, 1, 3); MAX_TRACKS]), 0),
             ("2,049 tracks", Survey::new(&[1, 1], &[(0, 1, 3); MAX_TRACKS + 1]), 3),
         ] {
@@ -426,8 +429,8 @@ impl Cases<'_> {
         self.check("checking P4 with all kept", &worked(4), &[2, 2, 2], &p4, Err((15, 0)))?;
         let pair = worked(2);
         self.check("a byte short of two records", &pair, &[2], &[0; 2 * RECORD_BYTES - 1], Err((9, 0)))?;
-        self.check("512 records", &pair, &[2], &[0; (MAX_RECORDS + 1) * RECORD_BYTES], Err((9, 0)))?;
-        self.check("511 records", &pair, &[2], &[0; MAX_RECORDS * RECORD_BYTES], Err((11, 0)))?;
+        self.check("896 records", &pair, &[2], &[0; (MAX_RECORDS + 1) * RECORD_BYTES], Err((9, 0)))?;
+        self.check("895 records", &pair, &[2], &[0; MAX_RECORDS * RECORD_BYTES], Err((11, 0)))?;
         let dear = Survey::new(&[1, 1], &[(0, 1, MAX_PRICE)]);
         let passed = Ok([2, u64::from(MAX_PRICE), MAX_AMOUNT]);
         self.check("the largest amount", &dear, &[2], &record((MAX_AMOUNT, &[0])), passed)?;
@@ -528,7 +531,7 @@ impl Cases<'_> {
         for length in [0, RECORD_BYTES - 1, RECORD_BYTES + 1] {
             self.print(
                 &format!("printing a record of {length} bytes"),
-                1_024,
+                MAX_LINE,
                 |library, out, counts| (library.print_moat)(&vec![0; length], out, counts),
                 Err((9, 0)),
             )?;
@@ -536,7 +539,7 @@ impl Cases<'_> {
         let p3 = worked(3);
         let text =
             |library: &Library, out: &mut [u8], counts: &mut [u64]| (library.print_survey)(p3.view(), out, counts);
-        self.print("printing P3's survey", 1_024, text, Ok(P3))?;
+        self.print("printing P3's survey", MAX_LINE, text, Ok(P3))?;
         self.print("printing P3's survey, a byte short", P3.len() - 1, text, Err((7, 0)))?;
         let shared = Survey::new(SHARED.0, SHARED.1).with_pairs(&[(1, 2), (9_999, 0)]);
         let listed =
@@ -549,7 +552,7 @@ impl Cases<'_> {
         owned.owners.push(1);
         other.others.push(1);
         for (what, torn) in [("price too few", dear), ("owner too many", owned), ("group too many", other)] {
-            for room in [1_024, 0] {
+            for room in [MAX_LINE, 0] {
                 self.print(
                     &format!("printing a survey with a {what}, {room} bytes"),
                     room,
@@ -562,7 +565,7 @@ impl Cases<'_> {
         let plan = |library: &Library, out: &mut [u8], counts: &mut [u64]| {
             (library.print_plan)(PLANS[2].figures, PLANS[2].marks, &moats, out, counts)
         };
-        self.print("printing P3's plan", 1_024, plan, Ok(P3_PLAN))?;
+        self.print("printing P3's plan", MAX_LINE, plan, Ok(P3_PLAN))?;
         self.print("printing P3's plan, a byte short", P3_PLAN.len() - 1, plan, Err((7, 0)))
     }
 }

@@ -1,7 +1,7 @@
 //! What an input of a call can have wrong, for each operation a row of it, and how it is put in.
 
 use crate::gen::Rng;
-use crate::plan::KEPT;
+use crate::plan::{DROPPED, KEPT, NOT_PICKED};
 use crate::{
     highest, Survey, AMOUNT_BYTES, END_DIGITS, MAX_AMOUNT, MAX_GROUP, MAX_INPUT, MAX_JUNCTIONS, MAX_PAIRS, MAX_PRICE,
     MAX_RECORDS, MAX_TRACKS, RECORD_BYTES,
@@ -67,6 +67,9 @@ pub enum Fault {
     AlsoElsewhere,
     RecordLength,
     OutShort,
+    MarkTwo,
+    LoopClosed,
+    PickRemoved,
 }
 
 use Fault::*;
@@ -152,6 +155,29 @@ pub const CHECK_FAULTS: &[Fault] = &[
     GroupUnjoined,
     CostHigh,
 ];
+pub const DROP_FAULTS: &[Fault] = &[
+    Nothing,
+    NoJunction,
+    ManyJunctions,
+    SecondUnequal,
+    PricesUnequal,
+    PairsUnequal,
+    ManyTracks,
+    EndOut,
+    EndsEqual,
+    PriceHigh,
+    PairOut,
+    PairNone,
+    PairOwn,
+    PairsFall,
+    PairTwice,
+    ManyPairs,
+    CountsShort,
+    MarksUnequal,
+    MarkTwo,
+    LoopClosed,
+    PickRemoved,
+];
 /// The faults of pairs that are 18.
 pub const PAIR_FAULTS: &[Fault] = &[PairOut, PairNone, PairOwn, PairsFall, PairTwice, ManyPairs];
 /// The faults of also lines, and the refusal of each.
@@ -209,6 +235,19 @@ pub const CHECK_PAIRS: Pairs = &[
     (12, &[13, 14, 15]),
     (13, &[14, 15]),
     (14, &[15]),
+];
+pub const DROP_PAIRS: Pairs = &[
+    (1, &[2, 3, 4, 5, 6, 18, 7, 9, 10, 21, 14]),
+    (2, &[3, 4, 5, 6, 18, 7, 9, 10, 21, 14]),
+    (3, &[4, 5, 6, 18, 7, 9, 10, 21, 14]),
+    (4, &[5, 6, 18, 7, 9, 10, 21, 14]),
+    (5, &[4, 6, 18, 7, 9, 10, 21, 14]),
+    (6, &[4, 5, 18, 7, 9, 10, 21, 14]),
+    (18, &[7, 9, 10, 21, 14]),
+    (7, &[9, 10, 21, 14]),
+    (9, &[10, 21, 14]),
+    (10, &[21, 14]),
+    (21, &[14]),
 ];
 pub const PRINT_MOAT_PAIRS: Pairs = &[(9, &[7])];
 pub const PRINT_PLAN_PAIRS: Pairs = &[];
@@ -390,6 +429,40 @@ pub fn spoil(rng: &mut Rng, survey: &Survey, marks: &mut Vec<u8>, records: &mut 
             }
         }
         CostHigh => marks.iter_mut().for_each(|mark| *mark = KEPT),
+        _ => {}
+    }
+}
+
+/// Puts a fault into the marks of picked tracks, if it is one of those. A loop is closed by a track that is there, or by
+/// a parallel one that comes to the survey.
+pub fn remark(rng: &mut Rng, survey: &mut Survey, marks: &mut Vec<u8>, fault: Fault) {
+    let picked: Vec<usize> = (0..marks.len()).filter(|&t| marks[t] == DROPPED).collect();
+    match fault {
+        MarksUnequal if rng.chance(1, 2) => marks.push(rng.below(2) as u8),
+        MarksUnequal => drop(marks.pop()),
+        MarkTwo if !marks.is_empty() => {
+            let track = rng.below(marks.len());
+            marks[track] = rng.pick(&[2, 2, 3, 255]);
+        }
+        LoopClosed if !picked.is_empty() && survey.first.len() == marks.len() && survey.view().sound().is_ok() => {
+            let component = survey.view().components(|t| marks[t] == DROPPED);
+            let closing: Vec<usize> = (0..marks.len())
+                .filter(|&t| marks[t] == NOT_PICKED)
+                .filter(|&t| component[survey.first[t] as usize] == component[survey.second[t] as usize])
+                .collect();
+            for _ in 0..rng.between(1, 2) {
+                if closing.is_empty() || rng.chance(1, 3) {
+                    let track = rng.pick(&picked);
+                    for buffer in [&mut survey.first, &mut survey.second, &mut survey.prices] {
+                        buffer.push(buffer[track]);
+                    }
+                    marks.push(DROPPED);
+                } else {
+                    marks[rng.pick(&closing)] = DROPPED;
+                }
+            }
+        }
+        PickRemoved if !picked.is_empty() => marks[rng.pick(&picked)] = NOT_PICKED,
         _ => {}
     }
 }

@@ -1,12 +1,13 @@
 //! Generated calls: a sound input, two faults put into it, and lent buffers with any bytes in them, each from a stream of its own.
 
 use super::faults::*;
-use super::{Figures, Library, CHECK_COUNTS, PLAN_COUNTS, PRINT_COUNTS, READ_COUNTS, SECOND, SHORT};
+use super::{Figures, Library, CHECK_COUNTS, DROP_COUNTS, PLAN_COUNTS, PRINT_COUNTS, READ_COUNTS, SECOND, SHORT};
 use crate::gen::{overlap, survey, Rng, Size};
-use crate::plan::{fast, owned, record_room};
+use crate::plan::{fast, owned, record_room, DROPPED, NOT_PICKED};
 use crate::print::survey_text;
 use crate::read::Lent;
-use crate::{Survey, AMOUNT_BYTES, MAX_JUNCTIONS, MAX_PAIRS, RECORD_BYTES};
+use crate::stages::{grow, loop_at};
+use crate::{Survey, View, AMOUNT_BYTES, MAX_JUNCTIONS, MAX_LINE, MAX_PAIRS, RECORD_BYTES};
 use Fault::*;
 
 /// What a call answers, and what its lent buffers then hold, with what stands behind each.
@@ -197,18 +198,22 @@ fn read_input(streams: &Streams, faults: [Fault; 2]) -> Box<dyn Call> {
     })
 }
 
+/// Planning, or growing.
 struct Draw {
     survey: Survey,
     marks: Vec<u8>,
     records: Vec<u8>,
     counts: Vec<u64>,
+    with: fn(&Library) -> Drawing,
 }
+
+type Drawing = fn(View, &mut [u8], &mut [u8], &mut [u64]) -> u64;
 
 impl Call for Draw {
     fn run(&self, library: &Library) -> Answer {
         let [mut marks, mut records] = [&self.marks, &self.records].map(|buffer| before_others(buffer, 0xa5));
         let mut counts = before_others(&self.counts, 0xa5a5);
-        let code = (library.plan)(
+        let code = (self.with)(library)(
             self.survey.view(),
             &mut marks[..self.marks.len()],
             &mut records[..self.records.len()],
@@ -223,6 +228,14 @@ impl Call for Draw {
 }
 
 fn plan_input(streams: &Streams, faults: [Fault; 2]) -> Box<dyn Call> {
+    drawing(streams, faults, |library| library.plan)
+}
+
+fn grow_input(streams: &Streams, faults: [Fault; 2]) -> Box<dyn Call> {
+    drawing(streams, faults, |library| library.grow)
+}
+
+fn drawing(streams: &Streams, faults: [Fault; 2], with: fn(&Library) -> Drawing) -> Box<dyn Call> {
     let mut survey = sound_lists(&mut streams.base());
     for (i, fault) in faults.into_iter().enumerate() {
         harm(&mut streams.fault(i), &mut survey, fault);
@@ -235,7 +248,66 @@ fn plan_input(streams: &Streams, faults: [Fault; 2]) -> Box<dyn Call> {
         marks: bytes(rng, marks),
         records: bytes(rng, records),
         counts: counts(rng, PLAN_COUNTS, faults),
+        with,
     })
+}
+
+/// Dropping: marks as growing leaves them, or altered by hand.
+struct Drop {
+    survey: Survey,
+    marks: Vec<u8>,
+    counts: Vec<u64>,
+}
+
+impl Call for Drop {
+    fn run(&self, library: &Library) -> Answer {
+        let (mut marks, mut counts) = (before_others(&self.marks, 0xa5), before_others(&self.counts, 0xa5a5));
+        let lent = &mut marks[..self.marks.len()];
+        let code = (library.drop)(self.survey.view(), lent, &mut counts[..self.counts.len()]);
+        Answer { code, bytes: vec![marks], words: Vec::new(), counts }
+    }
+
+    fn says(&self) -> String {
+        format!("{:?} {:?}", self.survey, self.marks)
+    }
+}
+
+/// A forest of picked tracks that links whatever can be linked, in any order of the tracks: spare ones among them.
+fn forest(rng: &mut Rng, survey: &Survey) -> Vec<u8> {
+    let mut order: Vec<usize> = (0..survey.first.len()).collect();
+    rng.shuffle(&mut order);
+    let mut marks = vec![NOT_PICKED; order.len()];
+    for t in order {
+        let component = survey.view().components(|other| marks[other] == DROPPED);
+        if component[survey.first[t] as usize] != component[survey.second[t] as usize] {
+            marks[t] = DROPPED;
+        }
+    }
+    marks
+}
+
+fn drop_input(streams: &Streams, faults: [Fault; 2]) -> Box<dyn Call> {
+    let rng = &mut streams.base();
+    let mut survey = sound_lists(rng);
+    let mut marks = match owned(grow, survey.view()) {
+        Ok(plan) if rng.chance(2, 3) => plan.marks,
+        _ => forest(rng, &survey),
+    };
+    if rng.chance(1, 4) && !marks.is_empty() {
+        // By hand: a track more, or one less.
+        let track = rng.below(marks.len());
+        marks[track] = 1 - marks[track];
+        if loop_at(survey.view(), &marks).is_some() && rng.chance(2, 3) {
+            marks[track] = 1 - marks[track];
+        }
+    }
+    for (i, fault) in faults.into_iter().enumerate() {
+        let rng = &mut streams.fault(i);
+        remark(rng, &mut survey, &mut marks, fault);
+        harm(rng, &mut survey, fault);
+    }
+    let counts = counts(&mut streams.buffers(), DROP_COUNTS, faults);
+    Box::new(Drop { survey, marks, counts })
 }
 
 struct Check {
@@ -295,7 +367,7 @@ impl<T: std::fmt::Debug> Call for Print<T> {
 
 /// The bytes that the second implementation wants for a text.
 fn need<T>(what: &T, with: fn(&Library, &T, &mut [u8], &mut [u64]) -> u64) -> usize {
-    let (mut out, mut length) = (vec![0; 1_024], [0]);
+    let (mut out, mut length) = (vec![0; MAX_LINE], [0]);
     while with(&SECOND, what, &mut out, &mut length) == SHORT {
         out.resize(4 * out.len(), 0);
     }
@@ -382,10 +454,12 @@ fn print_survey_input(streams: &Streams, faults: [Fault; 2]) -> Box<dyn Call> {
     print(streams, faults, need, survey, with)
 }
 
-pub const OPERATIONS: [Operation; 6] = [
+pub const OPERATIONS: [Operation; 8] = [
     Operation { name: "read", faults: READ_FAULTS, pairs: READ_PAIRS, input: read_input },
     Operation { name: "plan", faults: PLAN_FAULTS, pairs: PLAN_PAIRS, input: plan_input },
     Operation { name: "check", faults: CHECK_FAULTS, pairs: CHECK_PAIRS, input: check_input },
+    Operation { name: "grow", faults: PLAN_FAULTS, pairs: PLAN_PAIRS, input: grow_input },
+    Operation { name: "drop", faults: DROP_FAULTS, pairs: DROP_PAIRS, input: drop_input },
     Operation { name: "print_moat", faults: PRINT_MOAT_FAULTS, pairs: PRINT_MOAT_PAIRS, input: print_moat_input },
     Operation { name: "print_plan", faults: PRINT_PLAN_FAULTS, pairs: PRINT_PLAN_PAIRS, input: print_plan_input },
     Operation {

@@ -13,6 +13,7 @@ use crate::check::check;
 use crate::plan::{fast, Counts, Plan};
 use crate::print::{moat_line, plan_lines, survey_text};
 use crate::read::{read, Lent};
+use crate::stages::{drop_tracks, grow};
 use crate::{Refusal, Survey, View, RECORD_BYTES};
 
 /// The figures of a printed plan: sites, cost, bound and rounds.
@@ -24,6 +25,8 @@ pub struct Library {
     pub read: fn(&[u8], Lent, &mut [u64]) -> u64,
     pub plan: fn(View, &mut [u8], &mut [u8], &mut [u64]) -> u64,
     pub check: fn(View, &[u8], &[u8], &mut [u64]) -> u64,
+    pub grow: fn(View, &mut [u8], &mut [u8], &mut [u64]) -> u64,
+    pub drop: fn(View, &mut [u8], &mut [u64]) -> u64,
     pub print_moat: fn(&[u8], &mut [u8], &mut [u64]) -> u64,
     pub print_plan: fn(Figures, &[u8], &[u8], &mut [u8], &mut [u64]) -> u64,
     pub print_survey: fn(View, &mut [u8], &mut [u64]) -> u64,
@@ -33,6 +36,8 @@ pub struct Library {
 pub const READ_COUNTS: usize = 3;
 pub const PLAN_COUNTS: usize = 5;
 pub const CHECK_COUNTS: usize = 3;
+/// Sites and cost of dropping; growing has planning's.
+pub const DROP_COUNTS: usize = 2;
 pub const PRINT_COUNTS: usize = 1;
 
 /// 01: 0, or the refusal in one number.
@@ -90,6 +95,26 @@ fn check_call(survey: View, marks: &[u8], records: &[u8], counts: &mut [u64]) ->
     stored(check(survey, marks, records).map(|p| [p.sites, p.cost, p.bound]), counts)
 }
 
+fn grow_call(survey: View, marks: &mut [u8], records: &mut [u8], counts: &mut [u64]) -> u64 {
+    if let Err(refusal) = survey.sound() {
+        return code(refusal);
+    }
+    if counts.len() < PLAN_COUNTS {
+        return SHORT;
+    }
+    stored(grow(survey, marks, records).map(|c| [c.sites, c.cost, c.bound, c.rounds, c.moats]), counts)
+}
+
+fn drop_call(survey: View, marks: &mut [u8], counts: &mut [u64]) -> u64 {
+    if let Err(refusal) = survey.sound() {
+        return code(refusal);
+    }
+    if counts.len() < DROP_COUNTS {
+        return SHORT;
+    }
+    stored(drop_tracks(survey, marks).map(|kept| [kept.sites, kept.cost]), counts)
+}
+
 fn print_moat_call(record: &[u8], out: &mut [u8], counts: &mut [u64]) -> u64 {
     if record.len() == RECORD_BYTES && counts.len() < PRINT_COUNTS {
         return SHORT;
@@ -138,6 +163,8 @@ pub const SECOND: Library = Library {
     read: read_call,
     plan: plan_call,
     check: check_call,
+    grow: grow_call,
+    drop: drop_call,
     print_moat: print_moat_call,
     print_plan: print_plan_call,
     print_survey: print_survey_call,

@@ -7,8 +7,8 @@ use crate::plan::{fast, owned, Counts, Plan, KEPT};
 use crate::print::{moat_line, plan_lines, survey_text};
 use crate::read::{parse, Lengths};
 use crate::{
-    highest, refuse, Refusal, Survey, AMOUNT_BYTES, END_DIGITS, MAX_AMOUNT, MAX_JUNCTIONS, MAX_RECORDS, PRICE_DIGITS,
-    RECORD_BYTES,
+    highest, refuse, Refusal, Survey, AMOUNT_BYTES, END_DIGITS, MAX_AMOUNT, MAX_JUNCTIONS, MAX_LINE, MAX_RECORDS,
+    PRICE_DIGITS, RECORD_BYTES,
 };
 
 /// What the checker is given.
@@ -34,7 +34,7 @@ pub enum Damage {
     MarksLength,
     /// A record torn (9).
     RecordsLength,
-    /// 512 records (9).
+    /// 896 records (9).
     TooManyRecords,
     /// A mark above 2 (10).
     HighMark,
@@ -366,14 +366,14 @@ pub fn moat_case(seed: u64, case: u64) -> (Vec<u8>, usize) {
         3 => rng.between(0, 2 * MAX_AMOUNT as usize) as u64,
         _ => rng.pick(&[u64::MAX, u64::MAX - 1, 1 << 63, 1 << 32, u64::from(u32::MAX)]),
     };
-    let part = rng.pick(&[0, 1, 1, 8, 32, 128, 250, 256]);
+    let part = rng.pick(&[0, 1, 1, 8, 32, 128, 440, MAX_JUNCTIONS]);
     let chosen: Vec<usize> = (0..MAX_JUNCTIONS).filter(|_| rng.chance(part, MAX_JUNCTIONS)).collect();
     let mut record = record(value, chosen.into_iter()).to_vec();
     if rng.chance(1, 8) {
         let length = rng.pick(&[0, 1, 8, RECORD_BYTES - 1, RECORD_BYTES + 1, 2 * RECORD_BYTES]);
         record.resize(length, 1);
     }
-    let mut line = [0; 1_024];
+    let mut line = [0; MAX_LINE];
     let need = moat_line(&record, &mut line).unwrap_or(0) as usize;
     let room = match rng.below(4) {
         0 => need,

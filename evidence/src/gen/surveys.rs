@@ -31,7 +31,7 @@ pub enum Size {
     Small,
     Middle,
     Large,
-    /// 256 junctions and 2,048 tracks.
+    /// As many junctions and tracks as there may be.
     Full,
 }
 
@@ -473,7 +473,7 @@ pub fn refused_survey(rng: &mut Rng, survey: &mut Survey) {
         let t = rng.below(m);
         match rng.below(6) {
             0 => survey.first[t] = n,
-            1 => survey.second[t] = rng.pick(&[n, n + 1, 256, highest(END_DIGITS)]).max(n),
+            1 => survey.second[t] = rng.pick(&[n, n + 1, MAX_JUNCTIONS as u32, highest(END_DIGITS)]).max(n),
             2 => survey.second[t] = survey.first[t],
             3 => survey.prices[t] = MAX_PRICE + 1,
             4 => survey.prices[t] = highest(PRICE_DIGITS),

@@ -12,8 +12,8 @@ use std::sync::OnceLock;
 
 /// Numbers at the boundaries of counts, groups, ends, prices and digits, and some that are no number.
 #[rustfmt::skip]
-pub(super) const TOKENS: [&str; 44] = [
-    "0", "1", "2", "3", "9", "10", "00", "01", "03", "010", "99", "100", "254", "255", "256", "257", "300", "999",
+pub(super) const TOKENS: [&str; 47] = [
+    "0", "1", "2", "3", "9", "10", "00", "01", "03", "010", "99", "100", "254", "255", "256", "257", "300", "447", "448", "449", "999",
     "1000", "2047", "2048", "2049", "65535", "65536", "99999", "999999", "1000000", "1000001", "9999999", "10000000",
     "99999999", "100000000", "100000001", "999999999", "1000000000", "4294967296", "18446744073709551616", "", "-1", "+1", " 1", "1 ", "1.0", "x",
 ];
@@ -119,7 +119,7 @@ fn build_directed() -> Vec<Vec<u8>> {
     all.push([&p3[..], &p3[..]].concat());
 
     // A later finding behind an earlier one.
-    all.push(b"nodes=257\nlinks=2049\n".to_vec());
+    all.push(format!("nodes={}\nlinks={}\n", MAX_JUNCTIONS + 1, MAX_TRACKS + 1).into_bytes());
     all.push(b"nodes=2\nlinks=2049\nnode=256\n".to_vec());
     all.push(b"nodes=2\nlinks=0\nnode=256\nnode=0256\n".to_vec());
     let dear = MAX_PRICE + 1;
@@ -276,8 +276,8 @@ pub fn text_case(seed: u64, case: u64) -> Vec<u8> {
     let size = match rng.below(100) {
         0..=29 => Size::Tiny,
         30..=64 => Size::Small,
-        65..=89 => Size::Middle,
-        90..=97 => Size::Large,
+        65..=93 => Size::Middle,
+        94..=98 => Size::Large,
         _ => Size::Full,
     };
     let mut survey = survey(rng, size);

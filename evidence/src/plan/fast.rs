@@ -2,7 +2,7 @@
 //! nothing allocated, and one walk of the picked forest to decide what is kept.
 
 use super::{admitted, Counts, DROPPED, KEPT, NOT_PICKED};
-use crate::{Refusal, View, AMOUNT_BYTES, MAX_JUNCTIONS, MAX_RECORDS, MAX_TRACKS, RECORD_BYTES};
+use crate::{Refusal, View, AMOUNT_BYTES, GROUPS, MAX_JUNCTIONS, MAX_RECORDS, MAX_TRACKS, RECORD_BYTES};
 
 /// Bits of a key that hold the track number; the wait, which is at most twice the highest price, stands above them. So
 /// the smallest key is the winner.
@@ -11,13 +11,20 @@ const TRACK_BITS: u32 = 11;
 const NOBODY: u64 = u64::MAX;
 const NONE: u16 = u16::MAX;
 
-/// A track whose ends may still lie in different components, in one word: its ends in the lowest two bytes, its number
-/// in the next two, twice its price above.
+/// A track whose ends may still lie in different components, in one word: its ends in the lowest 20 bits, its number in
+/// the next twelve, twice its price above.
 type Live = u64;
+const END_BITS: u32 = 10;
+const END: u64 = (1 << END_BITS) - 1;
+const PRICE: u32 = 32;
 
 fn live(u: u32, v: u32, number: usize, price: u32) -> Live {
-    u64::from(u) | u64::from(v) << 8 | (number as u64) << 16 | u64::from(2 * price) << 32
+    u64::from(u) | u64::from(v) << END_BITS | (number as u64) << (2 * END_BITS) | u64::from(2 * price) << PRICE
 }
+
+/// Words of 64 bits for the members of a set.
+const WORDS: usize = (RECORD_BYTES - AMOUNT_BYTES) / 8;
+type Set = [u64; WORDS];
 
 /// What a round needs of a junction, in one word: its load, then whether its component grows, and from `COMPONENT` on
 /// the component. A load is at most n - 1 waits of twice the highest price each, below 2^39, so two of them add up
@@ -66,26 +73,27 @@ pub struct Workspace {
     state: [State; MAX_JUNCTIONS],
     /// By component: junction v is component v, the round r merges into component n + r - 1.
     amount: [u64; MAX_RECORDS],
-    members: [[u64; 4]; MAX_RECORDS],
+    members: [Set; MAX_RECORDS],
     /// The growing components.
     growing: [u16; MAX_JUNCTIONS],
-    total: [u16; MAX_JUNCTIONS],
-    inside: [u16; MAX_JUNCTIONS],
+    // By group, its members in all and in a component.
+    total: [u16; GROUPS],
+    inside: [u16; GROUPS],
     picked: [u16; MAX_JUNCTIONS],
-    root: [u8; MAX_JUNCTIONS],
+    root: [u16; MAX_JUNCTIONS],
     // The picked forest: for each junction a chain of half-tracks, two for each picked track.
     chain: [u16; MAX_JUNCTIONS],
     link: [u16; 2 * MAX_JUNCTIONS],
     // In walking order.
-    order: [u8; MAX_JUNCTIONS],
+    order: [u16; MAX_JUNCTIONS],
     above: [u16; MAX_JUNCTIONS],
     by: [u16; MAX_JUNCTIONS],
     low: [u16; MAX_JUNCTIONS],
     high: [u16; MAX_JUNCTIONS],
     end: [u16; MAX_JUNCTIONS],
     // By group, the first and last of its members in walking order.
-    group_low: [u16; MAX_JUNCTIONS],
-    group_high: [u16; MAX_JUNCTIONS],
+    group_low: [u16; GROUPS],
+    group_high: [u16; GROUPS],
 }
 
 impl Workspace {
@@ -93,10 +101,10 @@ impl Workspace {
         live: [0; MAX_TRACKS],
         state: [0; MAX_JUNCTIONS],
         amount: [0; MAX_RECORDS],
-        members: [[0; 4]; MAX_RECORDS],
+        members: [[0; WORDS]; MAX_RECORDS],
         growing: [0; MAX_JUNCTIONS],
-        total: [0; MAX_JUNCTIONS],
-        inside: [0; MAX_JUNCTIONS],
+        total: [0; GROUPS],
+        inside: [0; GROUPS],
         picked: [0; MAX_JUNCTIONS],
         root: [0; MAX_JUNCTIONS],
         chain: [NONE; MAX_JUNCTIONS],
@@ -107,8 +115,8 @@ impl Workspace {
         low: [0; MAX_JUNCTIONS],
         high: [0; MAX_JUNCTIONS],
         end: [0; MAX_JUNCTIONS],
-        group_low: [0; MAX_JUNCTIONS],
-        group_high: [0; MAX_JUNCTIONS],
+        group_low: [0; GROUPS],
+        group_high: [0; GROUPS],
     };
 
     /// Plans; whatever an earlier call left in the workspace is without effect.
@@ -159,11 +167,11 @@ impl Workspace {
     fn joinable(&mut self, survey: View, lists: &Lists) -> Result<(), Refusal> {
         let n = survey.n();
         for v in 0..n {
-            self.root[v] = v as u8;
+            self.root[v] = v as u16;
         }
         let mut parts = n;
         for (&u, &v) in survey.first.iter().zip(survey.second) {
-            let (u, v) = (self.find(u as u8), self.find(v as u8));
+            let (u, v) = (self.find(u as u16), self.find(v as u16));
             if u != v {
                 self.root[u as usize] = v;
                 parts -= 1;
@@ -173,10 +181,10 @@ impl Workspace {
             }
         }
         // The root of a group's first member, then the lowest group with a member under another root.
-        let mut root_of = [NONE; MAX_JUNCTIONS];
+        let mut root_of = [NONE; GROUPS];
         let mut lowest = 0;
         for v in 0..n {
-            let root = u16::from(self.find(v as u8));
+            let root = self.find(v as u16);
             for group in lists.of_junction(v) {
                 let seen = &mut root_of[group];
                 if *seen == NONE {
@@ -193,7 +201,7 @@ impl Workspace {
         }
     }
 
-    fn find(&mut self, mut v: u8) -> u8 {
+    fn find(&mut self, mut v: u16) -> u16 {
         while self.root[v as usize] != v {
             let up = self.root[self.root[v as usize] as usize];
             self.root[v as usize] = up;
@@ -210,7 +218,7 @@ impl Workspace {
             let grows = self.is_site(lists, v);
             self.state[v] = state(0, grows, v);
             self.amount[v] = 0;
-            self.members[v] = [0; 4];
+            self.members[v] = [0; WORDS];
             self.members[v][v / 64] = 1 << (v % 64);
             if grows {
                 self.growing[growing] = v as u16;
@@ -242,7 +250,7 @@ impl Workspace {
             let one = (self.state[survey.first[track as usize] as usize] >> COMPONENT) as u16;
             let other = (self.state[survey.second[track as usize] as usize] >> COMPONENT) as u16;
             let merged = n + rounds;
-            for word in 0..4 {
+            for word in 0..WORDS {
                 self.members[merged][word] = self.members[one as usize][word] | self.members[other as usize][word];
             }
             self.amount[merged] = 0;
@@ -279,15 +287,16 @@ impl Workspace {
         let mut left = 0;
         for i in 0..(*alive).min(MAX_TRACKS) {
             let track = self.live[i];
-            let one = self.state[track as u8 as usize];
-            let other = self.state[(track >> 8) as u8 as usize];
+            let one = self.state[(track & END) as usize];
+            let other = self.state[(track >> END_BITS & END) as usize];
             let apart = (one ^ other) >> COMPONENT != 0;
             self.live[left % MAX_TRACKS] = track;
             left += usize::from(apart);
             let both = one + other;
             let growers = (both >> GROWS) as u32 & 3;
-            let remains = (track >> 32).wrapping_sub(both & LOAD);
-            let key = (remains >> (growers >> 1)) << TRACK_BITS | (track >> 16) as u16 as u64;
+            let remains = (track >> PRICE).wrapping_sub(both & LOAD);
+            let number = track >> (2 * END_BITS) & ((1 << TRACK_BITS) - 1);
+            let key = (remains >> (growers >> 1)) << TRACK_BITS | number;
             winner = winner.min(if apart & (growers != 0) { key } else { NOBODY });
         }
         *alive = left;
@@ -371,7 +380,7 @@ impl Workspace {
 
     /// Gives a junction its number in the walk.
     fn enter(&mut self, v: usize, walked: &mut u16, lists: &Lists) {
-        self.order[*walked as usize] = v as u8;
+        self.order[*walked as usize] = v as u16;
         for group in lists.of_junction(v) {
             self.group_low[group] = self.group_low[group].min(*walked);
             self.group_high[group] = self.group_high[group].max(*walked);
@@ -382,9 +391,9 @@ impl Workspace {
 }
 
 /// The junctions of a set, rising.
-fn members(set: &[u64; 4]) -> impl Iterator<Item = usize> {
+fn members(set: &Set) -> impl Iterator<Item = usize> {
     let set = *set;
-    (0..4).flat_map(move |word| {
+    (0..WORDS).flat_map(move |word| {
         let mut rest = set[word];
         std::iter::from_fn(move || {
             if rest == 0 {

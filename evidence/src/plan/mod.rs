@@ -34,7 +34,7 @@ pub fn record_room(n: usize) -> usize {
 }
 
 /// Refusals 1 to 6, 18 and 7 of planning; 8 is left to the planner.
-fn admitted(survey: View, marks: usize, records: usize) -> Result<(), Refusal> {
+pub fn admitted(survey: View, marks: usize, records: usize) -> Result<(), Refusal> {
     survey.sound()?;
     if marks < survey.m() || records < record_room(survey.n()) {
         return refuse(7, 0);

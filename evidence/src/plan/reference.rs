@@ -7,7 +7,8 @@ use crate::{Refusal, View, AMOUNT_BYTES, RECORD_BYTES};
 /// A set of junctions and its amount, in halves.
 #[derive(Clone, Debug, PartialEq, Eq)]
 pub struct Moat {
-    pub holds: Vec<bool>,
+    /// Rising.
+    pub members: Vec<usize>,
     pub amount: u64,
 }
 
@@ -44,8 +45,7 @@ fn growing(lists: &[Vec<usize>], component: &[usize]) -> Vec<bool> {
 pub fn growth(survey: View) -> Growth {
     let (n, m) = (survey.n(), survey.m());
     let lists = survey.lists();
-    let single = |v: usize| Moat { holds: (0..n).map(|w| w == v).collect(), amount: 0 };
-    let mut moats: Vec<Moat> = (0..n).map(single).collect();
+    let mut moats: Vec<Moat> = (0..n).map(|v| Moat { members: vec![v], amount: 0 }).collect();
     let mut rounds: Vec<Round> = Vec::new();
     let mut picked = vec![false; m];
     loop {
@@ -59,7 +59,7 @@ pub fn growth(survey: View) -> Growth {
         // The load of a junction: the amounts of all moats that hold it.
         let mut load = vec![0; n];
         for moat in moats.iter().filter(|moat| moat.amount != 0) {
-            for v in (0..n).filter(|&v| moat.holds[v]) {
+            for &v in &moat.members {
                 load[v] += moat.amount;
             }
         }
@@ -89,13 +89,14 @@ pub fn growth(survey: View) -> Growth {
         // Raise every growing component, then make the winner's two components one.
         // Of the moats that hold a junction the last to arise is its component's.
         for c in (0..n).filter(|&c| growing[c]) {
-            let moat = moats.iter_mut().rev().find(|moat| moat.holds[c]).expect("each component has arisen");
+            let moat =
+                moats.iter_mut().rev().find(|moat| moat.members.contains(&c)).expect("each component has arisen");
             moat.amount += wait;
         }
         rounds.push(Round { winner, wait, growing: growing.iter().filter(|&&g| g).count() as u64 });
         picked[winner] = true;
         let ends = [component[survey.first[winner] as usize], component[survey.second[winner] as usize]];
-        moats.push(Moat { holds: (0..n).map(|v| ends.contains(&component[v])).collect(), amount: 0 });
+        moats.push(Moat { members: (0..n).filter(|&v| ends.contains(&component[v])).collect(), amount: 0 });
     }
 }
 
@@ -124,7 +125,7 @@ pub fn reference(survey: View, marks: &mut [u8], records: &mut [u8]) -> Result<C
         let start = RECORD_BYTES * counts.moats as usize;
         let mut record = [0; RECORD_BYTES];
         record[..AMOUNT_BYTES].copy_from_slice(&moat.amount.to_le_bytes());
-        for v in (0..survey.n()).filter(|&v| moat.holds[v]) {
+        for &v in &moat.members {
             record[AMOUNT_BYTES + v / 8] |= 1 << (v % 8);
         }
         records[start..start + RECORD_BYTES].copy_from_slice(&record);

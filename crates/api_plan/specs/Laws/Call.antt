@@ -26,11 +26,11 @@ plan-encodable s marks records =
     encodable-before _ _ (survey-encodable s) λ _. encodable-before _ _ (encodable-refuse _ (at-zero 7 (lit< tt) (lit< tt))) λ _. group-encodable s 8 _ (lit< tt) (lit< tt)
 
 module _ (s : Survey) (marks records counts : List ℕ) where
-  plan-long : planFigures ≤ length counts → planCall s marks records counts ≡ planRefusal s (length marks) (length records)
+  pub plan-long : planFigures ≤ length counts → planCall s marks records counts ≡ planRefusal s (length marks) (length records)
   unfolding planCall planRefusal
   plan-long h = counts-long s planFigures (length counts) _ h
 
-  plan-short : length counts < planFigures → planCall s marks records counts ≡ (surveyRefusal s before Refused 7 0)
+  pub plan-short : length counts < planFigures → planCall s marks records counts ≡ (surveyRefusal s before Refused 7 0)
   unfolding planCall
   plan-short h = counts-short s planFigures (length counts) _ h
 
