@@ -2,7 +2,8 @@
 use mathlib.Core.Path.{refl, sym}
 use mathlib.Core.List.{List, [], _∷_}
 use lib.Seq.{length-front}
-use Prim.Native.Nat.{ℕ, _-_}
+use Prim.Native.Nat.{ℕ, _-_, _<_, _≤_}
+use native.Mathlib.Omega.{arith}
 use borrow.Author.Needs.{needs}
 use Rattle.api_code.specs.Laws.Lending.{lent-le}
 use Rattle.api_handset.specs.Laws.Call.{check-words-code, check-words-kept, check-words-stored}
@@ -19,9 +20,10 @@ part-counts-end c = lent-le _ _ _ (c .lent-on .ensures)
 returns : tie.Need-returns
 returns c =
     let called = c .before .before in
-    let lent = called .before .before .lent-on .ensures in (
+    let lent = called .before .before .lent-on .ensures in
+    let some : 0 < called .check-call .result = omega (arith, c .if1 .taken) in (
       check-words-code _ _ _ _ zeros refl lent (called .check-call .ensures .0),
-      check-words-kept _ _ _ _ zeros refl lent (called .check-call .ensures .0) (c .if1 .taken) _,
+      check-words-kept _ _ _ _ zeros refl lent (called .check-call .ensures .0) some _,
     )
 
 slice-aggregate-write-counts : tie.Need-slice-aggregate-write-counts
@@ -34,9 +36,10 @@ returns-2 : tie.Need-returns-2
 returns-2 c =
     let tested = c .before .before .before .before .before in
     let called = tested .before .before in
-    let lent = called .before .before .lent-on .ensures in (
+    let lent = called .before .before .lent-on .ensures in
+    let none : called .check-call .result ≤ 0 = omega (arith, tested .if1 .left) in (
       check-words-code _ _ _ _ zeros refl lent (called .check-call .ensures .0),
-      check-words-stored _ _ _ _ zeros refl lent (called .check-call .ensures .0) (tested .if1 .left) (called .check-call .ensures .1) (c .before .before .write-counts .ensures),
+      check-words-stored _ _ _ _ zeros refl lent (called .check-call .ensures .0) none (called .check-call .ensures .1) (c .before .before .write-counts .ensures),
     )
 
 pub check-words-spec : {M : Type 1} → statement M

@@ -2,7 +2,8 @@
 use mathlib.Core.Path.{refl, sym}
 use mathlib.Core.List.{List, [], _∷_}
 use lib.Seq.{length-front}
-use Prim.Native.Nat.{ℕ, _-_}
+use Prim.Native.Nat.{ℕ, _-_, _<_, _≤_}
+use native.Mathlib.Omega.{arith}
 use borrow.Author.Needs.{needs}
 use Rattle.api_code.specs.Laws.Lending.{lent-le}
 use Rattle.api_handset.specs.Laws.Call.{plan-words-code, plan-words-marks, plan-words-records, plan-words-kept, plan-words-stored}
@@ -25,11 +26,12 @@ returns : tie.Need-returns
 returns c =
     let called = c .before .before .before .before .before .before in
     let lent = called .before .before .before .before .lent-on .ensures in
-    let call = called .plan-call .ensures in (
+    let call = called .plan-call .ensures in
+    let some : 0 < called .plan-call .result = omega (arith, c .if1 .taken) in (
       plan-words-code _ _ _ _ zeros refl lent (call .0),
       (
         plan-words-marks _ _ _ _ zeros refl lent (call .1 .0),
-        (plan-words-records _ _ _ _ zeros refl lent (call .1 .1 .0), plan-words-kept _ _ _ _ zeros refl lent (call .0) (c .if1 .taken) _),
+        (plan-words-records _ _ _ _ zeros refl lent (call .1 .1 .0), plan-words-kept _ _ _ _ zeros refl lent (call .0) some _),
       ),
     )
 
@@ -39,13 +41,14 @@ returns-2 c =
     let tested = c .before .before .before .before .before in
     let called = tested .before .before .before .before .before .before in
     let lent = called .before .before .before .before .lent-on .ensures in
-    let call = called .plan-call .ensures in (
+    let call = called .plan-call .ensures in
+    let none : called .plan-call .result ≤ 0 = omega (arith, tested .if1 .left) in (
       plan-words-code _ _ _ _ zeros refl lent (call .0),
       (
         plan-words-marks _ _ _ _ zeros refl lent (call .1 .0),
         (
           plan-words-records _ _ _ _ zeros refl lent (call .1 .1 .0),
-          plan-words-stored _ _ _ _ zeros refl lent (call .0) (tested .if1 .left) (call .1 .1 .1) (c .before .before .write-counts .ensures),
+          plan-words-stored _ _ _ _ zeros refl lent (call .0) none (call .1 .1 .1) (c .before .before .write-counts .ensures),
         ),
       ),
     )
