@@ -33,7 +33,7 @@ extern "C" {
 #endif
 
 /* Limits: junctions, tracks, a track's price, a moat's amount in half units, pairs; group numbers lie below the last. */
-#define FOAMSICKLE_MAX_VERTICES 256
+#define FOAMSICKLE_MAX_VERTICES 448
 #define FOAMSICKLE_MAX_EDGES 2048
 #define FOAMSICKLE_MAX_WEIGHT 100000000
 #define FOAMSICKLE_MAX_VALUE (2 * FOAMSICKLE_MAX_WEIGHT)
@@ -50,13 +50,14 @@ extern "C" {
 #define FOAMSICKLE_RECORDS_ROOM (FOAMSICKLE_RECORD_BYTES * FOAMSICKLE_MAX_DUALS)
 
 /* Bytes that hold every moat line; every plan's text; the text of every survey that planning takes; both of them. */
-#define FOAMSICKLE_DUAL_ROOM 1024
-#define FOAMSICKLE_PLAN_ROOM 500928
+#define FOAMSICKLE_DUAL_ROOM 2048
+#define FOAMSICKLE_PLAN_ROOM 1549248
 #define FOAMSICKLE_SURVEY_ROOM 65536
-#define FOAMSICKLE_VERIFY_ROOM 1048576
+#define FOAMSICKLE_VERIFY_ROOM 2097152
 
-/* Entries of `counts`: planning, checking and verifying, reading, printing. */
+/* Entries of `counts`: planning and growing, dropping, checking and verifying, reading, printing. */
 #define FOAMSICKLE_PLAN_FIGURES 5
+#define FOAMSICKLE_DROP_FIGURES 2
 #define FOAMSICKLE_CHECK_FIGURES 3
 #define FOAMSICKLE_READ_FIGURES 3
 #define FOAMSICKLE_PRINT_FIGURES 1
@@ -106,6 +107,38 @@ uint64_t foamsickle_plan(
     const uint8_t *others, size_t others_length,
     uint8_t *marks, size_t marks_length,
     uint8_t *records, size_t records_length,
+    uint64_t *counts, size_t counts_length);
+
+/* Grows: planning before any picked track is dropped.
+ * Writes the first m marks (1 picked, 0 not), the moat records of planning, and planning's counts with cost 0.
+ * Refuses as foamsickle_plan, in the same order, and needs the same lengths. */
+uint64_t foamsickle_grow(
+    const uint8_t *groups, size_t groups_length,
+    const uint32_t *firsts, size_t firsts_length,
+    const uint32_t *seconds, size_t seconds_length,
+    const uint32_t *weights, size_t weights_length,
+    const uint32_t *owners, size_t owners_length,
+    const uint8_t *others, size_t others_length,
+    uint8_t *marks, size_t marks_length,
+    uint8_t *records, size_t records_length,
+    uint64_t *counts, size_t counts_length);
+
+/* Drops: of the tracks marked 1, those that some group needs become 2; nothing else is written.
+ * Writes the marks, counts[0] sites, counts[1] cost of the tracks marked 2 then. Growing and then dropping, lent just the
+ * m marks, is planning. For marks that growing did not leave, accuracy is promised only where foamsickle_check passes
+ * them.
+ * Refuses 1 to 6 and 18 as above, then 7 (counts too short), then 9 (marks not m long), 10 (a mark above 1; track), 21 (a
+ * track marked 1 that closes a loop with such tracks of lower number; the lowest such track), 14 (the tracks marked 1
+ * leave a group apart; group).
+ * Needed: FOAMSICKLE_DROP_FIGURES counts. */
+uint64_t foamsickle_drop(
+    const uint8_t *groups, size_t groups_length,
+    const uint32_t *firsts, size_t firsts_length,
+    const uint32_t *seconds, size_t seconds_length,
+    const uint32_t *weights, size_t weights_length,
+    const uint32_t *owners, size_t owners_length,
+    const uint8_t *others, size_t others_length,
+    uint8_t *marks, size_t marks_length,
     uint64_t *counts, size_t counts_length);
 
 /* Checks marks and moat records, whoever drew them, against a survey.

@@ -53,6 +53,16 @@ static void plan(void) {
     moat_bytes = FOAMSICKLE_RECORD_BYTES * (size_t)figures[4];
 }
 
+static void grow(void) {
+    answer = foamsickle_grow(groups, N, firsts, M, seconds, M, weights, M, owners, PAIRS, others, PAIRS, marks, M, records,
+                             sizeof records, figures, FOAMSICKLE_PLAN_FIGURES);
+}
+
+static void drop(void) {
+    answer = foamsickle_drop(groups, N, firsts, M, seconds, M, weights, M, owners, PAIRS, others, PAIRS, marks, M, figures,
+                             FOAMSICKLE_DROP_FIGURES);
+}
+
 static void check(void) {
     answer = foamsickle_check(groups, N, firsts, M, seconds, M, weights, M, owners, PAIRS, others, PAIRS, marks, M, records,
                               moat_bytes, counts, FOAMSICKLE_CHECK_FIGURES);
@@ -121,6 +131,8 @@ int main(int argc, char **argv) {
         const char *name;
         void (*call)(void);
     } calls[] = {
+        {"foamsickle_grow", grow},
+        {"foamsickle_drop", drop},
         {"foamsickle_plan", plan},
         {"foamsickle_check", check},
         {"foamsickle_handset_plan", handset_plan},

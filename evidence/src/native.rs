@@ -40,6 +40,8 @@ fn print_plan(figures: Figures, marks: &[u8], records: &[u8], out: &mut [u8], co
 pub const LIBRARY: Library = Library {
     read,
     plan: |survey, marks, records, counts| call::plan(slices(survey), marks, records, counts),
+    grow: |survey, marks, records, counts| call::grow(slices(survey), marks, records, counts),
+    drop: |survey, marks, counts| call::drop(slices(survey), marks, counts),
     check: |survey, marks, records, counts| call::check(slices(survey), marks, records, counts),
     print_moat: call::print_dual,
     print_plan,

@@ -13,6 +13,7 @@ ghost use Rattle.format_survey.specs.Answer.{countsOf};
 ghost use Rattle.api_code.specs.Code.{codeOf, capped, verdictOf, countsFor};
 ghost use Rattle.api_read.specs.Call.{readFiguresOf, readCall};
 ghost use Rattle.api_plan.specs.Call.{planCall, planMarks, planRecords, planCounts};
+ghost use Rattle.api_grow.specs.Call.{growMarks, growCounts, dropCall, dropMarks, droppedCounts};
 ghost use Rattle.api_check.specs.Call.{checkFiguresOf, checkCall, checkCounts};
 ghost use Rattle.api_print.specs.Call.{dualCall, dualOut, dualCounts};
 ghost use Rattle.api_print.specs.Call.{textCall, textOut, textCounts, surveyCall, surveyOut, surveyCounts};
@@ -113,6 +114,79 @@ pub extern "C" fn foamsickle_plan(
         others,
         marks,
         records,
+        counts,
+    )
+}
+
+// Grows without dropping: marks 0 and 1. `counts` gets planning's counts with cost 0.
+#[no_mangle]
+pub extern "C" fn foamsickle_grow(
+    groups: &[u8],
+    firsts: &[u32],
+    seconds: &[u32],
+    weights: &[u32],
+    owners: &[u32],
+    others: &[u8],
+    marks: &mut [u8],
+    records: &mut [u8],
+    counts: &mut [u64],
+) -> u64
+    ensures code { λ r.
+        let s = lentWith groups firsts seconds weights owners others in
+        ⌜ r ≡ codeOf (planCall s (old marks) (old records) (old counts)) ⌝ }
+    ensures marks { λ _.
+        let s = lentWith groups firsts seconds weights owners others in
+        ⌜ new marks ≡ growMarks s (old marks) (old records) (old counts) ⌝ }
+    ensures records { λ _.
+        let s = lentWith groups firsts seconds weights owners others in
+        ⌜ new records ≡ planRecords s (old marks) (old records) (old counts) ⌝ }
+    ensures counts { λ _.
+        let s = lentWith groups firsts seconds weights owners others in
+        ⌜ new counts ≡ growCounts s (old marks) (old records) (old counts) ⌝ }
+{
+    api_grow::grow_call(
+        groups,
+        firsts,
+        seconds,
+        weights,
+        owners,
+        others,
+        marks,
+        records,
+        counts,
+    )
+}
+
+// Drops what no list needs of the tracks marked 1: the others become 2. `counts` gets k and the kept cost.
+#[no_mangle]
+pub extern "C" fn foamsickle_drop(
+    groups: &[u8],
+    firsts: &[u32],
+    seconds: &[u32],
+    weights: &[u32],
+    owners: &[u32],
+    others: &[u8],
+    marks: &mut [u8],
+    counts: &mut [u64],
+) -> u64
+    ensures code { λ r.
+        let s = lentWith groups firsts seconds weights owners others in
+        ⌜ r ≡ codeOf (dropCall s (old marks) (old counts)) ⌝ }
+    ensures marks { λ _.
+        let s = lentWith groups firsts seconds weights owners others in
+        ⌜ new marks ≡ dropMarks s (old marks) (old counts) ⌝ }
+    ensures counts { λ _.
+        let s = lentWith groups firsts seconds weights owners others in
+        ⌜ new counts ≡ droppedCounts s (old marks) (old counts) ⌝ }
+{
+    api_grow::drop_call(
+        groups,
+        firsts,
+        seconds,
+        weights,
+        owners,
+        others,
+        marks,
         counts,
     )
 }

@@ -82,6 +82,14 @@ mod flat {
             groups: in u8, firsts: in u32, seconds: in u32, weights: in u32, owners: in u32, others: in u8,
             marks: out u8, records: out u8, counts: out u64,
         );
+        grow = foamsickle_grow(
+            groups: in u8, firsts: in u32, seconds: in u32, weights: in u32, owners: in u32, others: in u8,
+            marks: out u8, records: out u8, counts: out u64,
+        );
+        drop = foamsickle_drop(
+            groups: in u8, firsts: in u32, seconds: in u32, weights: in u32, owners: in u32, others: in u8,
+            marks: out u8, counts: out u64,
+        );
         check = foamsickle_check(
             groups: in u8, firsts: in u32, seconds: in u32, weights: in u32, owners: in u32, others: in u8,
             marks: in u8, records: in u8, counts: out u64,
@@ -117,6 +125,16 @@ pub fn read(text: &[u8], b: Buffers, counts: &mut [u64]) -> u64 {
 /// `counts` takes sites, cost, bound, rounds and moats.
 pub fn plan(s: Slices, marks: &mut [u8], records: &mut [u8], counts: &mut [u64]) -> u64 {
     flat::plan(s.groups, s.firsts, s.seconds, s.weights, s.owners, s.others, marks, records, counts)
+}
+
+/// `counts` takes planning's figures with cost 0.
+pub fn grow(s: Slices, marks: &mut [u8], records: &mut [u8], counts: &mut [u64]) -> u64 {
+    flat::grow(s.groups, s.firsts, s.seconds, s.weights, s.owners, s.others, marks, records, counts)
+}
+
+/// `counts` takes sites and cost.
+pub fn drop(s: Slices, marks: &mut [u8], counts: &mut [u64]) -> u64 {
+    flat::drop(s.groups, s.firsts, s.seconds, s.weights, s.owners, s.others, marks, counts)
 }
 
 /// `counts` takes sites, cost and bound.

@@ -17,15 +17,16 @@ pub mod call;
 use call::{Buffers, Slices};
 
 /// The limits of include/foamsickle.h.
-pub const MAX_VERTICES: usize = 256;
+pub const MAX_VERTICES: usize = 448;
 pub const MAX_EDGES: usize = 2_048;
 pub const MAX_PAIRS: usize = 256;
-pub const RECORD_BYTES: usize = 40;
-pub const DUAL_ROOM: usize = 1_024;
+pub const RECORD_BYTES: usize = 64;
+pub const DUAL_ROOM: usize = 2_048;
 
 /// Entries of the counts of each operation.
 pub const READ_FIGURES: usize = 3;
 pub const PLAN_FIGURES: usize = 5;
+pub const DROP_FIGURES: usize = 2;
 pub const CHECK_FIGURES: usize = 3;
 pub const PRINT_FIGURES: usize = 1;
 
@@ -68,6 +69,8 @@ pub enum Refusal {
     Group(u64),
     /// 18: this pair
     Pair(u64),
+    /// 21: this picked track closes a loop with picked tracks of lower number
+    Loop(u64),
     /// any other number and its place, as of a printed plan: 25 to 28
     Other(u8, u64),
 }
@@ -96,6 +99,7 @@ impl Refusal {
             16 => Malformed(place),
             17 => Group(place),
             18 => Pair(place),
+            21 => Loop(place),
             number => Other(number as u8, place),
         }
     }
@@ -176,11 +180,16 @@ impl Plan {
 
 /// Plans a survey.
 pub fn plan(survey: &Survey) -> Result<Plan, Refusal> {
+    planned(survey, call::plan)
+}
+
+/// Planning or growing in buffers of its own.
+fn planned(survey: &Survey, call: impl Fn(Slices, &mut [u8], &mut [u8], &mut [u64]) -> u64) -> Result<Plan, Refusal> {
     let slices = survey.slices();
     let mut marks = vec![0; slices.firsts.len()];
     let mut records = vec![0; RECORD_BYTES * (2 * slices.groups.len() - 1)];
     let mut counts = [0; PLAN_FIGURES];
-    answered(call::plan(slices, &mut marks, &mut records, &mut counts))?;
+    answered(call(slices, &mut marks, &mut records, &mut counts))?;
     let [sites, cost, bound, rounds, moats] = counts;
     records.truncate(RECORD_BYTES * moats as usize);
     Ok(Plan { found: Found { sites, cost, bound }, rounds, marks, records })
@@ -192,6 +201,19 @@ pub fn check(survey: &Survey, marks: &[u8], records: &[u8]) -> Result<Found, Ref
     answered(call::check(survey.slices(), marks, records, &mut counts))?;
     let [sites, cost, bound] = counts;
     Ok(Found { sites, cost, bound })
+}
+
+/// Grows without dropping: the picked tracks are marked 1, and the cost is 0.
+pub fn grow(survey: &Survey) -> Result<Plan, Refusal> {
+    planned(survey, call::grow)
+}
+
+/// Drops, of the tracks marked 1, those that no group needs: the others are marked 2. Sites and what these cost.
+pub fn drop_unneeded(survey: &Survey, marks: &mut [u8]) -> Result<(u64, u64), Refusal> {
+    let mut counts = [0; DROP_FIGURES];
+    answered(call::drop(survey.slices(), marks, &mut counts))?;
+    let [sites, cost] = counts;
+    Ok((sites, cost))
 }
 
 /// A survey that was read: groups, first ends, second ends and prices, and the pairs.
@@ -295,7 +317,7 @@ mod tests {
         assert_eq!(check(&survey, &plan.marks, &plan.records), Ok(plan.found));
         assert_eq!(print_survey(&survey).unwrap(), P3.as_bytes());
         assert_eq!(print_plan(&plan).unwrap(), P3_PLAN.as_bytes());
-        assert_eq!(print_moat(&plan.records[80..]).unwrap(), b"moat=1:0,1\n");
+        assert_eq!(print_moat(&plan.records[2 * RECORD_BYTES..]).unwrap(), b"moat=1:0,1\n");
         assert_eq!(verify(P3.as_bytes(), P3_PLAN.as_bytes()), Ok(plan.found));
     }
 
@@ -307,6 +329,19 @@ mod tests {
         let survey = text.survey().unwrap();
         assert_eq!(plan(&survey).unwrap().found, Found { sites: 3, cost: 7, bound: 11 });
         assert_eq!(print_survey(&survey).unwrap(), paired.as_bytes());
+    }
+
+    #[test]
+    fn growing_then_dropping_is_planning() {
+        // P5: marks 2 1 1
+        let survey = Survey::new(&[1, 1, 0, 0], &[0, 0, 0], &[1, 2, 3], &[3, 1, 1]).unwrap();
+        let mut grown = grow(&survey).unwrap();
+        assert_eq!((&grown.marks[..], grown.found.cost), (&[1, 1, 1][..], 0));
+        assert_eq!(drop_unneeded(&survey, &mut grown.marks), Ok((2, 3)));
+        let plan = plan(&survey).unwrap();
+        assert_eq!((&grown.marks, &grown.records), (&plan.marks, &plan.records));
+        let twins = Survey::new(&[1, 1], &[0, 0], &[1, 1], &[5, 5]).unwrap();
+        assert_eq!(drop_unneeded(&twins, &mut [1, 1]), Err(Refusal::Loop(1)));
     }
 
     #[test]
