@@ -1,5 +1,5 @@
-// The lowest pair of members of a list that have different labels, by two scans. Lists may overlap: a vertex is a member
-// by its own group or by a pair.
+// The lowest pair of members of a list that have different labels, by two scans. Lists may overlap: a vertex is a
+// member by its own group or by a pair.
 ghost use Rattle.base_buffer.specs.Lent.{old};
 ghost use mathlib.Core.Path.{_≡_};
 ghost use mathlib.Core.Bool.{_&&_, not};

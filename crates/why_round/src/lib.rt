@@ -56,8 +56,8 @@ fn find_round(firsts: &[u32], seconds: &[u32], order: &[u32], e: usize) -> usize
     0
 }
 
-// The round after which the ends of edge e are first in one component, rounds counted from 1, where the picks are in this
-// order; 0 where they never are, and where one of 1 to 6 comes.
+// The round after which the ends of edge e are first in one component, rounds counted from 1, where the picks are in
+// this order; 0 where they never are, and where one of 1 to 6 comes.
 pub fn join_round(
     groups: &[u8],
     firsts: &[u32],
