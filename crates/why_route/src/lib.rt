@@ -100,8 +100,8 @@ fn walk(
 }
 
 // The edges of a route between two vertices by the tracks that are marked, in walking order; answers how many. None,
-// and nothing is stored, where these are not a forest that joins every group, the buffer is shorter than a route can be, or
-// the two are not linked.
+// and nothing is stored, where these are not a forest that joins every group, the buffer is shorter than a route can
+// be, or the two are not linked.
 pub fn find_route(
     groups: &[u8],
     firsts: &[u32],
