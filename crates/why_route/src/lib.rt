@@ -1,0 +1,146 @@
+// The route between two vertices of a forest: a recursive walk, the number of unvisited vertices falling at each call.
+// An entry is stored on the way back from the goal, so that nothing is written past the route.
+ghost use Rattle.base_buffer.specs.Lent.{old, new};
+ghost use mathlib.Core.Path.{_≡_};
+ghost use Prim.Native.Nat.{ℕ};
+ghost use mathlib.Core.Bool.{cond, _&&_, _||_};
+ghost use mathlib.Core.List.{_++_};
+ghost use lib.ListN.{getD, length, drop, set};
+ghost use lib.Dec.{eqb};
+ghost use Rattle.base_limits.specs.Verdict.{written};
+ghost use Rattle.survey_core.specs.Survey.{lentSurvey, problemOf};
+ghost use Rattle.survey_components.specs.Labels.{pickedIn};
+ghost use Rattle.theory_route.specs.Route.{isEnd, farEnd, routeOf};
+ghost use Rattle.why_route.specs.Walk.{isFree, endIn, Walkable, WalkEnds, routeRefusal};
+use base_buffer::at32;
+use base_buffer::index32;
+use base_limits::MAX_VERTICES;
+use base_limits::Verdict;
+
+// A walk arrives with so many entries, or is lost.
+enum Walked {
+    Arrived { entries: usize },
+    Lost,
+}
+
+// Visits v; whether it is a vertex that was not visited yet.
+fn visit(visited: &mut [u8], v: usize) -> bool
+    ensures { λ r. ⌜ r ≡ isFree (old visited) v ⌝ }
+    ensures { λ _. ⌜ new visited ≡ cond (isFree (old visited) v) (set (old visited) v 1) (old visited) ⌝ }
+{
+    if visited.len() <= v {
+        return false;
+    }
+    if base_buffer::at8(visited, v) != 0 {
+        return false;
+    }
+    base_buffer::put8(visited, v, 1);
+    true
+}
+
+// Whether edge e is of the forest and has v for an end.
+fn is_at(firsts: &[u32], seconds: &[u32], kept: &[u8], e: usize, v: usize) -> bool
+    ensures { λ r.
+        ⌜ r ≡ (pickedIn (old kept) e && isEnd (endIn (old firsts)) (endIn (old seconds)) e v) ⌝ }
+{
+    if !survey_components::is_picked(kept, e) {
+        return false;
+    }
+    if index32(at32(firsts, e)) == v {
+        return true;
+    }
+    index32(at32(seconds, e)) == v
+}
+
+// The other end of edge e.
+fn far_end(firsts: &[u32], seconds: &[u32], e: usize, v: usize) -> usize
+    ensures { λ r. ⌜ r ≡ farEnd (endIn (old firsts)) (endIn (old seconds)) e v ⌝ }
+{
+    let first = index32(at32(firsts, e));
+    if first == v {
+        return index32(at32(seconds, e));
+    }
+    first
+}
+
+// Walks from v towards the goal over vertices not visited yet; `depth` entries lie before it.
+fn walk(
+    firsts: &[u32],
+    seconds: &[u32],
+    kept: &[u8],
+    visited: &mut [u8],
+    route: &mut [u32],
+    v: usize,
+    goal: usize,
+    depth: usize,
+) -> Walked
+    requires { ⌜ Walkable (now firsts) (now seconds) (now kept) (now visited) depth ⌝ }
+    ensures { λ r. ⌜ WalkEnds (endIn (old firsts)) (endIn (old seconds)) (pickedIn (old kept)) v goal depth
+        (old visited) (new visited) (old route) (new route) r ⌝ }
+{
+    if !visit(visited, v) {
+        return Walked::Lost;
+    }
+    if v == goal {
+        return Walked::Arrived { entries: depth };
+    }
+    let mut e = 0;
+    while e < firsts.len() {
+        if is_at(firsts, seconds, kept, e, v) {
+            let next = far_end(firsts, seconds, e, v);
+            let walked = walk(firsts, seconds, kept, visited, route, next, goal, depth + 1);
+            if let Walked::Arrived { entries } = walked {
+                base_buffer::put32(route, depth, e as u32);
+                return Walked::Arrived { entries };
+            }
+        }
+        e += 1;
+    }
+    Walked::Lost
+}
+
+// The edges of a route between two vertices by the tracks that are marked, in walking order; answers how many. None,
+// and nothing is stored, where these are not a forest that joins every group, the buffer is shorter than a route can
+// be, or the two are not linked.
+pub fn find_route(
+    groups: &[u8],
+    firsts: &[u32],
+    seconds: &[u32],
+    weights: &[u32],
+    kept: &[u8],
+    from: usize,
+    to: usize,
+    route: &mut [u32],
+) -> usize
+    ensures { λ r. let s = lentSurvey groups firsts seconds weights in
+        let entries = routeOf (problemOf s) (pickedIn (old kept)) from to in
+        ⌜ r ≡ written (routeRefusal s (old kept) (length (old route))) (length entries) 0 ⌝ }
+    ensures { λ _. let s = lentSurvey groups firsts seconds weights in
+        let entries = routeOf (problemOf s) (pickedIn (old kept)) from to in
+        let made = entries ++ drop (length entries) (old route) in
+        ⌜ new route ≡ written (routeRefusal s (old kept) (length (old route))) made (old route) ⌝ }
+{
+    let found = survey_forest::forest_refusal(groups, firsts, seconds, weights, kept);
+    let Verdict::Fine = found else {
+        return 0;
+    };
+    let n = groups.len();
+    if route.len() < n - 1 {
+        return 0;
+    }
+    let mut visited = [0u8; MAX_VERTICES];
+    let walked = walk(
+        firsts,
+        seconds,
+        kept,
+        &mut visited[0..n],
+        route,
+        from,
+        to,
+        0,
+    );
+    match walked {
+        Walked::Arrived { entries } => entries,
+        Walked::Lost => 0,
+    }
+}

@@ -1,0 +1,4 @@
+pub mod Reason
+pub mod Why
+pub mod True
+pub mod Laws
