@@ -1,6 +1,6 @@
 -- A number that must be one of some: the words that it reads are the digits of these, and what it refuses begins none of them.
 use Prim.Native.Nat.{ℕ, zero, suc, _+_, _*_, _-_, _/_, _%_, _^_, _≤_, _<_}
-use native.Mathlib.Nat.{pow-le-pow-right, one-le-pow}
+use native.Mathlib.Nat.{pow-le-pow-right, one-le-pow, pow-suc, mul-le-mul-right, mul-le-mul-left}
 use native.Mathlib.Omega.{arith}
 use mathlib.Core.Bool.{Bool, true, false, _&&_, _||_, cond}
 use mathlib.Core.List.{List, [], _∷_, _++_}
@@ -440,3 +440,54 @@ module _ (free : ℕ → Bool) (high stop : ℕ) where
   free-tells limit t at v p e =
       digits-tell (moreAfter limit (getD t at 0)) (withDigit 0 (getD t at 0)) t (at + 1) v p
       (byte-found (λ b. goesOn free high (moreAfter limit b) 0 b) (λ b. digitsAfter free high stop (moreAfter limit b) (withDigit 0 b)) t at e .1)
+
+-- ---- what is read has no more digits than were asked for
+
+-- A digit more.
+digit-below : (x b more v : ℕ) → isDigit (classOf b) ≡ true → v < (withDigit x b + 1) * 10 ^ more → v < (x + 1) * 10 ^ suc more
+unfolding withDigit
+digit-below x b more v d h =
+    let f = digit-facts b d in
+    let lo = f .0 in
+    let hi = f .1 in
+    let k : x * 10 + (b - 48) + 1 ≤ (x + 1) * 10 = omega arith in
+    let r : (x * 10 + (b - 48) + 1) * 10 ^ more ≤ (x + 1) * 10 * 10 ^ more = mul-le-mul-right (10 ^ more) k in
+    let w : v < (x + 1) * (10 ^ more * 10) = omega arith in
+    subst (λ (k : ℕ). v < (x + 1) * k) (sym (pow-suc 10 more)) w
+
+itself-below : (x more : ℕ) → x < (x + 1) * 10 ^ more
+itself-below x more =
+    let p : 1 ≤ 10 ^ more = one-le-pow more 10 (omega arith) in
+    let r : (x + 1) * 1 ≤ (x + 1) * 10 ^ more = mul-le-mul-left (x + 1) p in
+    omega arith
+
+module _ (free : ℕ → Bool) (high stop : ℕ) where
+  digits-below : (more x : ℕ) (t : List ℕ) (at v p : ℕ) → digitsAfter free high stop more x t at ≡ found v p → v < (x + 1) * 10 ^ more
+  unfolding digitsAfter
+  digits-below zero x t at v p e =
+      let w = byte-found (endsFree free stop x) (λ b t at. found x at) t at e in
+      let q : x ≡ v = cc (w .1) in
+      subst (λ (k : ℕ). k < (x + 1) * 10 ^ 0) q (itself-below x 0)
+  digits-below (suc more) x t at v p e =
+      let w = byte-found (λ b. goesOn free high more x b || endsFree free stop x b) (λ b. cond (isDigit (classOf b)) (digitsAfter free high stop more (withDigit x b)) (λ t at. found x at)) t at e in
+      by-digit (isDigit (classOf (getD t at 0))) refl (λ y k. digits-below more y t (at + 1) v p k) (w .1)
+    where
+      by-digit : (c : Bool) → isDigit (classOf (getD t at 0)) ≡ c → ((y : ℕ) → digitsAfter free high stop more y t (at + 1) ≡ found v p → v < (y + 1) * 10 ^ more)
+          → cond c (digitsAfter free high stop more (withDigit x (getD t at 0))) (λ t at. found x at) t (at + 1) ≡ found v p → v < (x + 1) * 10 ^ suc more
+      by-digit true d ih e = digit-below x (getD t at 0) more v d (ih (withDigit x (getD t at 0)) e)
+      by-digit false d ih e = let q : x ≡ v = cc in subst (λ (k : ℕ). k < (x + 1) * 10 ^ suc more) q (itself-below x (suc more))
+
+  pub free-below : (limit : ℕ) (t : List ℕ) (at v p : ℕ) → 1 ≤ limit → freeTo free high stop limit t at ≡ found v p → v < 10 ^ limit
+  unfolding freeTo goesOn moreAfter
+  free-below limit t at v p pos e =
+      let b : ℕ = getD t at 0 in
+      let w = byte-found (λ b. goesOn free high (moreAfter limit b) 0 b) (λ b. digitsAfter free high stop (moreAfter limit b) (withDigit 0 b)) t at e in
+      let d : isDigit (classOf b) ≡ true = and-left (isDigit (classOf b)) (opens free high (moreAfter limit b) (withDigit 0 b)) (w .0) in
+      let h = digit-below 0 b (moreAfter limit b) v d (digits-below (moreAfter limit b) (withDigit 0 b) t (at + 1) v p (w .1)) in
+      let m : suc (moreAfter limit b) ≤ limit = few (eqb b 48) in
+      let q : 10 ^ suc (moreAfter limit b) ≤ 10 ^ limit = pow-le-pow-right {n = 10} (omega arith) {i = suc (moreAfter limit b)} {j = limit} m in
+      omega arith
+    where
+      few : (c : Bool) → suc (cond c 0 (limit - 1)) ≤ limit
+      few true = omega arith
+      few false = omega arith
