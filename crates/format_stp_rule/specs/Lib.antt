@@ -1,0 +1,6 @@
+pub mod StpKey
+pub mod StpWord
+pub mod StpNumber
+pub mod StpReading
+pub mod Subset
+pub mod Laws
