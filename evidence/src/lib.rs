@@ -5,8 +5,10 @@
 //! | module  | what it answers |
 //! |---------|-----------------|
 //! | `read`  | a survey text |
+//! | `stp`   | an STP file (No. 5) |
 //! | `plan`  | the plan of a survey, by `reference` (slow, plain) and by `fast` |
 //! | `check` | a plan drawn by anyone |
+//! | `why` | the reason for a track (No. 3) |
 //! | `stages` | growing and dropping, each on its own (No. 7) |
 //! | `print` | a moat line, a printed plan, a refusal, and the whole program's answer |
 //! | `brute` | the cheapest joining set of a tiny survey |
@@ -28,6 +30,8 @@ pub mod print;
 pub mod read;
 pub mod verifying;
 pub mod stages;
+pub mod stp;
+pub mod why;
 
 /// 01, refusal 1, and No. 8: more junctions are refused.
 pub const MAX_JUNCTIONS: usize = 448;
