@@ -16,7 +16,7 @@ use Rattle.format_grammar.specs.Step.{found, refused}
 use Rattle.format_number.specs.Laws.Byte.{class-zero, class-digit, is-zero, digit-inside, digit-facts}
 use Rattle.format_number.specs.Number.{classOf, classNumber, isClass, isDigit}
 use Rattle.format_number.specs.declared.Class.{Class}
-use Rattle.format_number.specs.declared.Class.the-variants.{Zero, Digit, LineEnd, Comma, Colon, Keep, Other}
+use Rattle.format_number.specs.declared.Class.the-variants.{Zero, Digit, LineEnd, Comma, Colon, Keep, Also, Other}
 use Rattle.format_stp_rule.specs.Laws.ByByte.{byte-passes, byte-fails}
 use Rattle.format_stp_rule.specs.StpKey.{space}
 use Rattle.format_stp_rule.specs.StpNumber.{isFree, leadsTo, reaches, opens, withDigit, goesOn, endsFree, digitsAfter, moreAfter, freeTo, stopByte}
@@ -153,6 +153,7 @@ number-digit LineEnd e = absurd (omega arith)
 number-digit Comma e = absurd (omega arith)
 number-digit Colon e = absurd (omega arith)
 number-digit Keep e = absurd (omega arith)
+number-digit Also e = absurd (omega arith)
 number-digit Other e = absurd (omega arith)
 
 module _ (t : List ℕ) (at : ℕ) where
