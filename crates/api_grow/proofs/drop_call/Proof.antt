@@ -13,7 +13,7 @@ returns c =
 -- finished
 returns-2 : tie.Need-returns-2
 returns-2 c =
-    let matched = c .before .before .before .before in
+    let matched = c .before .before .before .before .before in
     let called = matched .before .before .before .before in
     let long = called .before .before .if1 .left in (
       drop-finished _ _ _ long (called .prune-plan .ensures .0) _ _ (matched .answer .given .1),
