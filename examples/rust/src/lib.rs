@@ -368,13 +368,13 @@ mod tests {
             owners: &[],
             others: &[],
         };
-        let (mut marks, mut records, mut result) = ([0; 2], [0; 200], [0xa5; 41]);
+        let (mut marks, mut records, mut result) = ([0; 2], [0; 5 * RECORD_BYTES], [0xa5; 41]);
         assert_eq!(call::handset_plan(bytes, &mut marks, &mut records, &mut result), 0);
         let count = |i: usize| u64::from_le_bytes(result[8 * i..8 * i + 8].try_into().unwrap());
         assert_eq!([0, 1, 2, 3, 4].map(count), [2, 7, 14, 2, 3]);
         assert_eq!((marks, result[40]), ([2, 2], 0xa5));
         let mut found = [0; 24];
-        assert_eq!(call::handset_check(bytes, &marks, &records[..120], &mut found), 0);
+        assert_eq!(call::handset_check(bytes, &marks, &records[..3 * RECORD_BYTES], &mut found), 0);
         assert_eq!(found, result[..24]);
     }
 }
