@@ -6,7 +6,7 @@ use evidence::check::check;
 use evidence::handset::{
     case, compare, crossed, numbers, put, Crossing, Handset, CALLS, CHECK_RESULT, PLAN_RESULT, SECOND,
 };
-use evidence::{Survey, View};
+use evidence::{Survey, View, MAX_JUNCTIONS, RECORD_BYTES};
 use std::collections::BTreeSet;
 
 const SEED: u64 = 5;
@@ -43,20 +43,20 @@ impl P3 {
 #[test]
 fn p3_crosses() {
     let p3 = P3::new();
-    let (mut marks, mut records, mut result) = ([9; 3], [9; 201], [9; 41]);
+    let (mut marks, mut records, mut result) = ([9; 3], [9; 5 * RECORD_BYTES + 1], [9; 41]);
     assert_eq!((SECOND.plan)(p3.crossing(), &mut marks, &mut records, &mut result), 0);
     let mut expected = [0; 41];
     (expected[0], expected[8], expected[16], expected[24], expected[32], expected[40]) = (2, 7, 14, 2, 3, 9);
     assert_eq!((result, marks), (expected, [2, 2, 9]));
     let mut found = [9; 24];
-    assert_eq!((SECOND.check)(p3.crossing(), &marks[..2], &records[..120], &mut found), 0);
+    assert_eq!((SECOND.check)(p3.crossing(), &marks[..2], &records[..3 * RECORD_BYTES], &mut found), 0);
     assert_eq!(found, expected[..24]);
 }
 
 #[test]
 fn refusals_worked_by_hand() {
     let plan = |crossing: Crossing, result: usize| {
-        let (mut marks, mut records, mut out) = ([9; 2], [9; 200], vec![9; result]);
+        let (mut marks, mut records, mut out) = ([9; 2], [9; 5 * RECORD_BYTES], vec![9; result]);
         let answer = (SECOND.plan)(crossing, &mut marks, &mut records, &mut out);
         if answer != 0 {
             assert!(marks.iter().chain(&records).chain(&out).all(|&b| b == 9));
@@ -149,7 +149,7 @@ fn ragged_before_one(c: Crossing, marks: &mut [u8], records: &mut [u8], result: 
 }
 
 fn ragged_after_three(c: Crossing, marks: &mut [u8], records: &mut [u8], result: &mut [u8]) -> u64 {
-    if c.first.len() / 4 > 2_048 && (1..=256).contains(&c.groups.len()) {
+    if c.first.len() / 4 > 2_048 && (1..=MAX_JUNCTIONS).contains(&c.groups.len()) {
         return 3;
     }
     (SECOND.plan)(c, marks, records, result)

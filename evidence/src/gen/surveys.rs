@@ -395,15 +395,16 @@ pub fn overlap(rng: &mut Rng, survey: &mut Survey) {
 }
 
 /// Puts up to 256 pairs to a survey, each in a list inside a group of the survey: the plan stays the same. Without
-/// `own` its groups are pairs too, and no junction has one of its own.
+/// `own` its groups are pairs too, as many as there is room for, and such a junction has none of its own.
 pub fn shadowed(survey: &mut Survey, own: bool) {
     let (used, fresh): (Vec<u8>, Vec<u8>) = (1..=255).partition(|group| survey.groups.contains(group));
     let mut pairs: BTreeSet<(u32, u8)> = BTreeSet::new();
     let groups = survey.groups.clone();
     if !own {
-        let paired = (0..).zip(&groups).filter(|(_, &group)| group != 0);
-        pairs.extend(paired.map(|(v, &group)| (v, group)));
-        survey.groups.fill(0);
+        for (v, &group) in (0..).zip(&groups).filter(|(_, &group)| group != 0).take(MAX_PAIRS) {
+            pairs.insert((v, group));
+            survey.groups[v as usize] = 0;
+        }
     }
     for (&shadow, &group) in fresh.iter().zip(used.iter().cycle()) {
         for (v, _) in (0..).zip(&groups).filter(|(_, &g)| g == group) {
