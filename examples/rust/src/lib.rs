@@ -345,6 +345,20 @@ mod tests {
     }
 
     #[test]
+    fn marks_altered_by_hand() {
+        // The dear one of two tracks in place of the cheap one: kept, and not accurate; of two equal ones: kept, and accurate.
+        for (dear, checked) in [(50, Err(Refusal::Accuracy)), (5, Ok(Found { sites: 2, cost: 5, bound: 10 }))] {
+            let weights = [5, dear];
+            let survey = Survey::new(&[1, 1], &[0, 0], &[1, 1], &weights).unwrap();
+            let grown = grow(&survey).unwrap();
+            assert_eq!(grown.marks, [1, 0]);
+            let mut marks = [0, 1];
+            assert_eq!(drop_unneeded(&survey, &mut marks), Ok((2, u64::from(dear))));
+            assert_eq!(check(&survey, &marks, &grown.records), checked);
+        }
+    }
+
+    #[test]
     fn refusals_are_told() {
         assert_eq!(read(b"nodes=03"), Err(Refusal::Malformed(7)));
         assert_eq!(Survey::new(&[], &[], &[], &[]).err(), Some(Refusal::VertexCount));
