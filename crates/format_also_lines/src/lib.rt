@@ -4,7 +4,7 @@ ghost use mathlib.Core.Path.{_≡_};
 ghost use lib.Seq.{sets};
 ghost use Rattle.format_number.specs.Answer.{numberStep};
 ghost use Rattle.format_grammar.specs.Step.{stopped};
-ghost use Rattle.format_also.specs.Pair.{pairOf, PairDigits, rank, alsoTest, alsoLine, alsoAt, counted, ownersOf};
+ghost use Rattle.format_also.specs.Pair.{pairOf, PairDigits, rank, alsoTest, alsoLine, alsoAt, pairsCounted, ownersOf};
 ghost use Rattle.format_also.specs.Pair.{othersOf};
 ghost use Rattle.format_also.specs.Answer.{pairStep};
 use base_buffer::at8;
@@ -139,7 +139,7 @@ pub fn pair_lines(
 ) -> Number
     ensures { λ r.
         let lines = alsoAt (old text) (old groups) room (cursor .at) in
-        ⌜ (numberStep r ≡ counted lines)
+        ⌜ (numberStep r ≡ pairsCounted lines)
         × (new owners ≡ sets (old owners) 0 (ownersOf (lines .values)))
         × (new others ≡ sets (old others) 0 (othersOf (lines .values))) ⌝ }
 {

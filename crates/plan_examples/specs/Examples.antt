@@ -39,7 +39,7 @@ pub record DualFigures : Type 0 where
   pub members : List ℕ
 
 -- What document 01 says of a plan: the counts, the two sides of the rule of refusal 15 (k times cost, k - 1 times bound; P4), the marks and the moats.
-pub record Figures : Type 0 where
+pub record PlanFigures : Type 0 where
   pub terminals : ℕ
   pub cost : ℕ
   pub bound : ℕ
@@ -60,11 +60,11 @@ pub record ExamplePair : Type 0 where
   pub pair-vertex : ℕ
   pub pair-group : ℕ
 
-pub record Example : Type 0 where
+pub record PlanExample : Type 0 where
   pub groups : List ℕ
   pub pairs : List ExamplePair
   pub example-edges : List ExampleEdge
-  pub expected : Outcome Figures
+  pub expected : Outcome PlanFigures
   pub sets : List SetFigures
 
 abbrev edge : ℕ → ℕ → ℕ → ExampleEdge
@@ -80,18 +80,18 @@ abbrev pair : ℕ → ℕ → ExamplePair
 pair v g = record { pair-vertex = v; pair-group = g }
 
 -- Without pairs, and with.
-abbrev example : List ℕ → List ExampleEdge → Outcome Figures → List SetFigures → Example
+abbrev example : List ℕ → List ExampleEdge → Outcome PlanFigures → List SetFigures → PlanExample
 example groups edges expected sets = record { groups = groups; pairs = []; example-edges = edges; expected = expected; sets = sets }
 
-abbrev exampleWith : List ℕ → List ExamplePair → List ExampleEdge → Outcome Figures → List SetFigures → Example
+abbrev exampleWith : List ℕ → List ExamplePair → List ExampleEdge → Outcome PlanFigures → List SetFigures → PlanExample
 exampleWith groups pairs edges expected sets = record { groups = groups; pairs = pairs; example-edges = edges; expected = expected; sets = sets }
 
 -- k, cost, bound, rounds; k times cost, k - 1 times bound; marks, moats
-abbrev finished : ℕ → ℕ → ℕ → ℕ → ℕ → ℕ → List ℕ → List DualFigures → Outcome Figures
+abbrev finished : ℕ → ℕ → ℕ → ℕ → ℕ → ℕ → List ℕ → List DualFigures → Outcome PlanFigures
 finished k c b r kc kb marks duals =
     answer (record { terminals = k; cost = c; bound = b; rounds = r; times-cost = kc; times-bound = kb; marks = marks; duals = duals })
 
-unfoldable pub exampleSurvey : Example → Survey
+unfoldable pub exampleSurvey : PlanExample → Survey
 exampleSurvey x =
     record {
       groups = x .groups;
@@ -102,8 +102,8 @@ exampleSurvey x =
       others = map (λ i. i .pair-group) (x .pairs);
     }
 
-unfoldable pub examples : List Example
-examples =
+unfoldable pub planExamples : List PlanExample
+planExamples =
     -- P1
     example (0 ∷ []) [] (finished 0 0 0 0 0 0 [] []) []
     -- P2
@@ -241,7 +241,7 @@ dualsBytes [] = []
 dualsBytes (d ∷ ds) = dualBytes d ++ dualsBytes ds
 
 -- By the entry: a finished plan is written over what was lent, and a refusal writes nothing.
-unfoldable pub expectedCall : Survey → Outcome Figures → List SetFigures → Call
+unfoldable pub expectedCall : Survey → Outcome PlanFigures → List SetFigures → Call
 expectedCall s (refusal number place) sets =
     record {
       counts = refusal number place;
@@ -261,13 +261,13 @@ expectedCall s (answer f) sets =
     }
 
 -- Each call does what its entry says.
-pub examples-hold :
-    map (λ x. callOf (exampleSurvey x) (map (λ y. y .set-edges) (x .sets))) examples
-    ≡ map (λ x. expectedCall (exampleSurvey x) (x .expected) (x .sets)) examples
+pub plan-examples-hold :
+    map (λ x. callOf (exampleSurvey x) (map (λ y. y .set-edges) (x .sets))) planExamples
+    ≡ map (λ x. expectedCall (exampleSurvey x) (x .expected) (x .sets)) planExamples
 unfolding counted sumBelow countBelow anyBelow allBelow thoseBelow tabulate lookup memo without merged components refuseIf _before_ lowestBelow outcome written
     byteOf bytesOf lowBytes recordOf
     allUsable joined cost separates terminal terminals start active numbers load slack delayOf activeEnds delayFor delay better winnerBelow winner pick advance stateAt grown grownDuals
     needed picked kept markOf mark dualBound vertexCount edgeCount isPaired inList sameList member sameGroup problemOf groupJoined componentsOf edgeRefusal isRising pairRefusal pairsRefusal surveyRefusal
     groupRefusal recordsOf recordsOver planOf planRefusal planCountsOf counting marksAfter recordsAfter
-    lentMarks lentRecords ruleSides among setFigures callOf bitsOf dualBytes dualsBytes expectedCall exampleSurvey examples
-examples-hold = refl
+    lentMarks lentRecords ruleSides among setFigures callOf bitsOf dualBytes dualsBytes expectedCall exampleSurvey planExamples
+plan-examples-hold = refl

@@ -4,7 +4,7 @@ use mathlib.Core.Path.{ap, sym, _∙_}
 use Rattle.check_rule.specs.Check.{Checked}
 use Rattle.check_core.specs.Stage.{checkedOutcome}
 use Rattle.check_text.specs.Answer.{verifiedOutcome, refusedOnly}
-use Rattle.check_text.specs.Laws.Verify.{judged-refused, claim-terminals, claim-cost, claim-bound, claim-fine}
+use Rattle.check_text.specs.Laws.Verify.{claims-refused, claim-terminals, claim-cost, claim-bound, claim-fine}
 use Rattle.check_claims.proofs.judge.Statement.{statement}
 use Rattle.check_claims.proofs.judge.Tie as tie
 
@@ -15,7 +15,7 @@ returns c =
     let a = c .before .before .before .before .before .before .before .before .before .before .before .before .args in
     let told = c .before .enum-told .given .1 in
     c .stopped-check .ensures ∙ ap (λ x. refusedOnly {B = Checked} (checkedOutcome x)) told
-    ∙ sym (judged-refused (a .terminals) (a .cost) (a .bound) (sym (c .before .before .before .check .ensures .0) ∙ ap checkedOutcome told))
+    ∙ sym (claims-refused (a .terminals) (a .cost) (a .bound) (sym (c .before .before .before .check .ensures .0) ∙ ap checkedOutcome told))
 
 -- 25 0: another number of terminals
 returns-2 : tie.Need-returns-2

@@ -8,7 +8,7 @@ use Rattle.format_grammar.specs.Step.{stopped}
 use Rattle.format_number.specs.Answer.{numberStep}
 use Rattle.format_survey.specs.Reading.{stepOutcome}
 use Rattle.check_rule.specs.Check.{Checked}
-use Rattle.check_text.specs.Laws.Verify.{part-few, lines-refused, lines-pairs, lines-verified}
+use Rattle.check_text.specs.Laws.Verify.{part-few, survey-lines-refused, lines-pairs, lines-verified}
 use Rattle.check_printed.proofs.verify_lines.Statement.{statement}
 use Rattle.check_printed.proofs.verify_lines.Tie as tie
 
@@ -21,7 +21,7 @@ returns c =
     let few = far .before .before .before .before .before .before .before .before .pre in
     let told = c .before .enum-told .given .1 in
     c .stopped-lines .ensures ∙ ap (λ x. stepOutcome (stopped {B = Checked} (numberStep x))) told
-    ∙ lines-refused (a .text .now) (a .vertices) (a .edges) (a .cursor .at) maxVertices (few .0) (far .survey-lines .ensures .0) (ap numberStep told)
+    ∙ survey-lines-refused (a .text .now) (a .vertices) (a .edges) (a .cursor .at) maxVertices (few .0) (far .survey-lines .ensures .0) (ap numberStep told)
 
 -- the pairs of the first buffer, and of the second
 part-verify-plan-end-5 : tie.Need-part-verify-plan-end-5

@@ -4,7 +4,7 @@ use borrow.Author.Needs.{needs}
 use mathlib.Core.Path.{refl, ap, sym, _∙_}
 use Rattle.format_number.specs.Answer.{numberStep}
 use Rattle.format_plan_lines.specs.Lines.{putMember, putDual, listedDual}
-use Rattle.format_plan_lines.specs.Laws.Tests.{dual-falls, dual-many, dual-fine}
+use Rattle.format_plan_lines.specs.Laws.Tests.{dual-falls, dual-many, dual-line-fine}
 use Rattle.format_plan_lines.specs.Laws.Puts.{member-length}
 use Rattle.format_grammar.specs.Laws.Items.{empty-pass}
 use Rattle.format_plan_lines.specs.Laws.Lines.{listed-below, members-end, dual-stops, dual-unlisted, dual-refused, dual-read}
@@ -74,7 +74,7 @@ returns-5 c =
     let a = far .before .before .before .before .before .before .before .before .before .args in
     dual-read (a .text .now) (a .i) (a .cursor .at) (sym (far .before .before .before .before .before .before .dual-head .ensures) ∙ ap numberStep (far .before .before .before .before .head .given .1))
     (sym (far .before .members .ensures .end) ∙ ap numberStep (c .before .before .before .before .before .before .before .step .given .1))
-    (dual-fine (a .i) _ (c .before .before .before .before .before .if1 .left) (c .before .before .before .before .if2 .left))
+    (dual-line-fine (a .i) _ (c .before .before .before .before .before .if1 .left) (c .before .before .before .before .if2 .left))
     (c .before .before .store-dual .ensures ∙ ap (λ l. putDual l (a .i) (listedDual (a .text .now) (far .before .before .before .before .head .given .0 .0) (far .before .before .before .before .head .given .0 .1 .0 .at))) (empty-pass putMember member-length (a .records .now) _ (far .before .members .ensures .stored)))
 
 pub dual-line-spec : {M : Type 1} → statement M

@@ -5,7 +5,7 @@ use Rattle.format_grammar.specs.Items.{puts}
 use Rattle.format_number.specs.Answer.{numberStep}
 use Rattle.format_plan_lines.specs.Lines.{putDual}
 use Rattle.format_plan.specs.Plan.{planLinesAt}
-use Rattle.format_plan.specs.Laws.Reading.{lines-refused, lines-found}
+use Rattle.format_plan.specs.Laws.Reading.{plan-lines-refused, plan-lines-found}
 use Rattle.format_plan_read.proofs.plan_body.Statement.{statement}
 use Rattle.format_plan_read.proofs.plan_body.Tie as tie
 
@@ -19,7 +19,7 @@ returns c =
     let a = c .before .before .before .before .before .before .before .before .before .args in
     let k = c .before .before .before .before .keep-lines .ensures in
     let told = ap numberStep (c .enum-told .given .1) in
-    let l = lines-refused (a .text .now) (a .edges) (a .cursor .at) (sym (k .end) ∙ told) in
+    let l = plan-lines-refused (a .text .now) (a .edges) (a .cursor .at) (sym (k .end) ∙ told) in
     (told ∙ sym (l .0), k .stored, sym (ap (puts putDual (a .records .now) 0) (l .1)))
 
 -- the moat lines follow
@@ -29,7 +29,7 @@ returns-2 c =
     let a = c .before .before .before .before .before .before .before .before .before .before .before .before .before .before .args in
     let k = c .before .before .before .before .before .before .before .before .before .keep-lines .ensures in
     let d = c .before .before .dual-lines .ensures in
-    let l = lines-found (a .text .now) (a .edges) (a .cursor .at) (sym (k .end) ∙ ap numberStep (c .before .before .before .before .before .kept .given .1)) in
+    let l = plan-lines-found (a .text .now) (a .edges) (a .cursor .at) (sym (k .end) ∙ ap numberStep (c .before .before .before .before .before .kept .given .1)) in
     (d .end ∙ sym (l .0), k .stored, d .stored ∙ sym (ap (puts putDual (a .records .now) 0) (l .1)))
 
 pub plan-body-spec : {M : Type 1} → statement M

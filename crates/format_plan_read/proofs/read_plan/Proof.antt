@@ -8,7 +8,7 @@ use Rattle.format_number.specs.Answer.{numberStep}
 use Rattle.format_survey.specs.Reading.{stepOutcome}
 use Rattle.format_plan.specs.Plan.{marksRead, recordsRead}
 use Rattle.format_plan.specs.Answer.{Read, claimsStep, planOutcome, readOf}
-use Rattle.format_plan.specs.Laws.Reading.{outcome-uncounted, outcome-refused, outcome-found}
+use Rattle.format_plan.specs.Laws.Reading.{outcome-uncounted, plan-outcome-refused, outcome-found}
 use Rattle.format_plan_read.proofs.read_plan.Statement.{statement}
 use Rattle.format_plan_read.proofs.read_plan.Tie as tie
 
@@ -33,7 +33,7 @@ returns-2 c =
     let f = c .before .before .before .before .before .before .before .plan-lines .ensures in
     let told = c .before .enum-told2 .given .1 in
     let s = ap numberStep told in
-    let r = outcome-refused (a .text .now) (a .from) (a .edges) (a .marks .now) (a .records .now) (sym (far .before .before .before .claim-lines .ensures) ∙ ap claimsStep (far .before .claims .given .1)) (sym (f .0) ∙ s) in (
+    let r = plan-outcome-refused (a .text .now) (a .from) (a .edges) (a .marks .now) (a .records .now) (sym (far .before .before .before .claim-lines .ensures) ∙ ap claimsStep (far .before .claims .given .1)) (sym (f .0) ∙ s) in (
       c .stopped-lines .ensures ∙ ap (λ x. stepOutcome (stopped {B = Read} (numberStep x))) told ∙ sym (ap readOf r),
       f .1 ∙ stored-refused _ (a .marks .now) s ∙ sym (ap (λ o. marksRead o (a .edges) (a .marks .now)) r),
       f .2 ∙ stored-refused _ (a .records .now) s ∙ sym (ap (λ o. recordsRead o (a .records .now)) r),

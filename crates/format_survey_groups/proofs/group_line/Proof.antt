@@ -3,7 +3,7 @@ use borrow.Author.Needs.{needs}
 use Rattle.format_survey_lines.specs.Line.{groupLine, groupTest}
 use Rattle.format_number.specs.Answer.{numberStep}
 use Rattle.format_number.specs.Laws.Step.{refusal-stays, check-refused, check-fine}
-use Rattle.format_survey_lines.specs.Laws.Tests.{group-high, group-fine}
+use Rattle.format_survey_lines.specs.Laws.Tests.{group-high, group-line-fine}
 use Rattle.format_survey_groups.proofs.group_line.Statement.{statement}
 use Rattle.format_survey_groups.proofs.group_line.Tie as tie
 
@@ -30,7 +30,7 @@ returns-3 c =
     let a = c .before .before .before .before .before .before .before .args in
     let n = c .before .before .step .given .0 .0 in
     check-fine (groupTest (a .vertex)) (c .before .before .before .before .number-line .ensures) (c .before .before .step .given .1)
-    (group-fine (a .vertex) n (c .if1 .left))
+    (group-line-fine (a .vertex) n (c .if1 .left))
 
 pub group-line-spec : {M : Type 1} → statement M
 group-line-spec =

@@ -8,7 +8,7 @@ use Rattle.format_survey_lines.specs.Answer.{countsStep}
 use Rattle.format_survey_lines.specs.Line.{lengthsOf, pairRoom, testsFor}
 use Rattle.format_survey.specs.Reading.{bodyOf, surveyOf, stepOutcome}
 use Rattle.format_survey.specs.Answer.{TextCounts, countsOutcome, countsOf}
-use Rattle.format_survey.specs.Laws.Reading.{reading-refused, reading-stopped, reading-found, buffer-kept, buffer-refused, buffer-found, lines-fit, counts-fit}
+use Rattle.format_survey.specs.Laws.Reading.{reading-refused, reading-stopped, reading-found, buffer-kept, buffer-refused, buffer-found, lines-fit, counts-read-fit}
 use Rattle.format_survey_read.proofs.read.Statement.{statement}
 use Rattle.format_survey_read.proofs.read.Tie as tie
 
@@ -43,7 +43,7 @@ read-body-requires : tie.Need-read-body-requires
 unfolding countsStep testsFor
 read-body-requires c κs =
     let a = c .before .before .before .before .before .before .before .before .before .before .before .before .before .before .before .before .before .before .args in
-    counts-fit (a .text .now) (lengthsOf (a .groups .now) (a .firsts .now) (a .seconds .now) (a .weights .now) (a .owners .now) (a .others .now)) (sym (c .before .before .before .before .before .before .before .before .before .before .counts .ensures) ∙ ap countsStep (c .before .before .before .before .before .before .before .before .head .given .1))
+    counts-read-fit (a .text .now) (lengthsOf (a .groups .now) (a .firsts .now) (a .seconds .now) (a .weights .now) (a .owners .now) (a .others .now)) (sym (c .before .before .before .before .before .before .before .before .before .before .counts .ensures) ∙ ap countsStep (c .before .before .before .before .before .before .before .before .head .given .1))
 
 same-length : tie.Need-same-length
 same-length c = c .before .before .before .before .before .before .before .before .before .before .before .before .before .before .groups .given
