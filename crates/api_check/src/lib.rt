@@ -47,7 +47,7 @@ pub fn check_call(
             cost,
             bound,
         } => {
-            api_code::store_three(counts, terminals, cost, bound);
+            api_store::store_three(counts, terminals, cost, bound);
             0
         }
         Checking::Refused { number, place } => api_code::code(number, place),

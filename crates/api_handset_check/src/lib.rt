@@ -40,7 +40,7 @@ fn check_bytes(
     let owner_words = pair_words(owners);
     let m = firsts.len() / WORD_BYTES;
     let p = pairs_seen(others.len());
-    api_result::check_words(
+    api_result_check::check_words(
         groups,
         &first_words[0..m],
         &second_words[0..m],

@@ -55,7 +55,7 @@ pub fn plan_call(
             rounds,
             duals,
         } => {
-            api_code::store_five(counts, terminals, cost, bound, rounds, duals);
+            api_store::store_five(counts, terminals, cost, bound, rounds, duals);
             0
         }
         Planned::Refused { number, place } => api_code::code(number, place),

@@ -28,7 +28,7 @@ fn verified_code(answer: Verified, counts: &mut [u64]) -> u64
             if counts.len() < CHECK_FIGURES {
                 return 7;
             }
-            api_code::store_three(counts, terminals, cost, bound);
+            api_store::store_three(counts, terminals, cost, bound);
             0
         }
         Verified::Refused { number, place } => api_code::code(number, place),
@@ -40,6 +40,6 @@ pub fn verify_call(text: &[u8], counts: &mut [u64]) -> u64
     ensures code { λ r. ⌜ r ≡ capped (codeOf (verdictOf (verifyCall (old text) (old counts)))) ⌝ }
     ensures counts { λ _. ⌜ new counts ≡ countsFor (verifyCall (old text) (old counts)) checkFiguresOf (old counts) ⌝ }
 {
-    let answer = check_text::verify(text);
+    let answer = check_printed::verify(text);
     verified_code(answer, counts)
 }

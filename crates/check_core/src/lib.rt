@@ -84,8 +84,8 @@ fn judge(groups: &[u8], firsts: &[u32], weights: &[u32], marks: &[u8], records: 
         let counts = checkedOf s (old marks) (old records) in
         ⌜ checkedOutcome r ≡ outcome (ruleRefusal counts) counts ⌝ }
 {
-    let terminals = survey_groups::terminals(groups);
-    let cost = check_marks::kept_cost(firsts, weights, marks);
+    let terminals = survey_terminals::terminals(groups);
+    let cost = check_cost::kept_cost(firsts, weights, marks);
     let bound = duals::bound(records);
     let found = rule::rule_refusal(terminals, cost, bound);
     match found {
@@ -132,7 +132,7 @@ pub fn check(
     if let Verdict::Refused { number, place } = unfit {
         return Checking::Refused { number, place };
     }
-    let poured = survey_lists::pour(groups, owners, others);
+    let poured = survey_pour::pour(groups, owners, others);
     let n = groups.len();
     let unsound = duals_refusal(&poured[0..n], firsts, seconds, weights, records);
     if let Verdict::Refused { number, place } = unsound {

@@ -45,7 +45,7 @@ fn cut_refusal(groups: &[u8], part: &[u8], i: usize) -> Verdict
         ⌜ r ≡ refuseIf (not (separates p (memberIn (old part)))) 12 i ⌝ }
 {
     let labels = sides(part);
-    if survey_groups::is_separating(groups, &labels) {
+    if survey_separating::is_separating(groups, &labels) {
         return Verdict::Fine;
     }
     Verdict::Refused {

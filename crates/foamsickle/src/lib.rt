@@ -67,7 +67,7 @@ pub extern "C" fn foamsickle_read(
         let read = readCall (old text) lent (length (old counts)) in
         ⌜ new counts ≡ countsFor (countsOf read) readFiguresOf (old counts) ⌝ }
 {
-    api_read::read_call(
+    api_read_call::read_call(
         text,
         groups,
         firsts,
@@ -179,7 +179,7 @@ pub extern "C" fn foamsickle_drop(
         let s = lentWith groups firsts seconds weights owners others in
         ⌜ new counts ≡ droppedCounts s (old marks) (old counts) ⌝ }
 {
-    api_grow::drop_call(
+    api_drop::drop_call(
         groups,
         firsts,
         seconds,
@@ -256,7 +256,7 @@ pub extern "C" fn foamsickle_print_plan(
         let text = planText terminals cost bound rounds (old marks) (old records) in
         ⌜ new counts ≡ textCounts text (old out) (old counts) ⌝ }
 {
-    api_print::print_plan_call(terminals, cost, bound, rounds, marks, records, out, counts)
+    api_print_plan::print_plan_call(terminals, cost, bound, rounds, marks, records, out, counts)
 }
 
 // Prints a survey's text. `counts` gets its length.
@@ -281,7 +281,7 @@ pub extern "C" fn foamsickle_print_survey(
         let s = surveyLent groups firsts seconds weights owners others in
         ⌜ new counts ≡ surveyCounts s (old out) (old counts) ⌝ }
 {
-    api_print::print_survey_call(
+    api_print_survey::print_survey_call(
         groups,
         firsts,
         seconds,

@@ -10,11 +10,11 @@ use Rattle.format_grammar.specs.Bytes.{byteIs, fixedAt}
 use Rattle.format_grammar.specs.Items.{itemsFrom}
 use Rattle.format_grammar.specs.Lines.{following}
 use Rattle.format_grammar.specs.Step.{Step, found, refused, _then_, checked}
-use Rattle.format_also.specs.Pair.{rank, pairAt, alsoTest, alsoLine, alsoReader, alsoAt, counted}
+use Rattle.format_also.specs.Pair.{rank, pairAt, alsoTest, alsoLine, alsoReader, alsoAt, pairsCounted}
 
 -- What the lines of a text answer.
 abbrev said : List ℕ → Step ℕ
-said t = counted (alsoAt t (1 ∷ 1 ∷ 0 ∷ []) 3 0)
+said t = pairsCounted (alsoAt t (1 ∷ 1 ∷ 0 ∷ []) 3 0)
 
 -- Three pairs; 17 before 18, at the junction; 18 at the second of two equal pairs, and where the group is the junction's own; 7 at the fourth
 -- pair; 16 at a fourth digit, and at a leading 0.
@@ -31,5 +31,5 @@ pub also-examples : _≡_ {A = List (Step ℕ)}
     )
     (found 3 27 ∷ refused 17 9 ∷ refused 18 1 ∷ refused 18 0 ∷ refused 7 0 ∷ refused 16 8 ∷ refused 16 8 ∷ [])
 unfolding refuseIf _before_ spelledAfter classOf isDigit digitsEnd numeralEnd numeralAt numberAt numberTo byteIs fixedAt itemsFrom following _then_
-    checked rank pairAt alsoTest alsoLine alsoReader alsoAt counted
+    checked rank pairAt alsoTest alsoLine alsoReader alsoAt pairsCounted
 also-examples = refl

@@ -74,8 +74,8 @@ unfoldable pub alsoAt : List ℕ → (groups : List ℕ) (room at : ℕ) → Lin
 alsoAt t groups room at = itemsFrom (alsoReader t groups room) alsoTurns 0 0 at
 
 -- Where the lines end, with their number.
-unfoldable pub counted : Lines ℕ Pair → Step ℕ
-counted lines = lines .end then λ low p. found (length (lines .values)) p
+unfoldable pub pairsCounted : Lines ℕ Pair → Step ℕ
+pairsCounted lines = lines .end then λ low p. found (length (lines .values)) p
 
 -- ---- one store after another, as the reading does it
 

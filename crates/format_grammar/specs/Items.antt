@@ -55,7 +55,7 @@ textFrom text i [] = []
 textFrom text i (a ∷ l) = text i a ++ textFrom text (i + 1) l
 
 -- A reader of items: item i is the text of a value with P, or refused with 16 at the first byte that no such text has there, and neither is changed by bytes past the one behind it.
-pub record Lists {S A : Type 0} (r : List ℕ → ItemReader S A) (P : A → Type 0) (text : ℕ → A → List ℕ) : Type 0 where
+pub record ListsItems {S A : Type 0} (r : List ℕ → ItemReader S A) (P : A → Type 0) (text : ℕ → A → List ℕ) : Type 0 where
   pub some : (i : ℕ) (a : A) → 0 < length (text i a)
   pub sound : (t : List ℕ) (low : S) (i at : ℕ) (a : A) (p : ℕ) → at ≤ length t → r t .item low i at ≡ found a p → Word (Text P (text i)) t at a p
   pub place : (t : List ℕ) (low : S) (i at p : ℕ) → at ≤ length t → r t .item low i at ≡ refused 16 p → (at ≤ p) × (p ≤ length t)

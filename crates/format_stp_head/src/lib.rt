@@ -13,7 +13,7 @@ ghost use Rattle.format_stp_rule.specs.StpReading.{stpLine, commentSection, gra
 use base_buffer::at8;
 use format_number::Cursor;
 use format_number::Number;
-use format_number::fixed;
+use format_reader::fixed;
 
 // The fixed words of this part.
 const HEADER: [u8; 42] = *b"33D32945 STP File, STP Format Version 1.0\n";

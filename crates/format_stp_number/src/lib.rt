@@ -15,7 +15,7 @@ use base_limits::MAX_DIGITS;
 use format_number::Class;
 use format_number::Cursor;
 use format_number::Number;
-use format_number::is_class;
+use format_reader::is_class;
 
 // One less, and 0 for 0.
 fn less(x: usize) -> usize

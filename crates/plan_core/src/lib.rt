@@ -4,37 +4,10 @@ ghost use mathlib.Core.Path.{_≡_};
 ghost use lib.ListN.{length};
 ghost use Rattle.survey_core.specs.Survey.{lentWith};
 ghost use Rattle.plan_rule.specs.Plan.{counting, marksAfter, recordsAfter};
-ghost use Rattle.plan_rule.specs.Answer.{plannedOutcome, droppedOutcome};
+ghost use Rattle.plan_rule.specs.Answer.{plannedOutcome};
 ghost use Rattle.plan_rule.specs.Promise.{Promises};
-ghost use Rattle.plan_rule.specs.Stages.{thenDropping};
-use plan_rule::Dropped;
+use plan_counts::both;
 use plan_rule::Planned;
-
-// Growing's answer, with the cost that dropping answers.
-fn both(grown: Planned, dropped: Dropped) -> Planned
-    ensures { λ r. ⌜ plannedOutcome r ≡ thenDropping (plannedOutcome grown) (droppedOutcome dropped) ⌝ }
-{
-    let Planned::Finished {
-        terminals: _,
-        cost: _,
-        bound,
-        rounds,
-        duals,
-    } = grown
-    else {
-        return grown;
-    };
-    match dropped {
-        Dropped::Finished { terminals, cost } => Planned::Finished {
-            terminals,
-            cost,
-            bound,
-            rounds,
-            duals,
-        },
-        Dropped::Refused { number, place } => Planned::Refused { number, place },
-    }
-}
 
 // Plans a survey into lent buffers for marks and moat records. Finished exactly if none of 1 to 8 and 18 applies; 8
 // exactly if no set of tracks joins some group, and then the lowest; a finished plan passes the checker and is within

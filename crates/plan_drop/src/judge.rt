@@ -49,7 +49,7 @@ fn parts_group(groups: &[u8], words: &[u64], k: usize) -> bool
     ensures { λ r. ⌜ r ≡ separates (problemOf (groupsAlone (old groups))) (sideIn (old words) k) ⌝ }
 {
     let labels = sides(words, k);
-    survey_groups::is_separating(groups, &labels)
+    survey_separating::is_separating(groups, &labels)
 }
 
 // Whether the edge with index i is of this batch and needed.

@@ -1,92 +1,19 @@
 // Growing: planning's refusals 1 to 8 and 18, then the rounds; the picked tracks as marks, the moats as records.
 ghost use Rattle.base_buffer.specs.Lent.{old, new};
 ghost use mathlib.Core.Path.{_≡_};
-ghost use mathlib.Core.Bool.{_||_};
-ghost use Prim.Native.Nat.{_≤_, _*_};
 ghost use mathlib.Core.List.{_++_};
-ghost use lib.ListN.{length, getD, drop};
-ghost use lib.Dec.{ltb};
-ghost use Rattle.base_buffer.specs.Store.{remade};
-ghost use Rattle.base_limits.specs.Limits.{maxVertices, recordBytes, dualsFor};
-ghost use Rattle.base_limits.specs.Verdict.{refuseIf, answer};
+ghost use lib.ListN.{length, drop};
+ghost use Rattle.base_limits.specs.Verdict.{answer};
 ghost use Rattle.survey_core.specs.Survey.{surveyFrom, lentSurvey, lentWith, problemOf};
 ghost use Rattle.plan_duals.specs.Drawing.{recordsOver};
-ghost use Rattle.plan_rule.specs.Plan.{planRefusal, planOf, recordsAfter};
+ghost use Rattle.plan_rule.specs.Plan.{planOf, recordsAfter};
 ghost use Rattle.plan_rule.specs.Growing.{grownCountsOf, pickedMarks, growing, marksGrown};
 ghost use Rattle.plan_rule.specs.Answer.{plannedOutcome};
 ghost use Rattle.plan_rule.specs.Promise.{Ready};
-use base_limits::RECORD_BYTES;
 use base_limits::Verdict;
+use plan_picks::copy_picks;
+use plan_refusal::plan_refusal;
 use plan_rule::Planned;
-use survey_components::Chosen;
-
-// 7: a lent buffer is too short for m marks, or for the records of n junctions.
-fn room_refusal(n: usize, m: usize, marks: usize, records: usize) -> Verdict
-    requires { ⌜ n ≤ maxVertices ⌝ }
-    ensures { λ r. ⌜ r ≡ refuseIf (ltb marks m || ltb records (recordBytes * dualsFor n)) 7 0 ⌝ }
-{
-    if marks < m {
-        return Verdict::Refused {
-            number: 7,
-            place: 0,
-        };
-    }
-    if n == 0 {
-        return Verdict::Fine;
-    }
-    if records < RECORD_BYTES * (2 * n - 1) {
-        return Verdict::Refused {
-            number: 7,
-            place: 0,
-        };
-    }
-    Verdict::Fine
-}
-
-// 1, 2, 3, then 4, 5, 6 by track, then 18 by pair, then 7, then 8.
-fn plan_refusal(
-    groups: &[u8],
-    firsts: &[u32],
-    seconds: &[u32],
-    weights: &[u32],
-    owners: &[u32],
-    others: &[u8],
-    marks: usize,
-    records: usize,
-) -> Verdict
-    ensures { λ r. ⌜ r ≡ planRefusal (lentWith groups firsts seconds weights owners others) marks records ⌝ }
-{
-    let unsound = survey_pairs::survey_refusal(groups, firsts, seconds, weights, owners, others);
-    let Verdict::Fine = unsound else {
-        return unsound;
-    };
-    let short = room_refusal(groups.len(), firsts.len(), marks, records);
-    let Verdict::Fine = short else {
-        return short;
-    };
-    survey_split::group_refusal(
-        groups,
-        firsts,
-        seconds,
-        weights,
-        owners,
-        others,
-        Chosen::All,
-        &[],
-        8,
-    )
-}
-
-// The first m marks are those of the picks.
-fn copy_picks(picked: &[u8], marks: &mut [u8], m: usize)
-    ensures { λ r. ⌜ new marks ≡ remade (λ e mark. getD (old picked) e 0) m (old marks) ⌝ }
-{
-    let mut e = 0;
-    while e < m {
-        base_buffer::put8(marks, e, base_buffer::at8(picked, e));
-        e += 1;
-    }
-}
 
 // The growth of a survey that no refusal stops: rounds, picked tracks, moats, and the counts.
 fn grow_poured(
@@ -125,7 +52,7 @@ fn grow_poured(
         rounds,
         records,
     );
-    let terminals = survey_groups::terminals(groups);
+    let terminals = survey_terminals::terminals(groups);
     Planned::Finished {
         terminals,
         cost: 0,
@@ -170,7 +97,7 @@ pub fn grow_plan(
     if let Verdict::Refused { number, place } = found {
         return Planned::Refused { number, place };
     }
-    let poured = survey_lists::pour(groups, owners, others);
+    let poured = survey_pour::pour(groups, owners, others);
     let n = groups.len();
     grow_poured(&poured[0..n], firsts, seconds, weights, marks, records)
 }

@@ -247,7 +247,7 @@ pub fn grow(groups: &[u8], firsts: &[u32], seconds: &[u32], weights: &[u32]) -> 
         let s = lentSurvey groups firsts seconds weights in
         ⌜ GrownAfter (problemOf s) (written (surveyRefusal s) (length (old groups)) 0) r ⌝ }
 {
-    let found = survey_core::survey_refusal(groups, firsts, seconds, weights);
+    let found = survey_refusal::survey_refusal(groups, firsts, seconds, weights);
     let Verdict::Fine = found else {
         return no_rounds();
     };

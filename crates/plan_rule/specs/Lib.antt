@@ -6,6 +6,4 @@ pub mod Promise
 pub mod DropPromise
 pub mod Stages
 pub mod Answer
-pub mod Examples
-pub mod Altered
 pub mod Laws

@@ -106,7 +106,7 @@ pub fn set_labels(
         ⌜ r ≡ written (surveyRefusal s) (labelsOf s (chosen set (old marks))) (replicate maxVertices 0) ⌝ }
 {
     let mut labels = [0u32; MAX_VERTICES];
-    let found = survey_core::survey_refusal(groups, firsts, seconds, weights);
+    let found = survey_refusal::survey_refusal(groups, firsts, seconds, weights);
     let Verdict::Fine = found else {
         return labels;
     };

@@ -65,7 +65,7 @@ fn loop_refusal(groups: &[u8], firsts: &[u32], seconds: &[u32], picked: &[u8]) -
         };
         e += 1;
     }
-    survey_groups::split_refusal(groups, &labels, 14)
+    survey_separating::split_refusal(groups, &labels, 14)
 }
 
 // What keeps marks from being those of a forest that joins every group: 1 to 6, 9 for marks not m long, 21, then 14 for
@@ -79,7 +79,7 @@ pub fn forest_refusal(
 ) -> Verdict
     ensures { λ r. ⌜ r ≡ forestRefusal (lentSurvey groups firsts seconds weights) (old picked) ⌝ }
 {
-    let found = survey_core::survey_refusal(groups, firsts, seconds, weights);
+    let found = survey_refusal::survey_refusal(groups, firsts, seconds, weights);
     let Verdict::Fine = found else {
         return found;
     };

@@ -79,7 +79,7 @@ pub fn split_list(
         ⌜ r ≡ splitList (lentLists groups owners others) label number ⌝ }
 {
     let table = list_spreads(groups, owners, others, labels);
-    survey_groups::first_split(&table, number)
+    survey_separating::first_split(&table, number)
 }
 
 // 1 to 6 and 18, and then the lowest list that the set of tracks does not join, under the number given: 8 of all

@@ -69,7 +69,7 @@ pub fn join_round(
     ensures { λ r. let s = lentSurvey groups firsts seconds weights in
         ⌜ r ≡ written (surveyRefusal s) (roundIn (old firsts) (old seconds) (old order) e) 0 ⌝ }
 {
-    let found = survey_core::survey_refusal(groups, firsts, seconds, weights);
+    let found = survey_refusal::survey_refusal(groups, firsts, seconds, weights);
     let Verdict::Fine = found else {
         return 0;
     };

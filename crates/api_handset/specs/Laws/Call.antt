@@ -22,7 +22,7 @@ use Rattle.api_check.specs.Call.{checkFigures, checkFiguresOf, checkCall, check
 use Rattle.api_check.specs.Laws.Call.{check-encodable}
 use Rattle.api_words.specs.Words.{spelledCounts, withSpelled}
 use Rattle.api_lengths.specs.Slices.{Slices, surveySpelled, sizeRefusal, lengthsRefusal, raggedRefusal}
-use Rattle.api_lengths.specs.Laws.Lengths.{lengthsOf, lengths-refused, lengths-whole}
+use Rattle.api_lengths.specs.Laws.Lengths.{slicesRefusal, lengths-refused, lengths-whole}
 use Rattle.api_lengths.specs.Laws.Pairs.{Seen, seen-call, seen-written}
 use Rattle.api_handset.specs.Call.{planBytes, checkBytes, resultAfter, checkWith, handsetCheck, handsetCheckResult}
 use Rattle.api_handset.specs.Call.{planWith, handsetPlan, handsetMarks, handsetRecords, handsetPlanResult}
@@ -90,16 +90,16 @@ lengths-encodable groups firsts seconds weights owners others =
     encodable-refuse _ (at-zero 3 (lit< tt) (lit< tt))
 
 -- The call is refused for its lengths.
-module _ (b : Slices) {number place : ℕ} (h : lengthsOf b ≡ Refused number place) (w : Verdict) where
+module _ (b : Slices) {number place : ℕ} (h : slicesRefusal b ≡ Refused number place) (w : Verdict) where
   odd-code : {r : ℕ} → r ≡ capped (number + placeUnit * place) → r ≡ codeOf (raggedRefusal b before surveyRefusal (surveySpelled b) before w)
-  odd-code k = exact-code (lengthsOf b) (lengths-encodable _ _ _ _ _ _) number place h k ∙ ap codeOf (h ∙ sym (lengths-refused b h w))
+  odd-code k = exact-code (slicesRefusal b) (lengths-encodable _ _ _ _ _ _) number place h k ∙ ap codeOf (h ∙ sym (lengths-refused b h w))
 
   odd-kept : (new old : List ℕ) → old ≡ written (raggedRefusal b before surveyRefusal (surveySpelled b) before w) new old
   unfolding written
   odd-kept new old = sym (ap (λ v. written v new old) (lengths-refused b h w))
 
 -- It is the call on what is seen of the survey.
-module _ (b : Slices) {t : Survey} (fine : lengthsOf b ≡ Fine) (seen : Seen (surveySpelled b) t) (rest : Survey → Verdict) where
+module _ (b : Slices) {t : Survey} (fine : slicesRefusal b ≡ Fine) (seen : Seen (surveySpelled b) t) (rest : Survey → Verdict) where
   even-code : {r : ℕ} → r ≡ codeOf (surveyRefusal t before rest t) → r ≡ codeOf (raggedRefusal b before surveyRefusal (surveySpelled b) before rest (surveySpelled b))
   even-code k = k ∙ ap codeOf (seen-call rest seen ∙ sym (before-fine (lengths-whole b fine) _))
 
@@ -109,15 +109,15 @@ module _ (b : Slices) {t : Survey} (fine : lengthsOf b ≡ Fine) (seen : Seen (s
       k ∙ seen-written rest new old seen ∙ ap (λ v. written v (new (surveySpelled b)) old) (sym (before-fine (lengths-whole b fine) _))
 
 module _ (b : Slices) (marks records result : List ℕ) where
-  pub check-odd-code : {number place r : ℕ} → lengthsOf b ≡ Refused number place → r ≡ capped (number + placeUnit * place) → r ≡ codeOf (handsetCheck b marks records result)
+  pub check-odd-code : {number place r : ℕ} → slicesRefusal b ≡ Refused number place → r ≡ capped (number + placeUnit * place) → r ≡ codeOf (handsetCheck b marks records result)
   unfolding handsetCheck checkWith withCounts
   check-odd-code h k = odd-code b h _ k
 
-  pub check-odd-kept : {number place : ℕ} → lengthsOf b ≡ Refused number place → result ≡ handsetCheckResult b marks records result
+  pub check-odd-kept : {number place : ℕ} → slicesRefusal b ≡ Refused number place → result ≡ handsetCheckResult b marks records result
   unfolding handsetCheckResult resultAfter handsetCheck checkWith withCounts
   check-odd-kept h = odd-kept b h _ _ result
 
-  module _ {t : Survey} (fine : lengthsOf b ≡ Fine) (seen : Seen (surveySpelled b) t) where
+  module _ {t : Survey} (fine : slicesRefusal b ≡ Fine) (seen : Seen (surveySpelled b) t) where
     pub check-even-code : {r : ℕ} → r ≡ codeOf (checkWith t marks records result) → r ≡ codeOf (handsetCheck b marks records result)
     unfolding handsetCheck checkWith withCounts
     check-even-code k = even-code b fine seen (λ s. refuseIf (ltb (length result) checkBytes) 7 0 before checkRefusal s marks records) k
@@ -129,11 +129,11 @@ module _ (b : Slices) (marks records result : List ℕ) where
         even-written b fine seen (λ s. refuseIf (ltb (length result) checkBytes) 7 0 before checkRefusal s marks records)
         (λ s. sets result 0 (spelledCounts (checkFiguresOf (checkedOf s marks records)))) result k
 
-  pub plan-odd-code : {number place r : ℕ} → lengthsOf b ≡ Refused number place → r ≡ capped (number + placeUnit * place) → r ≡ codeOf (handsetPlan b marks records result)
+  pub plan-odd-code : {number place r : ℕ} → slicesRefusal b ≡ Refused number place → r ≡ capped (number + placeUnit * place) → r ≡ codeOf (handsetPlan b marks records result)
   unfolding handsetPlan planWith withCounts
   plan-odd-code h k = odd-code b h _ k
 
-  module _ {number place : ℕ} (h : lengthsOf b ≡ Refused number place) where
+  module _ {number place : ℕ} (h : slicesRefusal b ≡ Refused number place) where
     pub plan-odd-marks : marks ≡ handsetMarks b marks records result
     unfolding handsetMarks handsetPlan planWith withCounts
     plan-odd-marks = odd-kept b h _ _ marks
@@ -146,7 +146,7 @@ module _ (b : Slices) (marks records result : List ℕ) where
     unfolding handsetPlanResult resultAfter handsetPlan planWith withCounts
     plan-odd-result = odd-kept b h _ _ result
 
-  module _ {t : Survey} (fine : lengthsOf b ≡ Fine) (seen : Seen (surveySpelled b) t) where
+  module _ {t : Survey} (fine : slicesRefusal b ≡ Fine) (seen : Seen (surveySpelled b) t) where
     abbrev rest : Survey → Verdict
     rest s = refuseIf (ltb (length result) planBytes) 7 0 before planRefusal s (length marks) (length records)
 

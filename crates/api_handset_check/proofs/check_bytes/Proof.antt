@@ -3,7 +3,7 @@ use mathlib.Core.Path.{_≡_}
 use borrow.Author.Needs.{needs}
 use Rattle.base_limits.specs.declared.Verdict.the-variants.{Fine}
 use Rattle.api_lengths.specs.Slices.{Slices}
-use Rattle.api_lengths.specs.Laws.Lengths.{lengthsOf, lengths-even}
+use Rattle.api_lengths.specs.Laws.Lengths.{slicesRefusal, lengths-even}
 use Rattle.api_lengths.specs.Laws.Pairs.{seen-few, seen-fits, seen-words}
 use Rattle.api_handset.specs.Laws.Call.{check-even-code, check-even-result}
 use Rattle.api_handset_check.proofs.check_bytes.Statement.{statement}
@@ -15,7 +15,7 @@ slices c =
     let a = c .before .before .before .before .before .before .before .before .before .before .before .before .before .before .args in
     record { groups = a .groups .now; firsts = a .firsts .now; seconds = a .seconds .now; weights = a .weights .now; owners = a .owners .now; others = a .others .now }
 
-fine : (c : tie.After-pairs-seen) → lengthsOf (slices c) ≡ Fine
+fine : (c : tie.After-pairs-seen) → slicesRefusal (slices c) ≡ Fine
 fine c = c .before .before .before .before .before .before .before .before .before .before .before .before .before .before .pre
 
 part-check-words-end : tie.Need-part-check-words-end

@@ -18,8 +18,8 @@ use Rattle.api_lengths.specs.Slices.{Slices, surveySpelled, sizeRefusal,
 use Rattle.api_words.specs.Laws.Words.{length-words}
 
 -- Refused for the six lengths.
-abbrev pub lengthsOf : Slices → Verdict
-lengthsOf b =
+abbrev pub slicesRefusal : Slices → Verdict
+slicesRefusal b =
     lengthsRefusal (length (b .groups)) (length (b .firsts)) (length (b .seconds)) (length (b .weights)) (length (b .owners)) (length (b .others))
 
 -- The survey's first tests find what the lengths alone are refused for.
@@ -35,7 +35,7 @@ absorbed Fine Fine false false (Refused a b) rest h = h
 absorbed Fine Fine false false Fine rest h = absurd (no-refusal h refl)
 
 module _ (b : Slices) where
-  pub lengths-refused : {number place : ℕ} → lengthsOf b ≡ Refused number place → (w : Verdict)
+  pub lengths-refused : {number place : ℕ} → slicesRefusal b ≡ Refused number place → (w : Verdict)
       → (raggedRefusal b before surveyRefusal (surveySpelled b) before w) ≡ Refused number place
   unfolding surveyRefusal surveySpelled vertexCount edgeCount sizeRefusal raggedRefusal lengthsRefusal areUneven
   lengths-refused h w =
@@ -52,7 +52,7 @@ module _ (b : Slices) where
     pub pairs-even : length (b .owners) / wordBytes ≡ length (b .others)
     pub edges-few : length (b .firsts) / wordBytes ≤ maxEdges
 
-  pub lengths-even : lengthsOf b ≡ Fine → Even
+  pub lengths-even : slicesRefusal b ≡ Fine → Even
   unfolding lengthsRefusal areUneven
   lengths-even h =
       let rest = fine-right _ _ (fine-right _ _ h) in
@@ -73,7 +73,7 @@ module _ (b : Slices) where
       not-false true h = refl
       not-false false h = sym h
 
-  pub lengths-whole : lengthsOf b ≡ Fine → raggedRefusal b ≡ Fine
+  pub lengths-whole : slicesRefusal b ≡ Fine → raggedRefusal b ≡ Fine
   unfolding lengthsRefusal raggedRefusal
   lengths-whole h = before-fine (fine-left _ _ h) _ ∙ fine-left _ _ (fine-right (sizeRefusal (length (b .groups))) _ h)
 

@@ -87,9 +87,9 @@ kept-of-marks m kept e h = ap (λ (x : ℕ). eqb x 2) (getD-tabulate m (λ x. co
     by-in false = refl
 
 -- Marks drawn for the tracks that marks keep keep the same tracks.
-pub kept-same : (marks : List ℕ) → keptBy (marksOf (length marks) (keptIn marks)) ≡ keptBy marks
+pub kept-marks-same : (marks : List ℕ) → keptBy (marksOf (length marks) (keptIn marks)) ≡ keptBy marks
 unfolding keptIn keptBy
-kept-same marks = fun-ext (λ e. ⊎-elim (inside e) (outside e) (lt-or-ge e (length marks)))
+kept-marks-same marks = fun-ext (λ e. ⊎-elim (inside e) (outside e) (lt-or-ge e (length marks)))
   where
     inside : (e : ℕ) → e < length marks → keptBy (marksOf (length marks) (keptIn marks)) e ≡ keptBy marks e
     inside e h = kept-of-marks (length marks) (keptIn marks) e h ∙ those-in (length marks) (keptBy marks) e h
@@ -181,6 +181,6 @@ pub drawn-passes : (s : Survey) → ByteGroups s → (marks records : List ℕ) 
     → checking s (marksOf (edgeCount s) (keptIn marks)) (dualRecords (printedDuals records)) ≡ answer c
 drawn-passes s numbered marks records c bytes h =
     let p = checking-passing s numbered marks records .0 c h in
-    let kept : keptBy (marksOf (edgeCount s) (keptIn marks)) ≡ keptBy marks = ap (λ (m : ℕ). keptBy (marksOf m (keptIn marks))) (sym (p .marks-long)) ∙ kept-same marks in
+    let kept : keptBy (marksOf (edgeCount s) (keptIn marks)) ≡ keptBy marks = ap (λ (m : ℕ). keptBy (marksOf m (keptIn marks))) (sym (p .marks-long)) ∙ kept-marks-same marks in
     ap (checking s (marksOf (edgeCount s) (keptIn marks))) (records-same records bytes (p .records-whole))
     ∙ marks-pass s numbered marks (marksOf (edgeCount s) (keptIn marks)) records c (length-marks (edgeCount s) (keptIn marks)) (marks-known (edgeCount s) (keptIn marks)) kept h

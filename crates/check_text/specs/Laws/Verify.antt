@@ -27,9 +27,9 @@ use Rattle.format_plan.specs.Laws.Room.{room-answer, room-enough}
 
 -- ---- claims
 
-pub judged-refused : {o : Outcome Checked} {n p : ℕ} (terminals cost bound : ℕ) → o ≡ refusal n p → claimsJudged o terminals cost bound ≡ refusal n p
+pub claims-refused : {o : Outcome Checked} {n p : ℕ} (terminals cost bound : ℕ) → o ≡ refusal n p → claimsJudged o terminals cost bound ≡ refusal n p
 unfolding claimsJudged
-judged-refused terminals cost bound e = rw e
+claims-refused terminals cost bound e = rw e
 
 module _ {o : Outcome Checked} {k c b : ℕ} (terminals cost bound : ℕ) (found′ : o ≡ answer (record { terminals = k; cost = c; bound = b })) where
   pub claim-terminals : (k ≡ terminals → ⊥) → claimsJudged o terminals cost bound ≡ refusal 25 0
@@ -138,10 +138,10 @@ pub record AfterLines (b : SurveyLines) (groups firsts seconds weights owners ot
 
 -- The lines of a survey and the plan behind them: a refusal stays, and the plan is held against what was read.
 module _ (t : List ℕ) (n m at : ℕ) {step : Step ℕ} where
-  pub lines-refused : (lent : ℕ) → n ≤ lent → {x y : ℕ} → step ≡ linesWith lent maxPairs t n m at .end → step ≡ refused x y
+  pub survey-lines-refused : (lent : ℕ) → n ≤ lent → {x y : ℕ} → step ≡ linesWith lent maxPairs t n m at .end → step ≡ refused x y
       → refusal x y ≡ verifiedFrom t (surveyLinesAt maxPairs t (record { vertices = n; edges = m }) at)
   unfolding verifiedFrom surveyLinesAt _then_
-  lines-refused lent h s e = rw (sym (s ∙ ap (λ (b : SurveyLines). b .end) (with-room maxPairs t n m at h)) ∙ e)
+  survey-lines-refused lent h s e = rw (sym (s ∙ ap (λ (b : SurveyLines). b .end) (with-room maxPairs t n m at h)) ∙ e)
 
   -- No more pairs are read than there is room for.
   pub lines-pairs : (lent : ℕ) → n ≤ lent → {k q : ℕ} → step ≡ linesWith lent maxPairs t n m at .end → step ≡ found k q → k ≤ maxPairs

@@ -16,7 +16,7 @@ use Rattle.format_grammar.specs.Stands.{Stands}
 use Rattle.format_grammar.specs.Laws.Bytes.{byte-is}
 use Rattle.format_grammar.specs.Laws.Items.{items-reads-back, items-stop}
 use Rattle.format_grammar.specs.Laws.Language.{bound}
-use Rattle.format_grammar.specs.Laws.Listing.{items-standing, standing-words, standing-same, broken-place, broken-same, broken-items, text-from, Met, all-read, one-refused, Tested, met-lines}
+use Rattle.format_grammar.specs.Laws.Listing.{items-standing, standing-words, standing-same, broken-place, broken-same, broken-items, text-from, ItemsMet, all-read, one-refused, Tested, met-lines}
 use Rattle.format_grammar.specs.Laws.Stands.{stands-first, stands-second, stands-head}
 use Rattle.format_grammar.specs.Laws.Step.{then-found, then-refused, then-value, Stops, early, late, then-stops}
 use Rattle.format_number.specs.Number.{alsoLetter}
@@ -111,7 +111,7 @@ also-not-sixteen t groups room at l w m s e =
           line = line-read t groups room low i at b ∙ then-found _ (reads-pair .complete t at x (pairText x) (record { holds = d; word = refl }) s);
         }
 
-    by-met : Met (alsoReader t groups room) 0 0 at l (at + length w) → NotMalformed (whole (alsoAt t groups room at)) l (at + length w)
+    by-met : ItemsMet (alsoReader t groups room) 0 0 at l (at + length w) → NotMalformed (whole (alsoAt t groups room at)) l (at + length w)
     by-met (all-read last s) = let few = m .holds .few in read (standing-read t groups room few s)
     by-met (one-refused b f n) =
         let few = m .holds .few in

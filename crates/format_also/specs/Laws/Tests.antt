@@ -85,9 +85,9 @@ module _ (groups : List ℕ) (room low i : ℕ) (x : Pair) where
               )
 
 -- A pair that passes its tests, and the other way round.
-pub pair-passed : (groups : List ℕ) (room low i : ℕ) (x : Pair) → alsoTest groups room low i x ≡ Fine → PairPasses groups room low i x
+pub also-passed : (groups : List ℕ) (room low i : ℕ) (x : Pair) → alsoTest groups room low i x ≡ Fine → PairPasses groups room low i x
 unfolding alsoTest
-pair-passed groups room low i x h =
+also-passed groups room low i x h =
     let after-high = fine-right _ _ h in
     let after-out = fine-right _ _ after-high in
     let after-none = fine-right _ _ after-out in
@@ -236,4 +236,4 @@ module _ (t groups : List ℕ) (room low i at : ℕ) where
           let next-is : f .1 ≡ next = checked-next (alsoTest groups room low i (f .0)) (f .0) (f .1) (f .3) in
           let r : pairAt t at ≡ found x next = f .2 ∙ ap (λ y. found y (f .1)) same ∙ ap (λ p. found x p) next-is in
           let u : alsoTest groups room low i x ≡ Fine = ap (alsoTest groups room low i) (sym same) ∙ w in
-          record { few = h; read = r; digits = pair-digits t at r; fine = u; passes = pair-passed groups room low i x u }
+          record { few = h; read = r; digits = pair-digits t at r; fine = u; passes = also-passed groups room low i x u }

@@ -14,7 +14,7 @@ use Rattle.format_grammar.specs.Items.{ItemReader, itemsFrom, puts, Ends}
 use Rattle.format_grammar.specs.Laws.Step.{then-found, then-refused}
 use Rattle.format_grammar.specs.Laws.Lines.{one-less}
 use Rattle.format_grammar.specs.Laws.Items.{ItemsLeft, left-start, left-more, left-stop, left-refused, left-out, left-length}
-use Rattle.format_also.specs.Pair.{Pair, alsoReader, alsoTurns, alsoAt, counted, ownersOf, othersOf, putOwner, putOther}
+use Rattle.format_also.specs.Pair.{Pair, alsoReader, alsoTurns, alsoAt, pairsCounted, ownersOf, othersOf, putOwner, putOther}
 
 -- Stores one after another are stores of a list.
 puts-sets : (f : Pair → ℕ) (buffer : List ℕ) (i : ℕ) (l : List Pair) → puts (λ b k x. set b k (f x)) buffer i l ≡ sets buffer i (map f l)
@@ -37,7 +37,7 @@ module _ (r : ItemReader ℕ Pair) (whole : Lines ℕ Pair) (owners₀ others₀
 
   -- At the end.
   pub record PairsEnd (step : Step ℕ) (owners others : List ℕ) : Type 0 where
-    pub end : step ≡ counted whole
+    pub end : step ≡ pairsCounted whole
     pub owned : owners ≡ sets owners₀ 0 (ownersOf (whole .values))
     pub othered : others ≡ sets others₀ 0 (othersOf (whole .values))
 
@@ -51,7 +51,7 @@ module _ (r : ItemReader ℕ Pair) (whole : Lines ℕ Pair) (owners₀ others₀
     turn-count : {l : Lines ℕ Pair} → itemsFrom r (alsoTurns - i) low i at ≡ l → i + length (l .values) ≡ length (whole .values)
     turn-count e = ap (λ (l : Lines ℕ Pair). i + length (l .values)) (sym e) ∙ h .count
 
-    ended : {step : Step ℕ} → step ≡ counted whole → Ends putOwner whole owners₀ (whole .end) owners → Ends putOther whole others₀ (whole .end) others → PairsEnd step owners others
+    ended : {step : Step ℕ} → step ≡ pairsCounted whole → Ends putOwner whole owners₀ (whole .end) owners → Ends putOther whole others₀ (whole .end) others → PairsEnd step owners others
     unfolding ownersOf othersOf
     ended e a b = record { end = e; owned = a .stored ∙ puts-sets (λ x. x .owner) owners₀ 0 (whole .values); othered = b .stored ∙ puts-sets (λ x. x .other) others₀ 0 (whole .values) }
 
@@ -67,7 +67,7 @@ module _ (r : ItemReader ℕ Pair) (whole : Lines ℕ Pair) (owners₀ others₀
         record { owned = left-more r putOwner whole owners₀ alsoTurns low i at owners b s e (h .owned); othered = left-more r putOther whole others₀ alsoTurns low i at others b s e (h .othered); count = omega arith }
 
     pub pairs-stop : {k : ℕ} → k ≡ i → i < alsoTurns → r .stop at ≡ true → PairsEnd (found k at) owners others
-    unfolding itemsFrom counted
+    unfolding itemsFrom pairsCounted
     pairs-stop {k} same b s =
         let q : itemsFrom r (alsoTurns - i) low i at ≡ record { values = []; end = found low at } = rw (one-less b, s) in
         let all = turn-count q in
@@ -77,14 +77,14 @@ module _ (r : ItemReader ℕ Pair) (whole : Lines ℕ Pair) (owners₀ others₀
         ended (ap (λ (m : ℕ). found m at) n ∙ sym (then-found _ (sym (o .end)))) (at-end o) (at-end p)
 
     pub pairs-refused : {n p : ℕ} → i < alsoTurns → r .stop at ≡ false → r .item low i at ≡ refused n p → PairsEnd (refused n p) owners others
-    unfolding counted
+    unfolding pairsCounted
     pairs-refused b s e =
         let o = left-refused r putOwner whole owners₀ alsoTurns low i at owners b s e (h .owned) in
         let p = left-refused r putOther whole others₀ alsoTurns low i at others b s e (h .othered) in
         ended (sym (then-refused _ (sym (o .end)))) (at-end o) (at-end p)
 
     pub pairs-out : alsoTurns ≤ i → PairsEnd (refused 16 at) owners others
-    unfolding counted
+    unfolding pairsCounted
     pairs-out b =
         let o = left-out r putOwner whole owners₀ alsoTurns low i at owners b (h .owned) in
         let p = left-out r putOther whole others₀ alsoTurns low i at others b (h .othered) in
@@ -96,7 +96,7 @@ pairs-start r at owners others = record { owned = left-start r putOwner alsoTurn
 -- What the lines answer and leave in the buffers.
 abbrev pub AlsoEnds : (t groups owners₀ others₀ : List ℕ) (at : ℕ) (step : Step ℕ) (owners others : List ℕ) (room : ℕ) → Type 0
 AlsoEnds t groups owners₀ others₀ at step owners others room =
-    (step ≡ counted (alsoAt t groups room at))
+    (step ≡ pairsCounted (alsoAt t groups room at))
     × (owners ≡ sets owners₀ 0 (ownersOf (alsoAt t groups room at .values)))
     × (others ≡ sets others₀ 0 (othersOf (alsoAt t groups room at .values)))
 

@@ -16,7 +16,7 @@ use Rattle.format_number.specs.Number.{alsoLetter, numberText}
 use Rattle.format_number.specs.Laws.NumberWord.{NumberWord, reads-number, number-most}
 use Rattle.format_number.specs.Laws.Keyed.{newline-no-digit, comma-no-digit}
 use Rattle.format_grammar.specs.Step.{Step, found, refused, _then_, checked}
-use Rattle.format_grammar.specs.Items.{Lists}
+use Rattle.format_grammar.specs.Items.{ListsItems}
 use Rattle.format_grammar.specs.Language.{Reads, Word, Extends, Seq, Empty, Fixed, Text}
 use Rattle.format_grammar.specs.Laws.Bytes.{reads-fixed, byte-alike}
 use Rattle.format_grammar.specs.Laws.Language.{reads-then, reads-as, reads-value, reads-checked, read-again}
@@ -243,7 +243,7 @@ module _ (groups : List ℕ) (room : ℕ) where
       by-case (other m q) = line-read u groups room low i at m ∙ reads-tested-pair groups room low i .same t u at p h q k
 
   -- Also lines are the texts of their pairs.
-  pub lists-also : Lists (λ t. alsoReader t groups room) PairDigits (λ i. pairText)
+  pub lists-also : ListsItems (λ t. alsoReader t groups room) PairDigits (λ i. pairText)
   unfolding alsoReader
   lists-also =
       record {

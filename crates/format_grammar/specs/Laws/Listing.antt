@@ -7,7 +7,7 @@ use mathlib.Core.Path.{_≡_, refl, ap, sym, _∙_, subst}
 use lib.ListN.{length, take, length-append}
 use Rattle.base_limits.specs.declared.Verdict.{Verdict}
 use Rattle.base_limits.specs.declared.Verdict.the-variants.{Fine, Refused}
-use Rattle.format_grammar.specs.Items.{ItemReader, itemsFrom, Goes, Standing, stop, item, Broken, here, later, textFrom, Lists}
+use Rattle.format_grammar.specs.Items.{ItemReader, itemsFrom, Goes, Standing, stop, item, Broken, here, later, textFrom, ListsItems}
 use Rattle.format_grammar.specs.Language.{Each, none, more, Word, Extends, Text}
 use Rattle.format_grammar.specs.Lines.{following, Lines, textOf}
 use Rattle.format_grammar.specs.Laws.Items.{items-reads-back}
@@ -76,7 +76,7 @@ unfolding textFrom textOf
 text-from f i [] = refl
 text-from f i (a ∷ l) = ap (λ (w : List ℕ). f a ++ w) (text-from f (i + 1) l)
 
-module _ {S A : Type 0} {r : List ℕ → ItemReader S A} {P : A → Type 0} {text : ℕ → A → List ℕ} (x : Lists r P text) where
+module _ {S A : Type 0} {r : List ℕ → ItemReader S A} {P : A → Type 0} {text : ℕ → A → List ℕ} (x : ListsItems r P text) where
   -- An item goes on by a byte at least.
   pub item-goes : (t : List ℕ) (low : S) (i at : ℕ) (a : A) (p : ℕ) → at ≤ length t → r t .item low i at ≡ found a p → Goes t at p
   item-goes t low i at a p h e =
@@ -189,9 +189,9 @@ module _ {S A : Type 0} {r : List ℕ → ItemReader S A} {P : A → Type 0} {te
 -- ---- well-formed items are not refused with 16
 
 -- Items that are all read, or of which one is refused for another reason than its form.
-pub data Met {A : Type 0} (r : ItemReader ℕ A) (low i at : ℕ) (l : List A) (end : ℕ) : Type 0 where
-  all-read : (last : ℕ) → Standing r low i at l last end → Met r low i at l end
-  one-refused : {n q : ℕ} {k : List A} → Broken r n q low i at k → length k ≤ length l → (n ≡ 16 → ⊥) → Met r low i at l end
+pub data ItemsMet {A : Type 0} (r : ItemReader ℕ A) (low i at : ℕ) (l : List A) (end : ℕ) : Type 0 where
+  all-read : (last : ℕ) → Standing r low i at l last end → ItemsMet r low i at l end
+  one-refused : {n q : ℕ} {k : List A} → Broken r n q low i at k → length k ≤ length l → (n ≡ 16 → ⊥) → ItemsMet r low i at l end
 
 -- A line where it stands: only a test of its value is left.
 pub record Tested {A : Type 0} (r : ItemReader ℕ A) (low i at : ℕ) (a : A) (next : ℕ) : Type 0 where
@@ -203,7 +203,7 @@ pub record Tested {A : Type 0} (r : ItemReader ℕ A) (low i at : ℕ) (a : A) (
 -- So many lines of which only tests are left are all read, or one fails its test.
 pub met-lines : {A : Type 0} (r : ItemReader ℕ A) (t : List ℕ) (P : A → Type 0) (f : A → List ℕ) (most : ℕ)
     → ((low i at : ℕ) (a : A) → i < most → P a → Stands t at (f a) → Tested r low i at a (at + length (f a)))
-    → {l : List A} → Each P l → (low i at end : ℕ) → i + length l ≤ most → Stands t at (textOf f l) → end ≡ at + length (textOf f l) → r .stop end ≡ true → Met r low i at l end
+    → {l : List A} → Each P l → (low i at end : ℕ) → i + length l ≤ most → Stands t at (textOf f l) → end ≡ at + length (textOf f l) → r .stop end ≡ true → ItemsMet r low i at l end
 unfolding textOf checked
 met-lines r t P f most tested none low i at end few s q e =
     let same : end ≡ at = omega arith in
@@ -214,7 +214,7 @@ met-lines {A} r t P f most tested (more {a = a} {l = l} p ps) low i at end few s
     let x = tested low i at a (omega arith) p (stands-first (f a) (textOf f l) s) in
     by-test (x .test) (x .notMalformed) (x .begins) (x .line) (met-lines r t P f most tested ps (r .after low a) (i + 1) next end (omega arith) (stands-second (f a) (textOf f l) s) (omega arith) e)
   where
-    by-test : {next : ℕ} (v : Verdict) → ((n p : ℕ) → v ≡ Refused n p → n ≡ 16 → ⊥) → r .stop at ≡ false → r .item low i at ≡ checked v a next → Met r (r .after low a) (i + 1) next l end → Met r low i at (a ∷ l) end
+    by-test : {next : ℕ} (v : Verdict) → ((n p : ℕ) → v ≡ Refused n p → n ≡ 16 → ⊥) → r .stop at ≡ false → r .item low i at ≡ checked v a next → ItemsMet r (r .after low a) (i + 1) next l end → ItemsMet r low i at (a ∷ l) end
     by-test Fine h b c (all-read last s) = all-read last (item b c s)
     by-test Fine h b c (one-refused k m n) = one-refused (later b c k) (omega arith) n
     by-test (Refused n p) h b c y = one-refused (here b c) (omega arith) (h n p refl)

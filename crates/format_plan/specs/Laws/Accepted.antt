@@ -23,7 +23,7 @@ use Rattle.format_grammar.specs.Laws.Stands.{stands-append}
 use Rattle.format_grammar.specs.Language.{Reads, Word, Seq, Empty, Text, Each, none, more}
 use Rattle.format_grammar.specs.Laws.Language.{bound, reads-then, reads-as, reads-value, append-four, text-stands}
 use Rattle.format_number.specs.Laws.Keyed.{reads-line}
-use Rattle.format_grammar.specs.Items.{ItemReader, Standing, stop, item, Lists}
+use Rattle.format_grammar.specs.Items.{ItemReader, Standing, stop, item, ListsItems}
 use Rattle.format_plan_lines.specs.Lines.{keepReader, keptAt, memberReader, membersAt, memberNumbers, PrintedDual, dualLineAt, dualReader, dualsAt}
 use Rattle.format_plan.specs.Plan.{Claims, claimsAt, PrintedPlan, planLinesAt, planAt, withRoom, planReading}
 use Rattle.format_plan_lines.specs.Laws.Tests.{risen-next}
@@ -177,7 +177,7 @@ plan-read t m at p q e =
     by-kept c from (refused n y) h k e = let z : _≡_ {A = ℕ} 0 1 = cc in absurd (omega arith)
 
 -- Lines that stand one after another, as one text.
-pub lines-words : {A : Type 0} {r : List ℕ → ItemReader ℕ A} {P : A → Type 0} {f : A → List ℕ} → Lists r P (λ i. f) → (t : List ℕ) {low i at last end : ℕ} {l : List A} → at ≤ length t → Standing (r t) low i at l last end
+pub lines-words : {A : Type 0} {r : List ℕ → ItemReader ℕ A} {P : A → Type 0} {f : A → List ℕ} → ListsItems r P (λ i. f) → (t : List ℕ) {low i at last end : ℕ} {l : List A} → at ≤ length t → Standing (r t) low i at l last end
     → Word (Text (Each P) (textOf f)) t at l end
 lines-words {f = f} x t {i = i} {l = l} h s =
     let w = standing-words x t h s in

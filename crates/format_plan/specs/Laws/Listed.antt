@@ -28,7 +28,7 @@ use Rattle.format_grammar.specs.Laws.Language.{bound, read-again, text-stands}
 use Rattle.format_number.specs.Laws.NumberWord.{NumberOrNone, absent, present, number-or-none, number-is, no-digit-number, numeral-same}
 use Rattle.format_number.specs.Laws.Keyed.{Passes, reads-keyed, reads-tested}
 use Rattle.format_survey.specs.Laws.WellFormed.{one-not-malformed, two-not-malformed}
-use Rattle.format_grammar.specs.Items.{Broken, Lists, textFrom}
+use Rattle.format_grammar.specs.Items.{Broken, ListsItems, textFrom}
 use Rattle.format_plan_lines.specs.Lines.{keptTest, keepLine, keepReader, separator, memberStep, memberReader, membersAt, PrintedDual, dualTest, dualHead, listedDual, dualLineAt, dualReader}
 use Rattle.format_grammar.specs.Laws.Items.{items-stop}
 use Rattle.format_plan.specs.WellFormed.{DualDigits, dualText}
@@ -68,7 +68,7 @@ unfolding keepLine
 reads-keep m low i = reads-tested keptKey keptDigits (omega arith) (keptTest m low i) (kept-not-malformed m low i)
 
 -- Keep lines are the texts of their tracks.
-pub lists-kept : (m : ℕ) → Lists (λ t. keepReader t m) (OfDigits keptDigits) (λ i. lineOf keptKey)
+pub lists-kept : (m : ℕ) → ListsItems (λ t. keepReader t m) (OfDigits keptDigits) (λ i. lineOf keptKey)
 unfolding keepReader
 lists-kept m =
     record {
@@ -220,7 +220,7 @@ module _ (t : List ℕ) (low i at : ℕ) (h : at ≤ length t) where
           then-found _ (read-again (reads-fixed (separator i)) t u at z q (p + 1) h (omega arith) k x) ∙ number-same memberDigits (omega arith) t u q p y k
 
 -- Members are their separators and numbers.
-pub lists-members : Lists memberReader (OfDigits memberDigits) memberPart
+pub lists-members : ListsItems memberReader (OfDigits memberDigits) memberPart
 unfolding memberReader
 lists-members =
     record {
@@ -450,7 +450,7 @@ module _ (t : List ℕ) (at : ℕ) (h : at ≤ length t) where
           ∙ ap (λ (L : Lines ℕ ℕ). L .end then λ low y. checked (dualTest i low) (record { value = x; members = L .values }) (y + 1)) (items-broken-again lists-members t u 0 0 c p (omega arith) (a .1) k r)
 
 -- Moat lines are the texts of their moats.
-pub lists-duals : Lists dualReader DualDigits (λ i. dualText)
+pub lists-duals : ListsItems dualReader DualDigits (λ i. dualText)
 unfolding dualReader
 lists-duals =
     record {

@@ -29,7 +29,7 @@ use Rattle.format_plan.specs.Plan.{Claims, claimsAt, PrintedPlan, planLi
 use Rattle.format_plan.specs.Laws.Room.{room-refusal}
 use Rattle.format_grammar.specs.Laws.Items.{items-reads-back}
 use Rattle.format_plan.specs.Laws.RoundTrip.{keep-line-reads-back, dual-line-reads-back, claims-reads-back, claims-some, lines-long, line-some, dual-some, no-keep}
-use Rattle.format_grammar.specs.Laws.Listing.{items-standing, items-broken, broken-items, item-goes, standing-long, broken-place, broken-extends, items-again, items-broken-again, text-from, Met, all-read, one-refused, Tested, met-lines}
+use Rattle.format_grammar.specs.Laws.Listing.{items-standing, items-broken, broken-items, item-goes, standing-long, broken-place, broken-extends, items-again, items-broken-again, text-from, ItemsMet, all-read, one-refused, Tested, met-lines}
 use Rattle.format_plan.specs.Laws.Listed.{kept-not-malformed, dual-not-malformed, lists-kept, lists-duals}
 use Rattle.format_plan.specs.Laws.Accepted.{reads-claims, lines-words, plan-missing}
 use Rattle.format_plan.specs.WellFormed.{DualDigits, dualText, claimsText, planWords, WellFormedPlan, PlanBegins}
@@ -38,7 +38,7 @@ use Rattle.format_plan.specs.WellFormed.{DualDigits, dualText, claimsTex
 
 -- Keep lines that stand before a byte that begins none.
 met-kept : (t : List ℕ) (m : ℕ) {ks : List ℕ} → Each (OfDigits keptDigits) ks → (at end : ℕ) → Stands t at (textOf (lineOf keptKey) ks) → end ≡ at + length (textOf (lineOf keptKey) ks) → byteIs t end (code "k") ≡ false
-    → Met (keepReader t m) 0 0 at ks end
+    → ItemsMet (keepReader t m) 0 0 at ks end
 unfolding keepReader
 met-kept t m {ks} w at end s q e = met-lines (keepReader t m) t (OfDigits keptDigits) (lineOf keptKey) (length ks) tested w 0 0 at end (omega arith) s q (ap not e)
   where
@@ -46,7 +46,7 @@ met-kept t m {ks} w at end s q e = met-lines (keepReader t m) t (OfDigits keptDi
     tested low i at e b h s = let b = keep-line-reads-back t m low i at e h s in record { test = keptTest m low i e; notMalformed = kept-not-malformed m low i e; begins = b .0; line = b .1 }
 
 -- Moat lines that stand to the end of the text.
-met-duals : (t : List ℕ) {ds : List PrintedDual} → Each DualDigits ds → (at : ℕ) → Stands t at (textOf dualText ds) → at + length (textOf dualText ds) ≡ length t → Met (dualReader t) 0 0 at ds (length t)
+met-duals : (t : List ℕ) {ds : List PrintedDual} → Each DualDigits ds → (at : ℕ) → Stands t at (textOf dualText ds) → at + length (textOf dualText ds) ≡ length t → ItemsMet (dualReader t) 0 0 at ds (length t)
 unfolding dualReader
 met-duals t {ds} w at s q = met-lines (dualReader t) t DualDigits dualText (length ds) tested w 0 0 at (length t) (omega arith) s (sym q) (le-leb (length t) (length t) (omega arith))
   where
@@ -88,11 +88,11 @@ plan-lively t m at p w s q =
     last : List ℕ → Lines ℕ PrintedDual → Step PrintedPlan
     last ks l = l .end then λ count z. found (record { claims = p .claims; kept = ks; duals = l .values }) z
 
-    by-duals : {y : ℕ} → planAt t m at ≡ last (p .kept) (dualsAt t y) → Met (dualReader t) 0 0 y (p .duals) (length t) → NotMalformed (planAt t m at) p (length t)
+    by-duals : {y : ℕ} → planAt t m at ≡ last (p .kept) (dualsAt t y) → ItemsMet (dualReader t) 0 0 y (p .duals) (length t) → NotMalformed (planAt t m at) p (length t)
     by-duals e (all-read n s) = let z = many in read (e ∙ ap (last (p .kept)) (items-reads-back (dualReader t) (length t) (omega arith) s))
     by-duals e (one-refused b k n) = let z = many in otherwise (e ∙ ap (last (p .kept)) (broken-items (dualReader t) (length t) (omega arith) b)) n
 
-    by-kept : {x y : ℕ} → claimsAt t at ≡ found (p .claims) x → Met (keepReader t m) 0 0 x (p .kept) y → Met (dualReader t) 0 0 y (p .duals) (length t) → NotMalformed (planAt t m at) p (length t)
+    by-kept : {x y : ℕ} → claimsAt t at ≡ found (p .claims) x → ItemsMet (keepReader t m) 0 0 x (p .kept) y → ItemsMet (dualReader t) 0 0 y (p .duals) (length t) → NotMalformed (planAt t m at) p (length t)
     by-kept c (all-read n s) d = let z = many in by-duals (then-found _ c ∙ ap rest (items-reads-back (keepReader t m) (length t) (omega arith) s)) d
     by-kept c (one-refused b k n) d = let z = many in otherwise (then-found _ c ∙ ap rest (broken-items (keepReader t m) (length t) (omega arith) b)) n
 
@@ -175,9 +175,9 @@ module _ (t : List ℕ) (m at : ℕ) (h : at ≤ length t) where
           (omega arith, x .1)
 
   -- Where 16 stands depends on nothing behind that place.
-  pub plan-same : (u : List ℕ) (q : ℕ) → planAt t m at ≡ refused 16 q → take (q + 1) t ≡ take (q + 1) u → planAt u m at ≡ refused 16 q
+  pub plan-read-same : (u : List ℕ) (q : ℕ) → planAt t m at ≡ refused 16 q → take (q + 1) t ≡ take (q + 1) u → planAt u m at ≡ refused 16 q
   unfolding planAt planLinesAt keptAt dualsAt linesAfter _then_
-  plan-same u q e k = by-place (plan-stops t m at q e)
+  plan-read-same u q e k = by-place (plan-stops t m at q e)
     where
       rest : Claims → Lines ℕ ℕ → Step PrintedPlan
       rest c ks = let l = linesAfter (ks .end) (dualsAt u) in l .end then λ count z. found (record { claims = c; kept = ks .values; duals = l .values }) z
@@ -280,7 +280,7 @@ plan-malformed-stops t m at h {q} e l rest p w whole =
     let o : length u ≡ length (take at t) + length W = ap length whole ∙ length-append (take at t) W in
     let s : Stands (take at t ++ W) (length (take at t)) W = stands-end (take at t) W in
     let s′ : Stands u at W = subst (λ (x : List ℕ). Stands x at W) (sym whole) (subst (λ (x : ℕ). Stands (take at t ++ W) x W) k s) in
-    by-lively u (plan-same t m at h u q e same) (plan-lively u m at p w s′ (omega arith))
+    by-lively u (plan-read-same t m at h u q e same) (plan-lively u m at p w s′ (omega arith))
   where
     by-lively : (u : List ℕ) → planAt u m at ≡ refused 16 q → NotMalformed (planAt u m at) p (length u) → ⊥
     by-lively u f (read x) = let z : _≡_ {A = ℕ} 0 1 = cc in omega arith

@@ -22,13 +22,13 @@ use Rattle.format_plan.specs.Laws.Fill.{kept-below, duals-counted, marks
 
 -- By where the keep lines end: the moat lines are not read, or follow.
 module _ (t : List ℕ) (m at : ℕ) where
-  pub lines-refused : {n p : ℕ} → keptAt t m at .end ≡ refused n p → (planLinesAt t m at .end ≡ refused n p) × (planLinesAt t m at .duals ≡ [])
+  pub plan-lines-refused : {n p : ℕ} → keptAt t m at .end ≡ refused n p → (planLinesAt t m at .end ≡ refused n p) × (planLinesAt t m at .duals ≡ [])
   unfolding planLinesAt linesAfter
-  lines-refused e = rw e (refl, refl)
+  plan-lines-refused e = rw e (refl, refl)
 
-  pub lines-found : {z p : ℕ} → keptAt t m at .end ≡ found z p → (planLinesAt t m at .end ≡ dualsAt t p .end) × (planLinesAt t m at .duals ≡ dualsAt t p .values)
+  pub plan-lines-found : {z p : ℕ} → keptAt t m at .end ≡ found z p → (planLinesAt t m at .end ≡ dualsAt t p .end) × (planLinesAt t m at .duals ≡ dualsAt t p .values)
   unfolding planLinesAt linesAfter
-  lines-found e = rw e (refl, refl)
+  plan-lines-found e = rw e (refl, refl)
 
 -- What the lines after the counts are, once they are all read.
 pub record Whole (b : PlanLines) (m count : ℕ) : Type 0 where
@@ -102,9 +102,9 @@ module _ (t : List ℕ) (from m : ℕ) (marks records : List ℕ) where
     abbrev plan : PrintedPlan
     plan = record { claims = claims; kept = planLinesAt t m p .kept; duals = planLinesAt t m p .duals }
 
-    pub outcome-refused : {n q : ℕ} → roomed (planLinesAt t m p) m (length marks) (length records) ≡ refused n q → planReading t from m marks records ≡ refusal n q
+    pub plan-outcome-refused : {n q : ℕ} → roomed (planLinesAt t m p) m (length marks) (length records) ≡ refused n q → planReading t from m marks records ≡ refusal n q
     unfolding planReading planAt withRoom _then_ roomed checked outcome
-    outcome-refused {n} {q} e = rw head (by-end (planLinesAt t m p .end) refl e)
+    plan-outcome-refused {n} {q} e = rw head (by-end (planLinesAt t m p .end) refl e)
       where
         by-end : (s : Step ℕ) → planLinesAt t m p .end ≡ s → (s then λ count next. checked (roomTest m count (length marks) (length records)) count next) ≡ refused n q
             → withRoom (s then λ count next. found plan next) m (length marks) (length records) ≡ refusal n q

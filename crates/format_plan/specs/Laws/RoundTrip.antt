@@ -17,7 +17,7 @@ use Rattle.format_number.specs.Number.{isDigit, classOf, numberAt, numberTo, nu
 use Rattle.format_number.specs.Laws.Digits.{Digits, one}
 use Rattle.format_number.specs.Laws.Decimal.{decimal-numeral}
 use Rattle.format_number.specs.Laws.Keyed.{newline-no-digit, comma-no-digit, keyed-reads-back, number-reads-back}
-use Rattle.format_plan_lines.specs.Laws.Tests.{kept-fine, risen-next, dual-fine}
+use Rattle.format_plan_lines.specs.Laws.Tests.{kept-fine, risen-next, dual-line-fine}
 use Rattle.format_plan_lines.specs.Lines.{keptTest, keepLine, keepReader, separator, memberNumbers, memberStep, risen, memberReader, membersAt, PrintedDual, dualTest, dualHead, listedDual, dualLineAt, dualReader, dualsAt, keptAt}
 use Rattle.format_plan.specs.Plan.{Claims, claimsAt, planLinesAt, PrintedPlan, planAt}
 use Rattle.format_grammar.specs.Bytes.{byteIs}
@@ -218,7 +218,7 @@ pub dual-reads-back : (t : List ℕ) (i at : ℕ) (d : PrintedDual) → Printed 
 unfolding checked
 dual-reads-back t i at d p few s =
     let m = dual-line-reads-back t i at d (record { value = p .small; members = rising-small (p .rises) }) s in
-    m .line ∙ ap (λ (v : Verdict). checked v d (at + length (dualText d))) (dual-fine i (m .last) (rising-last t (omega arith) (p .rises) (m .members)) few)
+    m .line ∙ ap (λ (v : Verdict). checked v d (at + length (dualText d))) (dual-line-fine i (m .last) (rising-last t (omega arith) (p .rises) (m .members)) few)
 
 -- Every line has a byte, so that there are no more lines than bytes.
 pub lines-long : {A : Type 0} (f : A → List ℕ) → ((a : A) → 0 < length (f a)) → (l : List A) → length l ≤ length (textOf f l)

@@ -53,6 +53,6 @@ module _ (i low : ℕ) where
   unfolding dualTest refuseIf _before_
   dual-many h k = rw (le-ltb memberNumbers low h, le-leb maxDuals i k)
 
-  pub dual-fine : low ≤ memberNumbers → i < maxDuals → dualTest i low ≡ Fine
+  pub dual-line-fine : low ≤ memberNumbers → i < maxDuals → dualTest i low ≡ Fine
   unfolding dualTest refuseIf _before_
-  dual-fine h k = rw (le-ltb memberNumbers low h, lt-leb maxDuals i k)
+  dual-line-fine h k = rw (le-ltb memberNumbers low h, lt-leb maxDuals i k)

@@ -31,7 +31,7 @@ use Rattle.format_also.specs.WellFormed.{lastRank}
 use Rattle.format_also.specs.Laws.Tests.{also-high, also-full, out-refused, PairCause, high-group, out-of-order, no-room, pair-cause}
 use Rattle.format_also.specs.Laws.Failing.{FailingPair, also-fails, fails-also}
 use Rattle.format_survey_lines.specs.Line.{Lengths, pairRoom, Tests, testsFor, verticesTest, edgesTest, groupTest, countLine, groupLine, groupLines, edgeLines}
-use Rattle.format_survey_lines.specs.Laws.Tests.{vertices-none, vertices-many, vertices-short, vertices-fine, vertices-passed, edges-many, edges-fine, edges-passed, group-high, group-fine, group-passed}
+use Rattle.format_survey_lines.specs.Laws.Tests.{vertices-none, vertices-many, vertices-short, vertices-fine, vertices-passed, edges-many, edges-fine, edges-passed, group-high, group-line-fine, group-passed}
 use Rattle.format_survey.specs.Reading.{surveyAt, stepOutcome, reading}
 use Rattle.format_survey.specs.Beginning.{BeginsWith, VerticesFit, EdgesFit, VerticesOut, EdgesOver, GroupsShort, EdgesShort, GroupOver, AlsoLine, PairOver, PairFaulty, PairsShort, BufferShort, HighGroup, Refusing, verticesOut, edgesOver, bufferShort, highGroup, pairFaulty}
 use Rattle.format_survey.specs.Laws.Content.{SurveyContent, contentWith, contentSurvey, contentAt, NeverMalformed, content-survey}
@@ -310,7 +310,7 @@ module _ (lent : Lengths) (t : List ℕ) where
       reading-is
       (refused-group lent t (fit-vertices (o .fitsVertices)) (fit-edges (o .fitsEdges)) (stands-first N M c) (stands-second N M c)
       (fail-lines groupTest (never-malformed lent .group) t (o .group) v 17 v (o .digits) (group-high v (o .group) (o .over)) (o .before) (o .vertices) 0 (0 + length N + length M)
-      (omega arith) (each-map (λ u x h. record { small = omega arith; passes = group-fine u x h }) (o .eachBefore)) (omega arith) (groups-second N M G g s)))
+      (omega arith) (each-map (λ u x h. record { small = omega arith; passes = group-line-fine u x h }) (o .eachBefore)) (omega arith) (groups-second N M G g s)))
 
   -- The test that a pair behind these lines meets decides.
   begins-pair : {i n p : ℕ} (o : AlsoLine lent t i) → alsoTest (o .groups) (pairRoom lent) (lastRank 0 (o .before)) i (o .pair) ≡ Refused n p → reading t lent ≡ refusal n p
@@ -327,7 +327,7 @@ module _ (lent : Lengths) (t : List ℕ) where
       let few = o .few in
       let same : i ≡ 0 + length (o .before) = omega arith in
       reading-is
-      (refused-pair lent t (fit-vertices (o .fitsVertices)) (fit-edges (o .fitsEdges)) (each-map (λ u x h. record { small = omega arith; passes = group-fine u x h }) (o .eachGroup)) (stands-first N M c) (stands-second N M c)
+      (refused-pair lent t (fit-vertices (o .fitsVertices)) (fit-edges (o .fitsEdges)) (each-map (λ u x h. record { small = omega arith; passes = group-line-fine u x h }) (o .eachGroup)) (stands-first N M c) (stands-second N M c)
       (pairs-groups N M G P x s)
       record {
         before = o .before;

@@ -11,7 +11,7 @@ use Rattle.base_limits.specs.Laws.Verdict.{no-refusal}
 use Rattle.base_limits.specs.declared.Verdict.{Verdict}
 use Rattle.base_limits.specs.declared.Verdict.the-variants.{Refused}
 use Rattle.format_survey_lines.specs.Line.{verticesTest, edgesTest, groupTest}
-use Rattle.format_survey_lines.specs.Laws.Tests.{vertices-none, vertices-many, vertices-short, vertices-fine, edges-many, edges-first, edges-second, edges-weight, edges-fine, group-high, group-fine}
+use Rattle.format_survey_lines.specs.Laws.Tests.{vertices-none, vertices-many, vertices-short, vertices-fine, edges-many, edges-first, edges-second, edges-weight, edges-fine, group-high, group-line-fine}
 
 pub data VerticesCause (lent n i p : ℕ) : Type 0 where
   out-of-range : i ≡ 1 → p ≡ 0 → (n ≡ 0) ⊎ (maxVertices < n) → VerticesCause lent n i p
@@ -70,5 +70,5 @@ pub group-cause : (v g : ℕ) {i p : ℕ} → groupTest v g ≡ Refused i p → 
 group-cause v g {i} {p} e = by-test (ltb g groupNumbers) refl
   where
     by-test : (b : Bool) → ltb g groupNumbers ≡ b → (groupNumbers ≤ g) × ((i ≡ 17) × (p ≡ v))
-    by-test true h = absurd (no-refusal e (group-fine v g (ltb-true g groupNumbers h)))
+    by-test true h = absurd (no-refusal e (group-line-fine v g (ltb-true g groupNumbers h)))
     by-test false h = (ltb-false g groupNumbers h, refused-as (group-high v g (ltb-false g groupNumbers h)) e)

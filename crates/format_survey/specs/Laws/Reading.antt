@@ -92,5 +92,5 @@ module _ (t : List ℕ) (lent : Lengths) where
       least-right e h = omega arith
 
   -- The counts that are read are within the limits and the group buffer.
-  pub counts-fit : {n m at : ℕ} → countsRead ≡ found (record { vertices = n; edges = m }) at → (n ≤ maxVertices) × (n ≤ lent .groups)
-  counts-fit e = let fit = counts-passed lent t e in (fit .vertices .most, fit .vertices .room)
+  pub counts-read-fit : {n m at : ℕ} → countsRead ≡ found (record { vertices = n; edges = m }) at → (n ≤ maxVertices) × (n ≤ lent .groups)
+  counts-read-fit e = let fit = counts-passed lent t e in (fit .vertices .most, fit .vertices .room)

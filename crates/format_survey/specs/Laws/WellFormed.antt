@@ -15,7 +15,7 @@ use Rattle.base_limits.specs.declared.Verdict.the-variants.{Refused}
 use Rattle.format_survey_lines.specs.Line.{Lengths, pairRoom, Tests, testsFor, verticesTest, edgesTest, groupTest, Edge}
 use Rattle.format_survey.specs.Reading.{SurveyText, surveyOf, surveyAt, stepOutcome, reading}
 use Rattle.format_survey.specs.Render.{render}
-use Rattle.format_survey_lines.specs.Laws.Tests.{vertices-fine, edges-fine, group-fine, vertices-passed, edges-passed, group-passed}
+use Rattle.format_survey_lines.specs.Laws.Tests.{vertices-fine, edges-fine, group-line-fine, vertices-passed, edges-passed, group-passed}
 use Rattle.format_survey.specs.Laws.Content.{SurveyContent, contentWith, contentSurvey, contentAt, NeverMalformed, Accepted, Formed, reads-content, content-survey}
 use Rattle.format_grammar.specs.Bytes.{endAt}
 use Rattle.format_grammar.specs.Language.{ReadsBefore, NotMalformed, read, otherwise}
@@ -100,7 +100,7 @@ within-accepted lent groups pairs edges w r =
       edges = refl;
       someVertices = record { small = omega arith; passes = vertices-fine (lent .groups) (length groups) (λ z. omega arith) (w .fewGroups) (r .forGroups) };
       someEdges = record { small = omega arith; passes = edges-fine (lent .firsts) (lent .seconds) (lent .weights) (length edges) (w .fewEdges) (r .forFirsts) (r .forSeconds) (r .forWeights) };
-      eachGroup = each-map (λ v g h. record { small = omega arith; passes = group-fine v g h }) (w .eachGroup);
+      eachGroup = each-map (λ v g h. record { small = omega arith; passes = group-line-fine v g h }) (w .eachGroup);
       eachPair = pairs-any-room (pairRoom lent) (w .eachPair) (omega arith);
       eachEdge = w .eachEdge;
       word = refl;

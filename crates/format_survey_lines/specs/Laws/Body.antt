@@ -11,7 +11,7 @@ use Rattle.format_grammar.specs.Step.{Step, found, refused, _then_}
 use Rattle.format_grammar.specs.Lines.{linesAfter}
 use Rattle.format_grammar.specs.Laws.Lines.{lines-length}
 use Rattle.format_grammar.specs.Laws.Step.{then-value}
-use Rattle.format_also.specs.Pair.{alsoAt, counted}
+use Rattle.format_also.specs.Pair.{alsoAt, pairsCounted}
 use Rattle.format_also.specs.Laws.Passing.{also-room}
 use Rattle.format_survey_lines.specs.Line.{groupTest, groupLines, edgeLines, SurveyTail, tailAt, tailAfter, SurveyLines, linesOf, linesAt, linesWith}
 
@@ -31,8 +31,8 @@ module _ (room : ℕ) (t groups : List ℕ) (m at : ℕ) where
   unfolding tailAt
   tail-pairs = refl
 
-  pub tail-refused : {number place : ℕ} → counted (alsoAt t groups room at) ≡ refused number place → (tailAt room t groups m at .end ≡ refused number place) × (tailAt room t groups m at .edges ≡ [])
-  unfolding tailAt counted linesAfter _then_
+  pub tail-refused : {number place : ℕ} → pairsCounted (alsoAt t groups room at) ≡ refused number place → (tailAt room t groups m at .end ≡ refused number place) × (tailAt room t groups m at .edges ≡ [])
+  unfolding tailAt pairsCounted linesAfter _then_
   tail-refused e = by-end (alsoAt t groups room at .end) e
     where
       by-end : {number place : ℕ} (s : Step ℕ) → (s then λ low p. found (length (alsoAt t groups room at .values)) p) ≡ refused number place
@@ -40,9 +40,9 @@ module _ (room : ℕ) (t groups : List ℕ) (m at : ℕ) where
       by-end (found low p) e = let z : _≡_ {A = ℕ} 0 1 = cc in absurd (omega arith)
       by-end (refused n p) e = (e, refl)
 
-  pub tail-found : {k p : ℕ} → counted (alsoAt t groups room at) ≡ found k p
+  pub tail-found : {k p : ℕ} → pairsCounted (alsoAt t groups room at) ≡ found k p
       → (tailAt room t groups m at .end ≡ (edgeLines t m p .end then λ z q. found k q)) × (tailAt room t groups m at .edges ≡ edgeLines t m p .values)
-  unfolding tailAt counted linesAfter _then_
+  unfolding tailAt pairsCounted linesAfter _then_
   tail-found {k} {p} e = by-end (alsoAt t groups room at .end) e
     where
       by-end : (s : Step ℕ) → (s then λ low p. found (length (alsoAt t groups room at .values)) p) ≡ found k p

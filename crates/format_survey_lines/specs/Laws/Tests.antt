@@ -64,9 +64,9 @@ pub group-high : (v g : ℕ) → groupNumbers ≤ g → groupTest v g ≡ Refuse
 unfolding groupTest refuseIf
 group-high v g h = rw (le-leb groupNumbers g h)
 
-pub group-fine : (v g : ℕ) → g < groupNumbers → groupTest v g ≡ Fine
+pub group-line-fine : (v g : ℕ) → g < groupNumbers → groupTest v g ≡ Fine
 unfolding groupTest refuseIf
-group-fine v g h = rw (lt-leb groupNumbers g h)
+group-line-fine v g h = rw (lt-leb groupNumbers g h)
 
 -- What a count that passes its test is.
 pub record VerticesPass (lent n : ℕ) : Type 0 where

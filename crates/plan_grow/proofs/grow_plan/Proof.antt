@@ -1,5 +1,5 @@
--- `grow_plan` meets its contract: a refusal stops it with nothing written (`refused-call`), and otherwise the plan of the poured groups, which is that of the lists, is
--- finished (`finished-call`).
+-- `grow_plan` meets its contract: a refusal stops it with nothing written (`growing-refused`), and otherwise the plan of the poured groups, which is that of the lists, is
+-- finished (`growing-finished`).
 use mathlib.Core.Path.{sym, _∙_}
 use native.Mathlib.Omega.{arith}
 use Rattle.survey_core.specs.Survey.{edgeCount}
@@ -7,7 +7,7 @@ use Rattle.survey_lists.specs.Laws.Room.{part-poured}
 use Rattle.plan_rule.specs.Answer.{plannedOutcome}
 use Rattle.plan_rule.specs.Laws.Ready.{fine-ready}
 use Rattle.plan_rule.specs.Laws.Same.{ready-poured, poured-counts, poured-marks, poured-records}
-use Rattle.plan_grow.specs.Laws.Call.{refused-call, finished-call}
+use Rattle.plan_grow.specs.Laws.Call.{growing-refused, growing-finished}
 use borrow.Author.Needs.{needs}
 use Rattle.plan_grow.proofs.grow_plan.Statement.{statement}
 use Rattle.plan_grow.proofs.grow_plan.Tie as tie
@@ -16,7 +16,7 @@ use Rattle.plan_grow.proofs.grow_plan.Tie as tie
 returns : tie.Need-returns
 unfolding plannedOutcome
 returns c =
-    refused-call _ _ _
+    growing-refused _ _ _
     (sym (c .before .before .before .plan-refusal .ensures) ∙ c .before .found .given .1)
 
 part-grow-poured-end : tie.Need-part-grow-poured-end
@@ -38,7 +38,7 @@ returns-2 c =
     let fine = sym (c .before .before .before .before .before .before .before .before .before .before .before .before .plan-refusal .ensures) ∙ c .before .before .before .before .before .before .before .before .before .before .enum-told .given .1 in
     let ready = fine-ready _ (record { own-byte = λ v. omega (arith, c .before .before .before .before .before .before .before .before .before .before .before .before .before .before .before .before .before .before .before .before .shared-slice-known .given v); other-byte = λ i. omega (arith, c .before .before .before .before .before .before .before .before .before .before .before .before .before .before .before .shared-slice-known6 .given i) }) _ _ fine in
     let part = part-poured _ (ready .survey .few) (c .before .before .before .before .before .before .before .before .before .pour .ensures) in
-    finished-call _ _ _ fine
+    growing-finished _ _ _ fine
     (poured-counts _ (ready .survey) part (c .before .before .before .before .grow-poured .ensures .0)) (poured-marks _ (ready .survey) part _ (c .before .before .before .before .grow-poured .ensures .1 .0))
     (poured-records _ (ready .survey) part _ (c .before .before .before .before .grow-poured .ensures .1 .1))
 

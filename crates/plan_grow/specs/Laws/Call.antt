@@ -11,11 +11,11 @@ use Rattle.plan_rule.specs.Plan.{planOf, planRefusal, PlanCounts, recordsAfter}
 use Rattle.plan_rule.specs.Growing.{grownCountsOf, pickedMarks, growing, marksGrown}
 
 module _ (s : Survey) (marks records : List ℕ) where
-  pub refused-call : {number place : ℕ} → planRefusal s (length marks) (length records) ≡ Refused number place
+  pub growing-refused : {number place : ℕ} → planRefusal s (length marks) (length records) ≡ Refused number place
       → (refusal number place ≡ growing s (length marks) (length records))
       × ((marks ≡ marksGrown s marks records) × (records ≡ recordsAfter s marks records))
   unfolding growing outcome marksGrown recordsAfter written
-  refused-call h = (
+  growing-refused h = (
     sym (ap (λ v. outcome v (grownCountsOf (planOf (problemOf s)))) h),
     (
       sym (ap (λ v. written v (pickedMarks (problemOf s) ++ drop (edgeCount s) marks) marks) h),
@@ -23,12 +23,12 @@ module _ (s : Survey) (marks records : List ℕ) where
     ),
   )
 
-  pub finished-call : {marked drawn : List ℕ} {o : Outcome PlanCounts} → planRefusal s (length marks) (length records) ≡ Fine
+  pub growing-finished : {marked drawn : List ℕ} {o : Outcome PlanCounts} → planRefusal s (length marks) (length records) ≡ Fine
       → o ≡ answer (grownCountsOf (planOf (problemOf s))) → marked ≡ pickedMarks (problemOf s) ++ drop (edgeCount s) marks
       → drawn ≡ recordsOver (planOf (problemOf s) .duals) records
       → (o ≡ growing s (length marks) (length records)) × ((marked ≡ marksGrown s marks records) × (drawn ≡ recordsAfter s marks records))
   unfolding growing outcome marksGrown recordsAfter written
-  finished-call h answered-by marks-are drawn-are = (
+  growing-finished h answered-by marks-are drawn-are = (
     answered-by ∙ sym (ap (λ v. outcome v (grownCountsOf (planOf (problemOf s)))) h),
     (
       marks-are ∙ sym (ap (λ v. written v (pickedMarks (problemOf s) ++ drop (edgeCount s) marks) marks) h),

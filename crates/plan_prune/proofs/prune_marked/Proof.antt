@@ -2,7 +2,7 @@
 use mathlib.Core.Path.{sym, _∙_}
 use native.Mathlib.Omega.{arith}
 use Rattle.survey_lists.specs.Laws.Room.{part-poured}
-use Rattle.check_marks.specs.Cost.{kept-cost-all}
+use Rattle.check_cost.specs.Cost.{kept-cost-all}
 use Rattle.plan_prune.specs.Laws.Picks.{judged-verdict, judged-marks, refused-answer, finished-answer}
 use borrow.Author.Needs.{needs}
 use Rattle.plan_prune.proofs.prune_marked.Statement.{statement}

@@ -4,26 +4,26 @@ use native.Mathlib.Omega.{arith}
 use native.Mathlib.Nat.{sub-zero}
 use mathlib.Core.Path.{_≡_, refl, ap, sym, _∙_, subst, fun-ext}
 use mathlib.Core.Logic.{⊎-elim}
-use mathlib.Core.Bool.{Bool, true, false, not, cond}
+use mathlib.Core.Bool.{Bool, true, false, not}
 use mathlib.Core.List.{List, []}
 use lib.ListN.{length, getD, take, replicate, length-replicate, List·getD-eq-default}
 use lib.Seq.{getD-take, length-take-le}
 use lib.Dec.{eqb, ltb}
-use borrow.Author.Tests.{eq-eqb, ne-eqb}
-use Rattle.base_finite.specs.Below.{counted, tabulate}
+use borrow.Author.Tests.{eq-eqb}
+use Rattle.base_finite.specs.Below.{counted}
 use Rattle.base_finite.specs.Laws.Below.{lt-or-ge}
 use Rattle.base_finite.specs.Laws.Test.{not-true-false}
 use Rattle.base_buffer.specs.Store.{remade}
 use Rattle.base_buffer.specs.Laws.Store.{length-remade, remade-passed, remade-table}
 use Rattle.base_limits.specs.Limits.{maxEdges}
-use Rattle.base_limits.specs.Verdict.{refuseIf, _before_, lowestBelow, Outcome, refusal, answer, outcome, written}
+use Rattle.base_limits.specs.Verdict.{refuseIf, _before_, lowestBelow, Outcome, outcome, written}
 use Rattle.base_limits.specs.declared.Verdict.{Verdict}
 use Rattle.base_limits.specs.declared.Verdict.the-variants.{Fine, Refused}
-use Rattle.base_limits.specs.Laws.Verdict.{before-fine, before-refused, before-assoc, fine-left, fine-right, refuse-true, refuse-false, no-refusal}
-use Rattle.theory_steiner.specs.Problem.{Bounded, terminal, terminals, cost}
+use Rattle.base_limits.specs.Laws.Verdict.{before-fine, before-refused, before-assoc, fine-left, fine-right, refuse-false, no-refusal}
+use Rattle.theory_steiner.specs.Problem.{Bounded, terminals, cost}
 use Rattle.theory_steiner.specs.Pruning.{needed, markOf}
 use Rattle.survey_core.specs.Survey.{Survey, surveyFrom, listsOf, groupsAlone, vertexCount, edgeCount, problemOf}
-use Rattle.survey_core.specs.Sound.{SurveySound, ByteGroups}
+use Rattle.survey_core.specs.Sound.{ByteGroups}
 use Rattle.survey_core.specs.Refusal.{surveyRefusal, groupRefusal}
 use Rattle.survey_core.specs.Laws.Refusal.{survey-fine}
 use Rattle.survey_core.specs.Laws.Group.{group-refused}
@@ -44,7 +44,7 @@ use Rattle.plan_rule.specs.Laws.Dropping.{marked-later, stages-marked, loop-low
 use Rattle.plan_rule.specs.Laws.Same.{plan-terminals, plan-poured, poured-needed}
 use Rattle.plan_rule.specs.declared.Dropped.the-variants.{Finished, Refused as DropRefused}
 use Rattle.plan_rule.specs.Answer.{droppedOutcome}
-use Rattle.plan_prune.specs.Picks.{markedRefusal, byLists}
+use Rattle.plan_marks.specs.Picks.{markedRefusal, byLists}
 
 -- ---- the tests up to 10
 
@@ -62,42 +62,6 @@ marked-stops s marks h =
     (before-assoc (surveyRefusal s) (nines before tens) later
     ∙ ap (λ v. surveyRefusal s before v) (before-assoc nines tens later))
     ∙ before-refused h later
-
--- The stages as the code finds them: v is the survey's.
-module _ (s : Survey) (marks : List ℕ) {v : Verdict} (v-is : v ≡ surveyRefusal s) where
-  pub unsound-stops : {number place : ℕ} → v ≡ Refused number place → v ≡ markedRefusal s marks
-  unfolding markedRefusal
-  unsound-stops h = h ∙ sym (before-refused (sym v-is ∙ h) _)
-
-  pub uneven-stops : v ≡ Fine → (length marks ≡ length (s .firsts) → ⊥) → Refused 9 0 ≡ markedRefusal s marks
-  unfolding markedRefusal edgeCount
-  uneven-stops h uneven =
-      sym
-      (before-fine (sym v-is ∙ h) _
-      ∙ before-refused (refuse-true (ap not (ne-eqb (length marks) (length (s .firsts)) uneven)) 9 0) _)
-
-  pub marks-decide : v ≡ Fine → length marks ≡ length (s .firsts) → {w : Verdict}
-      → w ≡ lowestBelow (length (s .firsts)) (λ e. refuseIf (ltb 1 (getD marks e 0)) 10 e) → w ≡ markedRefusal s marks
-  unfolding markedRefusal edgeCount
-  marks-decide h even is =
-      is
-      ∙ sym
-      (before-fine (sym v-is ∙ h) _
-      ∙ before-fine (refuse-false (ap not (eq-eqb (length marks) (length (s .firsts)) even)) 9 0) _)
-
--- ---- 14
-
-pub lists-fine : {found : Verdict} (lists : Verdict) → found ≡ Fine → Fine ≡ byLists found lists
-unfolding byLists
-lists-fine lists h = rw h
-
-pub lists-apart : {found lists r : Verdict} {number place : ℕ} → found ≡ Refused number place → number ≡ 14 → r ≡ lists → r ≡ byLists found lists
-unfolding byLists
-lists-apart {number = number} h e is = rw (h, eq-eqb number 14 e) is
-
-pub lists-other : {found : Verdict} (lists : Verdict) {number place : ℕ} → found ≡ Refused number place → (number ≡ 14 → ⊥) → Refused number place ≡ byLists found lists
-unfolding byLists
-lists-other lists {number} h e = rw (h, ne-eqb number 14 e)
 
 -- ---- the picks
 

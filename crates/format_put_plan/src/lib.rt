@@ -1,0 +1,109 @@
+// Writes the lines of a plan's marks and duals in the same way.
+ghost use Rattle.base_buffer.specs.Lent.{old, new};
+ghost use mathlib.Core.Path.{_≡_};
+ghost use mathlib.Core.Bool.{_&&_, not};
+ghost use Rattle.format_record.specs.Record.{memberIn};
+ghost use Rattle.format_write.specs.Text.{listed, membersOf, dualLine, keptLine, keptLines, dualLines};
+ghost use Rattle.format_write.specs.Wrote.{Wrote, itemOf, memberText};
+use format_put::put;
+use format_put::put_bytes;
+use format_put::put_line;
+use format_put::put_number;
+
+// Where a list of numbers goes on, and whether it is still empty.
+pub struct Listing {
+    at: usize,
+    first: bool,
+}
+
+// Writes a number of a list, with the comma before it unless it is the first.
+fn put_item(out: &mut [u8], at: usize, first: bool, v: usize) -> usize
+    ensures { λ r. ⌜ Wrote (old out) at (itemOf first v) (new out) r ⌝ }
+{
+    if first {
+        return put_number(out, at, base_buffer::wide(v));
+    }
+    let next = put(out, at, b',');
+    put_number(out, next, base_buffer::wide(v))
+}
+
+// Writes v if it is a member of the record.
+fn put_member(out: &mut [u8], list: Listing, part: &[u8], v: usize) -> Listing
+    ensures { λ r.
+        let text = memberText (list .first) (memberIn (old part) v) v in
+        ⌜ Wrote (old out) (list .at) text (new out) (r .at) ⌝ }
+    ensures { λ r. ⌜ r .first ≡ (list .first && not (memberIn (old part) v)) ⌝ }
+{
+    if !format_record::member(part, v) {
+        return list;
+    }
+    let at = list.at;
+    let first = list.first;
+    let next = put_item(out, at, first, v);
+    Listing {
+        at: next,
+        first: false,
+    }
+}
+
+// Writes the members of a record, rising.
+fn put_members(out: &mut [u8], at: usize, part: &[u8]) -> usize
+    ensures { λ r. ⌜ Wrote (old out) at (listed (membersOf (old part))) (new out) r ⌝ }
+{
+    let mut list = Listing { at, first: true };
+    let mut v = 0;
+    while v < 8 * base_limits::MEMBER_BYTES {
+        list = put_member(out, list, part, v);
+        v += 1;
+    }
+    list.at
+}
+
+// Writes the line of a record.
+pub fn put_dual(out: &mut [u8], at: usize, part: &[u8]) -> usize
+    ensures { λ r. ⌜ Wrote (old out) at (dualLine (old part)) (new out) r ⌝ }
+{
+    let next = put_bytes(out, at, &format_key::DUAL);
+    let next = put_number(out, next, format_record::value(part));
+    let next = put(out, next, b':');
+    let next = put_members(out, next, part);
+    put(out, next, b'\n')
+}
+
+// Writes the line of edge e if its mark says that it is kept.
+fn put_mark(out: &mut [u8], at: usize, mark: u8, e: usize) -> usize
+    ensures { λ r. ⌜ Wrote (old out) at (keptLine mark e) (new out) r ⌝ }
+{
+    match mark {
+        0 => at,
+        1 => at,
+        2 => put_line(out, at, &format_key::KEPT, base_buffer::wide(e)),
+        _ => at,
+    }
+}
+
+// Writes the lines of the kept edges, rising.
+pub fn put_marks(out: &mut [u8], at: usize, marks: &[u8]) -> usize
+    ensures { λ r. ⌜ Wrote (old out) at (keptLines (old marks)) (new out) r ⌝ }
+{
+    let mut next = at;
+    let mut e = 0;
+    while e < marks.len() {
+        next = put_mark(out, next, marks[e], e);
+        e += 1;
+    }
+    next
+}
+
+// Writes a line for each whole record, which is handed on as a part of the buffer.
+pub fn put_duals(out: &mut [u8], at: usize, records: &[u8]) -> usize
+    ensures { λ r. ⌜ Wrote (old out) at (dualLines (old records)) (new out) r ⌝ }
+{
+    let mut next = at;
+    let mut i = 0;
+    while i < records.len() / base_limits::RECORD_BYTES {
+        next = put_dual(out, next, format_record::record(records, i));
+        i += 1;
+    }
+    next
+}

@@ -1,0 +1,117 @@
+// Reads the two count lines of a survey text.
+ghost use Rattle.base_buffer.specs.Lent.{old};
+ghost use mathlib.Core.Path.{_≡_};
+ghost use Rattle.format_number.specs.Answer.{numberStep};
+ghost use Rattle.format_grammar.specs.Step.{stopped};
+ghost use Rattle.format_key.specs.Key.{nodesKey, linksKey};
+ghost use Rattle.format_survey_lines.specs.Line.{countsAt, verticesTest, edgesTest, countLine};
+ghost use Rattle.format_survey_lines.specs.Answer.{countsStep};
+use base_limits::COUNT_DIGITS;
+use base_limits::MAX_EDGES;
+use base_limits::MAX_VERTICES;
+use format_line::number_line;
+use format_number::Cursor;
+use format_number::Number;
+use format_survey_lines::Head;
+
+// `nodes=n`: 1, then 7 where the group buffer, of length lent, is short.
+fn vertices_line(text: &[u8], lent: usize) -> Number
+    ensures { λ r. ⌜ numberStep r ≡ countLine nodesKey (verticesTest lent) (old text) 0 ⌝ }
+{
+    let step = number_line(text, Cursor { at: 0 }, &format_key::NODES, COUNT_DIGITS);
+    let Number::Value { value, next: _ } = step else {
+        return step;
+    };
+    let count = value as usize;
+    if count == 0 {
+        return Number::Refused {
+            number: 1,
+            place: 0,
+        };
+    }
+    if MAX_VERTICES < count {
+        return Number::Refused {
+            number: 1,
+            place: 0,
+        };
+    }
+    if lent < count {
+        return Number::Refused {
+            number: 7,
+            place: 0,
+        };
+    }
+    step
+}
+
+// `links=m`: 3, then 7 where one of the other three buffers is short.
+fn edges_line(text: &[u8], cursor: Cursor, firsts: usize, seconds: usize, weights: usize) -> Number
+    ensures { λ r. ⌜ numberStep r ≡ countLine linksKey (edgesTest firsts seconds weights) (old text) (cursor .at) ⌝ }
+{
+    let step = number_line(text, cursor, &format_key::LINKS, COUNT_DIGITS);
+    let Number::Value { value, next: _ } = step else {
+        return step;
+    };
+    let count = value as usize;
+    if MAX_EDGES < count {
+        return Number::Refused {
+            number: 3,
+            place: 0,
+        };
+    }
+    if firsts < count {
+        return Number::Refused {
+            number: 7,
+            place: 0,
+        };
+    }
+    if seconds < count {
+        return Number::Refused {
+            number: 7,
+            place: 0,
+        };
+    }
+    if weights < count {
+        return Number::Refused {
+            number: 7,
+            place: 0,
+        };
+    }
+    step
+}
+
+// A refused step, as the answer of the two count lines.
+fn stopped_head(step: Number) -> Head
+    ensures { λ r. ⌜ countsStep r ≡ stopped (numberStep step) ⌝ }
+{
+    match step {
+        Number::Refused { number, place } => Head::Refused { number, place },
+        Number::Value { value: _, next } => {
+            let place = next.at;
+            Head::Refused { number: 16, place }
+        }
+    }
+}
+
+// The two count lines, with which a text begins; the lengths are those of the lent buffers.
+pub fn counts(text: &[u8], groups: usize, firsts: usize, seconds: usize, weights: usize) -> Head
+    ensures { λ r. ⌜ countsStep r ≡ countsAt (verticesTest groups) (edgesTest firsts seconds weights) (old text) ⌝ }
+{
+    let one = vertices_line(text, groups);
+    let Number::Value {
+        value: vertices,
+        next: after,
+    } = one
+    else {
+        return stopped_head(one);
+    };
+    let two = edges_line(text, after, firsts, seconds, weights);
+    let Number::Value { value: edges, next } = two else {
+        return stopped_head(two);
+    };
+    Head::Counts {
+        vertices: vertices as usize,
+        edges: edges as usize,
+        next,
+    }
+}
