@@ -1,6 +1,5 @@
 -- `explain_kept` meets its contract: the pair and the route are the definition's (`kept-answered`).
 use mathlib.Core.Path.{refl, sym, _∙_}
-use native.Mathlib.Omega.{arith}
 use Rattle.why_core.specs.Laws.Kept.{rest-long, kept-answered}
 use borrow.Author.Needs.{needs}
 use Rattle.why_core.proofs.explain_kept.Statement.{statement}

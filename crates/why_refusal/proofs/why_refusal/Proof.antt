@@ -1,5 +1,4 @@
 -- `why_refusal` meets its contract: the stages, one after the other, come to the definition.
-use native.Mathlib.Omega.{arith}
 use mathlib.Core.Path.{sym, _∙_}
 use Rattle.survey_core.specs.Laws.Refusal.{fine-survey}
 use borrow.Author.Needs.{needs}

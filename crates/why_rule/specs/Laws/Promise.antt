@@ -1,10 +1,10 @@
 -- What an answer promises besides its equation with the definition: a reason exactly if none of the refusals applies, and it is true; 8 exactly if some list cannot be joined by any set
 -- of tracks, and then the lowest; 19 exactly if there is no such track; a refusal writes nothing.
-use Prim.Native.Nat.{ℕ, _-_, _≤_, _<_}
+use Prim.Native.Nat.{ℕ, _-_, _<_}
 use native.Mathlib.Omega.{arith}
 use mathlib.Core.Path.{_≡_, refl, ap, sym, _∙_, subst}
 use mathlib.Core.Logic.{_⊎_, inl, inr, ⊎-elim}
-use mathlib.Core.Bool.{Bool, true, false}
+use mathlib.Core.Bool.{true}
 use mathlib.Core.List.{List, _++_}
 use lib.ListN.{length, drop}
 use lib.Dec.{ltb, leb}
@@ -13,15 +13,15 @@ use Rattle.base_limits.specs.Verdict.{refuseIf, _before_, Outcome, refusal, ans
 use Rattle.base_limits.specs.declared.Verdict.{Verdict}
 use Rattle.base_limits.specs.declared.Verdict.the-variants.{Fine, Refused}
 use Rattle.base_limits.specs.Laws.Verdict.{before-fine, fine-left, fine-right, refuse-true, refuse-false, fine-refuse, refused-refuse, answer-fine, refusal-found}
-use Rattle.theory_steiner.specs.Problem.{Bounded, Joins, allUsable}
+use Rattle.theory_steiner.specs.Problem.{Bounded, allUsable}
 use Rattle.theory_steiner.specs.Laws.Finish.{allUsable-edges}
 use Rattle.survey_core.specs.Survey.{Survey, vertexCount, edgeCount, problemOf}
-use Rattle.survey_core.specs.Sound.{SurveySound, ByteGroups}
+use Rattle.survey_core.specs.Sound.{ByteGroups}
 use Rattle.survey_core.specs.Refusal.{surveyRefusal, groupRefusal, LowestUnjoined}
 use Rattle.survey_core.specs.Laws.Refusal.{survey-fine, fine-survey}
 use Rattle.survey_core.specs.Laws.Group.{group-fine, joins-fine, joins-groups, group-refused, unjoinable-iff}
 use Rattle.plan_rule.specs.Laws.Number.{before-cases, survey-never}
-use Rattle.why_rule.specs.Reason.{Reason, reasonOf}
+use Rattle.why_rule.specs.Reason.{reasonOf}
 use Rattle.why_rule.specs.Why.{whyRefusal, WhyCounts, whyCounts, routeIn, reasoning, routeAfter}
 use Rattle.why_rule.specs.Promise.{Askable, Joinable, Explainable, UnjoinableList, UnknownTrack, GivenReason, WhyPromises}
 use Rattle.why_rule.specs.Laws.Reason.{reason-true}

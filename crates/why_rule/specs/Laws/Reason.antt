@@ -1,43 +1,40 @@
 -- Each reason is true of the growth: what it names is lowest, its route is the only path of kept tracks, without the track the pair is not linked; a dropped track is spared by every
 -- list; a round is the least after which the picks link the ends.
-use Prim.Native.Nat.{ℕ, zero, suc, _<_, _≤_}
+use Prim.Native.Nat.{ℕ, suc, _<_, _≤_}
 use native.Mathlib.Omega.{arith}
-use native.Mathlib.Decide.{ℕ-discrete}
-use mathlib.Core.Path.{_≡_, refl, ap, sym, _∙_, subst}
+use mathlib.Core.Path.{_≡_, refl, ap, sym, subst}
 use mathlib.Core.Logic.{_⊎_, inl, inr, ⊎-elim}
 use mathlib.Core.Bool.{Bool, true, false, not, cond}
-use mathlib.Core.List.{List}
-use lib.ListN.{length}
 use lib.Dec.{eqb, ltb}
-use borrow.Author.Tests.{eqb-true, eqb-false, eq-eqb, lt-ltb, le-ltb, ltb-true}
+use borrow.Author.Tests.{eqb-true, eq-eqb, lt-ltb, le-ltb}
 use Rattle.base_finite.specs.Below.{anyBelow}
 use Rattle.base_finite.specs.Laws.Test.{either, and-both, true-not-false, not-true-false}
-use Rattle.base_finite.specs.Laws.Below.{any-none, any-intro, lt-or-ge}
+use Rattle.base_finite.specs.Laws.Below.{any-none, lt-or-ge}
 use Rattle.base_limits.specs.declared.Verdict.{Verdict}
 use Rattle.base_limits.specs.declared.Verdict.the-variants.{Fine, Refused}
-use Rattle.theory_graph.specs.Path.{Leads, forth, back, Linked, without, Forest}
-use Rattle.theory_graph.specs.Laws.Linked.{linked-mono, without-elim, without-intro, without-mono, linked-without}
+use Rattle.theory_graph.specs.Path.{Leads, forth, back, without, Forest}
+use Rattle.theory_graph.specs.Laws.Linked.{linked-mono, without-elim, without-mono}
 use Rattle.theory_graph.specs.Laws.Component.{linked-same-label}
-use Rattle.theory_steiner.specs.Problem.{Problem, Sound, Bounded, Joins, allUsable, joined}
+use Rattle.theory_steiner.specs.Problem.{Sound, Bounded, Joins, allUsable, joined}
 use Rattle.theory_steiner.specs.Growth.{stateAt, grown, start}
 use Rattle.theory_steiner.specs.Pruning.{needed, picked, kept}
 use Rattle.theory_steiner.specs.Laws.Joined.{label-linked, linked-label, needed-iff, joined-elim}
 use Rattle.theory_steiner.specs.Laws.Partition.{picked-usable, partition}
 use Rattle.theory_steiner.specs.Laws.Round.{stateAt-reached}
-use Rattle.theory_steiner.specs.Laws.Rounds.{grown-reached, stateAt-last, stateAt-rounds, grown-still, takes-rounds}
+use Rattle.theory_steiner.specs.Laws.Rounds.{grown-reached, stateAt-last, takes-rounds}
 use Rattle.theory_steiner.specs.Laws.Finish.{kept-joins, kept-picked, kept-edges, picked-acyclic}
 use Rattle.theory_route.specs.First.{firstBelow}
 use Rattle.theory_route.specs.Laws.First.{IsFirst, first-none, first-exists}
 use Rattle.theory_route.specs.Route.{routeOf, IsRoute}
 use Rattle.theory_route.specs.Laws.Route.{route-of, route-is, route-uses}
-use Rattle.survey_core.specs.Survey.{Survey, vertexCount, edgeCount, member, problemOf, JoinsGroup, groupJoined, componentsOf}
+use Rattle.survey_core.specs.Survey.{Survey, vertexCount, edgeCount, problemOf, groupJoined, componentsOf}
 use Rattle.survey_core.specs.Sound.{SurveySound, ByteGroups}
 use Rattle.survey_core.specs.Refusal.{groupRefusal, LowestUnjoined}
 use Rattle.survey_core.specs.Laws.Refusal.{survey-sound}
 use Rattle.survey_core.specs.Laws.Group.{group-fine, group-refused, group-joined-elim, joins-groups}
 use Rattle.survey_forest.specs.Laws.Forest.{forest-sub}
-use Rattle.why_rule.specs.Reason.{Reason, needs, spared, passed, others, placeOf, partedList, isParted, lowMember, highMember, keptReason, joinedAfter, firstOrZero, roundOf, reasonOf}
-use Rattle.why_rule.specs.True.{LinkedBy, LowestPair, NeedsTrue, SparedTrue, LinkedAfter, FirstJoined, PassedTrue, TrueOf, needs-true, spared-true, passed-true}
+use Rattle.why_rule.specs.Reason.{spared, passed, others, placeOf, partedList, isParted, lowMember, highMember, keptReason, joinedAfter, firstOrZero, roundOf, reasonOf}
+use Rattle.why_rule.specs.True.{LinkedBy, LowestPair, NeedsTrue, SparedTrue, LinkedAfter, FirstJoined, TrueOf, needs-true, spared-true, passed-true}
 use Rattle.why_rule.specs.Laws.Pair.{parted-first, parted-second, parted-labels, parted-intro, low-first, high-first, pair-parted, low-lt-high, pair-lowest}
 
 module _ (s : Survey) (sound : SurveySound s) where
