@@ -39,7 +39,7 @@ use Rattle.why_rule.specs.Laws.Reason.{picked-bounded, list-apart, kept-bounded
 use Rattle.why_route.specs.Walk.{routeRefusal}
 use Rattle.why_parted.specs.declared.Pair.{Pair}
 use Rattle.why_parted.specs.Parted.{markedBut, labelIn, PairOf}
-use Rattle.why_parted.specs.Laws.Found.{twos-long, twos-chosen, part-long, part-picked}
+use Rattle.why_parted.specs.Laws.Found.{twos-chosen, part-long, part-picked}
 use Rattle.why_core.specs.Asked.{KeptAsked, keptCounts}
 use Rattle.why_core.specs.Laws.Grown.{lists-long, forest-accepted}
 
@@ -86,9 +86,6 @@ module _ (s : Survey) {lists marks : List ℕ} {routeLength e : ℕ} (h : KeptAs
   -- ---- the other picked tracks
 
   module _ {rest : List ℕ} (rest-are : rest ≡ remade (λ f x. counted (markedBut marks 1 e f) 2) (length (s .firsts)) (replicate maxEdges 0)) where
-    pub rest-long : length rest ≡ maxEdges
-    rest-long = twos-long (markedBut marks 1 e) (length (s .firsts)) (sound .edges-few) rest-are
-
     rest-is : chosen Kept rest ≡ others s e
     unfolding markedBut without mark
     rest-is =
@@ -150,9 +147,6 @@ module _ (s : Survey) {lists marks : List ℕ} {routeLength e : ℕ} (h : KeptAs
       entries = routeOf (problemOf s) (kept (problemOf s)) low high
 
       module _ {all : List ℕ} (all-are : all ≡ remade (λ f x. counted (markedBut marks 2 (length (s .firsts)) f) 2) (length (s .firsts)) (replicate maxEdges 0)) where
-        pub kept-long : length all ≡ maxEdges
-        kept-long = twos-long (markedBut marks 2 (length (s .firsts))) (length (s .firsts)) (sound .edges-few) all-are
-
         kept-at : (f : ℕ) → f < length (s .firsts) → markedBut marks 2 (length (s .firsts)) f ≡ kept (problemOf s) f
         unfolding markedBut mark
         kept-at f b =
