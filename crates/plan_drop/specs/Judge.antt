@@ -1,28 +1,33 @@
 -- Document 01, 'What a plan holds': the marks, and what judging a batch of edges, as many as a word has bits, makes of them.
-use Prim.Native.Nat.{ℕ, _+_, _-_, _<_, _≤_}
+use Prim.Native.Nat.{ℕ, zero, suc, _+_, _-_}
 use mathlib.Core.Path.{_≡_}
 use mathlib.Core.Bool.{Bool, false, _&&_, cond}
 use mathlib.Core.List.{List}
-use lib.ListN.{length, getD, set}
+use lib.ListN.{getD, set}
+use lib.Bits.{bitOr, bitXor}
 use Rattle.base_finite.specs.Below.{counted, countBelow}
-use Rattle.base_limits.specs.Limits.{maxVertices}
 use Rattle.format_record.specs.Bits.{bitAt}
-use Rattle.theory_steiner.specs.Problem.{Problem, separates}
+use Rattle.theory_steiner.specs.Problem.{Problem}
 use Rattle.theory_steiner.specs.Pruning.{needed, markOf}
 use Rattle.base_limits.specs.Verdict.{written}
-use Rattle.survey_core.specs.Survey.{Survey, groupsAlone, edgeCount, problemOf}
+use Rattle.survey_core.specs.Survey.{Survey, edgeCount, problemOf}
 use Rattle.survey_components.specs.Labels.{pickedIn}
 use Rattle.survey_forest.specs.Forest.{forestRefusal}
 use Rattle.base_buffer.specs.Store.{remade}
-use Rattle.plan_cuts.specs.Word.{wordBits, inBatch}
+use Rattle.plan_cuts.specs.Word.{inBatch}
 
 -- A set of vertices: those whose word has bit k.
 unfoldable pub sideIn : (words : List ℕ) → (k v : ℕ) → Bool
 sideIn words k v = bitAt (getD words v 0) k
 
--- The edge with index i is of this batch, and its sides hold members of one group each.
-unfoldable pub judged : (groups words : List ℕ) → (base i : ℕ) → Bool
-judged groups words base i = inBatch base i && separates (problemOf (groupsAlone groups)) (sideIn words (i - base))
+-- All groups and all edges of a batch at once: bit k is set where some vertex below n and its mate differ in bit k of their words.
+unfoldable pub partedBelow : (words mates : List ℕ) → (n : ℕ) → ℕ
+partedBelow words mates zero = 0
+partedBelow words mates (suc v) = bitOr (partedBelow words mates v) (bitXor (getD words v 0) (getD words (getD mates v 0) 0))
+
+-- The edge with index i is of this batch, and its bit is set.
+unfoldable pub judged : (bits base i : ℕ) → Bool
+judged bits base i = inBatch base i && bitAt bits (i - base)
 
 -- A picked edge that is judged needed gets 2; other marks stay.
 unfoldable pub raised : (ℕ → Bool) → (ℕ → Bool) → (e mark : ℕ) → ℕ
@@ -49,8 +54,3 @@ batchMarks p F base m marks = remade (λ e mark. cond (F e && (inBatch base (cou
 pub record MarkStep (in-set good : Bool) (e i : ℕ) (marks : List ℕ) (next : ℕ) (after : List ℕ) : Type 0 where
   pub index : next ≡ i + counted in-set 1
   pub marks-are : after ≡ set marks e (cond (in-set && good) 2 (getD marks e 0))
-
--- What judging asks: few vertices, and a bit of a word.
-pub record Judging (groups : List ℕ) (k : ℕ) : Type 0 where
-  pub few : length groups ≤ maxVertices
-  pub bit : k < wordBits

@@ -4,15 +4,17 @@ ghost use mathlib.Core.Path.{_≡_};
 ghost use mathlib.Core.Bool.{false};
 ghost use Prim.Native.Nat.{_≤_};
 ghost use lib.ListN.{length};
-ghost use Rattle.base_finite.specs.Below.{countBelow};
-ghost use Rattle.base_limits.specs.Limits.{maxEdges};
+ghost use Rattle.base_finite.specs.Below.{countBelow, tabulate};
+ghost use Rattle.base_limits.specs.Limits.{maxVertices, maxEdges};
 ghost use Rattle.theory_steiner.specs.Pruning.{markOf};
 ghost use Rattle.survey_core.specs.Survey.{lentSurvey};
+ghost use Rattle.survey_mates.specs.Mate.{mateOf};
 ghost use Rattle.survey_components.specs.Labels.{pickedIn};
 ghost use Rattle.survey_forest.specs.Forest.{forestRefusal};
 ghost use Rattle.plan_drop.specs.Prunable.{Prunable, unweighted};
 ghost use Rattle.plan_drop.specs.Judge.{droppedMarks, batchMarks, prunedMarks, marksPruned};
 use base_buffer::put8;
+use base_limits::MAX_VERTICES;
 use base_limits::Verdict;
 
 mod judge;
@@ -58,15 +60,25 @@ fn prune_batch(
     firsts: &[u32],
     seconds: &[u32],
     picked: &[u8],
+    mates: &[u32; MAX_VERTICES],
     marks: &mut [u8],
     base: usize,
 )
-    requires { ⌜ Prunable (now groups) (now firsts) (now seconds) (now picked) ⌝ }
+    requires { ⌜ Prunable (now groups) (now firsts) (now seconds) (now picked)
+        × (now mates ≡ tabulate maxVertices (mateOf (now groups))) ⌝ }
     ensures { λ r. let p = unweighted (old groups) (old firsts) (old seconds) in
         ⌜ new marks ≡ batchMarks p (pickedIn (old picked)) base (length (old firsts)) (old marks) ⌝ }
 {
     let words = plan_cuts::side_words(firsts, seconds, picked, base);
-    judge::judge_edges(groups, &words, picked, base, marks, firsts.len());
+    judge::judge_edges(
+        &words,
+        mates,
+        groups.len(),
+        picked,
+        base,
+        marks,
+        firsts.len(),
+    );
 }
 
 // All batches. Which edges a picked set needs is found by their sides, and those are only defined in a forest that
@@ -77,10 +89,11 @@ fn prune_forest(groups: &[u8], firsts: &[u32], seconds: &[u32], picked: &[u8], m
         ⌜ new marks ≡ prunedMarks p (pickedIn (old picked)) (length (old firsts)) (old marks) ⌝ }
 {
     drop_all(picked, marks, firsts.len());
+    let mates = survey_mates::mates(groups);
     let count = count_picked(picked, firsts.len());
     let mut base = 0;
     while base < count {
-        prune_batch(groups, firsts, seconds, picked, marks, base);
+        prune_batch(groups, firsts, seconds, picked, &mates, marks, base);
         base += plan_cuts::WORD_BITS;
     }
 }

@@ -12,6 +12,7 @@ use Rattle.theory_steiner.specs.Growth.{Delay, never, after, Winner, nobody, ed
 use Rattle.survey_core.specs.Survey.{Survey, problemOf}
 use Rattle.survey_core.specs.Sound.{SurveySound}
 use Rattle.plan_winner.specs.Scan.{Keyed, Floored}
+use Rattle.plan_active.specs.Flags.{activeFlags}
 
 -- The edge picked in round r, counted from 0; 0 where there is none.
 unfoldable pub winnerEdge : Winner → ℕ
@@ -21,8 +22,8 @@ winnerEdge (edge e d) = e
 unfoldable pub pickAt : Problem → ℕ → ℕ
 pickAt p r = winnerEdge (winner p (stateAt p r))
 
--- The component number and the load of each vertex, the value of each component number, 1 for each picked edge, the picks in their order, and
--- the keys and floors that the search goes by.
+-- The component number and the load of each vertex, the value of each component number and 1 where it is active, 1 for each picked edge, the picks
+-- in their order, and the keys and floors that the search goes by.
 pub record Arrays : Type 0 where
   pub labels : List ℕ
   pub loads : List ℕ
@@ -31,15 +32,16 @@ pub record Arrays : Type 0 where
   pub order : List ℕ
   pub keys : List ℕ
   pub floors : List ℕ
+  pub flags : List ℕ
 
-abbrev pub arraysFrom : (labels loads values picked order keys floors : List ℕ) → Arrays
-arraysFrom labels loads values picked order keys floors =
-    record { labels = labels; loads = loads; values = values; picked = picked; order = order; keys = keys; floors = floors }
+abbrev pub arraysFrom : (labels loads values picked order keys floors flags : List ℕ) → Arrays
+arraysFrom labels loads values picked order keys floors flags =
+    record { labels = labels; loads = loads; values = values; picked = picked; order = order; keys = keys; floors = floors; flags = flags }
 
--- The arrays that seven lent buffers hold when the call ends.
-abbrev pub newArrays : (labels loads values picked order keys floors : Buffer) → Arrays
-newArrays labels loads values picked order keys floors =
-    arraysFrom (new labels) (new loads) (new values) (new picked) (new order) (new keys) (new floors)
+-- The arrays that eight lent buffers hold when the call ends.
+abbrev pub newArrays : (labels loads values picked order keys floors flags : Buffer) → Arrays
+newArrays labels loads values picked order keys floors flags =
+    arraysFrom (new labels) (new loads) (new values) (new picked) (new order) (new keys) (new floors) (new flags)
 
 unfoldable pub roundsAfter : (r : ℕ) → Delay → ℕ
 roundsAfter r never = r
@@ -62,3 +64,4 @@ pub record Represents (s : Survey) (r time : ℕ) (a : Arrays) : Type 0 where
   pub order-is : a .order ≡ tabulate maxVertices (λ k. counted (ltb k r) (pickAt (problemOf s) k))
   pub keyed : Keyed (problemOf s) (stateAt (problemOf s) r) time (a .keys)
   pub floored : Floored (length (s .firsts)) (a .keys) (a .floors)
+  pub flags-are : a .flags ≡ activeFlags (s .groups) (a .labels)

@@ -4,7 +4,9 @@ ghost use mathlib.Core.Path.{_≡_};
 ghost use Prim.Native.Nat.{_+_, _<_, _^_};
 ghost use lib.ListN.{getD, set, length};
 ghost use lib.Dec.{eqb};
-ghost use Rattle.base_finite.specs.Below.{counted, sumBelow};
+ghost use Rattle.base_finite.specs.Below.{counted, sumBelow, tabulate};
+ghost use Rattle.base_limits.specs.Limits.{maxVertices};
+ghost use Rattle.survey_mates.specs.Mate.{mateOf};
 ghost use Rattle.base_limits.specs.Verdict.{written};
 ghost use Rattle.theory_steiner.specs.Problem.{Problem};
 ghost use Rattle.survey_core.specs.Refusal.{surveyRefusal};
@@ -106,27 +108,29 @@ fn round(
     order: &mut [u32; MAX_VERTICES],
     keys: &mut [u64; MAX_EDGES],
     floors: &mut [u64; MAX_BLOCKS],
+    flags: &mut [u8; MAX_DUALS],
+    mates: &[u32; MAX_VERTICES],
     r: usize,
     time: u64,
 ) -> Delay
     requires { ⌜ Represents (surveyFrom (now groups) (now firsts) (now seconds) (now weights)) r time
-        (arraysFrom (now labels) (now loads) (now values) (now picked) (now order) (now keys) (now floors)) ⌝ }
+        (arraysFrom (now labels) (now loads) (now values) (now picked) (now order) (now keys) (now floors) (now flags)) ⌝ }
+    requires { ⌜ now mates ≡ tabulate maxVertices (mateOf (now groups)) ⌝ }
     ensures { λ x.
         let p = problemOf (lentSurvey groups firsts seconds weights) in
         ⌜ delayIn x ≡ winnerDelay (winner p (stateAt p r)) ⌝ }
     ensures { λ x.
         let s = lentSurvey groups firsts seconds weights in
-        let a = newArrays labels loads values picked order keys floors in
+        let a = newArrays labels loads values picked order keys floors flags in
         ⌜ Represents s (roundsAfter r (delayIn x)) (timeAfter time (delayIn x)) a ⌝ }
 {
-    let flags = plan_active::active_flags(groups, labels);
     let found = plan_winner::find_winner(
         firsts,
         seconds,
         weights,
         labels,
         loads,
-        &flags,
+        flags,
         time,
         keys,
         floors,
@@ -134,11 +138,14 @@ fn round(
     let Winner::Edge { e, d } = found else {
         return Delay::Never;
     };
-    raise_values(values, &flags, d);
-    raise_loads(loads, labels, &flags, groups.len(), d);
+    raise_values(values, flags, d);
+    raise_loads(loads, labels, flags, groups.len(), d);
     let z = (groups.len() + r) as u32;
-    survey_labels::merge(
+    plan_active::merge(
         labels,
+        flags,
+        mates,
+        groups.len(),
         base_buffer::at32(firsts, e),
         base_buffer::at32(seconds, e),
         z,
@@ -197,6 +204,8 @@ fn grow_rounds(groups: &[u8], firsts: &[u32], seconds: &[u32], weights: &[u32]) 
     let mut keys = [0u64; MAX_EDGES];
     let mut floors = [0u64; MAX_BLOCKS];
     survey_labels::own_labels(&mut labels);
+    let mates = survey_mates::mates(groups);
+    let mut flags = plan_active::active_flags(groups, &labels);
     let most = groups.len() - 1;
     let mut time = 0;
     let mut r = 0;
@@ -213,6 +222,8 @@ fn grow_rounds(groups: &[u8], firsts: &[u32], seconds: &[u32], weights: &[u32]) 
             &mut order,
             &mut keys,
             &mut floors,
+            &mut flags,
+            &mates,
             r,
             time,
         );

@@ -3,6 +3,7 @@ pub mod Cut
 pub mod Round
 pub mod Winner
 pub mod Partition
+pub mod Activity
 pub mod Weighed
 pub mod Feasible
 pub mod Rounds

@@ -12,6 +12,7 @@ use mathlib.Core.Bool.{Bool, true, false, _||_, or-false}
 use mathlib.Core.List.{List}
 use native.Mathlib.Decide.{ℕ-discrete}
 use lib.Dec.{eqb, lit<}
+use lib.Bits.{bitOr, or-shr, or-mod}
 use lib.ListN.{length, getD, set, length-set, List·getD-eq-default}
 use lib.Seq.{getD-set-same, getD-set-other, set-out, ext-getD}
 use Rattle.base_finite.specs.Below.{counted, sumBelow, thoseBelow}
@@ -73,6 +74,23 @@ bit-past b k h l = let p : 2 ^ 8 ≤ 2 ^ k = pow-mono l in bit-small b k (omega 
 
 pub bit-of-zero : (k : ℕ) → bitAt 0 k ≡ false
 bit-of-zero k = bit-small 0 k (pow-pos k)
+
+odd-or : (x y : ℕ) → x < 2 → y < 2 → eqb (bitOr x y) 1 ≡ (eqb x 1 || eqb y 1)
+odd-or zero zero h k = refl
+odd-or zero (suc zero) h k = refl
+odd-or (suc zero) zero h k = refl
+odd-or (suc zero) (suc zero) h k = refl
+odd-or (suc (suc x)) y h k = absurd (omega arith)
+odd-or zero (suc (suc y)) h k = absurd (omega arith)
+odd-or (suc zero) (suc (suc y)) h k = absurd (omega arith)
+
+pub bit-or : (x y k : ℕ) → bitAt (bitOr x y) k ≡ (bitAt x k || bitAt y k)
+unfolding bitAt
+bit-or x y k =
+    let low : bitOr (x / 2 ^ k) (y / 2 ^ k) % 2 ≡ bitOr (x / 2 ^ k % 2) (y / 2 ^ k % 2) = or-mod (x / 2 ^ k) (y / 2 ^ k) 1 in
+    ap (λ z. eqb (z % 2) 1) (or-shr x y k)
+    ∙ ap (λ z. eqb z 1) low
+    ∙ odd-or (x / 2 ^ k % 2) (y / 2 ^ k % 2) (omega arith) (omega arith)
 
 pub bit-set : (b k : ℕ) → bitAt (withBit b k) k ≡ true
 unfolding withBit

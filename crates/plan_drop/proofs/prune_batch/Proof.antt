@@ -6,18 +6,18 @@ use Rattle.plan_drop.proofs.prune_batch.Tie as tie
 
 judge-edges-requires : tie.Need-judge-edges-requires
 judge-edges-requires c κs =
-    (c .before .before .before .before .before .before .before .before .pre .few, c .before .before .before .before .before .before .before .before .pre .edges-few)
+    c .before .before .before .before .before .before .before .before .pre .0 .edges-few
 
 returns : tie.Need-returns
 returns c =
-    batch-is _ _ _ _ (c .before .before .before .before .before .before .before .before .before .before .before .pre) (c .before .before .before .before .before .before .before .before .before .before .before .args .base) _ (c .before .before .before .before .before .side-words .ensures) (c .before .before .judge-edges .ensures)
+    let start = c .before .before .before .before .before .before .before .before .before .before .before in
+    batch-is _ _ _ _ (start .pre .0) (start .args .base) _ (start .pre .1) (c .before .before .before .before .before .side-words .ensures) (c .before .before .judge-edges .ensures)
 
 pub prune-batch-spec : {M : Type 1} → statement M
 prune-batch-spec =
     tie.close
     (tie.spec
     (λ c κs. search needs)
-    (λ c. search needs)
     judge-edges-requires
     (λ c. search needs)
     returns)

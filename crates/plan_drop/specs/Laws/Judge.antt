@@ -1,21 +1,26 @@
 -- Judging batch after batch by the words marks exactly the needed edges of a forest.
 use Prim.Native.Nat.{ℕ, zero, suc, _+_, _-_, _<_, _≤_}
 use native.Mathlib.Omega.{arith}
+use native.Mathlib.Numerals.{add-one}
 use mathlib.Core.Path.{_≡_, refl, ap, sym, _∙_}
 use mathlib.Core.Logic.{_⊎_, inl, inr, ⊎-elim}
-use mathlib.Core.Bool.{Bool, true, false, _&&_, not, cond}
+use mathlib.Core.Bool.{Bool, true, false, _&&_, xor, not, cond}
 use mathlib.Core.List.{List, [], _∷_}
 use lib.ListN.{length, getD, set}
 use lib.Dec.{ltb, leb}
+use lib.Bits.{bitOr, bitXor}
 use borrow.Author.Tests.{lt-ltb, ltb-true, leb-true, le-leb, lt-leb, le-ltb}
-use Rattle.base_finite.specs.Below.{counted, countBelow, tabulate}
+use Rattle.base_finite.specs.Below.{counted, countBelow, anyBelow, tabulate}
 use Rattle.base_finite.specs.Laws.Below.{any-cong, lt-or-ge, getD-tabulate, counted-true, counted-false}
 use Rattle.base_finite.specs.Laws.Test.{either, and-left, and-right, and-both}
 use Rattle.base_limits.specs.Limits.{maxVertices}
 use Rattle.format_record.specs.Bits.{bitAt}
+use Rattle.format_record.specs.Laws.Bits.{bit-of-zero, bit-or}
 use Rattle.theory_steiner.specs.Problem.{Problem, separates}
 use Rattle.theory_steiner.specs.Pruning.{needed, markOf}
 use Rattle.survey_core.specs.Survey.{groupsAlone, problemOf, vertexCount, edgeCount, sameGroup, member}
+use Rattle.survey_mates.specs.Mate.{mateOf}
+use Rattle.survey_mates.specs.Laws.Mate.{separates-mates}
 use Rattle.base_buffer.specs.Store.{remade}
 use Rattle.base_buffer.specs.Laws.Store.{length-remade, remade-more}
 use Rattle.plan_cuts.specs.Side.{sides}
@@ -23,9 +28,9 @@ use Rattle.survey_components.specs.Labels.{pickedIn}
 use Rattle.plan_cuts.specs.Word.{wordBits, inBatch, sideWords}
 use Rattle.plan_cuts.specs.Taken.{takenBelow}
 use Rattle.plan_drop.specs.Prunable.{Prunable, unweighted}
-use Rattle.plan_drop.specs.Judge.{sideIn, judged, raised, prunedMarks, droppedMarks, batchMarks, MarkStep}
+use Rattle.plan_drop.specs.Judge.{sideIn, partedBelow, judged, raised, prunedMarks, droppedMarks, batchMarks, MarkStep}
 use Rattle.plan_cuts.specs.Laws.Side.{needed-by-side}
-use Rattle.plan_cuts.specs.Laws.Word.{word-side, count-lt}
+use Rattle.plan_cuts.specs.Laws.Word.{bit-xor, word-side, count-lt}
 use Rattle.plan_cuts.specs.Laws.Taken.{taken-words}
 
 -- ---- stores at rising places
@@ -107,18 +112,49 @@ in-batch base i h =
       below = ltb-true (i - base) wordBits (and-right (leb base i) (ltb (i - base) wordBits) h);
     }
 
-pub judged-before : (groups words : List ℕ) (base i : ℕ) → i < base → judged groups words base i ≡ false
+pub judged-before : (bits base i : ℕ) → i < base → judged bits base i ≡ false
 unfolding judged
-judged-before groups words base i h = rw (batch-before base i h)
+judged-before bits base i h = rw (batch-before base i h)
 
-pub judged-after : (groups words : List ℕ) (base i : ℕ) → base ≤ i → wordBits ≤ i - base → judged groups words base i ≡ false
+pub judged-after : (bits base i : ℕ) → base ≤ i → wordBits ≤ i - base → judged bits base i ≡ false
 unfolding judged
-judged-after groups words base i l h = rw (batch-after base i l h)
+judged-after bits base i l h = rw (batch-after base i l h)
 
-pub judged-in : (groups words : List ℕ) (base i : ℕ) → base ≤ i → i - base < wordBits
-    → judged groups words base i ≡ separates (problemOf (groupsAlone groups)) (sideIn words (i - base))
+pub judged-in : (bits base i : ℕ) → base ≤ i → i - base < wordBits → judged bits base i ≡ bitAt bits (i - base)
 unfolding judged
-judged-in groups words base i l h = rw (batch-in base i l h)
+judged-in bits base i l h = rw (batch-in base i l h)
+
+-- ---- all groups at once
+
+module _ (words mates : List ℕ) where
+  pub parted-none : 0 ≡ partedBelow words mates 0
+  unfolding partedBelow
+  parted-none = refl
+
+  -- One more vertex, as calls read it.
+  pub parted-more : (v : ℕ) {bits w x y : ℕ} → bits ≡ partedBelow words mates v → w ≡ getD mates v 0 → x ≡ getD words v 0 → y ≡ getD words w 0
+      → bitOr bits (bitXor x y) ≡ partedBelow words mates (v + 1)
+  unfolding partedBelow
+  parted-more v h m a b = rw (add-one v, h, a, b, m)
+
+  pub parted-end : (n v : ℕ) {bits : ℕ} → v ≤ n → n ≤ v → bits ≡ partedBelow words mates v → bits ≡ partedBelow words mates n
+  parted-end n v b c h = let e : n ≡ v = omega arith in rw e h
+
+  parted-bit : (n k : ℕ) → bitAt (partedBelow words mates n) k ≡ anyBelow n (λ v. xor (sideIn words k v) (sideIn words k (getD mates v 0)))
+  unfolding partedBelow anyBelow sideIn
+  parted-bit zero k = bit-of-zero k
+  parted-bit (suc v) k =
+      bit-or (partedBelow words mates v) (bitXor (getD words v 0) (getD words (getD mates v 0) 0)) k
+      ∙ rw (parted-bit v k, bit-xor (getD words v 0) (getD words (getD mates v 0) 0) k)
+
+  -- A bit says whether its cut separates a group.
+  parted-separates : (groups : List ℕ) → length groups ≤ maxVertices → mates ≡ tabulate maxVertices (mateOf groups)
+      → (k : ℕ) → bitAt (partedBelow words mates (length groups)) k ≡ separates (problemOf (groupsAlone groups)) (sideIn words k)
+  parted-separates groups few h k =
+      parted-bit (length groups) k
+      ∙ any-cong (length groups) _ _
+      (λ v b. ap (λ w. xor (sideIn words k v) (sideIn words k w)) (ap (λ l. getD l v 0) h ∙ getD-tabulate maxVertices (mateOf groups) v 0 (omega arith)))
+      ∙ sym (separates-mates groups (sideIn words k))
 
 separates-cong : (p : Problem) (S T : ℕ → Bool) → ((v : ℕ) → v < p .vertices → S v ≡ T v) → separates p S ≡ separates p T
 unfolding separates
@@ -171,21 +207,24 @@ module _ (groups firsts seconds picked : List ℕ) (ok : Prunable groups firsts 
       ∙ sym (needed-by-side p (ok .sound) F (ok .bounded) (ok .joins) (ok .forest) maxVertices e t)
 
   -- A batch by the words is the batch of the definition.
-  pub batch-is : (base : ℕ) (marks : List ℕ) {after held : List ℕ}
+  pub batch-is : (base : ℕ) (marks : List ℕ) {mates after held : List ℕ} → mates ≡ tabulate maxVertices (mateOf groups)
       → held ≡ takenBelow maxVertices (λ e. getD firsts e 0) (λ e. getD seconds e 0) F base (length firsts) .words
-      → after ≡ remade (raised F (judged groups held base)) (length firsts) marks
+      → after ≡ remade (raised F (judged (partedBelow held mates (length groups)) base)) (length firsts) marks
       → after ≡ batchMarks p F base (length firsts) marks
   unfolding batchMarks raised judged
-  batch-is base marks {after} {held} h r =
+  batch-is base marks {mates} {after} {held} m h r =
       r ∙ rw (words-held base h)
       (remade-cong _ _ (length firsts) marks (λ e x b. ap (λ t. cond t 2 x) (by e b (either (F e)) (either (inBatch base (countBelow e F))))))
     where
+      bits : ℕ
+      bits = partedBelow (words base) mates (length groups)
+
       by : (e : ℕ) → e < length firsts → (F e ≡ true) ⊎ (F e ≡ false) → (inBatch base (countBelow e F) ≡ true) ⊎ (inBatch base (countBelow e F) ≡ false)
-          → (F e && (inBatch base (countBelow e F) && separates (problemOf (groupsAlone groups)) (sideIn (words base) (countBelow e F - base))))
-          ≡ (F e && (inBatch base (countBelow e F) && needed p F e))
+          → (F e && (inBatch base (countBelow e F) && bitAt bits (countBelow e F - base))) ≡ (F e && (inBatch base (countBelow e F) && needed p F e))
       by e b (inr t) i = rw t
       by e b (inl t) (inr i) = rw (t, i)
-      by e b (inl t) (inl i) = rw (t, i) (bit-needed base e b t (in-batch base (countBelow e F) i))
+      by e b (inl t) (inl i) =
+          rw (t, i) (parted-separates (words base) mates groups (ok .few) m (countBelow e F - base) ∙ bit-needed base e b t (in-batch base (countBelow e F) i))
 
 -- ---- batch after batch
 

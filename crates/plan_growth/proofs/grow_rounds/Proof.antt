@@ -10,18 +10,22 @@ use Rattle.plan_growth.proofs.grow_rounds.Statement.{statement}
 use Rattle.plan_growth.proofs.grow_rounds.Tie as tie
 
 abbrev Inv-loop : tie.InvT-loop
-Inv-loop groups firsts seconds weights labels₀ loads₀ values₀ picked₀ order₀ keys₀ floors₀ most time₀ r₀ labels loads values picked order keys floors time r =
-    Represents (surveyFrom groups firsts seconds weights) r time (arraysFrom labels loads values picked order keys floors)
+Inv-loop groups firsts seconds weights labels₀ loads₀ values₀ picked₀ order₀ keys₀ floors₀ mates flags₀ most time₀ r₀ labels loads values picked order keys floors flags time r =
+    Represents (surveyFrom groups firsts seconds weights) r time (arraysFrom labels loads values picked order keys floors flags)
 
 abbrev μ-loop : tie.MeasureT-loop
-μ-loop groups firsts seconds weights labels₀ loads₀ values₀ picked₀ order₀ keys₀ floors₀ most time₀ r₀ labels loads values picked order keys floors time r =
+μ-loop groups firsts seconds weights labels₀ loads₀ values₀ picked₀ order₀ keys₀ floors₀ mates flags₀ most time₀ r₀ labels loads values picked order keys floors flags time r =
     most - r
 
 loop-holds : tie.Need-loop-holds Inv-loop μ-loop
-loop-holds c = represents-start (c .before .before .before .before .before .before .before .pre) refl (c .before .own-labels .ensures)
+loop-holds c =
+    let labels = c .before .before .before .before in
+    represents-start (labels .before .before .before .before .before .before .pre) refl (labels .own-labels .ensures) (c .active-flags .ensures)
 
 round-requires : tie.Need-round-requires Inv-loop μ-loop
-round-requires c κs = c .before .before .before .before .before .before .before .before .loop .inv
+round-requires c κs =
+    let turn = c .before .before .before .before .before .before .before .before .before .before in
+    (turn .loop .inv, turn .before .before .before .mates .ensures)
 
 enum-told : tie.Need-enum-told Inv-loop μ-loop
 enum-told c = search needs
@@ -60,6 +64,8 @@ grow-rounds-spec =
     Inv-loop
     μ-loop
     (λ c. search needs)
+    (λ c κs. search needs)
+    (λ c κs. search needs)
     (λ c κs. search needs)
     (λ c. search needs)
     loop-holds

@@ -11,54 +11,51 @@ enum-told c = search needs
 returns : tie.Need-returns
 returns c =
     let search = c .before .before in
-    let flags = search .before .before .before .before .before .before .before .before in
-    let entry = flags .before .before .before .before .before .before in
-    round-over (entry .pre) (flags .active-flags .ensures) (search .find-winner .ensures .0) (search .find-winner .ensures .1 .0) (search .find-winner .ensures .1 .1) (c .enum-told .given .1)
+    let entry = search .before .before .before .before .before .before .before .before .before .before .before .before .before in
+    round-over (entry .pre .0) (search .find-winner .ensures .0) (search .find-winner .ensures .1 .0) (search .find-winner .ensures .1 .1) (c .enum-told .given .1)
 
 raise-values-requires : tie.Need-raise-values-requires
 raise-values-requires c κs =
     let search = c .before .before .before .before .before in
-    let flags = search .before .before .before .before .before .before .before .before in
-    let entry = flags .before .before .before .before .before .before in
-    won-values (entry .pre) (flags .active-flags .ensures) (search .find-winner .ensures .0) (c .before .before .before .found .given .1)
+    let entry = search .before .before .before .before .before .before .before .before .before .before .before .before .before in
+    won-values (entry .pre .0) (search .find-winner .ensures .0) (c .before .before .before .found .given .1)
 
 raise-loads-requires : tie.Need-raise-loads-requires
 raise-loads-requires c κs =
     let search = c .before .before .before .before .before .before .before .before .before in
-    let flags = search .before .before .before .before .before .before .before .before in
-    let entry = flags .before .before .before .before .before .before in
-    won-loads (entry .pre) (flags .active-flags .ensures) (search .find-winner .ensures .0) (c .before .before .before .before .before .before .before .found .given .1)
+    let entry = search .before .before .before .before .before .before .before .before .before .before .before .before .before in
+    won-loads (entry .pre .0) (search .find-winner .ensures .0) (c .before .before .before .before .before .before .before .found .given .1)
 
 add-z : tie.Need-add-z
-add-z c = let entry = c .before .before .before .before .before .before .before .before .before .before .before .before .before .before .before .before .before .before .before .before .before .before .before .before in record { fits = merged-small (entry .pre) .0 }
+add-z c = let entry = c .before .before .before .before .before .before .before .before .before .before .before .before .before .before .before .before .before .before .before .before .before .before .before in record { fits = merged-small (entry .pre .0) .0 }
 
 cast-z : tie.Need-cast-z
-cast-z c = let entry = c .before .before .before .before .before .before .before .before .before .before .before .before .before .before .before .before .before .before .before .before .before .before .before .before in record { fits = merged-small (entry .pre) .1 }
+cast-z c = let entry = c .before .before .before .before .before .before .before .before .before .before .before .before .before .before .before .before .before .before .before .before .before .before .before in record { fits = merged-small (entry .pre .0) .1 }
 
 note-pick-requires : tie.Need-note-pick-requires
 note-pick-requires c κs =
-    let search = c .before .before .before .before .before .before .before .before .before .before .before .before .before .before .before .before in
-    let flags = search .before .before .before .before .before .before .before .before in
-    let entry = flags .before .before .before .before .before .before in
-    won-edge (entry .pre) (flags .active-flags .ensures) (search .find-winner .ensures .0) (c .before .before .before .before .before .before .before .before .before .before .before .before .before .before .found .given .1)
+    let search = c .before .before .before .before .before .before .before .before .before .before .before .before .before .before .before .before .before in
+    let entry = search .before .before .before .before .before .before .before .before .before .before .before .before .before in
+    won-edge (entry .pre .0) (search .find-winner .ensures .0) (c .before .before .before .before .before .before .before .before .before .before .before .before .before .before .before .found .given .1)
 
 -- an edge is picked
 returns-2 : tie.Need-returns-2
 returns-2 c =
-    let search = c .before .before .before .before .before .before .before .before .before .before .before .before .before .before .before .before .before in
-    let flags = search .before .before .before .before .before .before .before .before in
-    let entry = flags .before .before .before .before .before .before in
+    let search = c .before .before .before .before .before .before .before .before .before .before .before .before .before .before .before .before .before .before in
+    let entry = search .before .before .before .before .before .before .before .before .before .before .before .before .before in
     round-won
-    (entry .pre) (flags .active-flags .ensures) (search .find-winner .ensures .0)
+    (entry .pre .0)
+    (search .find-winner .ensures .0)
     (search .find-winner .ensures .1 .0)
     (search .find-winner .ensures .1 .1)
     _
     _
-    (c .before .before .before .before .before .before .before .before .before .before .before .before .before .before .before .found .given .1)
-    (c .before .before .before .before .before .before .before .before .before .before .before .raise-values .ensures)
-    (c .before .before .before .before .before .before .before .raise-loads .ensures)
+    (c .before .before .before .before .before .before .before .before .before .before .before .before .before .before .before .before .found .given .1)
+    (c .before .before .before .before .before .before .before .before .before .before .before .before .raise-values .ensures)
+    (c .before .before .before .before .before .before .before .before .raise-loads .ensures)
     (c .before .before .before .before .before .at32 .ensures)
     (c .before .before .before .before .at322 .ensures)
+    (entry .pre .1)
     (c .before .before .before .merge .ensures)
     (c .note-pick .ensures)
 
@@ -66,8 +63,6 @@ pub round-spec : {M : Type 1} → statement M
 round-spec =
     tie.close
     (tie.spec
-    (λ c κs. search needs)
-    (λ c. search needs)
     (λ c κs. search needs)
     (λ c. search needs)
     enum-told

@@ -16,7 +16,7 @@ use Rattle.theory_graph.specs.Component.{merged}
 use Rattle.base_limits.specs.Limits.{maxVertices, maxEdges, maxWeight, maxDuals}
 use Rattle.theory_steiner.specs.Problem.{Problem, Sound, separates}
 use Rattle.theory_steiner.specs.Growth.{State, active, numbers, load, slack, delay, nobody, edge, winner, pick, stateAt, Reached}
-use Rattle.theory_steiner.specs.Laws.Joined.{separates-cong}
+use Rattle.theory_steiner.specs.Laws.Activity.{active-cong}
 use Rattle.theory_steiner.specs.Laws.Round.{stateAt-reached, pick-rounds, pick-label, pick-value, pick-picked, pick-new}
 use Rattle.theory_steiner.specs.Laws.Rounds.{rounds-lt, stateAt-pick, delay-le, value-bounded, load-bounded}
 use Rattle.theory_steiner.specs.Laws.Partition.{label-below, winner-below}
@@ -35,7 +35,9 @@ use Rattle.plan_winner.specs.Scan.{timeLimit, key, cappedTime, Scan, scanOf, Ke
 use Rattle.plan_winner.specs.Tables.{Tables, tablesFrom, delayBy, keyBetween, keyBy, passBy}
 use Rattle.plan_winner.specs.Laws.Scan.{capped-is, scan-wins, keyed-next}
 use Rattle.plan_winner.specs.Laws.Blocks.{passes-scan, passes-cong}
-use Rattle.plan_active.specs.Flags.{activeFlags}
+use Rattle.plan_active.specs.Flags.{activeFlags, mergedFlags}
+use Rattle.plan_active.specs.Laws.Merged.{flags-merged}
+use Rattle.survey_mates.specs.Mate.{mateOf}
 use Rattle.plan_growth.specs.Tables.{raisedValues, raisedLoads, RaiseFits}
 use Rattle.plan_growth.specs.Represents.{winnerEdge, pickAt, Arrays, arraysFrom, roundsAfter, timeAfter, Represents}
 use Rattle.theory_steiner.specs.Minima.{winnerDelay}
@@ -45,10 +47,6 @@ flag-is : (t : Bool) → eqb (counted t 1) 1 ≡ t
 unfolding counted
 flag-is true = refl
 flag-is false = refl
-
-active-cong : (p : Problem) (f g : ℕ → ℕ) (c : ℕ) → ((v : ℕ) → v < p .vertices → f v ≡ g v) → active p f c ≡ active p g c
-unfolding active
-active-cong p f g c h = separates-cong p (λ v. eqb (f v) c) (λ v. eqb (g v) c) (λ v b. ap (λ x. eqb x c) (h v b))
 
 active-groups : (s : Survey) → s .owners ≡ [] → (label : ℕ → ℕ) (c : ℕ) → active (problemOf (groupsAlone (s .groups))) label c ≡ active (problemOf s) label c
 unfolding active separates problemOf vertexCount sameGroup member sameList inList isPaired anyBelow
@@ -265,6 +263,12 @@ module _ {s : Survey} {r time : ℕ} {a : Arrays} (h : Represents s r time a) wh
     unfolding numbers
     numbers-are = let q = vertices-are in let k = h .rounds-are in omega arith
 
+    -- Its number is no label yet.
+    fresh : (v : ℕ) → v < n → getD (a .labels) v 0 ≡ n + r → ⊥
+    fresh v b q =
+        let k : S .label v < numbers p S = let e = vertices-are in label-below p reached v (omega arith) in
+        omega (arith, numbers-are, label-at v b)
+
     labels-next : relabelled (getD (a .labels) (getD (s .firsts) e 0) 0) (getD (a .labels) (getD (s .seconds) e 0) 0) (n + r) (a .labels) ≡ tabulate maxVertices (stateAt p (r + 1) .label)
     unfolding problemOf
     labels-next =
@@ -362,15 +366,14 @@ module _ {s : Survey} {r time : ℕ} {a : Arrays} (h : Represents s r time a) wh
 
   -- ---- what `round` cites: the search has found x
 
-  module _ {flags : List ℕ} (f : flags ≡ activeFlags (s .groups) (a .labels)) {x : Winner}
-      (found : winnerIn x ≡ passBy (tables f) (cappedTime time) (a .keys) (a .floors) (blocksOf (length (s .firsts))) .scanned .best) where
+  module _ {x : Winner} (found : winnerIn x ≡ passBy (tables (h .flags-are)) (cappedTime time) (a .keys) (a .floors) (blocksOf (length (s .firsts))) .scanned .best) where
     over : x ≡ Nobody → winner p S ≡ nobody
     unfolding winnerIn
-    over t = sym (winner-is f) ∙ sym found ∙ ap winnerIn t
+    over t = sym (winner-is (h .flags-are)) ∙ sym found ∙ ap winnerIn t
 
     won : {e d : ℕ} → x ≡ Edge e d → winner p S ≡ edge e d
     unfolding winnerIn
-    won t = sym (winner-is f) ∙ sym found ∙ ap winnerIn t
+    won t = sym (winner-is (h .flags-are)) ∙ sym found ∙ ap winnerIn t
 
     -- What the calls that pick edge e require.
     module _ {e d : ℕ} (t : x ≡ Edge e d) where
@@ -384,12 +387,12 @@ module _ {s : Survey} {r time : ℕ} {a : Arrays} (h : Represents s r time a) wh
       won-edge = let few = h .sound .edges-few in let below = winner-edge (won t) in omega arith
 
     module _ {keys floors : List ℕ}
-        (k : keys ≡ passBy (tables f) (cappedTime time) (a .keys) (a .floors) (blocksOf (length (s .firsts))) .scanned .keys)
-        (l : floors ≡ passBy (tables f) (cappedTime time) (a .keys) (a .floors) (blocksOf (length (s .firsts))) .floors) where
+        (k : keys ≡ passBy (tables (h .flags-are)) (cappedTime time) (a .keys) (a .floors) (blocksOf (length (s .firsts))) .scanned .keys)
+        (l : floors ≡ passBy (tables (h .flags-are)) (cappedTime time) (a .keys) (a .floors) (blocksOf (length (s .firsts))) .floors) where
       -- No winner: the arrays stay, and the keys are better.
       pub round-over : x ≡ Nobody
           → (delayIn Never ≡ winnerDelay (winner p S))
-          × Represents s (roundsAfter r (delayIn Never)) (timeAfter time (delayIn Never)) (arraysFrom (a .labels) (a .loads) (a .values) (a .picked) (a .order) keys floors)
+          × Represents s (roundsAfter r (delayIn Never)) (timeAfter time (delayIn Never)) (arraysFrom (a .labels) (a .loads) (a .values) (a .picked) (a .order) keys floors (a .flags))
       unfolding delayIn winnerDelay roundsAfter timeAfter
       round-over t = (
         sym (ap winnerDelay (over t)),
@@ -402,35 +405,47 @@ module _ {s : Survey} {r time : ℕ} {a : Arrays} (h : Represents s r time a) wh
           values-are = h .values-are;
           picked-are = h .picked-are;
           order-is = h .order-is;
-          keyed = search-keyed f k l;
-          floored = search-floored f k l;
+          keyed = search-keyed (h .flags-are) k l;
+          floored = search-floored (h .flags-are) k l;
+          flags-are = h .flags-are;
         },
       )
 
       -- Edge e is picked: the arrays represent the next state.
-      pub round-won : {e d : ℕ} {labels loads values picked order : List ℕ} (u v : ℕ) → x ≡ Edge e d
-          → values ≡ raisedValues flags d (a .values)
-          → loads ≡ raisedLoads (a .labels) flags n d (a .loads)
+      pub round-won : {e d : ℕ} {labels loads values picked order flags mates : List ℕ} (u v : ℕ) → x ≡ Edge e d
+          → values ≡ raisedValues (a .flags) d (a .values)
+          → loads ≡ raisedLoads (a .labels) (a .flags) n d (a .loads)
           → u ≡ getD (s .firsts) e 0
           → v ≡ getD (s .seconds) e 0
-          → labels ≡ relabelled (getD (a .labels) u 0) (getD (a .labels) v 0) (n + r) (a .labels)
+          → mates ≡ tabulate maxVertices (mateOf (s .groups))
+          → (labels ≡ relabelled (getD (a .labels) u 0) (getD (a .labels) v 0) (n + r) (a .labels))
+          × (flags ≡ mergedFlags mates labels n (getD (a .labels) u 0) (getD (a .labels) v 0) (n + r) (a .flags))
           → (picked ≡ set (a .picked) e 1) × (order ≡ set (a .order) r e)
           → (delayIn (After d) ≡ winnerDelay (winner p S))
-          × Represents s (roundsAfter r (delayIn (After d))) (timeAfter time (delayIn (After d))) (arraysFrom labels loads values picked order keys floors)
-      unfolding delayIn winnerDelay roundsAfter timeAfter
-      round-won {e} {d} u v t values-made loads-made u-is v-is labels-made noted =
-          let w = won t in (
+          × Represents s (roundsAfter r (delayIn (After d))) (timeAfter time (delayIn (After d))) (arraysFrom labels loads values picked order keys floors flags)
+      unfolding delayIn winnerDelay roundsAfter timeAfter problemOf
+      round-won {e} {d} u v t values-made loads-made u-is v-is mates-are made noted =
+          let w = won t in
+          let ends = h .sound .edges e (winner-edge w) in (
             sym (ap winnerDelay w),
             record {
               sound = h .sound;
               plain = h .plain;
               rounds-are = rounds-next w;
-              labels-are = labels-made ∙ rw (u-is, v-is) (labels-next w);
-              loads-are = loads-made ∙ loads-next w f;
-              values-are = values-made ∙ values-next w f;
+              labels-are = made .0 ∙ rw (u-is, v-is) (labels-next w);
+              loads-are = loads-made ∙ loads-next w (h .flags-are);
+              values-are = values-made ∙ values-next w (h .flags-are);
               picked-are = noted .0 ∙ picked-next w;
               order-is = noted .1 ∙ order-next w;
-              keyed = keyed-next p ok weights-light r time e d w (search-keyed f k l);
-              floored = search-floored f k l;
+              keyed = keyed-next p ok weights-light r time e d w (search-keyed (h .flags-are) k l);
+              floored = search-floored (h .flags-are) k l;
+              flags-are =
+                  flags-merged (s .groups) (a .labels) _ _ (n + r) (h .sound .few) (ap length (h .labels-are) ∙ length-tabulate maxVertices _)
+                  (rw u-is (fresh w (getD (s .firsts) e 0) (ends .first-below)))
+                  (rw v-is (fresh w (getD (s .seconds) e 0) (ends .second-below)))
+                  (h .flags-are)
+                  mates-are
+                  (made .0)
+                  (made .1);
             },
           )

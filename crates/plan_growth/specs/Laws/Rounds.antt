@@ -23,6 +23,7 @@ use Rattle.base_buffer.specs.Laws.Store.{tabulate-cong, remade-table, replicate
 use Rattle.survey_core.specs.Survey.{Survey, vertexCount, problemOf}
 use Rattle.survey_core.specs.Sound.{SurveySound}
 use Rattle.survey_core.specs.Laws.Refusal.{survey-sound}
+use Rattle.plan_active.specs.Flags.{activeFlags}
 use Rattle.plan_winner.specs.Scan.{maxBlocks}
 use Rattle.plan_winner.specs.Laws.Scan.{keyed-start, floored-start}
 use Rattle.plan_delay.specs.Between.{delayIn}
@@ -56,10 +57,11 @@ grown-start p h =
       order-is = replicate-table maxVertices 0 ∙ tabulate-cong maxVertices _ _ (λ k _. sym (counted-false (le-ltb k 0 (omega arith)) (pickAt p k)));
     }
 
-pub represents-start : {s : Survey} {labels : List ℕ} → SurveySound s → s .owners ≡ [] → labels ≡ remade (λ v x. v) maxVertices (replicate maxVertices 0)
-    → Represents s 0 0 (arraysFrom labels (replicate maxVertices 0) (replicate maxDuals 0) (replicate maxEdges 0) (replicate maxVertices 0) (replicate maxEdges 0) (replicate maxBlocks 0))
+pub represents-start : {s : Survey} {labels flags : List ℕ} → SurveySound s → s .owners ≡ [] → labels ≡ remade (λ v x. v) maxVertices (replicate maxVertices 0)
+    → flags ≡ activeFlags (s .groups) labels
+    → Represents s 0 0 (arraysFrom labels (replicate maxVertices 0) (replicate maxDuals 0) (replicate maxEdges 0) (replicate maxVertices 0) (replicate maxEdges 0) (replicate maxBlocks 0) flags)
 unfolding stateAt start
-represents-start {s} sound plain h =
+represents-start {s} sound plain h f =
     let g = grown-start (problemOf s) h in
     record {
       sound = sound;
@@ -73,6 +75,7 @@ represents-start {s} sound plain h =
       order-is = g .order-is;
       keyed = keyed-start (problemOf s) maxEdges (replicate-table maxEdges 0);
       floored = floored-start (length (s .firsts)) maxBlocks _ (replicate-table maxBlocks 0);
+      flags-are = f;
     }
 
 -- ---- after a round, by what it answered

@@ -258,43 +258,51 @@ module _ (s : Survey) (plain : s .owners ≡ []) where
 
 -- ---- the table of all groups
 
--- One more vertex.
-pub spread-more : (s : Survey) → s .owners ≡ [] → (label : ℕ → ℕ) (v : ℕ) → getD (s .groups) v 0 < groupNumbers
-    → notedIn (tabulate groupNumbers (λ g. spread s label g v)) (getD (s .groups) v 0) (label v) ≡ tabulate groupNumbers (λ g. spread s label g (v + 1))
-unfolding notedIn
-spread-more s plain label v b = by (ℕ-discrete g 0)
+-- One more vertex in a table of f, which its own group alone can change.
+pub table-more : (s : Survey) → s .owners ≡ [] → (f : (g v : ℕ) → ℕ) → ((g v : ℕ) → member s g v ≡ false → f g v ≡ f g (v + 1))
+    → (v x : ℕ) → (member s (getD (s .groups) v 0) v ≡ true → x ≡ f (getD (s .groups) v 0) (v + 1))
+    → cond (eqb (getD (s .groups) v 0) 0) (tabulate groupNumbers (λ g. f g v)) (set (tabulate groupNumbers (λ g. f g v)) (getD (s .groups) v 0) x)
+    ≡ tabulate groupNumbers (λ g. f g (v + 1))
+table-more s plain f stays v x h = by (ℕ-discrete g 0)
   where
     g : ℕ
     g = getD (s .groups) v 0
 
     table : List ℕ
-    table = tabulate groupNumbers (λ g. spread s label g v)
+    table = tabulate groupNumbers (λ g. f g v)
 
-    -- another group's summary stays
-    stays : (k : ℕ) → member s k v ≡ false → spread s label k v ≡ spread s label k (v + 1)
-    stays k m = rw (add-one v, spread-suc s label k v, m)
-
-    by : Dec (g ≡ 0) → cond (eqb g 0) table (set table g (noted (getD table g 0) (label v))) ≡ tabulate groupNumbers (λ g. spread s label g (v + 1))
+    by : Dec (g ≡ 0) → cond (eqb g 0) table (set table g x) ≡ tabulate groupNumbers (λ g. f g (v + 1))
     by (yes e) =
         rw
         (eq-eqb g 0 e)
         (tabulate-cong
         groupNumbers
-        (λ k. spread s label k v)
-        (λ k. spread s label k (v + 1))
-        (λ k _. stays k (not-true-false (member s k v) (λ m. member-elim s plain k v m .some (sym (member-elim s plain k v m .same) ∙ e)))))
+        (λ k. f k v)
+        (λ k. f k (v + 1))
+        (λ k _. stays k v (not-true-false (member s k v) (λ m. member-elim s plain k v m .some (sym (member-elim s plain k v m .same) ∙ e)))))
     by (no d) =
         rw
         (ne-eqb g 0 d)
         (set-table
         groupNumbers
-        (λ k. spread s label k v)
-        (λ k. spread s label k (v + 1))
+        (λ k. f k v)
+        (λ k. f k (v + 1))
         g
-        (noted (getD table g 0) (label v))
-        (rw
-        (add-one v, spread-suc s label g v, member-intro s g v d refl, getD-tabulate groupNumbers (λ g. spread s label g v) g 0 b))
-        (λ k q. stays k (not-true-false (member s k v) (λ m. q (sym (member-elim s plain k v m .same))))))
+        x
+        (h (member-intro s g v d refl))
+        (λ k q. stays k v (not-true-false (member s k v) (λ m. q (sym (member-elim s plain k v m .same))))))
+
+pub spread-more : (s : Survey) → s .owners ≡ [] → (label : ℕ → ℕ) (v : ℕ) → getD (s .groups) v 0 < groupNumbers
+    → notedIn (tabulate groupNumbers (λ g. spread s label g v)) (getD (s .groups) v 0) (label v) ≡ tabulate groupNumbers (λ g. spread s label g (v + 1))
+unfolding notedIn
+spread-more s plain label v b =
+    table-more s plain (spread s label)
+    (λ g u m. rw (add-one u, spread-suc s label g u, m))
+    v
+    _
+    (λ m.
+    rw
+    (add-one v, spread-suc s label (getD (s .groups) v 0) v, m, getD-tabulate groupNumbers (λ g. spread s label g v) (getD (s .groups) v 0) 0 b))
 
 -- One more vertex, as a call leaves the table.
 pub spread-step : (s : Survey) → s .owners ≡ [] → (label : ℕ → ℕ) (v : ℕ) {table after : List ℕ} {g l : ℕ}

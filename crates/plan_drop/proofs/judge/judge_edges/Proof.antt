@@ -16,11 +16,11 @@ use Rattle.plan_drop.proofs.judge.judge_edges.Statement.{statement}
 use Rattle.plan_drop.proofs.judge.judge_edges.Tie as tie
 
 abbrev Inv-loop : tie.InvT-loop
-Inv-loop groups words picked base marks₀ m i₀ e₀ marks i e =
-    (e ≤ m) × (i ≡ countBelow e (pickedIn picked)) × (marks ≡ remade (raised (pickedIn picked) (judged groups words base)) e marks₀)
+Inv-loop words mates n picked base marks₀ m bits i₀ e₀ marks i e =
+    (e ≤ m) × (i ≡ countBelow e (pickedIn picked)) × (marks ≡ remade (raised (pickedIn picked) (judged bits base)) e marks₀)
 
 abbrev μ-loop : tie.MeasureT-loop
-μ-loop groups words picked base marks₀ m i₀ e₀ marks i e =
+μ-loop words mates n picked base marks₀ m bits i₀ e₀ marks i e =
     m - e
 
 loop-holds : tie.Need-loop-holds Inv-loop μ-loop
@@ -30,16 +30,18 @@ loop-holds c =
 
 judge-edge-requires : tie.Need-judge-edge-requires Inv-loop μ-loop
 judge-edge-requires c κs =
-    let few = c .before .before .before .before .before .before .before .pre in (c .before .before .before .before .before .before .before .pre .0, omega (arith, count-le (c .before .before .loop .e) (pickedIn (c .before .before .before .before .before .before .before .args .picked .now))))
+    let start = c .before .before .before .before .before .before in
+    let few = start .pre in omega (arith, count-le (c .before .before .loop .e) (pickedIn (start .args .picked .now)))
 
 loop-again : tie.Need-loop-again Inv-loop μ-loop
 loop-again c =
-    let args = c .before .before .before .before .before .before .before .before .before .before .args in
-    let inv = c .before .before .before .before .before .loop .inv in
+    let turn = c .before .before .before .before .before in
+    let args = turn .before .before .before .before .args in
+    let inv = turn .loop .inv in
     let step = c .before .before .judge-edge .ensures in (
       omega arith,
       next-index _ _ (inv .1) (step .index),
-      marks-more (pickedIn (args .picked .now)) (judged (args .groups .now) (args .words .now) (args .base)) _ _ _ (inv .2) (inv .1) (step .marks-are),
+      marks-more (pickedIn (args .picked .now)) (judged (turn .before .parted .result) (args .base)) _ _ _ (inv .2) (inv .1) (step .marks-are),
     )
 
 same-length : tie.Need-same-length Inv-loop μ-loop
@@ -48,7 +50,7 @@ same-length c =
 
 returns : tie.Need-returns Inv-loop μ-loop
 returns c =
-    c .before .loop .inv .2 ∙ remade-end _ _ _ _ (omega arith) (omega arith)
+    rw (← c .before .before .parted .ensures) (c .before .loop .inv .2 ∙ remade-end _ _ _ _ (omega arith) (omega arith))
 
 pub judge-edges-spec : {M : Type 1} → statement M
 judge-edges-spec =
@@ -56,6 +58,7 @@ judge-edges-spec =
     (tie.spec
     Inv-loop
     μ-loop
+    (λ c κs. search needs)
     loop-holds
     judge-edge-requires
     (λ c. search needs)

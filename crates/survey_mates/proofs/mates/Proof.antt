@@ -1,0 +1,67 @@
+-- `mates` meets its contract: before each turn the table holds the last members below v, and the mates below v are stored.
+use Prim.Native.Nat.{ℕ, _≤_, _-_}
+use mathlib.Core.Path.{_≡_, refl, ap, sym, _∙_}
+use lib.ListN.{length, length-replicate}
+use native.Mathlib.Omega.{arith}
+use borrow.Author.Needs.{needs}
+use Rattle.base_finite.specs.Below.{tabulate}
+use Rattle.base_finite.specs.Laws.Below.{length-tabulate}
+use Rattle.base_limits.specs.Limits.{maxVertices, groupNumbers}
+use Rattle.base_buffer.specs.Store.{remade}
+use Rattle.base_buffer.specs.Laws.Store.{remade-more, stored-table, replicate-table}
+use Rattle.survey_mates.specs.Mate.{lastBelow, mateOf}
+use Rattle.survey_mates.specs.Laws.Mate.{last-none, last-step, mate-read}
+use Rattle.survey_mates.proofs.mates.Statement.{statement}
+use Rattle.survey_mates.proofs.mates.Tie as tie
+
+abbrev Inv-loop : tie.InvT-loop
+Inv-loop groups last₀ mates₀ v₀ last mates v =
+    (v ≤ maxVertices) × (last ≡ tabulate groupNumbers (λ g. lastBelow groups g v)) × (mates ≡ remade (λ v x. mateOf groups v) v mates₀)
+
+abbrev μ-loop : tie.MeasureT-loop
+μ-loop groups last₀ mates₀ v₀ last mates v = maxVertices - v
+
+loop-holds : tie.Need-loop-holds Inv-loop μ-loop
+unfolding remade
+loop-holds c = (omega arith, replicate-table groupNumbers 0 ∙ last-none _, refl)
+
+slice-aggregate-at32 : tie.Need-slice-aggregate-at32 Inv-loop μ-loop
+slice-aggregate-at32 c = sym (ap length (c .before .before .before .loop .inv .1) ∙ length-tabulate groupNumbers _)
+
+loop-again : tie.Need-loop-again Inv-loop μ-loop
+loop-again c =
+    let read = c .before .before .before in
+    let turn = read .before .before .before .before .before in
+    let group = read .before .before .before .at8 .ensures in
+    let bytes = turn .before .shared-slice-known .given (turn .loop .v) in (
+      omega arith,
+      last-step _ _ (turn .loop .inv .1) (c .note-last .ensures) group refl,
+      remade-more _ _ _ _ _ (turn .loop .inv .2)
+          (c .before .before .mate .ensures ∙ mate-read _ _ (turn .loop .inv .1) (read .at32 .ensures) (read .before .index8 .ensures ∙ group) (omega (arith, bytes))),
+    )
+
+returns : tie.Need-returns Inv-loop μ-loop
+returns c =
+    stored-table _ maxVertices (c .before .loop .v) _ _ (omega arith) (omega arith) (length-replicate {A = ℕ} maxVertices 0) (λ v b. refl) (c .before .loop .inv .2)
+
+pub mates-spec : {M : Type 1} → statement M
+mates-spec =
+    tie.close
+    (tie.spec
+    Inv-loop
+    μ-loop
+    loop-holds
+    (λ c κs. search needs)
+    slice-aggregate-at32
+    (λ c κs. search needs)
+    (λ c κs. search needs)
+    (λ c. search needs)
+    (λ c κs. search needs)
+    (λ c. search needs)
+    (λ c. search needs)
+    (λ c. search needs)
+    (λ c κs. search needs)
+    (λ c. search needs)
+    (λ c. search needs)
+    loop-again
+    returns)

@@ -1,0 +1,2 @@
+pub mod Mate
+pub mod Laws
