@@ -8,7 +8,7 @@
 //!
 //! Nothing else here knows of the product's names and forms.
 
-use crate::calls::{Figures, Library, PLAN_COUNTS};
+use crate::calls::{Figures, Library, PLAN_COUNTS, SECOND};
 use crate::handset::{Crossing, Handset};
 use crate::plan::Counts;
 use crate::read::Lent;
@@ -36,6 +36,9 @@ fn print_plan(figures: Figures, marks: &[u8], records: &[u8], out: &mut [u8], co
     call::print_plan(sites, cost, bound, rounds, marks, records, out, counts)
 }
 
+/// Operations that the library doesn't have yet: our own stand in their places, and nothing is compared.
+pub const LACKS: &[&str] = &["why"];
+
 /// The product's operations in the form that crosses.
 pub const LIBRARY: Library = Library {
     read,
@@ -43,6 +46,7 @@ pub const LIBRARY: Library = Library {
     grow: |survey, marks, records, counts| call::grow(slices(survey), marks, records, counts),
     drop: |survey, marks, counts| call::drop(slices(survey), marks, counts),
     check: |survey, marks, records, counts| call::check(slices(survey), marks, records, counts),
+    why: SECOND.why,
     print_moat: call::print_dual,
     print_plan,
     print_survey: |survey, out, counts| call::print_survey(slices(survey), out, counts),

@@ -73,7 +73,8 @@ fn main() -> ExitCode {
     #[cfg(feature = "native")]
     let mut outside = evidence::native::plan;
 
-    for (n, m) in [(64, 2048), (128, 2048), (256, 2048), (256, 1024), (256, 512), (448, 2048), (448, 1024), (448, 512)] {
+    for (n, m) in [(64, 2048), (128, 2048), (256, 2048), (256, 1024), (256, 512), (448, 2048), (448, 1024), (448, 512)]
+    {
         let mut sums = vec![[0; 2]; 3 * PLANNERS];
         let mut rounds = 0;
         for i in 0..surveys {

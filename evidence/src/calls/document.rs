@@ -1,7 +1,7 @@
 //! Single calls with their answers written out: what document 01 says of P1 to P12 and of the limits, and small cases beside them, of reading, checking,
 //! printing and pairs, whose answers were worked out by hand from the papers' sentences.
 
-use super::{Library, CHECK_COUNTS, PLAN_COUNTS, PRINT_COUNTS, READ_COUNTS};
+use super::{Library, CHECK_COUNTS, PLAN_COUNTS, PRINT_COUNTS, READ_COUNTS, WHY_COUNTS};
 use crate::gen::WORKED;
 use crate::plan::record_room;
 use crate::read::{Lengths, Lent};
@@ -234,6 +234,64 @@ const SHARED_CHECKED: [(&[u8], &[Moat], Result<[u64; 3], Refused>); 6] = [
     (&[2, 2], &[(3, &[0]), (3, &[1]), (4, &[2]), (1, &[0, 1])], Ok([3, 7, 11])),
     (&[2, 2], &[(3, &[0]), (1, &[0, 1, 2])], Err((12, 1))),
     (&[2, 2], &[(3, &[0]), (3, &[1]), (4, &[2])], Err((15, 0))),
+];
+
+/// Reasons: of P1 to P12, a track, the room for the route, and the counts with the route, or the refusal.
+type Asked = (usize, u32, usize, Result<([u64; WHY_COUNTS], &'static [u32]), Refused>);
+
+/// A track that isn't picked, whose ends were first in one component after this round.
+const fn passed(round: u64) -> ([u64; WHY_COUNTS], &'static [u32]) {
+    ([0, 0, 0, 0, 0, round], &[])
+}
+
+const SPARED: ([u64; WHY_COUNTS], &[u32]) = ([1, 0, 0, 0, 0, 0], &[]);
+
+const ASKED: [Asked; 34] = [
+    (1, 0, 0, Err((19, 0))),
+    (2, 0, 1, Ok(([2, 1, 0, 1, 1, 0], &[0]))),
+    (2, 0, 0, Err((7, 0))),
+    (2, 1, 1, Err((19, 1))),
+    (2, 2, 1, Err((19, 2))),
+    (2, u32::MAX, 9, Err((19, u32::MAX as u64))),
+    (2, u32::MAX, 0, Err((7, 0))),
+    (3, 0, 2, Ok(([2, 1, 0, 2, 2, 0], &[0, 1]))),
+    (3, 1, 5, Ok(([2, 1, 0, 2, 2, 0], &[0, 1]))),
+    (3, 1, 1, Err((7, 0))),
+    // The members of P4's group are all three junctions: 0 and 1 for track 0; 0 and 2 for track 1.
+    (4, 0, 2, Ok(([2, 1, 0, 1, 1, 0], &[0]))),
+    (4, 1, 2, Ok(([2, 1, 0, 2, 2, 0], &[0, 1]))),
+    (4, 2, 2, Ok(passed(2))),
+    (4, 2, 1, Err((7, 0))),
+    (5, 0, 3, Ok(([2, 1, 0, 1, 1, 0], &[0]))),
+    (5, 1, 3, Ok(SPARED)),
+    (5, 2, 4, Ok(SPARED)),
+    (5, 2, 2, Err((7, 0))),
+    (6, 0, 1, Ok(([2, 1, 0, 1, 1, 0], &[0]))),
+    (6, 1, 1, Ok(passed(1))),
+    (7, 0, 1, Ok(passed(0))),
+    (8, 0, 1, Ok(([2, 1, 0, 1, 1, 0], &[0]))),
+    // P9: the spokes' ends are never in one component; the last rim track's are after round 2.
+    (9, 0, 3, Ok(passed(0))),
+    (9, 3, 3, Ok(([2, 1, 1, 2, 1, 0], &[3]))),
+    (9, 4, 3, Ok(([2, 1, 1, 3, 1, 0], &[4]))),
+    (9, 5, 3, Ok(passed(2))),
+    (10, 0, 3, Ok(([2, 1, 0, 2, 2, 0], &[0, 1]))),
+    (10, 1, 3, Ok(([2, 1, 0, 2, 2, 0], &[0, 1]))),
+    (10, 2, 3, Ok(([2, 2, 1, 3, 2, 0], &[1, 2]))),
+    // P11: walked from 2 to 3.
+    (11, 0, 3, Ok(([2, 1, 0, 1, 1, 0], &[0]))),
+    (11, 2, 3, Ok(([2, 2, 2, 3, 3, 0], &[1, 0, 2]))),
+    (12, 0, 1, Err((8, 1))),
+    (12, 7, 1, Err((8, 1))),
+    (12, 7, 0, Err((7, 0))),
+];
+
+/// Reasons of the survey with two lists that share junction 1, and of one in which a list by pairs is the lower.
+const SHARED_ASKED: [(Tracks, &[(u32, u8)], u32, [u64; WHY_COUNTS], &[u32]); 4] = [
+    (SHARED, SHARED_PAIRS, 0, [2, 1, 0, 1, 1, 0], &[0]),
+    (SHARED, SHARED_PAIRS, 1, [2, 2, 1, 2, 1, 0], &[1]),
+    (SHARED, &[(1, 2), (2, 1)], 1, [2, 1, 0, 2, 2, 0], &[0, 1]),
+    ((&[9, 0, 9], &[(2, 1, 4), (0, 1, 3)]), &[(1, 7), (2, 7)], 0, [2, 7, 1, 2, 1, 0], &[0]),
 ];
 
 /// Moats, the length of the buffer for the line, and the line or the refusal.
@@ -498,6 +556,44 @@ impl Cases<'_> {
         self.check("18 before 9", &bad, &[], &[0; 7], Err((18, 0)))
     }
 
+    /// A reason in a route buffer of so many entries, or the refusal.
+    fn ask(
+        &mut self,
+        what: &str,
+        survey: &Survey,
+        track: u32,
+        room: usize,
+        want: Result<([u64; WHY_COUNTS], &[u32]), Refused>,
+    ) -> Result<(), String> {
+        let before = vec![u32::from(BEFORE); room];
+        let (mut route, mut counts) = (before.clone(), [7; WHY_COUNTS]);
+        let code = (self.library.why)(survey.view(), track, &mut route, &mut counts);
+        let (mut want_route, mut want_counts, mut want_code) = (before, [7; WHY_COUNTS], 0);
+        match want {
+            Err(refused) => want_code = one_number(refused),
+            Ok((counts, tracks)) => {
+                want_route[..tracks.len()].copy_from_slice(tracks);
+                want_counts = counts;
+            }
+        }
+        self.same(&format!("why track {track} of {what}"), (code, counts, route), (want_code, want_counts, want_route))
+    }
+
+    fn asking(&mut self) -> Result<(), String> {
+        for (p, track, room, want) in ASKED {
+            self.ask(&format!("P{p}, {room} entries"), &worked(p), track, room, want)?;
+        }
+        for ((groups, tracks), pairs, track, counts, route) in SHARED_ASKED {
+            let survey = Survey::new(groups, tracks).with_pairs(pairs);
+            self.ask(&format!("{survey:?}"), &survey, track, groups.len(), Ok((counts, route)))?;
+        }
+        let bad = Survey::new(SHARED.0, SHARED.1).with_pairs(&[(1, 1)]);
+        self.ask("an own group, 0 entries", &bad, 9, 0, Err((18, 0)))?;
+        let (survey, mut route) = (worked(12), [9]);
+        let code = (self.library.why)(survey.view(), 9, &mut route, &mut [0; WHY_COUNTS - 1]);
+        self.same("why with a count too few", (code, route), (7, [9]))
+    }
+
     /// A printed text at the beginning of a buffer of so many bytes, or the refusal.
     fn print(
         &mut self,
@@ -577,6 +673,7 @@ pub fn cases(library: &Library) -> Result<usize, String> {
     cases.planning()?;
     cases.checking()?;
     cases.pairs()?;
+    cases.asking()?;
     cases.printing()?;
     Ok(cases.passed)
 }

@@ -1,8 +1,10 @@
 //! Generated calls: a sound input, two faults put into it, and lent buffers with any bytes in them, each from a stream of its own.
 
 use super::faults::*;
-use super::{Figures, Library, CHECK_COUNTS, DROP_COUNTS, PLAN_COUNTS, PRINT_COUNTS, READ_COUNTS, SECOND, SHORT};
-use crate::gen::{overlap, survey, Rng, Size};
+use super::{
+    Figures, Library, CHECK_COUNTS, DROP_COUNTS, PLAN_COUNTS, PRINT_COUNTS, READ_COUNTS, SECOND, SHORT, WHY_COUNTS,
+};
+use crate::gen::{line, overlap, survey, Rng, Size};
 use crate::plan::{fast, owned, record_room, DROPPED, NOT_PICKED};
 use crate::print::survey_text;
 use crate::read::Lent;
@@ -310,6 +312,59 @@ fn drop_input(streams: &Streams, faults: [Fault; 2]) -> Box<dyn Call> {
     Box::new(Drop { survey, marks, counts })
 }
 
+/// Why: one track, or every track of a survey in turn, each with the buffers as they were.
+struct Why {
+    survey: Survey,
+    tracks: Vec<u32>,
+    route: Vec<u32>,
+    counts: Vec<u64>,
+}
+
+impl Call for Why {
+    fn run(&self, library: &Library) -> Answer {
+        let mut answer = Answer { code: 0, bytes: Vec::new(), words: Vec::new(), counts: Vec::new() };
+        for &track in &self.tracks {
+            let (mut route, mut counts) = (before_others(&self.route, 0xa5a5), before_others(&self.counts, 0xa5a5));
+            let lent = &mut route[..self.route.len()];
+            answer.code = (library.why)(self.survey.view(), track, lent, &mut counts[..self.counts.len()]);
+            answer.words.push(route);
+            answer.counts.push(answer.code);
+            answer.counts.extend(counts);
+        }
+        answer
+    }
+
+    fn says(&self) -> String {
+        format!("{:?} {:?}", self.survey, self.tracks)
+    }
+}
+
+fn why_input(streams: &Streams, faults: [Fault; 2]) -> Box<dyn Call> {
+    let rng = &mut streams.base();
+    let mut survey = match rng.below(1_000) {
+        0 => survey(rng, Size::Large),
+        1 => line(rng, MAX_JUNCTIONS),
+        2..10 => line(rng, 100),
+        10..30 => line(rng, 1),
+        _ => sound_lists(rng),
+    };
+    let m = survey.first.len();
+    let mut tracks = vec![rng.below(m.max(1)) as u32];
+    if faults == [Nothing; 2] && (1..=30).contains(&m) {
+        tracks = (0..m as u32).collect();
+    }
+    for (i, fault) in faults.into_iter().enumerate() {
+        let rng = &mut streams.fault(i);
+        harm(rng, &mut survey, fault);
+        if fault == TrackOut {
+            tracks = vec![rng.pick(&[m as u32, m as u32, m as u32 + 1, m as u32 + 256, 1 << 24, u32::MAX])];
+        }
+    }
+    let rng = &mut streams.buffers();
+    let route = room(rng, survey.groups.len().saturating_sub(1), faults.contains(&RouteShort));
+    Box::new(Why { survey, tracks, route: words(rng, route), counts: counts(rng, WHY_COUNTS, faults) })
+}
+
 struct Check {
     survey: Survey,
     marks: Vec<u8>,
@@ -454,12 +509,13 @@ fn print_survey_input(streams: &Streams, faults: [Fault; 2]) -> Box<dyn Call> {
     print(streams, faults, need, survey, with)
 }
 
-pub const OPERATIONS: [Operation; 8] = [
+pub const OPERATIONS: [Operation; 9] = [
     Operation { name: "read", faults: READ_FAULTS, pairs: READ_PAIRS, input: read_input },
     Operation { name: "plan", faults: PLAN_FAULTS, pairs: PLAN_PAIRS, input: plan_input },
     Operation { name: "check", faults: CHECK_FAULTS, pairs: CHECK_PAIRS, input: check_input },
     Operation { name: "grow", faults: PLAN_FAULTS, pairs: PLAN_PAIRS, input: grow_input },
     Operation { name: "drop", faults: DROP_FAULTS, pairs: DROP_PAIRS, input: drop_input },
+    Operation { name: "why", faults: WHY_FAULTS, pairs: WHY_PAIRS, input: why_input },
     Operation { name: "print_moat", faults: PRINT_MOAT_FAULTS, pairs: PRINT_MOAT_PAIRS, input: print_moat_input },
     Operation { name: "print_plan", faults: PRINT_PLAN_FAULTS, pairs: PRINT_PLAN_PAIRS, input: print_plan_input },
     Operation {

@@ -429,6 +429,29 @@ pub fn tiny(rng: &mut Rng) -> Survey {
     }
 }
 
+/// Junctions in a line, numbered in any order, some with tracks to spare, and two groups: a route leads far along it.
+pub fn line(rng: &mut Rng, n: usize) -> Survey {
+    let mut ends: Ends = (1..n as u32).map(|v| (v - 1, v)).collect();
+    for _ in 0..rng.below(3).min(n - 1) {
+        anywhere(rng, 0, n, &mut ends);
+    }
+    let mut place: Vec<u32> = (0..n as u32).collect();
+    if rng.chance(2, 3) {
+        rng.shuffle(&mut place);
+    }
+    let mut survey = Survey { groups: vec![0; n], ..Survey::default() };
+    for (group, v) in [(2, 0), (2, n - 1), (1, n / 2), (1, n / 3)] {
+        survey.groups[place[v] as usize] = group;
+    }
+    rng.shuffle(&mut ends);
+    for (u, v) in ends {
+        survey.first.push(place[u as usize]);
+        survey.second.push(place[v as usize]);
+    }
+    survey.prices = prices_of(rng, survey.first.len());
+    survey
+}
+
 /// A survey of n junctions and 2,048 tracks that can be joined, n 2 or more.
 pub fn full(rng: &mut Rng, n: usize) -> Survey {
     filled(rng, n, MAX_TRACKS)
