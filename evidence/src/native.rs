@@ -37,11 +37,12 @@ fn print_plan(figures: Figures, marks: &[u8], records: &[u8], out: &mut [u8], co
 }
 
 /// Operations that the library doesn't have yet: our own stand in their places, and nothing is compared.
-pub const LACKS: &[&str] = &["why"];
+pub const LACKS: &[&str] = &["read_stp", "why"];
 
 /// The product's operations in the form that crosses.
 pub const LIBRARY: Library = Library {
     read,
+    read_stp: SECOND.read_stp,
     plan: |survey, marks, records, counts| call::plan(slices(survey), marks, records, counts),
     grow: |survey, marks, records, counts| call::grow(slices(survey), marks, records, counts),
     drop: |survey, marks, counts| call::drop(slices(survey), marks, counts),

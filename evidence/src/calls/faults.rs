@@ -72,6 +72,18 @@ pub enum Fault {
     PickRemoved,
     RouteShort,
     TrackOut,
+    StpCount,
+    StpEnd,
+    StpPrice,
+    StpTerminal,
+    StpTwice,
+    StpTerminals,
+    StpComment,
+    StpBlank,
+    StpSection,
+    StpLines,
+    StpEmptyFirst,
+    StpOpen,
 }
 
 use Fault::*;
@@ -103,6 +115,32 @@ pub const READ_FAULTS: &[Fault] = &[
     AlsoMany,
     AlsoWide,
     AlsoElsewhere,
+];
+pub const STP_FAULTS: &[Fault] = &[
+    Nothing,
+    ZeroNodes,
+    ManyNodes,
+    ManyLinks,
+    ByteChanged,
+    TextCut,
+    TextLonger,
+    StpCount,
+    StpEnd,
+    StpPrice,
+    StpTerminal,
+    StpTwice,
+    StpTerminals,
+    StpComment,
+    StpBlank,
+    StpSection,
+    StpLines,
+    StpEmptyFirst,
+    StpOpen,
+    GroupsShort,
+    FirstShort,
+    SecondShort,
+    PricesShort,
+    CountsShort,
 ];
 pub const PLAN_FAULTS: &[Fault] = &[
     Nothing,
@@ -235,6 +273,7 @@ pub const READ_PAIRS: Pairs = &[
     (17, &[7, 16, 18]),
     (18, &[7, 16, 17]),
 ];
+pub const STP_PAIRS: Pairs = &[(1, &[3, 7, 20]), (3, &[7, 20]), (7, &[3, 20]), (20, &[1, 3, 7])];
 pub const PLAN_PAIRS: Pairs = &[
     (1, &[2, 3, 4, 5, 6, 18, 7, 8]),
     (2, &[3, 4, 5, 6, 18, 7, 8]),

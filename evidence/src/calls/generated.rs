@@ -2,14 +2,15 @@
 
 use super::faults::*;
 use super::{
-    Figures, Library, CHECK_COUNTS, DROP_COUNTS, PLAN_COUNTS, PRINT_COUNTS, READ_COUNTS, SECOND, SHORT, WHY_COUNTS,
+    Figures, Library, CHECK_COUNTS, DROP_COUNTS, PLAN_COUNTS, PRINT_COUNTS, READ_COUNTS, SECOND, SHORT, STP_COUNTS,
+    WHY_COUNTS,
 };
-use crate::gen::{line, overlap, survey, Rng, Size};
+use crate::gen::{damage_stp, directed_stp, line, overlap, stp_file, survey, wanted, Rng, Size};
 use crate::plan::{fast, owned, record_room, DROPPED, NOT_PICKED};
 use crate::print::survey_text;
 use crate::read::Lent;
 use crate::stages::{grow, loop_at};
-use crate::{Survey, View, AMOUNT_BYTES, MAX_JUNCTIONS, MAX_LINE, MAX_PAIRS, RECORD_BYTES};
+use crate::{stp, Survey, View, AMOUNT_BYTES, MAX_JUNCTIONS, MAX_LINE, MAX_PAIRS, RECORD_BYTES};
 use Fault::*;
 
 /// What a call answers, and what its lent buffers then hold, with what stands behind each.
@@ -197,6 +198,64 @@ fn read_input(streams: &Streams, faults: [Fault; 2]) -> Box<dyn Call> {
         owners: words(rng, owners),
         others: bytes(rng, others),
         counts: counts(rng, READ_COUNTS, faults),
+    })
+}
+
+struct ReadStp {
+    text: Vec<u8>,
+    groups: Vec<u8>,
+    first: Vec<u32>,
+    second: Vec<u32>,
+    prices: Vec<u32>,
+    counts: Vec<u64>,
+}
+
+impl Call for ReadStp {
+    fn run(&self, library: &Library) -> Answer {
+        let mut groups = before_others(&self.groups, 0xa5);
+        let [mut first, mut second, mut prices] =
+            [&self.first, &self.second, &self.prices].map(|buffer| before_others(buffer, 0xa5a5));
+        let mut counts = before_others(&self.counts, 0xa5a5);
+        let lent = stp::Lent {
+            groups: &mut groups[..self.groups.len()],
+            first: &mut first[..self.first.len()],
+            second: &mut second[..self.second.len()],
+            prices: &mut prices[..self.prices.len()],
+        };
+        let code = (library.read_stp)(&self.text, lent, &mut counts[..self.counts.len()]);
+        Answer { code, bytes: vec![groups], words: vec![first, second, prices], counts }
+    }
+
+    fn says(&self) -> String {
+        self.text.escape_ascii().to_string()
+    }
+}
+
+/// The directed files come where no fault is put in, one after the other, whatever the seed.
+fn read_stp_input(streams: &Streams, faults: [Fault; 2]) -> Box<dyn Call> {
+    let directed = directed_stp().get(streams.case as usize / 4).filter(|_| streams.case % 4 == 3);
+    let rng = &mut streams.base();
+    let (mut text, n, m) = match directed {
+        Some(text) => {
+            let (n, m) = wanted(rng, text);
+            (text.clone(), n, m)
+        }
+        None => stp_file(rng),
+    };
+    for (i, fault) in faults.into_iter().enumerate() {
+        damage_stp(&mut streams.fault(i), &mut text, fault);
+    }
+    let rng = &mut streams.buffers();
+    let groups = room(rng, n, faults.contains(&GroupsShort));
+    let [first, second, prices] =
+        [FirstShort, SecondShort, PricesShort].map(|fault| room(rng, m, faults.contains(&fault)));
+    Box::new(ReadStp {
+        text,
+        groups: bytes(rng, groups),
+        first: words(rng, first),
+        second: words(rng, second),
+        prices: words(rng, prices),
+        counts: counts(rng, STP_COUNTS, faults),
     })
 }
 
@@ -509,8 +568,9 @@ fn print_survey_input(streams: &Streams, faults: [Fault; 2]) -> Box<dyn Call> {
     print(streams, faults, need, survey, with)
 }
 
-pub const OPERATIONS: [Operation; 9] = [
+pub const OPERATIONS: [Operation; 10] = [
     Operation { name: "read", faults: READ_FAULTS, pairs: READ_PAIRS, input: read_input },
+    Operation { name: "read_stp", faults: STP_FAULTS, pairs: STP_PAIRS, input: read_stp_input },
     Operation { name: "plan", faults: PLAN_FAULTS, pairs: PLAN_PAIRS, input: plan_input },
     Operation { name: "check", faults: CHECK_FAULTS, pairs: CHECK_PAIRS, input: check_input },
     Operation { name: "grow", faults: PLAN_FAULTS, pairs: PLAN_PAIRS, input: grow_input },
