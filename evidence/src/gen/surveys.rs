@@ -487,6 +487,21 @@ pub fn timed(rng: &mut Rng, n: usize, m: usize, scheme: usize) -> Survey {
     survey
 }
 
+/// A survey to time: few tracks for its junctions, prices all over their range, and two to eight sites in one group or two.
+pub fn sparse(rng: &mut Rng) -> Survey {
+    let n = rng.between(40, MAX_JUNCTIONS);
+    let m = n - 1 + rng.below(n / 4 + 1);
+    let mut survey = timed(rng, n, m, 0);
+    survey.groups.fill(0);
+    let mut order: Vec<usize> = (0..n).collect();
+    rng.shuffle(&mut order);
+    let (sites, groups) = (rng.between(2, 8), rng.between(1, 2));
+    for (i, &v) in order[..sites].iter().enumerate() {
+        survey.groups[v] = 1 + (i / 2 % groups) as u8;
+    }
+    survey
+}
+
 /// Damages a survey so that one of 4, 5, 6 is due, or several at different tracks.
 pub fn refused_survey(rng: &mut Rng, survey: &mut Survey) {
     let (n, m) = (survey.groups.len() as u32, survey.first.len());
