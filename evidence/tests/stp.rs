@@ -1,8 +1,7 @@
 //! The reader of STP files against a second statement of the place of 20: a byte is bad if no line that may stand there
 //! begins with it. The lines that may stand are written out, for files of few nodes, and a file is judged line by line.
 
-use evidence::calls::faults::STP_FAULTS;
-use evidence::gen::{damage_stp, directed_stp, stp_file, Rng};
+use evidence::gen::{stp_case, Rng};
 use evidence::read::Lengths;
 use evidence::stp::{parse, HEADER};
 use evidence::{Refusal, Survey};
@@ -311,16 +310,7 @@ fn generated() {
 #[test]
 fn files_of_the_calls() {
     let mut sound = 0;
-    let generated = (0..4_000).map(|case| {
-        let mut rng = Rng::of_case(52, case);
-        let mut text = stp_file(&mut rng).0;
-        for _ in 0..rng.below(3) {
-            let fault = rng.pick(STP_FAULTS);
-            damage_stp(&mut rng, &mut text, fault);
-        }
-        text
-    });
-    for text in directed_stp().iter().cloned().chain(generated) {
+    for text in (0..9_000).map(|case| stp_case(52, case)) {
         let few = text.split(|&byte| byte == b'\n').all(|line| match line.strip_prefix(b"Nodes ") {
             Some(n) => !(2..8).contains(&n.len()) || n <= &b"13"[..],
             None => true,

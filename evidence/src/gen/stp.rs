@@ -1,7 +1,7 @@
 //! STP files (No. 5): sound ones, faults that are put into them, and directed ones.
 
 use super::Rng;
-use crate::calls::faults::Fault;
+use crate::calls::faults::{Fault, STP_FAULTS};
 use crate::read::Lengths;
 use crate::stp::{parse, HEADER};
 use crate::{MAX_JUNCTIONS, MAX_PRICE, MAX_TRACKS};
@@ -410,6 +410,20 @@ pub fn directed_stp() -> &'static [Vec<u8>] {
         byte_by_byte(&files[3], b"\n", &mut all);
         all
     })
+}
+
+/// The file of a case for a program: the directed ones first, then random ones with none to two faults.
+pub fn stp_case(seed: u64, case: u64) -> Vec<u8> {
+    if let Some(text) = directed_stp().get(case as usize) {
+        return text.clone();
+    }
+    let rng = &mut Rng::of_case(seed ^ 0x73_74_70, case);
+    let mut text = stp_file(rng).0;
+    for _ in 0..rng.below(3) {
+        let fault = rng.pick(STP_FAULTS);
+        damage_stp(rng, &mut text, fault);
+    }
+    text
 }
 
 /// The numbers of nodes and edges that buffers for a text are to hold: those that it says, or any.
