@@ -8,10 +8,11 @@
 //!
 //! Nothing else here knows of the product's names and forms.
 
-use crate::calls::{Figures, Library, PLAN_COUNTS, SECOND};
+use crate::calls::{Figures, Library, PLAN_COUNTS};
 use crate::handset::{Crossing, Handset};
 use crate::plan::Counts;
 use crate::read::Lent;
+use crate::stp;
 use crate::verifying::Verify;
 use crate::{Refusal, View};
 use foamsickle::call;
@@ -26,6 +27,10 @@ fn read(text: &[u8], lent: Lent, counts: &mut [u64]) -> u64 {
     call::read(text, call::Buffers { groups, firsts, seconds, weights, owners, others }, counts)
 }
 
+fn read_stp(text: &[u8], lent: stp::Lent, counts: &mut [u64]) -> u64 {
+    call::read_stp(text, lent.groups, lent.first, lent.second, lent.prices, counts)
+}
+
 fn bytes(crossing: Crossing) -> call::Bytes {
     let Crossing { groups, first: firsts, second: seconds, prices: weights, owners, others } = crossing;
     call::Bytes { groups, firsts, seconds, weights, owners, others }
@@ -36,18 +41,15 @@ fn print_plan(figures: Figures, marks: &[u8], records: &[u8], out: &mut [u8], co
     call::print_plan(sites, cost, bound, rounds, marks, records, out, counts)
 }
 
-/// Operations that the library doesn't have yet: our own stand in their places, and nothing is compared.
-pub const LACKS: &[&str] = &["read_stp", "why"];
-
 /// The product's operations in the form that crosses.
 pub const LIBRARY: Library = Library {
     read,
-    read_stp: SECOND.read_stp,
+    read_stp,
     plan: |survey, marks, records, counts| call::plan(slices(survey), marks, records, counts),
     grow: |survey, marks, records, counts| call::grow(slices(survey), marks, records, counts),
     drop: |survey, marks, counts| call::drop(slices(survey), marks, counts),
     check: |survey, marks, records, counts| call::check(slices(survey), marks, records, counts),
-    why: SECOND.why,
+    why: |survey, track, route, counts| call::why(slices(survey), track, route, counts),
     print_moat: call::print_dual,
     print_plan,
     print_survey: |survey, out, counts| call::print_survey(slices(survey), out, counts),

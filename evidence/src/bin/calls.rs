@@ -12,16 +12,14 @@ use std::collections::BTreeMap;
 use std::process::ExitCode;
 
 #[cfg(feature = "native")]
-use evidence::native::{HANDSET, LACKS, LIBRARY};
+use evidence::native::{HANDSET, LIBRARY};
 #[cfg(not(feature = "native"))]
 const LIBRARY: evidence::calls::Library = evidence::calls::SECOND;
 #[cfg(not(feature = "native"))]
 const HANDSET: handset::Handset = handset::SECOND;
-#[cfg(not(feature = "native"))]
-const LACKS: &[&str] = &[];
 
 /// The calls of which so many cases are compared; the check of printed plans is of the library alone.
-const COMPARED: u64 = (OPERATIONS.len() - LACKS.len() + handset::CALLS.len()) as u64 + cfg!(feature = "native") as u64;
+const COMPARED: u64 = (OPERATIONS.len() + handset::CALLS.len()) as u64 + cfg!(feature = "native") as u64;
 
 /// Holds a call of so many cases against the second implementation, and says how often each refusal came.
 fn run(name: &str, count: u64, seed: u64, compare: impl Fn(u64) -> Result<u64, String>) -> Result<(), String> {
@@ -37,7 +35,7 @@ fn run(name: &str, count: u64, seed: u64, compare: impl Fn(u64) -> Result<u64, S
 
 fn compare(count: u64, seed: u64) -> Result<(), String> {
     println!("{} cases are as written", document::cases(&LIBRARY)?);
-    for operation in OPERATIONS.iter().filter(|operation| !LACKS.contains(&operation.name)) {
+    for operation in OPERATIONS {
         run(operation.name, count, seed, |case| operation.compare(&LIBRARY, seed, case))?;
     }
     for (name, checks) in handset::CALLS {
