@@ -28,9 +28,9 @@ pub mod native;
 pub mod plan;
 pub mod print;
 pub mod read;
-pub mod verifying;
 pub mod stages;
 pub mod stp;
+pub mod verifying;
 pub mod why;
 
 /// 01, refusal 1, and No. 8: more junctions are refused.

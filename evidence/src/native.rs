@@ -12,6 +12,7 @@ use crate::calls::{Figures, Library, PLAN_COUNTS};
 use crate::handset::{Crossing, Handset};
 use crate::plan::Counts;
 use crate::read::Lent;
+use crate::stp;
 use crate::verifying::Verify;
 use crate::{Refusal, View};
 use foamsickle::call;
@@ -24,6 +25,10 @@ fn slices(survey: View) -> call::Slices {
 fn read(text: &[u8], lent: Lent, counts: &mut [u64]) -> u64 {
     let Lent { groups, first: firsts, second: seconds, prices: weights, owners, others } = lent;
     call::read(text, call::Buffers { groups, firsts, seconds, weights, owners, others }, counts)
+}
+
+fn read_stp(text: &[u8], lent: stp::Lent, counts: &mut [u64]) -> u64 {
+    call::read_stp(text, lent.groups, lent.first, lent.second, lent.prices, counts)
 }
 
 fn bytes(crossing: Crossing) -> call::Bytes {
@@ -39,10 +44,12 @@ fn print_plan(figures: Figures, marks: &[u8], records: &[u8], out: &mut [u8], co
 /// The product's operations in the form that crosses.
 pub const LIBRARY: Library = Library {
     read,
+    read_stp,
     plan: |survey, marks, records, counts| call::plan(slices(survey), marks, records, counts),
     grow: |survey, marks, records, counts| call::grow(slices(survey), marks, records, counts),
     drop: |survey, marks, counts| call::drop(slices(survey), marks, counts),
     check: |survey, marks, records, counts| call::check(slices(survey), marks, records, counts),
+    why: |survey, track, route, counts| call::why(slices(survey), track, route, counts),
     print_moat: call::print_dual,
     print_plan,
     print_survey: |survey, out, counts| call::print_survey(slices(survey), out, counts),

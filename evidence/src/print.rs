@@ -3,7 +3,8 @@
 use crate::check::{amount, holds};
 use crate::plan::{owned, Plan, Planner, KEPT};
 use crate::read::{parse, Lengths};
-use crate::{refuse, Refusal, Survey, AMOUNT_BYTES, MAX_INPUT, RECORD_BYTES};
+use crate::why::{why, Reason};
+use crate::{refuse, stp, Refusal, Survey, AMOUNT_BYTES, MAX_INPUT, MAX_JUNCTIONS, RECORD_BYTES};
 
 /// The line of a record. Any amount and any member bit is printed as it stands.
 fn line(record: &[u8]) -> String {
@@ -71,4 +72,34 @@ pub fn survey_text(survey: &Survey) -> Vec<u8> {
         out += &format!("link={},{},{}\n", survey.first[t], survey.second[t], survey.prices[t]);
     }
     out.into_bytes()
+}
+
+/// What the program that reads STP files prints: the survey's text.
+pub fn stp_program(input: &[u8]) -> String {
+    match stp::parse(input, Lengths::ENOUGH) {
+        Ok(survey) => String::from_utf8_lossy(&survey_text(&survey)).into_owned(),
+        Err(refusal) => refusal_lines(refusal),
+    }
+}
+
+/// A reason as the program that asks for one prints it; the keys are the product's own.
+pub fn reason_lines(track: u32, reason: Reason, route: &[u32]) -> String {
+    let Reason { kind, list, smaller, larger, round, .. } = reason;
+    let route: Vec<String> = route.iter().map(u32::to_string).collect();
+    let more = match kind {
+        2 => format!("group={list}\nfrom={smaller}\nto={larger}\nroute={}\n", route.join(",")),
+        1 => String::new(),
+        _ => format!("round={round}\n"),
+    };
+    format!("track={track}\nmark={kind}\n{more}")
+}
+
+/// What that program prints for its standard input and a track.
+pub fn why_program(input: &[u8], track: u32) -> String {
+    let text = &input[..input.len().min(MAX_INPUT)];
+    let mut route = [0; MAX_JUNCTIONS];
+    match parse(text, Lengths::ENOUGH).and_then(|survey| why(survey.view(), track, &mut route)) {
+        Ok(reason) => reason_lines(track, reason, &route[..reason.entries as usize]),
+        Err(refusal) => refusal_lines(refusal),
+    }
 }

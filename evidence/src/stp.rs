@@ -164,3 +164,36 @@ pub fn parse(text: &[u8], lengths: Lengths) -> Result<Survey, Refusal> {
     }
     Ok(survey)
 }
+
+/// The buffers that reading fills.
+pub struct Lent<'a> {
+    pub groups: &'a mut [u8],
+    pub first: &'a mut [u32],
+    pub second: &'a mut [u32],
+    pub prices: &'a mut [u32],
+}
+
+impl Lent<'_> {
+    pub fn lengths(&self) -> Lengths {
+        Lengths {
+            groups: self.groups.len(),
+            first: self.first.len(),
+            second: self.second.len(),
+            prices: self.prices.len(),
+            owners: 0,
+            others: 0,
+        }
+    }
+}
+
+/// Reads a file into lent buffers and answers with n and m. What it says goes into the buffers' beginnings, and only if
+/// nothing is refused; everything else keeps its values.
+pub fn read(text: &[u8], lent: Lent) -> Result<[u64; 2], Refusal> {
+    let survey = parse(text, lent.lengths())?;
+    let (n, m) = (survey.groups.len(), survey.first.len());
+    lent.groups[..n].copy_from_slice(&survey.groups);
+    lent.first[..m].copy_from_slice(&survey.first);
+    lent.second[..m].copy_from_slice(&survey.second);
+    lent.prices[..m].copy_from_slice(&survey.prices);
+    Ok([n, m].map(|count| count as u64))
+}

@@ -1,7 +1,7 @@
 //! The reader of STP files against a second statement of the place of 20: a byte is bad if no line that may stand there
 //! begins with it. The lines that may stand are written out, for files of few nodes, and a file is judged line by line.
 
-use evidence::gen::Rng;
+use evidence::gen::{stp_case, Rng};
 use evidence::read::Lengths;
 use evidence::stp::{parse, HEADER};
 use evidence::{Refusal, Survey};
@@ -306,43 +306,19 @@ fn generated() {
     assert!(sound > 600, "{sound}");
 }
 
-/// Readers with a fault each, made from what the sound one answers.
+/// The files that calls are made with, as far as all lines that may stand can be written out.
 #[test]
-fn faults_are_found() {
-    type Fault = (&'static str, fn(&[u8]) -> Result<Survey, Refusal>);
-    let faults: [Fault; 6] = [
-        ("junctions count from 1", |text| {
-            parse(text, Lengths::ENOUGH).map(|mut survey| {
-                survey.first.iter_mut().for_each(|end| *end += 1);
-                survey
-            })
-        }),
-        ("terminals without a group", |text| {
-            parse(text, Lengths::ENOUGH).map(|survey| Survey { groups: vec![0; survey.groups.len()], ..survey })
-        }),
-        ("EOF without its line end", |text| parse(&[text, &b"\n"[..]].concat(), Lengths::ENOUGH)),
-        ("the place at the end of the line", |text| {
-            parse(text, Lengths::ENOUGH).map_err(|refusal| {
-                let rest = text.get(refusal.place as usize..).unwrap_or(&[]);
-                let more = rest.iter().position(|&byte| byte == b'\n').unwrap_or(rest.len());
-                Refusal { place: refusal.place + more as u64, ..refusal }
-            })
-        }),
-        ("an END with a blank behind it ends a comment", |text| {
-            let text = String::from_utf8_lossy(text).replace("\nEND \n", "\nEND\n");
-            parse(text.as_bytes(), Lengths::ENOUGH)
-        }),
-        ("a terminal twice", |text| match parse(text, Lengths::ENOUGH) {
-            Err(refusal) if text[..refusal.place as usize].ends_with(b"\nT 1") => Ok(Survey::default()),
-            other => other,
-        }),
-    ];
-    for (name, reader) in faults {
-        let found = some_files().iter().any(|file| {
-            let twice = file.replace("T 10\n", "T 1\n");
-            let texts = [file.clone(), file[..file.len() - 1].to_string(), file.replace("E 1 2", "E 1 9"), twice];
-            texts.iter().any(|text| reader(text.as_bytes()) != expected(text.as_bytes(), Lengths::ENOUGH))
+fn files_of_the_calls() {
+    let mut sound = 0;
+    for text in (0..9_000).map(|case| stp_case(52, case)) {
+        let few = text.split(|&byte| byte == b'\n').all(|line| match line.strip_prefix(b"Nodes ") {
+            Some(n) => !(2..8).contains(&n.len()) || n <= &b"13"[..],
+            None => true,
         });
-        assert!(found, "{name} is not found");
+        if few && text.len() < 2_000 {
+            agree(&text, Lengths::ENOUGH);
+            sound += u32::from(parse(&text, Lengths::ENOUGH).is_ok());
+        }
     }
+    assert!(sound > 900, "{sound}");
 }

@@ -1,7 +1,7 @@
 //! Reasons: each is true of the growth.
 
-use evidence::gen::{overlap, survey, Rng, Size, WORKED};
-use evidence::plan::{fast, growth, owned, KEPT};
+use evidence::gen::{line, overlap, survey, tiny, Rng, Size, WORKED};
+use evidence::plan::{fast, growth, owned, DROPPED, KEPT, NOT_PICKED};
 use evidence::why::{why, Reason};
 use evidence::{Refusal, Survey};
 
@@ -78,6 +78,114 @@ fn reasons_are_true() {
         overlap(&mut rng, &mut survey);
         each_is_true(&survey);
     }
+}
+
+/// Every route from one junction to another over these tracks with no junction twice, by trying each way.
+fn routes(survey: &Survey, tracks: &[usize], from: usize, to: usize) -> Vec<Vec<usize>> {
+    fn go_on(
+        survey: &Survey,
+        tracks: &[usize],
+        to: usize,
+        at: &mut Vec<usize>,
+        way: &mut Vec<usize>,
+    ) -> Vec<Vec<usize>> {
+        let here = at[at.len() - 1];
+        if here == to {
+            return vec![way.clone()];
+        }
+        let mut found = Vec::new();
+        for &t in tracks {
+            let (u, v) = (survey.first[t] as usize, survey.second[t] as usize);
+            if (here == u || here == v) && !at.contains(&(u + v - here)) {
+                at.push(u + v - here);
+                way.push(t);
+                found.extend(go_on(survey, tracks, to, at, way));
+                at.pop();
+                way.pop();
+            }
+        }
+        found
+    }
+    go_on(survey, tracks, to, &mut vec![from], &mut Vec::new())
+}
+
+/// Every track of a tiny survey: it is taken away and ways are looked for, by trying all. Returns how many of each kind
+/// there were: kept, dropped, not picked and joined in some round, not picked and never joined.
+fn each_is_true_by_search(survey: &Survey) -> [u32; 4] {
+    let (view, n) = (survey.view(), survey.groups.len());
+    let marks = owned(fast, view).expect("it can be joined").marks;
+    let with = |least: u8| (0..marks.len()).filter(|&t| marks[t] >= least).collect::<Vec<_>>();
+    let (picked, kept) = (with(DROPPED), with(KEPT));
+    // The component that each round made, as the moats have it.
+    let made = growth(view).moats.split_off(n);
+    let mut kinds = [0; 4];
+    for track in 0..marks.len() {
+        let mut route = vec![7_777; n];
+        let reason = why(view, track as u32, &mut route).expect("it can be joined");
+        let others: Vec<usize> = picked.iter().copied().filter(|&t| t != track).collect();
+        let mut parted = Vec::new();
+        for group in 1..=255 {
+            let members = view.members(group);
+            for &u in &members {
+                for &v in members.iter().filter(|&&v| v > u) {
+                    if routes(survey, &others, u, v).is_empty() {
+                        parted.push((u64::from(group), u as u64, v as u64));
+                    }
+                }
+            }
+        }
+        let ends = [survey.first[track] as usize, survey.second[track] as usize];
+        let round = 1 + made.iter().position(|moat| ends.iter().all(|v| moat.members.contains(v))).unwrap_or(n) as u64;
+        match marks[track] {
+            KEPT => {
+                assert_eq!(Some(&(reason.list, reason.smaller, reason.larger)), parted.iter().min());
+                let ways = routes(survey, &kept, reason.smaller as usize, reason.larger as usize);
+                assert_eq!(ways.len(), 1);
+                assert_eq!(reason.entries as usize, ways[0].len());
+                let way = ways[0].iter().map(|&t| t as u32).chain(std::iter::repeat(7_777));
+                assert_eq!(route, way.take(n).collect::<Vec<_>>());
+                assert_eq!((reason.kind, reason.round), (2, 0));
+                kinds[0] += 1;
+            }
+            DROPPED => {
+                assert!(parted.is_empty());
+                assert_eq!((reason, &route), (Reason { kind: 1, ..Reason::default() }, &vec![7_777; n]));
+                kinds[1] += 1;
+            }
+            _ => {
+                let joined = !routes(survey, &picked, ends[0], ends[1]).is_empty();
+                let round = if joined { round } else { 0 };
+                let want = Reason { kind: u64::from(NOT_PICKED), round, ..Reason::default() };
+                assert_eq!((reason, &route), (want, &vec![7_777; n]));
+                kinds[if joined { 2 } else { 3 }] += 1;
+            }
+        }
+    }
+    kinds
+}
+
+#[test]
+fn reasons_are_true_by_search() {
+    let mut kinds = [0; 4];
+    for case in 0..1_500 {
+        let found = each_is_true_by_search(&tiny(&mut Rng::of_case(32, case)));
+        kinds.iter_mut().zip(found).for_each(|(sum, more)| *sum += more);
+    }
+    assert!(kinds.iter().all(|&many| many > 200), "{kinds:?}");
+}
+
+/// Long routes: every track of a line, and the longest that there is.
+#[test]
+fn along_a_line() {
+    for (case, n) in [(0, 1), (1, 2), (2, 60)] {
+        each_is_true(&line(&mut Rng::of_case(33, case), n));
+    }
+    let (mut groups, tracks) = ([0; 448], (1..448).map(|v| (v, v - 1, v % 3)).collect::<Vec<_>>());
+    (groups[0], groups[447]) = (255, 255);
+    let mut route = [7_777; 448];
+    let reason = why(Survey::new(&groups, &tracks).view(), 200, &mut route);
+    assert_eq!(reason, Ok(Reason { kind: 2, list: 255, smaller: 0, larger: 447, entries: 447, round: 0 }));
+    assert!(route[..447].iter().copied().eq(0..447) && route[447] == 7_777);
 }
 
 #[test]

@@ -1,28 +1,58 @@
-//! Nanoseconds per plan on seeded surveys of 64, 128, 256 and 448 junctions with 2,048 tracks, and of 256 and 448
-//! junctions with fewer tracks; then the same surveys with up to 256 pairs that leave the plan as it is, beside the own groups, and in
-//! place of them:
+//! Nanoseconds per plan on seeded surveys:
 //!
-//!     bench [--seed S] [--surveys N] [--repeats R]
+//!     bench [--seed S] [--surveys N] [--repeats R] [--sample K]
+//!     bench --instructions [--seed S] [--surveys N]
 //!
-//! Each survey is planned R times; a line gives the medians and the least times, each as the mean over the surveys. On
-//! a busy machine the least times are the steadier ones. With the feature `native` the outside planner is timed in turn
-//! with ours, on the same surveys, after its answer has been compared.
+//! First a line for each of nine sizes, 64 to 448 junctions with 2,048 tracks and fewer: the surveys as they are, then with
+//! up to 256 pairs that leave the plan as it is, beside the own groups, and in place of them. Each survey is planned R
+//! times; a line gives the medians and the least times, each as the mean over the surveys. On a busy machine the least
+//! times are the steadier ones. Then K random surveys with few tracks and few sites: the median, the highest but 10 and
+//! the highest but 1 in 100, of the least times. With the feature `native` the outside planner is timed in turn with ours,
+//! on the same surveys, after its answer has been compared, and of the K surveys its times in ours are told.
+//!
+//! `--instructions` counts the instructions of a plan under valgrind, which don't depend on what else the machine does.
 
-use evidence::gen::{shadowed, timed, Rng};
-use evidence::plan::{owned, record_room, reference, Counts, Workspace};
+use evidence::gen::{shadowed, sparse, timed, Rng};
+use evidence::plan::{fast, owned, record_room, reference, Counts, Plan, Workspace};
 use evidence::{Refusal, Survey, View};
-use std::process::ExitCode;
+use std::process::{Command, ExitCode};
 use std::time::Instant;
 
 /// Planners that are timed: our own, and the outside one where there is one.
-const PLANNERS: usize = if cfg!(feature = "native") { 2 } else { 1 };
+const PLANNERS: &[&str] = if cfg!(feature = "native") { &["fast", "native"] } else { &["fast"] };
+
+/// Junctions and tracks.
+const SIZES: [(usize, usize); 9] =
+    [(64, 2048), (128, 2048), (256, 2048), (256, 1024), (256, 512), (256, 300), (448, 2048), (448, 1024), (448, 512)];
+/// Those of which instructions are counted.
+const COUNTED: [(usize, usize); 4] = [(256, 300), (256, 512), (448, 512), (448, 2048)];
 
 type Timed<'a> = &'a mut dyn FnMut(View, &mut [u8], &mut [u8]) -> Result<Counts, Refusal>;
+
+struct Options {
+    seed: u64,
+    surveys: usize,
+    repeats: usize,
+    sample: u64,
+    instructions: bool,
+    /// A planner and a size whose surveys are planned once, for valgrind.
+    one: Option<(String, usize, usize)>,
+}
+
+/// The i-th survey of a size.
+fn survey_of(options: &Options, (n, m): (usize, usize), i: usize) -> Survey {
+    timed(&mut Rng::of_case(options.seed, (1_000 * n + i) as u64), n, m, i)
+}
+
+/// Buffers for a survey's plan.
+fn buffers(survey: &Survey) -> (Vec<u8>, Vec<u8>) {
+    (vec![0; survey.first.len()], vec![0; record_room(survey.groups.len())])
+}
 
 /// The median and the least of R timings of each planner on each survey, in turn, in nanoseconds. All surveys have the
 /// same counts.
 fn times(surveys: &[&Survey], planners: &mut [Timed], repeats: usize) -> Vec<[u64; 2]> {
-    let (mut marks, mut records) = (vec![0; surveys[0].first.len()], vec![0; record_room(surveys[0].groups.len())]);
+    let (mut marks, mut records) = buffers(surveys[0]);
     let mut times = vec![Vec::with_capacity(repeats); surveys.len() * planners.len()];
     for _ in 0..repeats {
         for (survey, times) in surveys.iter().zip(times.chunks_exact_mut(planners.len())) {
@@ -43,73 +73,192 @@ fn times(surveys: &[&Survey], planners: &mut [Timed], repeats: usize) -> Vec<[u6
         .collect()
 }
 
-/// Does a planner draw the plain planner's plan?
-fn sound(survey: &Survey, planner: Timed) -> bool {
-    let plan = owned(reference, survey.view()).expect("it can be joined");
-    let (mut marks, mut records) = (vec![0; survey.first.len()], vec![0; record_room(survey.groups.len())]);
-    planner(survey.view(), &mut marks, &mut records) == Ok(plan.counts)
-        && marks == plan.marks
-        && records[..plan.records.len()] == plan.records
+/// Stops unless every planner draws this plan.
+fn compare(survey: &Survey, plan: &Plan, planners: &mut [Timed]) {
+    let (mut marks, mut records) = buffers(survey);
+    for planner in planners {
+        let drawn = planner(survey.view(), &mut marks, &mut records) == Ok(plan.counts)
+            && marks == plan.marks
+            && records[..plan.records.len()] == plan.records;
+        assert!(drawn, "a planner differs on {survey:?}");
+    }
+}
+
+fn line(name: &str, [median, least]: [u64; 2]) -> String {
+    format!("{name} {median} ns per plan (least {least})")
+}
+
+/// The surveys of one size.
+fn size(options: &Options, (n, m): (usize, usize), planners: &mut [Timed]) {
+    let surveys = options.surveys;
+    let mut sums = vec![[0; 2]; 3 * PLANNERS.len()];
+    let mut rounds = 0;
+    for i in 0..surveys {
+        let plain = survey_of(options, (n, m), i);
+        let (mut beside, mut instead) = (plain.clone(), plain.clone());
+        shadowed(&mut beside, true);
+        shadowed(&mut instead, false);
+        let forms = [&plain, &beside, &instead];
+        rounds += owned(reference, plain.view()).expect("it can be joined").counts.rounds;
+        for survey in forms {
+            compare(survey, &owned(reference, survey.view()).expect("it can be joined"), planners);
+        }
+        for (sum, time) in sums.iter_mut().zip(times(&forms, planners, options.repeats)) {
+            *sum = [sum[0] + time[0], sum[1] + time[1]];
+        }
+    }
+    let mean: Vec<[u64; 2]> = sums.iter().map(|sum| sum.map(|time| time / surveys as u64)).collect();
+    let (plain, paired) = mean.split_at(PLANNERS.len());
+    print!("{n} junctions, {m} tracks, {} rounds: {}", rounds / surveys as u64, line("fast", plain[0]));
+    if let Some(outside) = plain.get(1) {
+        print!(", {}, {:.2} times", line("native", *outside), outside[1] as f64 / plain[0][1] as f64);
+    }
+    for (name, paired) in ["with pairs", "with pairs alone"].iter().zip(paired.chunks_exact(PLANNERS.len())) {
+        print!("; {name}: {}", line("fast", paired[0]));
+        if let Some(outside) = paired.get(1) {
+            print!(", {}, {:.3} times without", line("native", *outside), outside[1] as f64 / plain[1][1] as f64);
+        }
+    }
+    println!();
+}
+
+/// The middle, the highest but 10 and the highest but 1 in 100.
+fn spread(mut values: Vec<f64>) -> [f64; 3] {
+    values.sort_unstable_by(f64::total_cmp);
+    [50, 90, 99].map(|part| values[(values.len() - 1) * part / 100])
+}
+
+/// Random surveys with few tracks and few sites.
+fn sample(options: &Options, planners: &mut [Timed]) {
+    let (mut ours, mut ratios) = (Vec::new(), Vec::new());
+    for i in 0..options.sample {
+        let survey = sparse(&mut Rng::of_case(!options.seed, i));
+        compare(&survey, &owned(fast, survey.view()).expect("it can be joined"), planners);
+        let least: Vec<f64> = times(&[&survey], planners, 5).iter().map(|time| time[1] as f64).collect();
+        ours.push(least[0]);
+        ratios.extend(least.get(1).map(|outside| outside / least[0]));
+    }
+    let [middle, most, all] = spread(ours);
+    print!("{} sparse surveys with few sites: fast {middle} ns per plan, 90 % {most}, 99 % {all}", options.sample);
+    if !ratios.is_empty() {
+        let [middle, most, all] = spread(ratios);
+        print!("; native {middle:.2} times, 90 % {most:.2}, 99 % {all:.2}");
+    }
+    println!();
+}
+
+/// Our plan, where valgrind counts.
+#[no_mangle]
+#[inline(never)]
+fn counted_fast(workspace: &mut Workspace, survey: View, marks: &mut [u8], records: &mut [u8]) -> bool {
+    workspace.plan(survey, marks, records).is_ok()
+}
+
+/// The outside one.
+#[no_mangle]
+#[inline(never)]
+#[cfg(feature = "native")]
+fn counted_native(survey: View, marks: &mut [u8], records: &mut [u8]) -> bool {
+    evidence::native::plan(survey, marks, records).is_ok()
+}
+
+/// Plans the surveys of a size once each.
+fn one(options: &Options, planner: &str, counts: (usize, usize)) {
+    let mut workspace = Box::new(Workspace::NEW);
+    for i in 0..options.surveys {
+        let survey = survey_of(options, counts, i);
+        let (mut marks, mut records) = buffers(&survey);
+        let planned = match planner {
+            #[cfg(feature = "native")]
+            "native" => counted_native(survey.view(), &mut marks, &mut records),
+            _ => counted_fast(&mut workspace, survey.view(), &mut marks, &mut records),
+        };
+        assert!(std::hint::black_box(planned));
+    }
+}
+
+/// The instructions of so many plans of a size, as callgrind collects them.
+fn collected(options: &Options, planner: &str, (n, m): (usize, usize)) -> Option<u64> {
+    let output = Command::new("valgrind")
+        .args(["--tool=callgrind", "--callgrind-out-file=/dev/null", &format!("--toggle-collect=counted_{planner}")])
+        .arg(std::env::current_exe().ok()?)
+        .args(["--one", planner])
+        .args([n as u64, m as u64, options.seed, options.surveys as u64].map(|number| number.to_string()))
+        .output()
+        .ok()?;
+    let said = String::from_utf8_lossy(&output.stderr).into_owned();
+    said.lines().find_map(|line| line.split("Collected :").nth(1)?.trim().parse().ok())
+}
+
+fn instructions(options: &Options) -> ExitCode {
+    for counts in COUNTED {
+        let each: Option<Vec<u64>> = PLANNERS.iter().map(|planner| collected(options, planner, counts)).collect();
+        let Some(each) = each else {
+            println!("valgrind is not installed, or has counted nothing");
+            return ExitCode::FAILURE;
+        };
+        let each: Vec<u64> = each.iter().map(|sum| sum / options.surveys as u64).collect();
+        print!("{} junctions, {} tracks: fast {} instructions per plan", counts.0, counts.1, each[0]);
+        if let Some(outside) = each.get(1) {
+            print!(", native {outside}, {:.2} times", *outside as f64 / each[0] as f64);
+        }
+        println!();
+    }
+    ExitCode::SUCCESS
+}
+
+fn options() -> Option<Options> {
+    let mut options = Options { seed: 1, surveys: 12, repeats: 31, sample: 400, instructions: false, one: None };
+    let mut words = std::env::args().skip(1);
+    while let Some(word) = words.next() {
+        if word == "--instructions" {
+            options.instructions = true;
+            continue;
+        }
+        if word == "--one" {
+            let planner = words.next()?;
+            let numbers: Vec<u64> = words.by_ref().take(4).filter_map(|value| value.parse().ok()).collect();
+            let [n, m, seed, surveys] = numbers[..] else { return None };
+            (options.seed, options.surveys) = (seed, surveys as usize);
+            options.one = Some((planner, n as usize, m as usize));
+            continue;
+        }
+        let number = words.next()?.parse::<u64>().ok()?;
+        match word.as_str() {
+            "--seed" => options.seed = number,
+            "--surveys" => options.surveys = number.max(1) as usize,
+            "--repeats" => options.repeats = number.max(1) as usize,
+            "--sample" => options.sample = number.max(1),
+            _ => return None,
+        }
+    }
+    Some(options)
 }
 
 fn main() -> ExitCode {
-    let (mut seed, mut surveys, mut repeats) = (1u64, 12usize, 31usize);
-    let mut words = std::env::args().skip(1);
-    while let Some(word) = words.next() {
-        let value = words.next().and_then(|value| value.parse::<u64>().ok());
-        match (word.as_str(), value) {
-            ("--seed", Some(number)) => seed = number,
-            ("--surveys", Some(number)) => surveys = number.max(1) as usize,
-            ("--repeats", Some(number)) => repeats = number.max(1) as usize,
-            _ => {
-                eprintln!("bench [--seed S] [--surveys N] [--repeats R]");
-                return ExitCode::from(2);
-            }
-        }
+    let Some(options) = options() else {
+        eprintln!(
+            "bench [--seed S] [--surveys N] [--repeats R] [--sample K]\nbench --instructions [--seed S] [--surveys N]"
+        );
+        return ExitCode::from(2);
+    };
+    if let Some((planner, n, m)) = &options.one {
+        one(&options, planner, (*n, *m));
+        return ExitCode::SUCCESS;
     }
-
+    if options.instructions {
+        return instructions(&options);
+    }
     let mut workspace = Box::new(Workspace::NEW);
     let mut ours = |survey: View, marks: &mut [u8], records: &mut [u8]| workspace.plan(survey, marks, records);
     #[cfg(feature = "native")]
     let mut outside = evidence::native::plan;
-
-    for (n, m) in [(64, 2048), (128, 2048), (256, 2048), (256, 1024), (256, 512), (448, 2048), (448, 1024), (448, 512)] {
-        let mut sums = vec![[0; 2]; 3 * PLANNERS];
-        let mut rounds = 0;
-        for i in 0..surveys {
-            let plain = timed(&mut Rng::of_case(seed, (1_000 * n + i) as u64), n, m, i);
-            let (mut beside, mut instead) = (plain.clone(), plain.clone());
-            shadowed(&mut beside, true);
-            shadowed(&mut instead, false);
-            let forms = [&plain, &beside, &instead];
-            rounds += owned(reference, plain.view()).expect("it can be joined").counts.rounds;
-            let mut planners: Vec<Timed> = vec![&mut ours];
-            #[cfg(feature = "native")]
-            planners.push(&mut outside);
-            for survey in forms {
-                if planners.iter_mut().any(|planner| !sound(survey, planner)) {
-                    println!("a planner differs on {survey:?}");
-                    return ExitCode::FAILURE;
-                }
-            }
-            for (sum, time) in sums.iter_mut().zip(times(&forms, &mut planners, repeats)) {
-                *sum = [sum[0] + time[0], sum[1] + time[1]];
-            }
-        }
-        let mean: Vec<[u64; 2]> = sums.iter().map(|sum| sum.map(|time| time / surveys as u64)).collect();
-        let line = |name: &str, [median, least]: [u64; 2]| format!("{name} {median} ns per plan (least {least})");
-        let (plain, paired) = mean.split_at(PLANNERS);
-        print!("{n} junctions, {m} tracks, {} rounds: {}", rounds / surveys as u64, line("fast", plain[0]));
-        if let Some(outside) = plain.get(1) {
-            print!(", {}, {:.2} times", line("native", *outside), outside[1] as f64 / plain[0][1] as f64);
-        }
-        for (name, paired) in ["with pairs", "with pairs alone"].iter().zip(paired.chunks_exact(PLANNERS)) {
-            print!("; {name}: {}", line("fast", paired[0]));
-            if let Some(outside) = paired.get(1) {
-                print!(", {}, {:.3} times without", line("native", *outside), outside[1] as f64 / plain[1][1] as f64);
-            }
-        }
-        println!();
+    let mut planners: Vec<Timed> = vec![&mut ours];
+    #[cfg(feature = "native")]
+    planners.push(&mut outside);
+    for counts in SIZES {
+        size(&options, counts, &mut planners);
     }
+    sample(&options, &mut planners);
     ExitCode::SUCCESS
 }

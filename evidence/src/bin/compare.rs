@@ -3,20 +3,24 @@
 //!     compare --program PATH [--count N] [--seed S] [--threads T] [--seconds W] [--argument A]..
 //!     compare --program PATH --case C [--seed S]
 //!     compare --verifier PATH [--count N] [--seed S] [--case C]
+//!     compare --stp PATH [--count N] [--seed S] [--case C]
+//!     compare --why PATH [--count N] [--seed S] [--case C]
 //!     compare --emit C [--seed S]
 //!     compare --self N [--seed S]
 //!     compare --native N [--seed S]
 //!
-//! `--verifier` hands surveys with printed plans behind them, sound and damaged, to a program that checks plans.
+//! `--verifier` hands surveys with printed plans behind them, sound and damaged, to a program that checks plans, `--stp` STP
+//! files to one that prints their surveys, `--why` survey texts, and a track as its last argument, to one that prints reasons.
 //! `--argument` is handed to the program. `--case` runs one case, `--emit` writes its input to standard output.
 //! `--self` holds the fast planner against the plain one, with no program; `--native` does so with the planner that the
 //! feature `native` links.
 
 use evidence::calls::faults::{harm, PAIR_FAULTS};
 use evidence::check::{check, Passed};
-use evidence::gen::{directed_texts, overlap, plan_text_case, refused_survey, survey, text_case, Rng, Size};
+use evidence::gen::{directed_texts, overlap, plan_text_case, refused_survey, stp_case, survey, text_case, Rng, Size};
 use evidence::plan::{fast, owned, record_room, reference, Counts, Plan, Planner, DROPPED};
-use evidence::print::{answer, plan_lines, refusal_lines};
+use evidence::print::{answer, plan_lines, refusal_lines, stp_program, why_program};
+use evidence::read::{parse, Lengths};
 use evidence::{Refusal, Survey, AMOUNT_BYTES, RECORD_BYTES};
 use std::collections::BTreeMap;
 use std::io::{Read, Write};
@@ -25,9 +29,18 @@ use std::sync::atomic::{AtomicBool, AtomicU64, Ordering};
 use std::sync::Mutex;
 use std::time::{Duration, Instant};
 
+/// What a program does.
+#[derive(Clone, Copy, PartialEq)]
+enum Kind {
+    Plan,
+    Verify,
+    Stp,
+    Why,
+}
+
 struct Options {
     program: Option<String>,
-    verifier: bool,
+    kind: Kind,
     arguments: Vec<String>,
     count: u64,
     seed: u64,
@@ -42,6 +55,8 @@ struct Options {
 const USAGE: &str =
     "compare --program PATH [--count N] [--seed S] [--threads T] [--seconds W] [--argument A].. [--case C]
 compare --verifier PATH [--count N] [--seed S] [--case C]
+compare --stp PATH [--count N] [--seed S] [--case C]
+compare --why PATH [--count N] [--seed S] [--case C]
 compare --emit C [--seed S]
 compare --self N [--seed S]
 compare --native N [--seed S]";
@@ -49,7 +64,7 @@ compare --native N [--seed S]";
 fn options() -> Result<Options, String> {
     let mut options = Options {
         program: None,
-        verifier: false,
+        kind: Kind::Plan,
         arguments: Vec::new(),
         count: 20_000,
         seed: 1,
@@ -63,9 +78,10 @@ fn options() -> Result<Options, String> {
     let mut words = std::env::args().skip(1);
     while let Some(word) = words.next() {
         let value = words.next().ok_or_else(|| format!("{word} wants a value"))?;
-        if word == "--program" || word == "--verifier" {
-            options.program = Some(value);
-            options.verifier = word == "--verifier";
+        let kinds =
+            [("--program", Kind::Plan), ("--verifier", Kind::Verify), ("--stp", Kind::Stp), ("--why", Kind::Why)];
+        if let Some((_, kind)) = kinds.iter().find(|(name, _)| word == *name) {
+            (options.program, options.kind) = (Some(value), *kind);
             continue;
         }
         if word == "--argument" {
@@ -171,23 +187,56 @@ impl Tally {
     }
 }
 
-/// The input of a case, the plan or refusal that it is counted as, and what a program is to print for it.
-fn case_of(options: &Options, case: u64) -> (Vec<u8>, Result<Plan, Refusal>, String) {
-    if options.verifier {
-        let (plan, input, expected) = plan_text_case(options.seed, case);
-        let lines = match &expected {
-            Ok(Passed { sites, cost, bound }) => format!("passed\nsites={sites}\ncost={cost}\nbound={bound}\n"),
-            Err(refusal) => refusal_lines(*refusal),
-        };
-        return (input, expected.map(|_| plan), lines);
+/// The input of a case and the arguments besides the given ones, the plan or refusal that it is counted as, and what a
+/// program is to print for it.
+type Case = (Vec<u8>, Vec<String>, Result<Plan, Refusal>, String);
+
+/// The refusal that a program prints, or a plan that stands for another answer.
+fn told(lines: &str) -> Result<Plan, Refusal> {
+    let refusal = lines.strip_prefix("refused=").and_then(|rest| rest.trim_end().split_once("\nplace="));
+    match refusal {
+        Some((number, place)) => {
+            let [number, place] = [number, place].map(|digits| digits.parse().expect("a number"));
+            Err(Refusal { number: number as u32, place })
+        }
+        None => Ok(Plan { counts: Counts::default(), marks: Vec::new(), records: Vec::new() }),
     }
-    let input = text_case(options.seed, case);
-    let answer = answer(reference, &input);
-    let lines = match &answer {
-        Ok(plan) => plan_lines(plan),
-        Err(refusal) => refusal_lines(*refusal),
-    };
-    (input, answer, lines)
+}
+
+fn case_of(options: &Options, case: u64) -> Case {
+    match options.kind {
+        Kind::Plan => {
+            let input = text_case(options.seed, case);
+            let answer = answer(reference, &input);
+            let lines = match &answer {
+                Ok(plan) => plan_lines(plan),
+                Err(refusal) => refusal_lines(*refusal),
+            };
+            (input, Vec::new(), answer, lines)
+        }
+        Kind::Verify => {
+            let (plan, input, expected) = plan_text_case(options.seed, case);
+            let lines = match &expected {
+                Ok(Passed { sites, cost, bound }) => format!("passed\nsites={sites}\ncost={cost}\nbound={bound}\n"),
+                Err(refusal) => refusal_lines(*refusal),
+            };
+            (input, Vec::new(), expected.map(|_| plan), lines)
+        }
+        Kind::Stp => {
+            let input = stp_case(options.seed, case);
+            let lines = stp_program(&input);
+            (input, Vec::new(), told(&lines), lines)
+        }
+        Kind::Why => {
+            // Past the directed texts, of which few can be planned.
+            let input = text_case(options.seed, case + directed_texts().len() as u64);
+            let rng = &mut Rng::of_case(options.seed ^ 0x776879, case);
+            let tracks = parse(&input, Lengths::ENOUGH).map_or(0, |survey| survey.first.len());
+            let track = if rng.chance(1, 20) { rng.pick(&[tracks, 2_048, 9_999_999]) } else { rng.below(tracks + 1) };
+            let lines = why_program(&input, track as u32);
+            (input, vec![track.to_string()], told(&lines), lines)
+        }
+    }
 }
 
 fn compare(options: &Options, program: &str) -> bool {
@@ -212,8 +261,9 @@ fn compare(options: &Options, program: &str) -> bool {
                     if case >= cases.end || stop.load(Ordering::SeqCst) {
                         return;
                     }
-                    let (input, answer, expected) = case_of(options, case);
-                    let report = match outside(program, &options.arguments, &input, case % 16 == 15, slot) {
+                    let (input, more, answer, expected) = case_of(options, case);
+                    let arguments = [&options.arguments[..], &more].concat();
+                    let report = match outside(program, &arguments, &input, case % 16 == 15, slot) {
                         Ok(output) if output == expected.as_bytes() => None,
                         Ok(output) => Some(format!("printed:\n{}", shown(&output))),
                         Err(trouble) => Some(trouble),
@@ -224,7 +274,7 @@ fn compare(options: &Options, program: &str) -> bool {
                         stop.store(true, Ordering::SeqCst);
                         if tally.differs.as_ref().is_none_or(|(lowest, _)| case < *lowest) {
                             let head = format!("seed {} case {case} differs", options.seed);
-                            let text = format!("input, {} bytes:\n{}", input.len(), shown(&input));
+                            let text = format!("input, {} bytes, {more:?}:\n{}", input.len(), shown(&input));
                             let report = format!("{head}\n{text}\nexpected:\n{expected}program {report}");
                             tally.differs = Some((case, report));
                         }
@@ -254,10 +304,14 @@ fn compare(options: &Options, program: &str) -> bool {
     if let Some((_, report)) = &tally.differs {
         println!("{report}\n");
     }
-    println!(
-        "{} plans: {} with sites, {} drop a track, {} hold a merged moat, {} rounds at most",
-        tally.plans, tally.with_sites, tally.with_dropped, tally.with_merged, tally.most_rounds
-    );
+    match options.kind {
+        Kind::Plan | Kind::Verify => println!(
+            "{} plans: {} with sites, {} drop a track, {} hold a merged moat, {} rounds at most",
+            tally.plans, tally.with_sites, tally.with_dropped, tally.with_merged, tally.most_rounds
+        ),
+        Kind::Stp => println!("{} surveys", tally.plans),
+        Kind::Why => println!("{} reasons", tally.plans),
+    }
     for (number, many) in &tally.refused {
         println!("{many} refused {number}");
     }

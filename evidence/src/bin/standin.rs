@@ -1,8 +1,11 @@
 //! The program of 01, answered by our own library: a survey in on standard input, its plan out.
 //!
 //!     standin [BLUNDER]
+//!     standin stp
+//!     standin why TRACK
 //!
-//! With the name of a blunder it makes that fault, so that `compare` can be seen to find it.
+//! With the name of a blunder it makes that fault, so that `compare` can be seen to find it. `stp` prints the survey of an
+//! STP file, `why` the reason for a track of a survey.
 
 use evidence::blunder::{self, BLUNDERS};
 use evidence::{plan, print, MAX_INPUT};
@@ -10,9 +13,19 @@ use std::io::{Read, Write};
 
 fn main() -> std::io::Result<()> {
     let mut input = Vec::new();
+    let words: Vec<String> = std::env::args().skip(1).collect();
+    if words.first().is_some_and(|word| word == "stp") {
+        std::io::stdin().read_to_end(&mut input)?;
+        return std::io::stdout().write_all(print::stp_program(&input).as_bytes());
+    }
     std::io::stdin().take(MAX_INPUT as u64).read_to_end(&mut input)?;
-    let fault = std::env::args().nth(1).map(|name| {
-        let named = BLUNDERS.into_iter().find(|blunder| format!("{blunder:?}") == name);
+    if let [word, track] = &words[..] {
+        assert_eq!(word, "why");
+        let output = print::why_program(&input, track.parse().expect("a track's number"));
+        return std::io::stdout().write_all(output.as_bytes());
+    }
+    let fault = words.first().map(|name| {
+        let named = BLUNDERS.into_iter().find(|blunder| format!("{blunder:?}") == *name);
         named.unwrap_or_else(|| panic!("the blunders are {BLUNDERS:?}"))
     });
     let output = match fault {

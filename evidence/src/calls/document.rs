@@ -1,10 +1,11 @@
 //! Single calls with their answers written out: what document 01 says of P1 to P12 and of the limits, and small cases beside them, of reading, checking,
 //! printing and pairs, whose answers were worked out by hand from the papers' sentences.
 
-use super::{Library, CHECK_COUNTS, PLAN_COUNTS, PRINT_COUNTS, READ_COUNTS};
+use super::{Library, CHECK_COUNTS, PLAN_COUNTS, PRINT_COUNTS, READ_COUNTS, STP_COUNTS, WHY_COUNTS};
 use crate::gen::WORKED;
 use crate::plan::record_room;
 use crate::read::{Lengths, Lent};
+use crate::stp;
 use crate::{
     Survey, MAX_AMOUNT, MAX_JUNCTIONS, MAX_LINE, MAX_PAIRS, MAX_PRICE, MAX_RECORDS, MAX_TEXT, MAX_TRACKS, RECORD_BYTES,
 };
@@ -156,6 +157,52 @@ const TEXTS_SHORT: [(&str, Result<Tracks, Refused>); 3] = [
     ("nodes=1\nlinks=1\nnode=300\n", Err((7, 0))),
 ];
 
+/// The first line of an STP file: 42 bytes with its end.
+const STP_HEAD: &str = "33D32945 STP File, STP Format Version 1.0\n";
+
+/// What follows the first line, and the survey or the refusal.
+const STP_TEXTS: [(&str, Result<Tracks, Refused>); 27] = [
+    (
+        "SECTION Graph\nNodes 3\nEdges 2\nE 1 2 3\nE 2 3 4\nEND\nSECTION Terminals\nTerminals 2\nT 1\nT 3\nEND\nEOF\n",
+        Ok((&[1, 0, 1], &[(0, 1, 3), (1, 2, 4)])),
+    ),
+    (
+        "\nSECTION Comment\n END\nEND \nEND\r\n\nSECTION Graph\nEND\n\nSECTION Graph\n\nNodes 2\n\n\nEdges 1\n\nE 2 2 999999999\n\nEND\n\n\
+         SECTION Terminals\n\nTerminals 1\n\nT 2\n\nEND\n\nEOF\n\n",
+        Ok((&[0, 1], &[(1, 1, 999_999_999)])),
+    ),
+    ("SECTION Graph\nNodes 1\nEdges 0\nEND\nSECTION Terminals\nTerminals 0\nEND\nEOF\n", Ok((&[0], &[]))),
+    ("SECTION Graph\nNodes 1\nEdges 0\nEND\nSECTION Terminals\nTerminals 0\nEND\nEOF", Err((20, 113))),
+    ("SECTION Graph\nNodes 1\nEdges 0\nEND\nSECTION Terminals\nTerminals 0\nEND\nEOF\n\nE", Err((20, 115))),
+    ("SECTION Graph\nNodes 1\nEdges 0\nEND\nSECTION Comment\nEND\nSECTION Terminals\n", Err((20, 84))),
+    ("SECTION Graph\nNodes 1\nEdges 0\nEND\nSECTION Terminals\nTerminals 0\nEND\nSECTION Comment\n", Err((20, 110))),
+    ("SECTION Comment\nEND\nSECTION Comment\nEND\n", Err((20, 70))),
+    ("SECTION Comment\nEND ", Err((20, 62))),
+    ("", Err((20, 42))),
+    ("SECTION graph\n", Err((20, 50))),
+    // 1 and 3 when the line is complete.
+    ("SECTION Graph\nNodes 0\nx", Err((1, 0))),
+    ("SECTION Graph\nNodes 449\n", Err((1, 0))),
+    ("SECTION Graph\nNodes 449", Err((20, 65))),
+    ("SECTION Graph\nNodes 10000000\n", Err((20, 69))),
+    ("SECTION Graph\nNodes 448\nEdges 2049\n", Err((3, 0))),
+    ("SECTION Graph\nNodes 448\nEdges 2049 \n", Err((20, 76))),
+    // Numbers of 12 nodes.
+    ("SECTION Graph\nNodes 12\nEdges 1\nE 0 1 5\n", Err((20, 75))),
+    ("SECTION Graph\nNodes 12\nEdges 1\nE 13 1 5\n", Err((20, 76))),
+    ("SECTION Graph\nNodes 12\nEdges 1\nE 20 1 5\n", Err((20, 76))),
+    ("SECTION Graph\nNodes 12\nEdges 1\nE 12 012 5\n", Err((20, 78))),
+    ("SECTION Graph\nNodes 12\nEdges 1\nE 1 1 1000000000\n", Err((20, 88))),
+    ("SECTION Graph\nNodes 12\nEdges 1\nE 1 2 5\nEND\nSECTION Terminals\nTerminals 13\n", Err((20, 114))),
+    ("SECTION Graph\nNodes 12\nEdges 1\nE 1 2 5\nEND\nSECTION Terminals\nTerminals 2\nT 2\nT 2\n", Err((20, 121))),
+    ("SECTION Graph\nNodes 12\nEdges 1\nE 1 2 5\nEND\nSECTION Terminals\nTerminals 2\nT 1\nT 1\n", Err((20, 122))),
+    (
+        "SECTION Graph\nNodes 12\nEdges 1\nE 1 2 5\nEND\nSECTION Terminals\nTerminals 5\nT 1\nT 10\nT 11\nT 12\nT 1\n",
+        Err((20, 136)),
+    ),
+    ("SECTION Graph\nNodes 12\nEdges 1\nE 1 2 5\nEND\nSECTION Terminals\nTerminals 1\nEND\n", Err((20, 115))),
+];
+
 /// Marks and moats for the survey of P1 to P11: sites, cost and bound, or the refusal.
 type Checked = (usize, &'static [u8], &'static [Moat], Result<[u64; 3], Refused>);
 
@@ -234,6 +281,67 @@ const SHARED_CHECKED: [(&[u8], &[Moat], Result<[u64; 3], Refused>); 6] = [
     (&[2, 2], &[(3, &[0]), (3, &[1]), (4, &[2]), (1, &[0, 1])], Ok([3, 7, 11])),
     (&[2, 2], &[(3, &[0]), (1, &[0, 1, 2])], Err((12, 1))),
     (&[2, 2], &[(3, &[0]), (3, &[1]), (4, &[2])], Err((15, 0))),
+];
+
+/// The counts of a reason, and its route.
+type Told = ([u64; WHY_COUNTS], &'static [u32]);
+
+/// Reasons: of P1 to P12, a track, the room for the route, and the reason or the refusal.
+type Asked = (usize, u32, usize, Result<Told, Refused>);
+
+/// A track that isn't picked, whose ends were first in one component after this round.
+const fn passed(round: u64) -> Told {
+    ([0, 0, 0, 0, 0, round], &[])
+}
+
+const SPARED: Told = ([1, 0, 0, 0, 0, 0], &[]);
+
+const ASKED: [Asked; 34] = [
+    (1, 0, 0, Err((19, 0))),
+    (2, 0, 1, Ok(([2, 1, 0, 1, 1, 0], &[0]))),
+    (2, 0, 0, Err((7, 0))),
+    (2, 1, 1, Err((19, 1))),
+    (2, 2, 1, Err((19, 2))),
+    (2, u32::MAX, 9, Err((19, u32::MAX as u64))),
+    (2, u32::MAX, 0, Err((7, 0))),
+    (3, 0, 2, Ok(([2, 1, 0, 2, 2, 0], &[0, 1]))),
+    (3, 1, 5, Ok(([2, 1, 0, 2, 2, 0], &[0, 1]))),
+    (3, 1, 1, Err((7, 0))),
+    // The members of P4's group are all three junctions: 0 and 1 for track 0; 0 and 2 for track 1.
+    (4, 0, 2, Ok(([2, 1, 0, 1, 1, 0], &[0]))),
+    (4, 1, 2, Ok(([2, 1, 0, 2, 2, 0], &[0, 1]))),
+    (4, 2, 2, Ok(passed(2))),
+    (4, 2, 1, Err((7, 0))),
+    (5, 0, 3, Ok(([2, 1, 0, 1, 1, 0], &[0]))),
+    (5, 1, 3, Ok(SPARED)),
+    (5, 2, 4, Ok(SPARED)),
+    (5, 2, 2, Err((7, 0))),
+    (6, 0, 1, Ok(([2, 1, 0, 1, 1, 0], &[0]))),
+    (6, 1, 1, Ok(passed(1))),
+    (7, 0, 1, Ok(passed(0))),
+    (8, 0, 1, Ok(([2, 1, 0, 1, 1, 0], &[0]))),
+    // P9: the spokes' ends are never in one component; the last rim track's are after round 2.
+    (9, 0, 3, Ok(passed(0))),
+    (9, 3, 3, Ok(([2, 1, 1, 2, 1, 0], &[3]))),
+    (9, 4, 3, Ok(([2, 1, 1, 3, 1, 0], &[4]))),
+    (9, 5, 3, Ok(passed(2))),
+    (10, 0, 3, Ok(([2, 1, 0, 2, 2, 0], &[0, 1]))),
+    (10, 1, 3, Ok(([2, 1, 0, 2, 2, 0], &[0, 1]))),
+    (10, 2, 3, Ok(([2, 2, 1, 3, 2, 0], &[1, 2]))),
+    // P11: walked from 2 to 3.
+    (11, 0, 3, Ok(([2, 1, 0, 1, 1, 0], &[0]))),
+    (11, 2, 3, Ok(([2, 2, 2, 3, 3, 0], &[1, 0, 2]))),
+    (12, 0, 1, Err((8, 1))),
+    (12, 7, 1, Err((8, 1))),
+    (12, 7, 0, Err((7, 0))),
+];
+
+/// Reasons of the survey with two lists that share junction 1, and of one in which a list by pairs is the lower.
+const SHARED_ASKED: [(Tracks, &[(u32, u8)], u32, Told); 4] = [
+    (SHARED, SHARED_PAIRS, 0, ([2, 1, 0, 1, 1, 0], &[0])),
+    (SHARED, SHARED_PAIRS, 1, ([2, 2, 1, 2, 1, 0], &[1])),
+    (SHARED, &[(1, 2), (2, 1)], 1, ([2, 1, 0, 2, 2, 0], &[0, 1])),
+    ((&[9, 0, 9], &[(2, 1, 4), (0, 1, 3)]), &[(1, 7), (2, 7)], 0, ([2, 7, 1, 2, 1, 0], &[0])),
 ];
 
 /// Moats, the length of the buffer for the line, and the line or the refusal.
@@ -358,6 +466,54 @@ impl Cases<'_> {
         self.read(&longest.concat(), Lengths::ENOUGH, Err((17, 0)))?;
         let text = format!("{}{}{}{}", longest[0], "node=255\n".repeat(448), longest[2], longest[3]);
         self.read(&text, Lengths::ENOUGH, Err((17, 999)))
+    }
+
+    /// An STP file, read into buffers of these lengths.
+    fn read_stp(&mut self, text: &str, room: Lengths, want: Result<Tracks, Refused>) -> Result<(), String> {
+        let ends = [room.first, room.second, room.prices].map(|length| vec![u32::from(BEFORE); length]);
+        let before = (vec![BEFORE; room.groups], ends, [7; STP_COUNTS]);
+        let (mut groups, [mut first, mut second, mut prices], mut counts) = before.clone();
+        let lent = stp::Lent { groups: &mut groups, first: &mut first, second: &mut second, prices: &mut prices };
+        let code = (self.library.read_stp)(text.as_bytes(), lent, &mut counts);
+        let (mut after, mut want_code) = (before, 0);
+        match want {
+            Err(refused) => want_code = one_number(refused),
+            Ok((groups, tracks)) => {
+                after.0[..groups.len()].copy_from_slice(groups);
+                for (i, &(u, v, price)) in tracks.iter().enumerate() {
+                    [after.1[0][i], after.1[1][i], after.1[2][i]] = [u, v, price];
+                }
+                after.2 = [groups.len(), tracks.len()].map(|count| count as u64);
+            }
+        }
+        let came = (code, (groups, [first, second, prices], counts));
+        self.same(&format!("reading {text:?} into {room:?}"), came, (want_code, after))
+    }
+
+    fn reading_stp(&mut self) -> Result<(), String> {
+        for (rest, want) in STP_TEXTS {
+            self.read_stp(&format!("{STP_HEAD}{rest}"), Lengths::ENOUGH, want)?;
+        }
+        self.read_stp("\n", Lengths::ENOUGH, Err((20, 0)))?;
+        self.read_stp(&format!("\n{STP_HEAD}{}", STP_TEXTS[0].0), Lengths::ENOUGH, Err((20, 0)))?;
+        // Every file that stops early is refused at its length; just enough room, and one too few.
+        let text = format!("{STP_HEAD}{}", STP_TEXTS[0].0);
+        let just = Lengths { groups: 3, first: 2, second: 2, prices: 2, owners: 0, others: 0 };
+        for length in 0..text.len() {
+            self.read_stp(&text[..length], just, Err((20, length as u64)))?;
+        }
+        self.read_stp(&text, just, STP_TEXTS[0].1)?;
+        for (room, nodes_line) in [
+            (Lengths { groups: 2, ..just }, true),
+            (Lengths { first: 1, ..just }, false),
+            (Lengths { second: 1, ..just }, false),
+            (Lengths { prices: 1, ..just }, false),
+        ] {
+            self.read_stp(&text, room, Err((7, 0)))?;
+            self.read_stp(&text[..64], room, Err(if nodes_line { (7, 0) } else { (20, 64) }))?;
+            self.read_stp(&text[..72], room, Err((7, 0)))?;
+        }
+        Ok(())
     }
 
     /// The code and counts of planning, the marks, and the records that were written.
@@ -498,6 +654,44 @@ impl Cases<'_> {
         self.check("18 before 9", &bad, &[], &[0; 7], Err((18, 0)))
     }
 
+    /// A reason in a route buffer of so many entries, or the refusal.
+    fn ask(
+        &mut self,
+        what: &str,
+        survey: &Survey,
+        track: u32,
+        room: usize,
+        want: Result<Told, Refused>,
+    ) -> Result<(), String> {
+        let before = vec![u32::from(BEFORE); room];
+        let (mut route, mut counts) = (before.clone(), [7; WHY_COUNTS]);
+        let code = (self.library.why)(survey.view(), track, &mut route, &mut counts);
+        let (mut want_route, mut want_counts, mut want_code) = (before, [7; WHY_COUNTS], 0);
+        match want {
+            Err(refused) => want_code = one_number(refused),
+            Ok((counts, tracks)) => {
+                want_route[..tracks.len()].copy_from_slice(tracks);
+                want_counts = counts;
+            }
+        }
+        self.same(&format!("why track {track} of {what}"), (code, counts, route), (want_code, want_counts, want_route))
+    }
+
+    fn asking(&mut self) -> Result<(), String> {
+        for (p, track, room, want) in ASKED {
+            self.ask(&format!("P{p}, {room} entries"), &worked(p), track, room, want)?;
+        }
+        for ((groups, tracks), pairs, track, told) in SHARED_ASKED {
+            let survey = Survey::new(groups, tracks).with_pairs(pairs);
+            self.ask(&format!("{survey:?}"), &survey, track, groups.len(), Ok(told))?;
+        }
+        let bad = Survey::new(SHARED.0, SHARED.1).with_pairs(&[(1, 1)]);
+        self.ask("an own group, 0 entries", &bad, 9, 0, Err((18, 0)))?;
+        let (survey, mut route) = (worked(12), [9]);
+        let code = (self.library.why)(survey.view(), 9, &mut route, &mut [0; WHY_COUNTS - 1]);
+        self.same("why with a count too few", (code, route), (7, [9]))
+    }
+
     /// A printed text at the beginning of a buffer of so many bytes, or the refusal.
     fn print(
         &mut self,
@@ -574,9 +768,11 @@ impl Cases<'_> {
 pub fn cases(library: &Library) -> Result<usize, String> {
     let mut cases = Cases { library, passed: 0 };
     cases.reading()?;
+    cases.reading_stp()?;
     cases.planning()?;
     cases.checking()?;
     cases.pairs()?;
+    cases.asking()?;
     cases.printing()?;
     Ok(cases.passed)
 }

@@ -70,6 +70,20 @@ pub enum Fault {
     MarkTwo,
     LoopClosed,
     PickRemoved,
+    RouteShort,
+    TrackOut,
+    StpCount,
+    StpEnd,
+    StpPrice,
+    StpTerminal,
+    StpTwice,
+    StpTerminals,
+    StpComment,
+    StpBlank,
+    StpSection,
+    StpLines,
+    StpEmptyFirst,
+    StpOpen,
 }
 
 use Fault::*;
@@ -101,6 +115,32 @@ pub const READ_FAULTS: &[Fault] = &[
     AlsoMany,
     AlsoWide,
     AlsoElsewhere,
+];
+pub const STP_FAULTS: &[Fault] = &[
+    Nothing,
+    ZeroNodes,
+    ManyNodes,
+    ManyLinks,
+    ByteChanged,
+    TextCut,
+    TextLonger,
+    StpCount,
+    StpEnd,
+    StpPrice,
+    StpTerminal,
+    StpTwice,
+    StpTerminals,
+    StpComment,
+    StpBlank,
+    StpSection,
+    StpLines,
+    StpEmptyFirst,
+    StpOpen,
+    GroupsShort,
+    FirstShort,
+    SecondShort,
+    PricesShort,
+    CountsShort,
 ];
 pub const PLAN_FAULTS: &[Fault] = &[
     Nothing,
@@ -178,6 +218,29 @@ pub const DROP_FAULTS: &[Fault] = &[
     LoopClosed,
     PickRemoved,
 ];
+pub const WHY_FAULTS: &[Fault] = &[
+    Nothing,
+    NoJunction,
+    ManyJunctions,
+    SecondUnequal,
+    PricesUnequal,
+    PairsUnequal,
+    ManyTracks,
+    EndOut,
+    EndsEqual,
+    PriceHigh,
+    PairOut,
+    PairNone,
+    PairOwn,
+    PairsFall,
+    PairTwice,
+    ManyPairs,
+    RouteShort,
+    CountsShort,
+    Unjoinable,
+    PairUnjoinable,
+    TrackOut,
+];
 /// The faults of pairs that are 18.
 pub const PAIR_FAULTS: &[Fault] = &[PairOut, PairNone, PairOwn, PairsFall, PairTwice, ManyPairs];
 /// The faults of also lines, and the refusal of each.
@@ -210,6 +273,7 @@ pub const READ_PAIRS: Pairs = &[
     (17, &[7, 16, 18]),
     (18, &[7, 16, 17]),
 ];
+pub const STP_PAIRS: Pairs = &[(1, &[3, 7, 20]), (3, &[7, 20]), (7, &[3, 20]), (20, &[1, 3, 7])];
 pub const PLAN_PAIRS: Pairs = &[
     (1, &[2, 3, 4, 5, 6, 18, 7, 8]),
     (2, &[3, 4, 5, 6, 18, 7, 8]),
@@ -248,6 +312,17 @@ pub const DROP_PAIRS: Pairs = &[
     (9, &[10, 21, 14]),
     (10, &[21, 14]),
     (21, &[14]),
+];
+pub const WHY_PAIRS: Pairs = &[
+    (1, &[2, 3, 4, 5, 6, 18, 7, 8, 19]),
+    (2, &[3, 4, 5, 6, 18, 7, 8, 19]),
+    (3, &[4, 5, 6, 18, 7, 8, 19]),
+    (4, &[5, 6, 18, 7, 8, 19]),
+    (5, &[4, 6, 18, 7, 8, 19]),
+    (6, &[4, 5, 18, 7, 8, 19]),
+    (18, &[7, 8, 19]),
+    (7, &[8, 19]),
+    (8, &[19]),
 ];
 pub const PRINT_MOAT_PAIRS: Pairs = &[(9, &[7])];
 pub const PRINT_PLAN_PAIRS: Pairs = &[];

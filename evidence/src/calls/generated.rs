@@ -1,13 +1,16 @@
 //! Generated calls: a sound input, two faults put into it, and lent buffers with any bytes in them, each from a stream of its own.
 
 use super::faults::*;
-use super::{Figures, Library, CHECK_COUNTS, DROP_COUNTS, PLAN_COUNTS, PRINT_COUNTS, READ_COUNTS, SECOND, SHORT};
-use crate::gen::{overlap, survey, Rng, Size};
+use super::{
+    Figures, Library, CHECK_COUNTS, DROP_COUNTS, PLAN_COUNTS, PRINT_COUNTS, READ_COUNTS, SECOND, SHORT, STP_COUNTS,
+    WHY_COUNTS,
+};
+use crate::gen::{damage_stp, directed_stp, line, overlap, stp_file, survey, wanted, Rng, Size};
 use crate::plan::{fast, owned, record_room, DROPPED, NOT_PICKED};
 use crate::print::survey_text;
 use crate::read::Lent;
 use crate::stages::{grow, loop_at};
-use crate::{Survey, View, AMOUNT_BYTES, MAX_JUNCTIONS, MAX_LINE, MAX_PAIRS, RECORD_BYTES};
+use crate::{stp, Survey, View, AMOUNT_BYTES, MAX_JUNCTIONS, MAX_LINE, MAX_PAIRS, RECORD_BYTES};
 use Fault::*;
 
 /// What a call answers, and what its lent buffers then hold, with what stands behind each.
@@ -198,6 +201,64 @@ fn read_input(streams: &Streams, faults: [Fault; 2]) -> Box<dyn Call> {
     })
 }
 
+struct ReadStp {
+    text: Vec<u8>,
+    groups: Vec<u8>,
+    first: Vec<u32>,
+    second: Vec<u32>,
+    prices: Vec<u32>,
+    counts: Vec<u64>,
+}
+
+impl Call for ReadStp {
+    fn run(&self, library: &Library) -> Answer {
+        let mut groups = before_others(&self.groups, 0xa5);
+        let [mut first, mut second, mut prices] =
+            [&self.first, &self.second, &self.prices].map(|buffer| before_others(buffer, 0xa5a5));
+        let mut counts = before_others(&self.counts, 0xa5a5);
+        let lent = stp::Lent {
+            groups: &mut groups[..self.groups.len()],
+            first: &mut first[..self.first.len()],
+            second: &mut second[..self.second.len()],
+            prices: &mut prices[..self.prices.len()],
+        };
+        let code = (library.read_stp)(&self.text, lent, &mut counts[..self.counts.len()]);
+        Answer { code, bytes: vec![groups], words: vec![first, second, prices], counts }
+    }
+
+    fn says(&self) -> String {
+        self.text.escape_ascii().to_string()
+    }
+}
+
+/// The directed files come where no fault is put in, one after the other, whatever the seed.
+fn read_stp_input(streams: &Streams, faults: [Fault; 2]) -> Box<dyn Call> {
+    let directed = directed_stp().get(streams.case as usize / 4).filter(|_| streams.case % 4 == 3);
+    let rng = &mut streams.base();
+    let (mut text, n, m) = match directed {
+        Some(text) => {
+            let (n, m) = wanted(rng, text);
+            (text.clone(), n, m)
+        }
+        None => stp_file(rng),
+    };
+    for (i, fault) in faults.into_iter().enumerate() {
+        damage_stp(&mut streams.fault(i), &mut text, fault);
+    }
+    let rng = &mut streams.buffers();
+    let groups = room(rng, n, faults.contains(&GroupsShort));
+    let [first, second, prices] =
+        [FirstShort, SecondShort, PricesShort].map(|fault| room(rng, m, faults.contains(&fault)));
+    Box::new(ReadStp {
+        text,
+        groups: bytes(rng, groups),
+        first: words(rng, first),
+        second: words(rng, second),
+        prices: words(rng, prices),
+        counts: counts(rng, STP_COUNTS, faults),
+    })
+}
+
 /// Planning, or growing.
 struct Draw {
     survey: Survey,
@@ -308,6 +369,59 @@ fn drop_input(streams: &Streams, faults: [Fault; 2]) -> Box<dyn Call> {
     }
     let counts = counts(&mut streams.buffers(), DROP_COUNTS, faults);
     Box::new(Drop { survey, marks, counts })
+}
+
+/// Why: one track, or every track of a survey in turn, each with the buffers as they were.
+struct Why {
+    survey: Survey,
+    tracks: Vec<u32>,
+    route: Vec<u32>,
+    counts: Vec<u64>,
+}
+
+impl Call for Why {
+    fn run(&self, library: &Library) -> Answer {
+        let mut answer = Answer { code: 0, bytes: Vec::new(), words: Vec::new(), counts: Vec::new() };
+        for &track in &self.tracks {
+            let (mut route, mut counts) = (before_others(&self.route, 0xa5a5), before_others(&self.counts, 0xa5a5));
+            let lent = &mut route[..self.route.len()];
+            answer.code = (library.why)(self.survey.view(), track, lent, &mut counts[..self.counts.len()]);
+            answer.words.push(route);
+            answer.counts.push(answer.code);
+            answer.counts.extend(counts);
+        }
+        answer
+    }
+
+    fn says(&self) -> String {
+        format!("{:?} {:?}", self.survey, self.tracks)
+    }
+}
+
+fn why_input(streams: &Streams, faults: [Fault; 2]) -> Box<dyn Call> {
+    let rng = &mut streams.base();
+    let mut survey = match rng.below(1_000) {
+        0 => survey(rng, Size::Large),
+        1 => line(rng, MAX_JUNCTIONS),
+        2..10 => line(rng, 100),
+        10..30 => line(rng, 1),
+        _ => sound_lists(rng),
+    };
+    let m = survey.first.len();
+    let mut tracks = vec![rng.below(m.max(1)) as u32];
+    if faults == [Nothing; 2] && (1..=30).contains(&m) {
+        tracks = (0..m as u32).collect();
+    }
+    for (i, fault) in faults.into_iter().enumerate() {
+        let rng = &mut streams.fault(i);
+        harm(rng, &mut survey, fault);
+        if fault == TrackOut {
+            tracks = vec![rng.pick(&[m as u32, m as u32, m as u32 + 1, m as u32 + 256, 1 << 24, u32::MAX])];
+        }
+    }
+    let rng = &mut streams.buffers();
+    let route = room(rng, survey.groups.len().saturating_sub(1), faults.contains(&RouteShort));
+    Box::new(Why { survey, tracks, route: words(rng, route), counts: counts(rng, WHY_COUNTS, faults) })
 }
 
 struct Check {
@@ -454,12 +568,14 @@ fn print_survey_input(streams: &Streams, faults: [Fault; 2]) -> Box<dyn Call> {
     print(streams, faults, need, survey, with)
 }
 
-pub const OPERATIONS: [Operation; 8] = [
+pub const OPERATIONS: [Operation; 10] = [
     Operation { name: "read", faults: READ_FAULTS, pairs: READ_PAIRS, input: read_input },
+    Operation { name: "read_stp", faults: STP_FAULTS, pairs: STP_PAIRS, input: read_stp_input },
     Operation { name: "plan", faults: PLAN_FAULTS, pairs: PLAN_PAIRS, input: plan_input },
     Operation { name: "check", faults: CHECK_FAULTS, pairs: CHECK_PAIRS, input: check_input },
     Operation { name: "grow", faults: PLAN_FAULTS, pairs: PLAN_PAIRS, input: grow_input },
     Operation { name: "drop", faults: DROP_FAULTS, pairs: DROP_PAIRS, input: drop_input },
+    Operation { name: "why", faults: WHY_FAULTS, pairs: WHY_PAIRS, input: why_input },
     Operation { name: "print_moat", faults: PRINT_MOAT_FAULTS, pairs: PRINT_MOAT_PAIRS, input: print_moat_input },
     Operation { name: "print_plan", faults: PRINT_PLAN_FAULTS, pairs: PRINT_PLAN_PAIRS, input: print_plan_input },
     Operation {

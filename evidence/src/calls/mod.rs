@@ -3,7 +3,7 @@
 //! with lent buffers of every length that matters and any bytes in them before.
 //!
 //! That a short buffer for counts is 7 is document 01's rule for buffers to be written; at which place of the order it comes is the product's own
-//! decision (with planning's other 7s; in checking after 18; in reading at the nodes line, after 1; in printing with the other 7).
+//! decision (with planning's other 7s, and with the 7 of a route; in checking after 18; in reading either text at the nodes line, after 1; in printing with the other 7).
 
 pub mod document;
 pub mod faults;
@@ -14,6 +14,8 @@ use crate::plan::{fast, Counts, Plan};
 use crate::print::{moat_line, plan_lines, survey_text};
 use crate::read::{read, Lent};
 use crate::stages::{drop_tracks, grow};
+use crate::stp;
+use crate::why::why;
 use crate::{Refusal, Survey, View, RECORD_BYTES};
 
 /// The figures of a printed plan: sites, cost, bound and rounds.
@@ -23,21 +25,26 @@ pub type Figures = [u64; 4];
 #[derive(Clone, Copy)]
 pub struct Library {
     pub read: fn(&[u8], Lent, &mut [u64]) -> u64,
+    pub read_stp: fn(&[u8], stp::Lent, &mut [u64]) -> u64,
     pub plan: fn(View, &mut [u8], &mut [u8], &mut [u64]) -> u64,
     pub check: fn(View, &[u8], &[u8], &mut [u64]) -> u64,
     pub grow: fn(View, &mut [u8], &mut [u8], &mut [u64]) -> u64,
     pub drop: fn(View, &mut [u8], &mut [u64]) -> u64,
+    pub why: fn(View, u32, &mut [u32], &mut [u64]) -> u64,
     pub print_moat: fn(&[u8], &mut [u8], &mut [u64]) -> u64,
     pub print_plan: fn(Figures, &[u8], &[u8], &mut [u8], &mut [u64]) -> u64,
     pub print_survey: fn(View, &mut [u8], &mut [u64]) -> u64,
 }
 
-/// Entries of the counts: n, m and the number of pairs of reading; sites, cost, bound, rounds and moats of planning; sites, cost and bound of checking; a length of printing.
+/// Entries of the counts: n, m and the number of pairs of reading, n and m of reading an STP file; sites, cost, bound, rounds and moats of planning; sites, cost and bound of checking; a length of printing.
 pub const READ_COUNTS: usize = 3;
+pub const STP_COUNTS: usize = 2;
 pub const PLAN_COUNTS: usize = 5;
 pub const CHECK_COUNTS: usize = 3;
 /// Sites and cost of dropping; growing has planning's.
 pub const DROP_COUNTS: usize = 2;
+/// Kind, list, smaller, larger, entries and round of a reason.
+pub const WHY_COUNTS: usize = 6;
 pub const PRINT_COUNTS: usize = 1;
 
 /// 01: 0, or the refusal in one number.
@@ -67,6 +74,17 @@ fn read_call(text: &[u8], lent: Lent, counts: &mut [u64]) -> u64 {
         };
     }
     stored(read(text, lent), counts)
+}
+
+fn read_stp_call(text: &[u8], lent: stp::Lent, counts: &mut [u64]) -> u64 {
+    if counts.len() < STP_COUNTS {
+        // As in reading our own text.
+        return match stp::read(text, stp::Lent { groups: &mut [], ..lent }) {
+            Ok(_) => SHORT,
+            Err(refusal) => code(refusal),
+        };
+    }
+    stored(stp::read(text, lent), counts)
 }
 
 /// Out of line: inlined beside the tests before it, its large frame is set up between the test and the use of a length, and rustc 1.95 loses the length.
@@ -115,6 +133,16 @@ fn drop_call(survey: View, marks: &mut [u8], counts: &mut [u64]) -> u64 {
     stored(drop_tracks(survey, marks).map(|kept| [kept.sites, kept.cost]), counts)
 }
 
+fn why_call(survey: View, track: u32, route: &mut [u32], counts: &mut [u64]) -> u64 {
+    if let Err(refusal) = survey.sound() {
+        return code(refusal);
+    }
+    if counts.len() < WHY_COUNTS {
+        return SHORT;
+    }
+    stored(why(survey, track, route).map(|r| [r.kind, r.list, r.smaller, r.larger, r.entries, r.round]), counts)
+}
+
 fn print_moat_call(record: &[u8], out: &mut [u8], counts: &mut [u64]) -> u64 {
     if record.len() == RECORD_BYTES && counts.len() < PRINT_COUNTS {
         return SHORT;
@@ -161,10 +189,12 @@ fn print_survey_call(survey: View, out: &mut [u8], counts: &mut [u64]) -> u64 {
 /// The second implementation in that form.
 pub const SECOND: Library = Library {
     read: read_call,
+    read_stp: read_stp_call,
     plan: plan_call,
     check: check_call,
     grow: grow_call,
     drop: drop_call,
+    why: why_call,
     print_moat: print_moat_call,
     print_plan: print_plan_call,
     print_survey: print_survey_call,

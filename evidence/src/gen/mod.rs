@@ -3,10 +3,14 @@
 mod also;
 mod plans;
 mod rng;
+mod stp;
 mod surveys;
 mod texts;
 
 pub use plans::{damaged_plan, damaged_plan_of, moat_case, plan_text_case, Damage, PlanCase, DAMAGES};
 pub use rng::Rng;
-pub use surveys::{full, overlap, refused_pairs, refused_survey, shadowed, survey, timed, tiny, Size, WORKED};
+pub use stp::{damage_stp, directed_stp, stp_case, stp_file, wanted};
+pub use surveys::{
+    full, line, overlap, refused_pairs, refused_survey, shadowed, sparse, survey, timed, tiny, Size, WORKED,
+};
 pub use texts::{directed_texts, text_case};

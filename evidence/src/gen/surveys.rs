@@ -429,6 +429,29 @@ pub fn tiny(rng: &mut Rng) -> Survey {
     }
 }
 
+/// Junctions in a line, numbered in any order, some with tracks to spare, and two groups: a route leads far along it.
+pub fn line(rng: &mut Rng, n: usize) -> Survey {
+    let mut ends: Ends = (1..n as u32).map(|v| (v - 1, v)).collect();
+    for _ in 0..rng.below(3).min(n - 1) {
+        anywhere(rng, 0, n, &mut ends);
+    }
+    let mut place: Vec<u32> = (0..n as u32).collect();
+    if rng.chance(2, 3) {
+        rng.shuffle(&mut place);
+    }
+    let mut survey = Survey { groups: vec![0; n], ..Survey::default() };
+    for (group, v) in [(2, 0), (2, n - 1), (1, n / 2), (1, n / 3)] {
+        survey.groups[place[v] as usize] = group;
+    }
+    rng.shuffle(&mut ends);
+    for (u, v) in ends {
+        survey.first.push(place[u as usize]);
+        survey.second.push(place[v as usize]);
+    }
+    survey.prices = prices_of(rng, survey.first.len());
+    survey
+}
+
 /// A survey of n junctions and 2,048 tracks that can be joined, n 2 or more.
 pub fn full(rng: &mut Rng, n: usize) -> Survey {
     filled(rng, n, MAX_TRACKS)
@@ -460,6 +483,21 @@ pub fn timed(rng: &mut Rng, n: usize, m: usize, scheme: usize) -> Survey {
             _ if i < n / 2 => 1 + (i % 8) as u8,
             _ => 0,
         };
+    }
+    survey
+}
+
+/// A survey to time: few tracks for its junctions, prices all over their range, and two to eight sites in one group or two.
+pub fn sparse(rng: &mut Rng) -> Survey {
+    let n = rng.between(40, MAX_JUNCTIONS);
+    let m = n - 1 + rng.below(n / 4 + 1);
+    let mut survey = timed(rng, n, m, 0);
+    survey.groups.fill(0);
+    let mut order: Vec<usize> = (0..n).collect();
+    rng.shuffle(&mut order);
+    let (sites, groups) = (rng.between(2, 8), rng.between(1, 2));
+    for (i, &v) in order[..sites].iter().enumerate() {
+        survey.groups[v] = 1 + (i / 2 % groups) as u8;
     }
     survey
 }

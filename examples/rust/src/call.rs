@@ -78,6 +78,9 @@ mod flat {
             text: in u8, groups: out u8, firsts: out u32, seconds: out u32, weights: out u32, owners: out u32,
             others: out u8, counts: out u64,
         );
+        read_stp = foamsickle_read_stp(
+            text: in u8, groups: out u8, firsts: out u32, seconds: out u32, weights: out u32, counts: out u64,
+        );
         plan = foamsickle_plan(
             groups: in u8, firsts: in u32, seconds: in u32, weights: in u32, owners: in u32, others: in u8,
             marks: out u8, records: out u8, counts: out u64,
@@ -89,6 +92,10 @@ mod flat {
         drop = foamsickle_drop(
             groups: in u8, firsts: in u32, seconds: in u32, weights: in u32, owners: in u32, others: in u8,
             marks: out u8, counts: out u64,
+        );
+        why = foamsickle_why(
+            groups: in u8, firsts: in u32, seconds: in u32, weights: in u32, owners: in u32, others: in u8,
+            track: by u32, route: out u32, counts: out u64,
         );
         check = foamsickle_check(
             groups: in u8, firsts: in u32, seconds: in u32, weights: in u32, owners: in u32, others: in u8,
@@ -115,7 +122,8 @@ mod flat {
     }
 }
 
-pub use flat::{print_dual, print_plan, verify};
+/// `counts` of `read_stp` takes n and m; what the others do include/foamsickle.h says.
+pub use flat::{print_dual, print_plan, read_stp, verify};
 
 /// `counts` takes n, m and the number of pairs.
 pub fn read(text: &[u8], b: Buffers, counts: &mut [u64]) -> u64 {
@@ -135,6 +143,11 @@ pub fn grow(s: Slices, marks: &mut [u8], records: &mut [u8], counts: &mut [u64])
 /// `counts` takes sites and cost.
 pub fn drop(s: Slices, marks: &mut [u8], counts: &mut [u64]) -> u64 {
     flat::drop(s.groups, s.firsts, s.seconds, s.weights, s.owners, s.others, marks, counts)
+}
+
+/// `counts` takes the mark, the group, its two members, the number of tracks between them and the round.
+pub fn why(s: Slices, track: u32, route: &mut [u32], counts: &mut [u64]) -> u64 {
+    flat::why(s.groups, s.firsts, s.seconds, s.weights, s.owners, s.others, track, route, counts)
 }
 
 /// `counts` takes sites, cost and bound.

@@ -25,6 +25,7 @@ pub const DUAL_ROOM: usize = 2_048;
 
 /// Entries of the counts of each operation.
 pub const READ_FIGURES: usize = 3;
+pub const STP_FIGURES: usize = 2;
 pub const PLAN_FIGURES: usize = 5;
 pub const DROP_FIGURES: usize = 2;
 pub const CHECK_FIGURES: usize = 3;
@@ -69,6 +70,8 @@ pub enum Refusal {
     Group(u64),
     /// 18: this pair
     Pair(u64),
+    /// 20: the STP file is malformed from this byte on
+    MalformedStp(u64),
     /// 21: this picked track closes a loop with picked tracks of lower number
     Loop(u64),
     /// any other number and its place, as of a printed plan: 25 to 28
@@ -99,6 +102,7 @@ impl Refusal {
             16 => Malformed(place),
             17 => Group(place),
             18 => Pair(place),
+            20 => MalformedStp(place),
             21 => Loop(place),
             number => Other(number as u8, place),
         }
@@ -259,6 +263,20 @@ pub fn read(text: &[u8]) -> Result<SurveyText, Refusal> {
     Ok(SurveyText { groups, firsts, seconds, weights, owners, others })
 }
 
+/// Reads an STP file of SteinLib: the terminals are group 1, and there are no pairs.
+pub fn read_stp(text: &[u8]) -> Result<SurveyText, Refusal> {
+    let mut groups = vec![0; MAX_VERTICES];
+    let [mut firsts, mut seconds, mut weights] = [(); 3].map(|_| vec![0; MAX_EDGES]);
+    let mut counts = [0; STP_FIGURES];
+    answered(call::read_stp(text, &mut groups, &mut firsts, &mut seconds, &mut weights, &mut counts))?;
+    let [n, m] = counts.map(|count| count as usize);
+    groups.truncate(n);
+    for buffer in [&mut firsts, &mut seconds, &mut weights] {
+        buffer.truncate(m);
+    }
+    Ok(SurveyText { groups, firsts, seconds, weights, owners: Vec::new(), others: Vec::new() })
+}
+
 /// A text of so many bytes at first, and of more where it does not fit.
 fn printed(room: usize, print: impl Fn(&mut [u8], &mut [u64]) -> u64) -> Result<Vec<u8>, Refusal> {
     let mut out = vec![0; room];
@@ -329,6 +347,17 @@ mod tests {
         let survey = text.survey().unwrap();
         assert_eq!(plan(&survey).unwrap().found, Found { sites: 3, cost: 7, bound: 11 });
         assert_eq!(print_survey(&survey).unwrap(), paired.as_bytes());
+    }
+
+    #[test]
+    fn an_stp_file_is_read() {
+        let stp =
+            "33D32945 STP File, STP Format Version 1.0\n\nSECTION Graph\nNodes 3\nEdges 2\nE 1 2 3\nE 2 3 4\nEND\n\n\
+                   SECTION Terminals\nTerminals 2\nT 1\nT 3\nEND\n\nEOF\n";
+        assert_eq!(read_stp(stp.as_bytes()), read(P3.as_bytes()));
+        let twice = stp.replace("T 3", "T 1");
+        let at = twice.rfind("1\nEND").unwrap() as u64;
+        assert_eq!(read_stp(twice.as_bytes()), Err(Refusal::MalformedStp(at)));
     }
 
     #[test]
