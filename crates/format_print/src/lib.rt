@@ -1,17 +1,29 @@
 // Printing of dual lines, plans and refusals. Definitions in specs/.
 ghost use Rattle.base_buffer.specs.Lent.{old, new};
+ghost use mathlib.Core.Bool.{true};
 ghost use mathlib.Core.Path.{_≡_};
 ghost use lib.ListN.{length};
 ghost use Rattle.base_limits.specs.Limits.{dualRoom, planRoom};
 ghost use Rattle.format_write.specs.Text.{countLines, planText, refusalText};
 ghost use Rattle.format_print.specs.Print.{printed, printedOut, dualPrinted, dualPrintedOut};
+ghost use Rattle.format_print.specs.Within.{HoldsAll};
 ghost use Rattle.format_write.specs.Wrote.{Wrote};
 use base_limits::DUAL_ROOM;
+use base_limits::LONGEST_DUAL;
+use base_limits::MAX_EDGES;
 use base_limits::PLAN_ROOM;
+use base_limits::RECORD_BYTES;
+use base_limits::RECORDS_ROOM;
+use base_limits::WORD_DIGITS;
 use format_write::put_dual;
 use format_write::put_duals;
 use format_write::put_line;
 use format_write::put_marks;
+
+// Bytes of the lines of counts, and of the line of a kept edge, at most.
+const COUNTS_ROOM: usize = 24 + 4 * (WORD_DIGITS + 1);
+
+const KEPT_ROOM: usize = 10;
 
 // The text's length, or a refusal's number and place.
 pub enum Printed {
@@ -75,7 +87,7 @@ fn put_refusal(out: &mut [u8], at: usize, number: u64, place: usize) -> usize
     put_line(out, next, &format_key::PLACE, base_buffer::wide(place))
 }
 
-// Prints the line of a dual record. Each print measures its text on an empty part of the buffer before it writes.
+// Prints the line of a dual record. A print measures its text on an empty part of the buffer before it writes.
 pub fn print_dual(part: &[u8], out: &mut [u8]) -> Printed
     ensures { λ r. ⌜ r ≡ dualPrinted (old part) (old out) ⌝ }
     ensures { λ _. ⌜ new out ≡ dualPrintedOut (old part) (old out) ⌝ }
@@ -96,7 +108,20 @@ pub fn print_dual(part: &[u8], out: &mut [u8]) -> Printed
     Printed::Length(put_dual(out, 0, part))
 }
 
-// Prints a plan: its counts, the kept edges, the duals.
+// Whether so many bytes hold every plan of so many marks and bytes of records, by their numbers alone.
+fn holds_all(marks: usize, records: usize, room: usize) -> bool
+    ensures { λ r. ⌜ (r ≡ true → HoldsAll marks records room) ⌝ }
+{
+    if MAX_EDGES < marks {
+        return false;
+    }
+    if RECORDS_ROOM < records {
+        return false;
+    }
+    COUNTS_ROOM + KEPT_ROOM * marks + LONGEST_DUAL * (records / RECORD_BYTES) <= room
+}
+
+// Prints a plan: its counts, the kept edges, the duals. Where every such plan fits it is not measured first.
 pub fn print_plan(
     terminals: u64,
     cost: u64,
@@ -109,6 +134,9 @@ pub fn print_plan(
     ensures { λ r. ⌜ r ≡ printed (planText terminals cost bound rounds (old marks) (old records)) (old out) ⌝ }
     ensures { λ _. ⌜ new out ≡ printedOut (planText terminals cost bound rounds (old marks) (old records)) (old out) ⌝ }
 {
+    if holds_all(marks.len(), records.len(), out.len()) {
+        return Printed::Length(put_plan(out, 0, terminals, cost, bound, rounds, marks, records));
+    }
     let need = put_plan(
         &mut out[0..0],
         0,
