@@ -1,3 +1,4 @@
 pub mod Decimal
+pub mod Members
 pub mod Text
 pub mod Wrote

@@ -20,6 +20,19 @@ pub record Prints (text out new : List ℕ) (r : Printed) : Type 0 where
   pub answers : r ≡ printed text out
   pub leaves : new ≡ printedOut text out
 
+-- A text that fits is written whole.
+pub whole-prints : (text out : List ℕ) → length out < farthest → length text ≤ length out → {new : List ℕ} {next : ℕ} → Wrote out 0 text new next
+    → Prints text out new (Length next)
+unfolding printed printedOut printRefusal refuseIf answerOf outAfter written
+whole-prints text out small fits {new} {next} w =
+    let end = w .place in
+    let whole : next ≡ length text = omega arith in
+    let none : 0 + length text ≡ length text = omega arith in
+    record {
+      answers = rw (le-ltb (length out) (length text) fits) (ap Length whole);
+      leaves = rw (le-ltb (length out) (length text) fits) (w .bytes ∙ sets-eq text out 0 (omega arith) ∙ ap (λ n. text ++ drop n out) none);
+    }
+
 -- `held` is what measuring leaves of the empty part that it was lent.
 module _ (text out : List ℕ) {held : List ℕ} {need : ℕ} (small : length out < farthest) (measured : Wrote [] 0 text held need) where
   same : held ++ out ≡ out
@@ -34,19 +47,11 @@ module _ (text out : List ℕ) {held : List ℕ} {need : ℕ} (small : length ou
       record { answers = rw (lt-ltb (length out) (length text) lt); leaves = rw (lt-ltb (length out) (length text) lt) same }
 
   pub fit-prints : need ≤ length (held ++ out) → {new : List ℕ} {next : ℕ} → Wrote (held ++ out) 0 text new next → Prints text out new (Length next)
-  unfolding printed printedOut printRefusal refuseIf answerOf outAfter written
-  fit-prints h {new} {next} w =
+  fit-prints h w =
       let place = measured .place in
-      let end = w .place in
       let long = ap length same in
       let le : length text ≤ length out = omega arith in
-      let whole : next ≡ length text = omega arith in
-      let none : 0 + length text ≡ length text = omega arith in
-      record {
-        answers = rw (le-ltb (length out) (length text) le) (ap Length whole);
-        leaves = rw (le-ltb (length out) (length text) le)
-            (w .bytes ∙ ap (λ l. sets l 0 text) same ∙ sets-eq text out 0 (omega arith) ∙ ap (λ n. text ++ drop n out) none);
-      }
+      whole-prints text out small le (rw same at w)
 
 -- A text that fits is printed whole, and never refused.
 module _ (text out : List ℕ) (fits : length text ≤ length out) where

@@ -21,7 +21,7 @@ use Rattle.format_write.specs.Decimal.{digitsWithin, decimal}
 use Rattle.format_write.specs.Text.{lineOf, listed, membersOf, dualLine, textBelow, keptLine, keptLines, dualLines, countLines, planText, refusalText}
 use Rattle.format_write.specs.Wrote.{isNone, itemOf}
 use Rattle.format_print.specs.Print.{printRefusal, answerOf, printed, dualPrintRefusal, dualPrinted}
-use Rattle.format_print.specs.Within.{PlanWithin}
+use Rattle.format_print.specs.Within.{PlanWithin, roomFor}
 use Rattle.format_write.specs.Laws.Decimal.{length-decimal}
 use Rattle.format_write.specs.Laws.Text.{listed-snoc}
 
@@ -132,15 +132,15 @@ kept-line-le mark e h =
     let line : length (lineOf keptKey e) ≡ 5 + length (decimal e) + 1 = length-line keptKey e in
     ⊎-elim (λ kept. rw kept (omega arith)) (λ other. rw other (omega arith)) (either (eqb mark 2))
 
-length-kept-lines : (marks : List ℕ) → length marks ≤ maxEdges → length (keptLines marks) ≤ 10 * maxEdges
+length-kept-lines : (marks : List ℕ) → length marks ≤ maxEdges → length (keptLines marks) ≤ 10 * length marks
 unfolding keptLines
 length-kept-lines marks h =
     let all = length-text-below (length marks) (λ e. keptLine (getD marks e 0) e) 10 (λ e l. kept-line-le (getD marks e 0) e (omega arith)) in
     omega arith
 
-length-dual-lines : (records : List ℕ) → Bytes records → length records ≤ recordBytes * maxDuals → length (dualLines records) ≤ longestDual * maxDuals
+length-dual-lines : (records : List ℕ) → Bytes records → length (dualLines records) ≤ longestDual * (length records / recordBytes)
 unfolding dualLines
-length-dual-lines records h few =
+length-dual-lines records h =
     let all =
     length-text-below (length records / recordBytes) (λ i. dualLine (recordAt records i)) longestDual
     (λ i l. dual-line-le (recordAt records i) (bytes-record-at records i h)) in
@@ -167,9 +167,11 @@ length-count-lines k c b r hk hc hb hr =
     let d₄ = word-digits r hr in
     omega arith
 
-pub plan-text-le : (k c b r : ℕ) (marks records : List ℕ) → PlanWithin k c b r marks records → length (planText k c b r marks records) ≤ planRoom
+-- No plan is longer than the longest of as many marks and records, and so none than the longest.
+pub plan-text-room : (k c b r : ℕ) (marks records : List ℕ) → PlanWithin k c b r marks records
+    → length (planText k c b r marks records) ≤ roomFor (length marks) (length records / recordBytes)
 unfolding planText
-plan-text-le k c b r marks records w =
+plan-text-room k c b r marks records w =
     let counts = countLines k c b r in
     let kept = keptLines marks in
     let duals = dualLines records in
@@ -177,7 +179,14 @@ plan-text-le k c b r marks records w =
     let d : length (counts ++ kept ++ duals) ≡ length (counts ++ kept) + length duals = length-append (counts ++ kept) duals in
     let l₁ = length-count-lines k c b r (w .terminals-fit) (w .cost-fits) (w .bound-fits) (w .rounds-fit) in
     let l₂ = length-kept-lines marks (w .marks-few) in
-    let l₃ = length-dual-lines records (w .records-bytes) (w .records-few) in
+    let l₃ = length-dual-lines records (w .records-bytes) in
+    omega arith
+
+pub plan-text-le : (k c b r : ℕ) (marks records : List ℕ) → PlanWithin k c b r marks records → length (planText k c b r marks records) ≤ planRoom
+plan-text-le k c b r marks records w =
+    let all = plan-text-room k c b r marks records w in
+    let few = w .marks-few in
+    let less = w .records-few in
     omega arith
 
 -- Room for every such plan: it is never refused with 7.

@@ -1,6 +1,6 @@
--- `put_members`: what is written so far are the members below v.
+-- `put_members`: what is written so far are the members below v; bytes that are passed over have none.
 use native.Mathlib.Omega.{arith}
-use mathlib.Core.Path.{_≡_, ap, sym}
+use mathlib.Core.Path.{_≡_, ap, sym, _∙_}
 use lib.ListN.{length}
 use Rattle.format_write.specs.Wrote.{farthest}
 use Rattle.format_write.specs.Laws.Wrote.{wrote-none, wrote-length, wrote-then, wrote-as}
@@ -26,23 +26,28 @@ abbrev μ-loop : tie.MeasureT-loop
 
 loop-holds : tie.Need-loop-holds Inv-loop μ-loop
 loop-holds c =
-    let a = c .before .before .args in
+    let a = c .before .before .before .args in
     let t = memberIn (a .part .now) in
-    (search needs, wrote-as (wrote-none (a .out .now) (a .at)) (sym (members-none t)), sym (none-none t))
+    let none = sym (c .past-zeros .ensures .0) in (
+      c .past-zeros .ensures .1 .0 (omega arith),
+      wrote-as (wrote-none (a .out .now) (a .at)) (sym (members-none t) ∙ ap listed none),
+      sym (none-none t) ∙ ap isNone none,
+    )
 
 loop-less : tie.Need-loop-less Inv-loop μ-loop
-loop-less c = omega arith
+loop-less c = omega (arith, c .past-zeros2 .ensures .1 .1)
 
 loop-again : tie.Need-loop-again Inv-loop μ-loop
 loop-again c =
-    let a = c .before .before .before .before .before .before .before .before .args in
-    let l = c .before .before .before .before .before .loop in
+    let a = c .before .before .before .before .before .before .before .before .before .before .args in
+    let l = c .before .before .before .before .before .before .loop in
     let t = memberIn (a .part .now) in
     let small : length (a .out .now) ≤ farthest = omega arith in
-    let done = c .before .before .put-member .ensures in (
-      omega arith,
-      wrote-as (wrote-then small (l .inv .1) (done .0)) (members-next t (l .v) (l .inv .2)),
-      none-next t (l .v) (l .inv .2) (done .1),
+    let done = c .before .before .before .put-member .ensures in
+    let none = sym (c .past-zeros2 .ensures .0) in (
+      c .past-zeros2 .ensures .1 .0 (omega arith),
+      wrote-as (wrote-then small (l .inv .1) (done .0)) (members-next t (l .v) (l .inv .2) ∙ ap listed none),
+      none-next t (l .v) (l .inv .2) (done .1) ∙ ap isNone none,
     )
 
 same-length : tie.Need-same-length Inv-loop μ-loop
@@ -53,7 +58,7 @@ unfolding membersOf
 returns c =
     let l = c .before .loop in
     let all : l .v ≡ 8 * memberBytes = omega arith in
-    wrote-as (l .inv .1) (ap (λ n. listed (thoseBelow n (memberIn (c .before .before .before .before .args .part .now)))) all)
+    wrote-as (l .inv .1) (ap (λ n. listed (thoseBelow n (memberIn (c .before .before .before .before .before .args .part .now)))) all)
 
 pub put-members-spec : {M : Type 1} → statement M
 put-members-spec =
@@ -61,10 +66,12 @@ put-members-spec =
     (tie.spec
     Inv-loop
     μ-loop
+    (λ c κs. search needs)
     loop-holds
     (λ c. search needs)
     (λ c κs. search needs)
     (λ c. search needs)
+    (λ c κs. search needs)
     loop-less
     loop-again
     same-length
