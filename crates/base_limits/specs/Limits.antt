@@ -109,7 +109,12 @@ planRoom = 24 + 4 * (wordDigits + 1) + 10 * maxEdges + longestDual * maxDuals
 abbrev pub refusalRoom : ℕ
 refusalRoom = 16 + 2 * wordDigits
 
--- bytes that the program `plan` reads, at most: every survey's text
+-- bytes that hold every reason: five numbers behind 31 bytes of keys, six ends of lines, and a route of at most one track fewer than there are junctions, each of four digits with a
+-- comma
+abbrev pub whyRoom : ℕ
+whyRoom = 37 + 5 * wordDigits + 5 * (maxVertices - 1)
+
+-- bytes that the programs `plan` and `why` read, at most: every survey's text
 abbrev pub surveyRoom : ℕ
 surveyRoom = 65536
 

@@ -66,8 +66,11 @@ pub const DUAL_ROOM: usize = 2048;
 
 pub const PLAN_ROOM: usize = 24 + 4 * (WORD_DIGITS + 1) + 10 * MAX_EDGES + LONGEST_DUAL * MAX_DUALS;
 
-// Bytes that the programs `plan` and `verify` read, at most: every survey's text, and every survey's text with a plan's
-// behind it.
+// Bytes that hold every reason: five numbers and their lines, and five bytes for each edge of a route.
+pub const WHY_ROOM: usize = 37 + 5 * WORD_DIGITS + 5 * (MAX_VERTICES - 1);
+
+// Bytes that the programs `plan` and `why`, and `verify`, read, at most: every survey's text, and every survey's text
+// with a plan's behind it.
 pub const SURVEY_ROOM: usize = 65536;
 
 pub const VERIFY_ROOM: usize = 2097152;
