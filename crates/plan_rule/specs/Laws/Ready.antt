@@ -70,7 +70,7 @@ module _ (n m marks records : ℕ) where
   buffers-fit h k = refuse-false (rw (le-ltb marks m h, le-ltb records (recordBytes * dualsFor n) k)) 7 0
 
 -- All tracks are all usable ones, as far as components go.
-groups-of-all : (s : Survey) (number : ℕ) (marks : List ℕ) → groupRefusal s number (allUsable (problemOf s)) ≡ groupRefusal s number (chosen All marks)
+pub groups-of-all : (s : Survey) (number : ℕ) (marks : List ℕ) → groupRefusal s number (allUsable (problemOf s)) ≡ groupRefusal s number (chosen All marks)
 unfolding groupRefusal componentsOf allUsable problemOf chosen chosenMark
 groups-of-all s number marks =
     ap (λ label. lowestBelow groupNumbers (λ g. refuseIf (not (groupJoined s label g)) number g))

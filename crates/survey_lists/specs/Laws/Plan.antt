@@ -13,7 +13,9 @@ use Rattle.base_limits.specs.Limits.{groupNumbers}
 use Rattle.survey_core.specs.Sound.{ByteGroups, SurveySound}
 use Rattle.theory_steiner.specs.Problem.{Problem, Bounded, Joins, separates}
 use Rattle.theory_steiner.specs.Requirement.{requiring, Chain, one, more, SamePlan}
-use Rattle.theory_steiner.specs.Laws.Required.{between-separates, plan-same, joins-same}
+use Rattle.theory_steiner.specs.Growth.{stateAt}
+use Rattle.theory_steiner.specs.Pruning.{kept}
+use Rattle.theory_steiner.specs.Laws.Required.{between-separates, state-same, kept-same, plan-same, joins-same}
 use Rattle.survey_core.specs.Survey.{Survey, surveyFrom, listsOf, vertexCount, edgeCount, member, sameGroup, problemOf}
 use Rattle.survey_core.specs.Laws.Member.{IsMember, member-elim, member-intro}
 use Rattle.survey_core.specs.Laws.Refusal.{same-group-symmetric}
@@ -118,6 +120,14 @@ module _ (s : Survey) where
     poured-plan =
         subst (λ p. SamePlan (problemOf s) p) (sym poured-problem)
         (plan-same (problemOf s) (sameGroup into) separates-required (same-group-symmetric s) (same-group-symmetric into))
+
+    -- Their growth is the same after every round, and so is what is kept.
+    pub poured-states : (k : ℕ) → stateAt (problemOf s) k ≡ stateAt (problemOf into) k
+    poured-states k =
+        subst (λ p. stateAt (problemOf s) k ≡ stateAt p k) (sym poured-problem) (state-same (problemOf s) (sameGroup into) separates-required k)
+
+    pub poured-kept : kept (problemOf s) ≡ kept (problemOf into)
+    poured-kept = subst (λ p. kept (problemOf s) ≡ kept p) (sym poured-problem) (kept-same (problemOf s) (sameGroup into) separates-required)
 
     -- The same sets of tracks join both.
     pub poured-joins : (F : ℕ → Bool) → Bounded (problemOf s) F → Joins (problemOf s) F ↔ Joins (problemOf into) F

@@ -48,7 +48,7 @@ module _ (s : Survey) (sound : SurveySound s) where
   unfolding problemOf vertexCount
   some = sound .some
 
-  picked-bounded : Bounded (problemOf s) (picked (problemOf s))
+  pub picked-bounded : Bounded (problemOf s) (picked (problemOf s))
   unfolding picked
   picked-bounded e h = picked-usable (problemOf s) (grown-reached (problemOf s)) e h .0
 
@@ -188,17 +188,17 @@ module _ (s : Survey) (sound : SurveySound s) where
             lowest = λ x y c b mx my d. pair-lowest s label g list-apart x y b (parted-intro s label g x y mx my (apart-labels x y d));
           }
 
-      kept-bounded : Bounded (problemOf s) (kept (problemOf s))
+      pub kept-bounded : Bounded (problemOf s) (kept (problemOf s))
       kept-bounded f h = kept-edges (problemOf s) ok some joinable f h .0
 
-      forest : Forest (problemOf s .first) (problemOf s .second) (kept (problemOf s))
+      pub forest : Forest (problemOf s .first) (problemOf s .second) (kept (problemOf s))
       forest = forest-sub (kept-picked (problemOf s) ok some joinable) (picked-acyclic (problemOf s) ok some joinable)
 
-      ends-below : (f u v : ℕ) → kept (problemOf s) f ≡ true → Leads (problemOf s .first) (problemOf s .second) f u v → v < problemOf s .vertices
+      pub ends-below : (f u v : ℕ) → kept (problemOf s) f ≡ true → Leads (problemOf s .first) (problemOf s .second) f u v → v < problemOf s .vertices
       ends-below f u v h (forth p q) = subst (λ x. x < problemOf s .vertices) q (ok .second-below f (kept-bounded f h))
       ends-below f u v h (back p q) = subst (λ x. x < problemOf s .vertices) q (ok .first-below f (kept-bounded f h))
 
-      low-vertex : low < problemOf s .vertices
+      pub low-vertex : low < problemOf s .vertices
       unfolding problemOf
       low-vertex = low-first s label g list-apart .below
 

@@ -1,0 +1,4 @@
+pub mod Round
+pub mod Grown
+pub mod Kept
+pub mod Call

@@ -1,0 +1,3 @@
+pub mod Parted
+pub mod Asked
+pub mod Laws
