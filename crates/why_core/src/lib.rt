@@ -100,7 +100,14 @@ fn parted_pair(
     ensures { λ r. ⌜ PairOf (lentWith groups firsts seconds weights owners others) (old marks) r ⌝ }
 {
     let group = parted_list(groups, firsts, seconds, weights, owners, others, marks);
-    let labels = survey_components::set_labels(groups, firsts, seconds, weights, Chosen::Kept, marks);
+    let labels = survey_components::set_labels(
+        groups,
+        firsts,
+        seconds,
+        weights,
+        Chosen::Kept,
+        marks,
+    );
     let smaller = why_pair::first_member(groups, owners, others, group);
     let larger = why_pair::first_apart(groups, owners, others, &labels, group, smaller);
     Pair {

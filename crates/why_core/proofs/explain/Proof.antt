@@ -1,0 +1,75 @@
+-- `explain` meets its contract: the marks are those of the plan (`mark-at`), and each is explained.
+use mathlib.Core.Path.{ap, sym, _∙_}
+use native.Mathlib.Omega.{arith}
+use lib.ListN.{length}
+use Rattle.why_core.specs.Laws.Grown.{into-sound, picked-long, order-long, rounds-few, marks-long, kept-asked, no-other-mark, dropped-answer, passed-answer}
+use borrow.Author.Needs.{needs}
+use Rattle.why_core.proofs.explain.Statement.{statement}
+use Rattle.why_core.proofs.explain.Tie as tie
+
+part-plan-marks-end : tie.Need-part-plan-marks-end
+part-plan-marks-end c =
+    let few = c .before .before .before .before .before .before .before .before .before .before .before .before .pre .ok .joinable .askable .survey .edges-few in
+    let long = picked-long _ (c .before .before .before .before .before .before .before .before .before .before .before .before .pre) (c .before .before .before .grow .ensures) in
+    search (needs, few, long)
+
+slice-aggregate-at8 : tie.Need-slice-aggregate-at8
+slice-aggregate-at8 c = sym (marks-long _ (c .before .before .before .before .before .before .before .before .before .before .before .before .before .before .before .pre) (c .before .before .before .before .before .before .grow .ensures) (c .before .plan-marks .ensures))
+
+part-picks-end : tie.Need-part-picks-end
+part-picks-end c =
+    let fewer = rounds-few _ (c .before .before .before .before .before .before .before .before .before .before .before .before .before .before .before .before .before .before .pre) (c .before .before .before .before .before .before .before .before .before .grow .ensures) (c .before .before .before .before .plan-marks .ensures) in
+    let few = into-sound _ (c .before .before .before .before .before .before .before .before .before .before .before .before .before .before .before .before .before .before .pre) .few in
+    let long = order-long _ (c .before .before .before .before .before .before .before .before .before .before .before .before .before .before .before .before .before .before .pre) (c .before .before .before .before .before .before .before .before .before .grow .ensures) in
+    search (needs, fewer, few, long)
+
+slice-aggregate-explain-kept : tie.Need-slice-aggregate-explain-kept
+slice-aggregate-explain-kept c = sym (marks-long _ (c .before .before .before .before .before .before .before .before .before .before .before .before .before .before .before .before .before .before .pre) (c .before .before .before .before .before .before .before .before .before .grow .ensures) (c .before .before .before .before .plan-marks .ensures))
+
+explain-kept-requires : tie.Need-explain-kept-requires
+explain-kept-requires c κs = kept-asked _ (c .before .before .before .before .before .before .before .before .before .before .before .before .before .before .before .before .before .before .before .pre) (c .before .before .before .before .before .before .before .before .before .before .grow .ensures) (c .before .before .before .before .before .plan-marks .ensures) (sym (c .before .before .before .at8 .ensures) ∙ c .before .before .match .keys3)
+
+-- not picked
+returns : tie.Need-returns
+returns c =
+    passed-answer _ (c .before .before .before .before .before .before .before .before .before .before .before .before .before .before .before .before .before .before .before .before .before .pre) (c .before .before .before .before .before .before .before .before .before .before .before .before .grow .ensures) (c .before .before .before .before .before .before .before .plan-marks .ensures) _ (sym (c .before .before .before .before .before .at8 .ensures) ∙ c .before .before .before .before .match .keys1) (c .before .join-round .ensures)
+    (c .wide .ensures)
+
+-- dropped
+returns-2 : tie.Need-returns-2
+returns-2 c = dropped-answer _ (c .before .before .before .before .before .before .before .before .before .before .before .before .before .before .before .before .before .pre) (c .before .before .before .before .before .before .before .before .grow .ensures) (c .before .before .before .plan-marks .ensures) _ (sym (c .before .at8 .ensures) ∙ c .match .keys2)
+
+-- kept
+returns-3 : tie.Need-returns-3
+returns-3 c = c .before .before .explain-kept .ensures
+
+-- no other mark
+returns-4 : tie.Need-returns-4
+returns-4 c =
+    absurd
+    (no-other-mark _ (c .before .before .before .before .before .before .before .before .before .before .before .before .before .before .before .before .before .pre) (c .before .before .before .before .before .before .before .before .grow .ensures) (c .before .before .before .plan-marks .ensures) (λ z. c .match .rest .0 .0 .1 (c .before .at8 .ensures ∙ z))
+    (λ z. c .match .rest .0 .1 (c .before .at8 .ensures ∙ z)) (λ z. c .match .rest .1 (c .before .at8 .ensures ∙ z)))
+
+pub explain-spec : {M : Type 1} → statement M
+explain-spec =
+    tie.close
+    (tie.spec
+    (λ c κs. search needs)
+    (λ c. search needs)
+    (λ c. search needs)
+    part-plan-marks-end
+    (λ c κs. search needs)
+    slice-aggregate-at8
+    (λ c κs. search needs)
+    (λ c. search needs)
+    (λ c. search needs)
+    part-picks-end
+    (λ c κs. search needs)
+    (λ c κs. search needs)
+    slice-aggregate-explain-kept
+    explain-kept-requires
+    returns
+    returns-2
+    (λ c. search needs)
+    returns-3
+    returns-4)
