@@ -47,6 +47,10 @@ maxDuals = dualsFor maxVertices
 abbrev pub recordsRoom : ℕ
 recordsRoom = recordBytes * maxDuals
 
+-- tracks of a route, which visits no junction twice, at most
+abbrev pub maxRoute : ℕ
+maxRoute = maxVertices - 1
+
 -- digits of a number in a survey's text, at most: a count, a group, an end, a price, a number of an also line
 abbrev pub countDigits : ℕ
 countDigits = 7
@@ -109,7 +113,11 @@ planRoom = 24 + 4 * (wordDigits + 1) + 10 * maxEdges + longestDual * maxDuals
 abbrev pub refusalRoom : ℕ
 refusalRoom = 16 + 2 * wordDigits
 
--- bytes that the program `plan` reads, at most: every survey's text
+-- bytes that hold every reason: five numbers, 31 bytes of keys and six ends of lines, and a route with four digits and a comma for each track
+abbrev pub whyRoom : ℕ
+whyRoom = 37 + 5 * wordDigits + 5 * maxRoute
+
+-- bytes that the programs `plan` and `why` read, at most: every survey's text
 abbrev pub surveyRoom : ℕ
 surveyRoom = 65536
 

@@ -28,6 +28,9 @@ pub const MAX_DUALS: usize = 2 * MAX_VERTICES - 1;
 
 pub const RECORDS_ROOM: usize = RECORD_BYTES * MAX_DUALS;
 
+// Edges of a route, at most.
+pub const MAX_ROUTE: usize = MAX_VERTICES - 1;
+
 // Digits of a number in a survey's text, at most: a count, a group, an endpoint, a weight, a number of an also line.
 pub const COUNT_DIGITS: usize = 7;
 
@@ -66,8 +69,11 @@ pub const DUAL_ROOM: usize = 2048;
 
 pub const PLAN_ROOM: usize = 24 + 4 * (WORD_DIGITS + 1) + 10 * MAX_EDGES + LONGEST_DUAL * MAX_DUALS;
 
-// Bytes that the programs `plan` and `verify` read, at most: every survey's text, and every survey's text with a plan's
-// behind it.
+// Bytes that hold every reason: five numbers and their lines, and five bytes for each edge of a route.
+pub const WHY_ROOM: usize = 37 + 5 * WORD_DIGITS + 5 * MAX_ROUTE;
+
+// Bytes that the programs `plan` and `why`, and `verify`, read, at most: every survey's text, and every survey's text
+// with a plan's behind it.
 pub const SURVEY_ROOM: usize = 65536;
 
 pub const VERIFY_ROOM: usize = 2097152;

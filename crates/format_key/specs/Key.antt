@@ -43,6 +43,28 @@ keptKey = ascii "keep="
 unfoldable pub dualKey : List ℕ
 dualKey = ascii "moat="
 
+-- A printed reason.
+unfoldable pub trackKey : List ℕ
+trackKey = ascii "track="
+
+unfoldable pub markKey : List ℕ
+markKey = ascii "mark="
+
+unfoldable pub groupKey : List ℕ
+groupKey = ascii "group="
+
+unfoldable pub fromKey : List ℕ
+fromKey = ascii "from="
+
+unfoldable pub toKey : List ℕ
+toKey = ascii "to="
+
+unfoldable pub routeKey : List ℕ
+routeKey = ascii "route="
+
+unfoldable pub roundKey : List ℕ
+roundKey = ascii "round="
+
 -- A printed refusal.
 unfoldable pub refusedKey : List ℕ
 refusedKey = ascii "refused="

@@ -24,6 +24,21 @@ pub const KEPT: [u8; 5] = *b"keep=";
 
 pub const DUAL: [u8; 5] = *b"moat=";
 
+// A printed reason: the edge and its mark; the group that needs it, the two vertices, their route; the round.
+pub const TRACK: [u8; 6] = *b"track=";
+
+pub const MARK: [u8; 5] = *b"mark=";
+
+pub const GROUP: [u8; 6] = *b"group=";
+
+pub const FROM: [u8; 5] = *b"from=";
+
+pub const TO: [u8; 3] = *b"to=";
+
+pub const ROUTE: [u8; 6] = *b"route=";
+
+pub const ROUND: [u8; 6] = *b"round=";
+
 // A printed refusal: its number and its place.
 pub const REFUSED: [u8; 8] = *b"refused=";
 

@@ -30,6 +30,19 @@ fn put_item(out: &mut [u8], at: usize, first: bool, v: usize) -> usize
     put_number(out, next, base_buffer::wide(v))
 }
 
+// Writes numbers with commas between.
+pub fn put_list(out: &mut [u8], at: usize, numbers: &[u32]) -> usize
+    ensures { λ r. ⌜ Wrote (old out) at (listed (old numbers)) (new out) r ⌝ }
+{
+    let mut next = at;
+    let mut i = 0;
+    while i < numbers.len() {
+        next = put_item(out, next, i == 0, base_buffer::index32(numbers[i]));
+        i += 1;
+    }
+    next
+}
+
 // Writes v if it is a member of the record.
 fn put_member(out: &mut [u8], list: Listing, part: &[u8], v: usize) -> Listing
     ensures { λ r.

@@ -1,4 +1,4 @@
--- `plan_text` meets its contract: the refusal of reading is printed (`refused-output`), or what was read is planned (`survey-output`).
+-- `plan_text` meets its contract: the refusal of reading is printed (`refused-output`), or what was read is planned (`said-output`).
 use native.Mathlib.Omega.{arith}
 use borrow.Author.Needs.{needs}
 use mathlib.Core.Path.{ap}
@@ -7,7 +7,8 @@ use lib.ListN.{replicate}
 use Rattle.base_limits.specs.Limits.{maxVertices, maxEdges, maxPairs, planRoom}
 use Rattle.format_survey.specs.Answer.{countsOutcome}
 use Rattle.format_print.specs.Laws.Print.{prints-as}
-use Rattle.api_plan_text.specs.Laws.Output.{survey-buffers, refusal-fits, refused-output, counts-few, survey-output}
+use Rattle.api_plan_text.specs.Laws.Read.{survey-buffers, refused-read, counts-few, survey-said}
+use Rattle.api_plan_text.specs.Laws.Output.{refusal-fits, refused-output, said-output}
 use Rattle.api_plan_whole.proofs.plan_text.Statement.{statement}
 use Rattle.api_plan_whole.proofs.plan_text.Tie as tie
 
@@ -65,7 +66,7 @@ unfolding countsOutcome
 returns c =
     let call = c .before .before .before .before .before .before .before .before .before .before .before .before .before in
     let a = call .before .before .before .before .before .before .before .before .before .args in
-    let text = refused-output (a .text .now) survey-buffers (call .read .ensures .0) (ap countsOutcome (c .before .before .before .before .before .number .given .1)) in
+    let text = refused-output (a .text .now) (refused-read (a .text .now) survey-buffers (call .read .ensures .0) (ap countsOutcome (c .before .before .before .before .before .number .given .1))) in
     prints-as planRoom (a .out .now) text (c .before .before .print-refusal .ensures) (refusal-fits _ _ (omega arith) (omega arith))
 
 -- what is printed for the survey
@@ -78,11 +79,11 @@ returns-2 c =
     let told = ap countsOutcome (c .before .before .before .before .before .before .before .before .before .before .before .before .before .before .before .before .before .vertices .given .1) in
     let edges = replicate {A = ℕ} maxEdges 0 in
     let pairs = replicate {A = ℕ} maxPairs 0 in
-    let text =
-    survey-output (a .text .now) survey-buffers (read .0) told (replicate maxVertices 0) edges edges edges pairs pairs
+    let said =
+    survey-said (a .text .now) survey-buffers (read .0) told (replicate maxVertices 0) edges edges edges pairs pairs
     (read .1 .0) (read .1 .1 .0) (read .1 .1 .1 .0) (read .1 .1 .1 .1 .0) (read .1 .1 .1 .1 .1 .0) (read .1 .1 .1 .1 .1 .1) in
     let made = c .before .before .plan-survey .ensures in
-    prints-as planRoom (a .out .now) text (made .0, made .1 .0) (made .1 .1)
+    prints-as planRoom (a .out .now) (said-output said) (made .0, made .1 .0) (made .1 .1)
 
 pub plan-text-spec : {M : Type 1} → statement M
 plan-text-spec =

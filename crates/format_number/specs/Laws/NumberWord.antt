@@ -96,7 +96,7 @@ line-most key limit x positive h =
     let d = digits-most limit x positive h in
     omega arith
 
-numeral-end-is : (t : List ℕ) (limit at v : ℕ) → 1 ≤ limit → v < 10 ^ limit → Stands t at (decimal v) → isDigit (classOf (getD t (at + length (decimal v)) 0)) ≡ false → numeralEnd limit t at ≡ at + length (decimal v)
+pub numeral-end-is : (t : List ℕ) (limit at v : ℕ) → 1 ≤ limit → v < 10 ^ limit → Stands t at (decimal v) → isDigit (classOf (getD t (at + length (decimal v)) 0)) ≡ false → numeralEnd limit t at ≡ at + length (decimal v)
 unfolding numeralEnd
 numeral-end-is t limit at zero h k s e =
     let d : decimal 0 ≡ 48 ∷ [] = decimal-small 0 (omega arith) in

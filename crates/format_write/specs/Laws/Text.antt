@@ -8,7 +8,9 @@ use mathlib.Core.Path.{_≡_, refl, ap, ap₂, sym, _∙_}
 use mathlib.Core.Bool.{Bool, true, false, _&&_, not, cond}
 use mathlib.Core.List.{List, [], _∷_, _++_, append-assoc, append-nil}
 use Rattle.base_finite.specs.Below.{thoseBelow}
-use lib.ListN.{length, length-append}
+use lib.ListN.{length, getD, take, length-append}
+use lib.Seq.{take-suc}
+use lib.Dec.{eqb}
 use Rattle.base_limits.specs.Limits.{memberBytes, recordBytes}
 use Rattle.format_record.specs.Record.{recordOf, recordAt}
 use Rattle.format_record.specs.Laws.Record.{value-of-record, members-of-record, record-at-first, record-at-right}
@@ -24,6 +26,22 @@ listed-snoc (x ∷ []) v = append-assoc (decimal x) (comma ∷ []) (decimal v)
 listed-snoc (x ∷ y ∷ xs) v =
     let ih : listed (y ∷ (xs ++ (v ∷ []))) ≡ listed (y ∷ xs) ++ itemOf false v = listed-snoc (y ∷ xs) v in
     ap (λ l. decimal x ++ (comma ∷ []) ++ l) ih ∙ sym (append-assoc (decimal x ++ (comma ∷ [])) (listed (y ∷ xs)) (itemOf false v))
+
+-- One number more of a list that is written from its beginning.
+none-taken : (xs : List ℕ) (i : ℕ) → i < length xs → eqb i 0 ≡ isNone (take i xs)
+unfolding isNone
+none-taken [] i h = absurd (omega arith)
+none-taken (x ∷ xs) zero h = eq-eqb 0 0 refl
+none-taken (x ∷ xs) (suc i) h = ne-eqb (suc i) 0 (λ e. omega arith)
+
+pub list-next : (xs : List ℕ) (i : ℕ) {v : ℕ} → i < length xs → v ≡ getD xs i 0 → listed (take i xs) ++ itemOf (eqb i 0) v ≡ listed (take (i + 1) xs)
+list-next xs i h e =
+    ap₂ (λ f x. listed (take i xs) ++ itemOf f x) (none-taken xs i h) e
+    ∙ sym (ap (λ n. listed (take n xs)) (add-one i) ∙ ap listed (take-suc xs i 0 h) ∙ listed-snoc (take i xs) (getD xs i 0))
+
+pub list-none : (xs : List ℕ) → listed (take 0 xs) ≡ []
+unfolding listed
+list-none xs = refl
 
 -- One number more of those that pass.
 listed-more : (xs : List ℕ) (here : Bool) (v : ℕ) → listed (xs ++ cond here (v ∷ []) []) ≡ listed xs ++ memberText (isNone xs) here v

@@ -1,0 +1,3 @@
+pub mod Output
+pub mod Examples
+pub mod Laws

@@ -1,0 +1,4 @@
+pub mod ReasonText
+pub mod Within
+pub mod Examples
+pub mod Laws
