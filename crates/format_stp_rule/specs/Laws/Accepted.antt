@@ -10,7 +10,7 @@ use lib.ListN.{length, getD, take, drop, replicate, length-append, length-replic
 use lib.Seq.{take-at, take-all, length-take-le, getD-append-add}
 use borrow.Author.Tests.{eqb-true, eqb-false, eq-eqb, ne-eqb, leb-true, leb-false}
 use Rattle.base_limits.specs.Limits.{maxVertices, countDigits}
-use Rattle.base_limits.specs.Verdict.{Outcome, refusal, answer, refuseIf, _before_}
+use Rattle.base_limits.specs.Verdict.{Outcome, refusal, answer}
 use Rattle.base_limits.specs.declared.Verdict.the-variants.{Fine, Refused}
 use Rattle.format_key.specs.Key.{newline}
 use Rattle.format_grammar.specs.Bytes.{endAt}
@@ -23,7 +23,7 @@ use Rattle.format_grammar.specs.Stands.{Stands}
 use Rattle.format_grammar.specs.Step.{Step, found, refused, _then_}
 use Rattle.format_number.specs.Laws.Keyed.{Passes}
 use Rattle.format_number.specs.Number.{OfDigits}
-use Rattle.format_survey_lines.specs.Laws.Tests.{vertices-fine, edges-fine, vertices-passed, edges-passed}
+use Rattle.format_survey_lines.specs.Laws.Tests.{vertices-fine, edges-fine, vertices-passed, edges-passed, two-not-malformed}
 use Rattle.format_survey_lines.specs.Line.{verticesTest, edgesTest}
 use Rattle.format_stp_rule.specs.Laws.EmptyLines.{EmptyThere, empty-there, empty-count}
 use Rattle.format_stp_rule.specs.Laws.File.{SoundTests, reads-file}
@@ -34,16 +34,6 @@ use Rattle.format_stp_rule.specs.StpWord.{emptyLines, afterEmpty, AfterE
 use Rattle.format_stp_rule.specs.Subset.{StpFile, CountThen, StpBody, InSubset, IsStp, StpFits, StpBegins, StpEscapes}
 
 -- ---- the tests
-
-one-not-malformed : (x : Bool) (i u n p : ℕ) → (i ≡ 16 → ⊥) → refuseIf x i u ≡ Refused n p → n ≡ 16 → ⊥
-unfolding refuseIf
-one-not-malformed true i u n p h e z = let s : i ≡ n = cc in h (s ∙ z)
-one-not-malformed false i u n p h e z = let s : _≡_ {A = ℕ} 0 1 = cc in omega arith
-
-two-not-malformed : (x y : Bool) (i j u v n p : ℕ) → (i ≡ 16 → ⊥) → (j ≡ 16 → ⊥) → (refuseIf x i u before refuseIf y j v) ≡ Refused n p → n ≡ 16 → ⊥
-unfolding refuseIf _before_
-two-not-malformed true y i j u v n p h k e z = one-not-malformed true i u n p h e z
-two-not-malformed false y i j u v n p h k e z = one-not-malformed y j v n p k e z
 
 pub sound-tests : (a b c d : ℕ) → SoundTests (stpTests a b c d)
 unfolding stpTests verticesTest edgesTest
@@ -347,17 +337,17 @@ module _ (gb fb sb wb : List ℕ) where
 
   module _ (t : List ℕ) (p : ℕ) (e : stpReading t gb fb sb wb ≡ refusal 20 p) where
     -- The bytes before the place of 20 begin a text of the subset.
-    pub malformed-begins : StpBegins t p
-    malformed-begins = begins t p (refused-there t p e)
+    pub stp-malformed-begins : StpBegins t p
+    stp-malformed-begins = begins t p (refused-there t p e)
 
     -- With the byte at that place they begin none.
-    pub malformed-stops : p < length t → (rest : List ℕ) → IsStp (take (p + 1) t ++ rest) → ⊥
-    malformed-stops h rest s =
+    pub stp-malformed-stops : p < length t → (rest : List ℕ) → IsStp (take (p + 1) t ++ rest) → ⊥
+    stp-malformed-stops h rest s =
         agrees-none t p (refused-there t p e) (take (p + 1) t ++ rest) (sym (take-at (take (p + 1) t) rest (p + 1) (length-take-le (p + 1) t (omega arith)))) s
 
     -- The text itself is none.
-    pub malformed-is-none : IsStp t → ⊥
-    malformed-is-none s = agrees-none t p (refused-there t p e) t refl s
+    pub stp-malformed-is-none : IsStp t → ⊥
+    stp-malformed-is-none s = agrees-none t p (refused-there t p e) t refl s
 
   -- A text of the subset that escapes 1, 3 and 7 is accepted, and what is read is what it says.
   pub escaping-accepted : (t : List ℕ) (x : StpContent) → StpEscapes t gb fb sb wb → InSubset x t → stpReading t gb fb sb wb ≡ answer x
