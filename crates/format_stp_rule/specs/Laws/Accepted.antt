@@ -31,7 +31,7 @@ use Rattle.format_stp_rule.specs.Laws.Only.{StpRefusal, vertices, edges,
 use Rattle.format_stp_rule.specs.Laws.Only.{malformed as of-its-form}
 use Rattle.format_stp_rule.specs.StpReading.{StpContent, StpTests, stpContent, stpWhole, stpTests, stpNumber, stpOutcome, stpReading}
 use Rattle.format_stp_rule.specs.StpWord.{emptyLines, afterEmpty, AfterEmpty}
-use Rattle.format_stp_rule.specs.Subset.{StpFile, CountThen, StpBody, InSubset, IsStp, StpFits, StpBegins, StpEscapes}
+use Rattle.format_stp_rule.specs.Subset.{StpFile, CountThen, StpBody, InSubset, IsStp, StpFits, StpBegins, StpEscapes, StpGives, gives-1, gives-3, gives-7, gives-20}
 
 -- ---- the tests
 
@@ -147,12 +147,11 @@ unfolding stpNumber
 not-malformed-number n h = rw (ne-eqb n 16 h) refl
 
 malformed-number : (n : ℕ) → (n ≡ 20 → ⊥) → stpNumber n ≡ 20 → n ≡ 16
-unfolding stpNumber
-malformed-number n h e = by-test (eqb n 16) refl e
+malformed-number n h e = by-test (eqb n 16) refl
   where
-    by-test : (b : Bool) → eqb n 16 ≡ b → cond b 20 n ≡ 20 → n ≡ 16
-    by-test true q e = eqb-true n 16 q
-    by-test false q e = absurd (h e)
+    by-test : (b : Bool) → eqb n 16 ≡ b → n ≡ 16
+    by-test true q = eqb-true n 16 q
+    by-test false q = absurd (h (sym (not-malformed-number n (eqb-false n 16 q)) ∙ e))
 
 module _ (gb fb sb wb : List ℕ) where
   abbrev tests : StpTests
@@ -329,11 +328,11 @@ module _ (gb fb sb wb : List ℕ) where
           let is : n ≡ 16 = malformed-number n (other (stp-refusals (length gb) (length fb) (length sb) (length wb) t n q h)) number in
           malformed t p (h ∙ (λ i. refused (is i) (place i)))
         where
-          other : StpRefusal n → n ≡ 20 → ⊥
+          other : StpRefusal n q → n ≡ 20 → ⊥
           other (of-its-form z) y = omega arith
-          other (vertices z) y = omega arith
-          other (edges z) y = omega arith
-          other (short z) y = omega arith
+          other (vertices z w) y = omega arith
+          other (edges z w) y = omega arith
+          other (short z w) y = omega arith
 
   module _ (t : List ℕ) (p : ℕ) (e : stpReading t gb fb sb wb ≡ refusal 20 p) where
     -- The bytes before the place of 20 begin a text of the subset.
@@ -370,8 +369,48 @@ module _ (gb fb sb wb : List ℕ) where
           reading-is : stpOutcome (stpWhole tests t) ≡ refusal n q
           reading-is = ap stpOutcome whole-is ∙ ap (λ (k : ℕ). refusal k q) (not-malformed-number n other)
 
-          by-number : StpRefusal n → ⊥
+          by-number : StpRefusal n q → ⊥
           by-number (of-its-form z) = other z
-          by-number (vertices z) = h .one q (reading-is ∙ ap (λ (k : ℕ). refusal k q) z)
-          by-number (edges z) = h .three q (reading-is ∙ ap (λ (k : ℕ). refusal k q) z)
-          by-number (short z) = h .seven q (reading-is ∙ ap (λ (k : ℕ). refusal k q) z)
+          by-number (vertices z w) = h .one q (reading-is ∙ ap (λ (k : ℕ). refusal k q) z)
+          by-number (edges z w) = h .three q (reading-is ∙ ap (λ (k : ℕ). refusal k q) z)
+          by-number (short z w) = h .seven q (reading-is ∙ ap (λ (k : ℕ). refusal k q) z)
+
+  -- ---- which refusals there are
+
+  -- Reading gives no refusals but 1, 3, 7 and 20, and 20 alone has a place other than 0.
+  pub stp-numbers : (t : List ℕ) (n p : ℕ) → stpReading t gb fb sb wb ≡ refusal n p → StpGives n p
+  unfolding stpReading stpOutcome stpNumber
+  stp-numbers t n p e = by-step (stpWhole tests t) refl e
+    where
+      by-step : (s : Step StpContent) → stpWhole tests t ≡ s → stpOutcome s ≡ refusal n p → StpGives n p
+      by-step (found x q) h e = let z : _≡_ {A = ℕ} 0 1 = cc in absurd (omega arith)
+      by-step (refused i q) h e = by-number (stp-refusals (length gb) (length fb) (length sb) (length wb) t i q h)
+        where
+          same : stpNumber i ≡ n
+          same = cc
+
+          place : p ≡ q
+          place = cc
+
+          by-number : StpRefusal i q → StpGives n p
+          by-number (of-its-form z) = gives-20 (sym same ∙ ap stpNumber z)
+          by-number (vertices z w) = gives-1 (sym same ∙ ap stpNumber z) (place ∙ w)
+          by-number (edges z w) = gives-3 (sym same ∙ ap stpNumber z) (place ∙ w)
+          by-number (short z w) = gives-7 (sym same ∙ ap stpNumber z) (place ∙ w)
+
+  -- A text outside the subset that escapes 1, 3 and 7 is refused with 20.
+  pub escaping-refused : (t : List ℕ) → StpEscapes t gb fb sb wb → (IsStp t → ⊥) → (p : ℕ) × (stpReading t gb fb sb wb ≡ refusal 20 p)
+  escaping-refused t h none = by-outcome (stpReading t gb fb sb wb) refl
+    where
+      by-outcome : (o : Outcome StpContent) → stpReading t gb fb sb wb ≡ o → (p : ℕ) × (stpReading t gb fb sb wb ≡ refusal 20 p)
+      by-outcome (answer x) e = absurd (none (record { says = x; is = accepted-in t x e .0 }))
+      by-outcome (refusal n p) e = by-number (stp-numbers t n p e)
+        where
+          is : {k : ℕ} → n ≡ k → stpReading t gb fb sb wb ≡ refusal k p
+          is z = e ∙ ap (λ (i : ℕ). refusal i p) z
+
+          by-number : StpGives n p → (p : ℕ) × (stpReading t gb fb sb wb ≡ refusal 20 p)
+          by-number (gives-1 z w) = absurd (h .one p (is z))
+          by-number (gives-3 z w) = absurd (h .three p (is z))
+          by-number (gives-7 z w) = absurd (h .seven p (is z))
+          by-number (gives-20 z) = (p, is z)

@@ -40,12 +40,12 @@ use Rattle.format_stp_rule.specs.StpReading.{
 }
 use Rattle.format_stp_rule.specs.StpWord.{afterEmpty, byByte, guarded, shown, commentFrom, commentAt}
 
--- The numbers of refusals, before 16 is called 20.
-pub data StpRefusal (n : ℕ) : Type 0 where
-  malformed : n ≡ 16 → StpRefusal n
-  vertices : n ≡ 1 → StpRefusal n
-  edges : n ≡ 3 → StpRefusal n
-  short : n ≡ 7 → StpRefusal n
+-- The numbers of refusals, before 16 is called 20; the others stand at 0.
+pub data StpRefusal (n p : ℕ) : Type 0 where
+  malformed : n ≡ 16 → StpRefusal n p
+  vertices : n ≡ 1 → p ≡ 0 → StpRefusal n p
+  edges : n ≡ 3 → p ≡ 0 → StpRefusal n p
+  short : n ≡ 7 → p ≡ 0 → StpRefusal n p
 
 -- ---- what has a form refuses with 16 alone
 
@@ -130,41 +130,44 @@ only-body n m t at =
 -- ---- tests give the others
 
 record Only {A : Type 0} (s : Step A) : Type 0 where
-  is : (n p : ℕ) → s ≡ refused n p → StpRefusal n
+  is : (n p : ℕ) → s ≡ refused n p → StpRefusal n p
 
 of-form : {A : Type 0} {s : Step A} → OnlyMalformed s → Only s
 of-form h = record { is = λ n p e. malformed (h .is n p e) }
 
-only-number : {A : Type 0} (m q : ℕ) → StpRefusal m → Only {A = A} (refused m q)
-only-number {A} m q h = record { is = λ n p e. moved (number e) h }
+only-number : {A : Type 0} (m q : ℕ) → StpRefusal m q → Only {A = A} (refused m q)
+only-number {A} m q h = record { is = λ n p e. moved (number e) (place e) h }
   where
     number : {n p : ℕ} → _≡_ {A = Step A} (refused m q) (refused n p) → m ≡ n
     number e = cc
 
-    moved : {n : ℕ} → m ≡ n → StpRefusal m → StpRefusal n
-    moved e (malformed z) = malformed (sym e ∙ z)
-    moved e (vertices z) = vertices (sym e ∙ z)
-    moved e (edges z) = edges (sym e ∙ z)
-    moved e (short z) = short (sym e ∙ z)
+    place : {n p : ℕ} → _≡_ {A = Step A} (refused m q) (refused n p) → q ≡ p
+    place e = cc
+
+    moved : {n p : ℕ} → m ≡ n → q ≡ p → StpRefusal m q → StpRefusal n p
+    moved e f (malformed z) = malformed (sym e ∙ z)
+    moved e f (vertices z w) = vertices (sym e ∙ z) (sym f ∙ w)
+    moved e f (edges z w) = edges (sym e ∙ z) (sym f ∙ w)
+    moved e f (short z w) = short (sym e ∙ z) (sym f ∙ w)
 
 stp-then : {A B : Type 0} (s : Step A) (k : A → ℕ → Step B) → Only s → ((a : A) (q : ℕ) → Only (k a q)) → Only (s then k)
 stp-then s k h g = record { is = λ n p e. by-stop n p (then-stops s k e) }
   where
-    by-stop : (n p : ℕ) → Stops s k n p → StpRefusal n
+    by-stop : (n p : ℕ) → Stops s k n p → StpRefusal n p
     by-stop n p (early q) = h .is n p q
     by-stop n p (late a q x y) = g a q .is n p y
 
-only-guarded : {A : Type 0} (v : Verdict) {s : Step A} → ((n p : ℕ) → v ≡ Refused n p → StpRefusal n) → Only s → Only (guarded v s)
+only-guarded : {A : Type 0} (v : Verdict) {s : Step A} → ((n p : ℕ) → v ≡ Refused n p → StpRefusal n p) → Only s → Only (guarded v s)
 unfolding guarded
 only-guarded Fine h k = k
 only-guarded (Refused n p) h k = only-number n p (h n p refl)
 
-only-if : (x : Bool) (i u n p : ℕ) → StpRefusal i → refuseIf x i u ≡ Refused n p → StpRefusal n
+only-if : (x : Bool) (i u n p : ℕ) → StpRefusal i u → refuseIf x i u ≡ Refused n p → StpRefusal n p
 unfolding refuseIf
 only-if true i u n p h e = only-number {A = ℕ} i u h .is n p (let a : i ≡ n = cc in let b : u ≡ p = cc in cc)
 only-if false i u n p h e = let z : _≡_ {A = ℕ} 0 1 = cc in absurd (omega arith)
 
-only-two : (x y : Bool) (i j u v n p : ℕ) → StpRefusal i → StpRefusal j → (refuseIf x i u before refuseIf y j v) ≡ Refused n p → StpRefusal n
+only-two : (x y : Bool) (i j u v n p : ℕ) → StpRefusal i u → StpRefusal j v → (refuseIf x i u before refuseIf y j v) ≡ Refused n p → StpRefusal n p
 unfolding refuseIf _before_
 only-two true y i j u v n p h k e = only-if true i u n p h e
 only-two false y i j u v n p h k e = only-if y j v n p k e
@@ -178,14 +181,14 @@ unfolding afterEmpty
 only-last t at = only-end t _
 
 -- Every refusal of reading.
-pub stp-refusals : (a b c d : ℕ) (t : List ℕ) (n p : ℕ) → stpWhole (stpTests a b c d) t ≡ refused n p → StpRefusal n
+pub stp-refusals : (a b c d : ℕ) (t : List ℕ) (n p : ℕ) → stpWhole (stpTests a b c d) t ≡ refused n p → StpRefusal n p
 unfolding stpWhole stpContent stpHead countThen stpTests verticesTest edgesTest
 stp-refusals a b c d t n p e =
     stp-then _ _
     (stp-then _ _ (of-form (only-then _ _ (only-fixed headerLine t 0) (λ z a. only-then _ _ (only-stp-line sectionWord t a) (λ y b. only-graph-section t b)))) (λ z q.
     stp-then _ _ (of-form (only-after nodesWord t q)) (λ x r.
-    only-guarded (verticesTest a x) (λ n p. only-two (eqb x 0 || ltb maxVertices x) (ltb a x) 1 7 0 0 n p (vertices refl) (short refl))
+    only-guarded (verticesTest a x) (λ n p. only-two (eqb x 0 || ltb maxVertices x) (ltb a x) 1 7 0 0 n p (vertices refl refl) (short refl refl))
     (stp-then _ _ (of-form (only-after edgesWord t r)) (λ y s.
-    only-guarded (edgesTest b c d y) (λ n p. only-two (ltb maxEdges y) (ltb b y || ltb c y || ltb d y) 3 7 0 0 n p (edges refl) (short refl)) (of-form (only-body x y t s)))))))
+    only-guarded (edgesTest b c d y) (λ n p. only-two (ltb maxEdges y) (ltb b y || ltb c y || ltb d y) 3 7 0 0 n p (edges refl refl) (short refl refl)) (of-form (only-body x y t s)))))))
     (λ x q. of-form (only-then _ _ (only-last t q) (λ z r. only-found x r)))
     .is n p e
