@@ -18,7 +18,7 @@ use format_number::Number;
 use format_reader::is_class;
 
 // One less, and 0 for 0.
-fn less(x: usize) -> usize
+pub fn less(x: usize) -> usize
     ensures { λ r. ⌜ r ≡ x - 1 ⌝ }
 {
     if x == 0 {

@@ -133,3 +133,10 @@ pub record StpEscapes (t groups firsts seconds weights : List ℕ) : Type 0 wher
   pub one : (p : ℕ) → stpReading t groups firsts seconds weights ≡ refusal 1 p → ⊥
   pub three : (p : ℕ) → stpReading t groups firsts seconds weights ≡ refusal 3 p → ⊥
   pub seven : (p : ℕ) → stpReading t groups firsts seconds weights ≡ refusal 7 p → ⊥
+
+-- The numbers of the refusals; 20 alone has a place of its own.
+pub data StpGives (n p : ℕ) : Type 0 where
+  gives-1 : n ≡ 1 → p ≡ 0 → StpGives n p
+  gives-3 : n ≡ 3 → p ≡ 0 → StpGives n p
+  gives-7 : n ≡ 7 → p ≡ 0 → StpGives n p
+  gives-20 : n ≡ 20 → StpGives n p

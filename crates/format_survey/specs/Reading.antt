@@ -57,6 +57,6 @@ unfoldable pub reading : List ℕ → Lengths → Outcome SurveyText
 reading t lent = stepOutcome (surveyAt (testsFor lent) t)
 
 -- What a lent buffer holds at the end: the values read and, behind them, what it held; a refusal writes nothing.
-unfoldable pub filled : Outcome SurveyText → (SurveyText → List ℕ) → (old : List ℕ) → List ℕ
+unfoldable pub filled : {A : Type 0} → Outcome A → (A → List ℕ) → (old : List ℕ) → List ℕ
 filled (refusal number place) values old = old
-filled (answer survey) values old = values survey ++ drop (length (values survey)) old
+filled (answer said) values old = values said ++ drop (length (values said)) old

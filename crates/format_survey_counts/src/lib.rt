@@ -3,7 +3,6 @@ ghost use Rattle.base_buffer.specs.Lent.{old};
 ghost use mathlib.Core.Path.{_≡_};
 ghost use Rattle.format_number.specs.Answer.{numberStep};
 ghost use Rattle.format_grammar.specs.Step.{stopped};
-ghost use Rattle.format_key.specs.Key.{nodesKey, linksKey};
 ghost use Rattle.format_survey_lines.specs.Line.{countsAt, verticesTest, edgesTest, countLine};
 ghost use Rattle.format_survey_lines.specs.Answer.{countsStep};
 use base_limits::COUNT_DIGITS;
@@ -14,13 +13,13 @@ use format_number::Cursor;
 use format_number::Number;
 use format_survey_lines::Head;
 
-// `nodes=n`: 1, then 7 where the group buffer, of length lent, is short.
-fn vertices_line(text: &[u8], lent: usize) -> Number
-    ensures { λ r. ⌜ numberStep r ≡ countLine nodesKey (verticesTest lent) (old text) 0 ⌝ }
+// A line of a key and the number of vertices: 1, then 7 where the group buffer, of length lent, is short.
+pub fn vertices_line(text: &[u8], cursor: Cursor, key: &[u8], lent: usize) -> Number
+    ensures { λ r. ⌜ numberStep r ≡ countLine (old key) (verticesTest lent) (old text) (cursor .at) ⌝ }
 {
-    let step = number_line(text, Cursor { at: 0 }, &format_key::NODES, COUNT_DIGITS);
-    let Number::Value { value, next: _ } = step else {
-        return step;
+    let line = number_line(text, cursor, key, COUNT_DIGITS);
+    let Number::Value { value, next: _ } = line else {
+        return line;
     };
     let count = value as usize;
     if count == 0 {
@@ -41,14 +40,22 @@ fn vertices_line(text: &[u8], lent: usize) -> Number
             place: 0,
         };
     }
-    step
+    line
 }
 
-// `links=m`: 3, then 7 where one of the other three buffers is short.
-fn edges_line(text: &[u8], cursor: Cursor, firsts: usize, seconds: usize, weights: usize) -> Number
-    ensures { λ r. ⌜ numberStep r ≡ countLine linksKey (edgesTest firsts seconds weights) (old text) (cursor .at) ⌝ }
+// A line of a key and the number of edges: 3, then 7 where one of the other three buffers is short.
+pub fn edges_line(
+    text: &[u8],
+    cursor: Cursor,
+    key: &[u8],
+    firsts: usize,
+    seconds: usize,
+    weights: usize,
+) -> Number
+    ensures { λ r.
+        ⌜ numberStep r ≡ countLine (old key) (edgesTest firsts seconds weights) (old text) (cursor .at) ⌝ }
 {
-    let step = number_line(text, cursor, &format_key::LINKS, COUNT_DIGITS);
+    let step = number_line(text, cursor, key, COUNT_DIGITS);
     let Number::Value { value, next: _ } = step else {
         return step;
     };
@@ -81,7 +88,7 @@ fn edges_line(text: &[u8], cursor: Cursor, firsts: usize, seconds: usize, weight
 }
 
 // A refused step, as the answer of the two count lines.
-fn stopped_head(step: Number) -> Head
+pub fn stopped_head(step: Number) -> Head
     ensures { λ r. ⌜ countsStep r ≡ stopped (numberStep step) ⌝ }
 {
     match step {
@@ -97,7 +104,7 @@ fn stopped_head(step: Number) -> Head
 pub fn counts(text: &[u8], groups: usize, firsts: usize, seconds: usize, weights: usize) -> Head
     ensures { λ r. ⌜ countsStep r ≡ countsAt (verticesTest groups) (edgesTest firsts seconds weights) (old text) ⌝ }
 {
-    let one = vertices_line(text, groups);
+    let one = vertices_line(text, Cursor { at: 0 }, &format_key::NODES, groups);
     let Number::Value {
         value: vertices,
         next: after,
@@ -105,7 +112,7 @@ pub fn counts(text: &[u8], groups: usize, firsts: usize, seconds: usize, weights
     else {
         return stopped_head(one);
     };
-    let two = edges_line(text, after, firsts, seconds, weights);
+    let two = edges_line(text, after, &format_key::LINKS, firsts, seconds, weights);
     let Number::Value { value: edges, next } = two else {
         return stopped_head(two);
     };

@@ -14,7 +14,7 @@ use format_reader::fixed;
 use format_survey_lines::EdgeLine;
 
 // A refused step, as the answer of an edge's line.
-fn stopped_edge(step: Number) -> EdgeLine
+pub fn stopped_edge(step: Number) -> EdgeLine
     ensures { λ r. ⌜ edgeStep r ≡ stopped (numberStep step) ⌝ }
 {
     match step {

@@ -21,7 +21,7 @@ fn store32(buffer: &mut [u32], at: usize, value: u64)
 }
 
 // A refused line of an edge, as the answer of the lines.
-fn stopped_line(line: EdgeLine) -> Number
+pub fn stopped_line(line: EdgeLine) -> Number
     ensures { λ r. ⌜ numberStep r ≡ stopped (edgeStep line) ⌝ }
 {
     match line {

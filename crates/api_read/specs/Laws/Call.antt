@@ -85,12 +85,12 @@ read-short-seven t lent counts n next short line some few =
     rw (lt-ltb counts readFigures short) (reading-refused t _ (then-refused _ (then-found _ line ∙ tested)))
 
 -- Lent nothing, a buffer is as it was; lent whole, it is as it was filled.
-filled-rest : (b : Bool) (read : Outcome SurveyText) (values : SurveyText → List ℕ) (l : List ℕ) → (b ≡ true → (number place : ℕ) × (read ≡ refusal number place))
+pub filled-rest : {A : Type 0} (b : Bool) (read : Outcome A) (values : A → List ℕ) (l : List ℕ) → (b ≡ true → (number place : ℕ) × (read ≡ refusal number place))
     → filled read values (cond b [] l) ++ cond b l [] ≡ filled read values l
 unfolding filled
-filled-rest true read values l h =
+filled-rest {A} true read values l h =
     let n = h refl in
-    ap (λ (o : Outcome SurveyText). filled o values [] ++ l) (n .2) ∙ sym (ap (λ (o : Outcome SurveyText). filled o values l) (n .2))
+    ap (λ (o : Outcome A). filled o values [] ++ l) (n .2) ∙ sym (ap (λ (o : Outcome A). filled o values l) (n .2))
 filled-rest false read values l h = append-nil (filled read values l)
 
 -- What `read` ensures, of buffers by their content before and after.

@@ -19,7 +19,7 @@ pub record OnlyMalformed {A : Type 0} (s : Step A) : Type 0 where
 pub only-found : {A : Type 0} (a : A) (q : ℕ) → OnlyMalformed (found a q)
 only-found a q = record { is = λ n p e. let z : _≡_ {A = ℕ} 0 1 = cc in absurd (omega arith) }
 
-only-refused : {A : Type 0} (q : ℕ) → OnlyMalformed {A = A} (refused 16 q)
+pub only-refused : {A : Type 0} (q : ℕ) → OnlyMalformed {A = A} (refused 16 q)
 only-refused {A} q = record { is = λ n p e. number e }
   where
     number : {n p : ℕ} → _≡_ {A = Step A} (refused 16 q) (refused n p) → n ≡ 16

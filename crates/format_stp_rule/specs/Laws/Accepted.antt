@@ -10,7 +10,7 @@ use lib.ListN.{length, getD, take, drop, replicate, length-append, length-replic
 use lib.Seq.{take-at, take-all, length-take-le, getD-append-add}
 use borrow.Author.Tests.{eqb-true, eqb-false, eq-eqb, ne-eqb, leb-true, leb-false}
 use Rattle.base_limits.specs.Limits.{maxVertices, countDigits}
-use Rattle.base_limits.specs.Verdict.{Outcome, refusal, answer, refuseIf, _before_}
+use Rattle.base_limits.specs.Verdict.{Outcome, refusal, answer}
 use Rattle.base_limits.specs.declared.Verdict.the-variants.{Fine, Refused}
 use Rattle.format_key.specs.Key.{newline}
 use Rattle.format_grammar.specs.Bytes.{endAt}
@@ -23,7 +23,7 @@ use Rattle.format_grammar.specs.Stands.{Stands}
 use Rattle.format_grammar.specs.Step.{Step, found, refused, _then_}
 use Rattle.format_number.specs.Laws.Keyed.{Passes}
 use Rattle.format_number.specs.Number.{OfDigits}
-use Rattle.format_survey_lines.specs.Laws.Tests.{vertices-fine, edges-fine, vertices-passed, edges-passed}
+use Rattle.format_survey_lines.specs.Laws.Tests.{vertices-fine, edges-fine, vertices-passed, edges-passed, two-not-malformed}
 use Rattle.format_survey_lines.specs.Line.{verticesTest, edgesTest}
 use Rattle.format_stp_rule.specs.Laws.EmptyLines.{EmptyThere, empty-there, empty-count}
 use Rattle.format_stp_rule.specs.Laws.File.{SoundTests, reads-file}
@@ -31,19 +31,9 @@ use Rattle.format_stp_rule.specs.Laws.Only.{StpRefusal, vertices, edges,
 use Rattle.format_stp_rule.specs.Laws.Only.{malformed as of-its-form}
 use Rattle.format_stp_rule.specs.StpReading.{StpContent, StpTests, stpContent, stpWhole, stpTests, stpNumber, stpOutcome, stpReading}
 use Rattle.format_stp_rule.specs.StpWord.{emptyLines, afterEmpty, AfterEmpty}
-use Rattle.format_stp_rule.specs.Subset.{StpFile, CountThen, StpBody, InSubset, IsStp, StpFits, StpBegins, StpEscapes}
+use Rattle.format_stp_rule.specs.Subset.{StpFile, CountThen, StpBody, InSubset, IsStp, StpFits, StpBegins, StpEscapes, StpGives, gives-1, gives-3, gives-7, gives-20}
 
 -- ---- the tests
-
-one-not-malformed : (x : Bool) (i u n p : ℕ) → (i ≡ 16 → ⊥) → refuseIf x i u ≡ Refused n p → n ≡ 16 → ⊥
-unfolding refuseIf
-one-not-malformed true i u n p h e z = let s : i ≡ n = cc in h (s ∙ z)
-one-not-malformed false i u n p h e z = let s : _≡_ {A = ℕ} 0 1 = cc in omega arith
-
-two-not-malformed : (x y : Bool) (i j u v n p : ℕ) → (i ≡ 16 → ⊥) → (j ≡ 16 → ⊥) → (refuseIf x i u before refuseIf y j v) ≡ Refused n p → n ≡ 16 → ⊥
-unfolding refuseIf _before_
-two-not-malformed true y i j u v n p h k e z = one-not-malformed true i u n p h e z
-two-not-malformed false y i j u v n p h k e z = one-not-malformed y j v n p k e z
 
 pub sound-tests : (a b c d : ℕ) → SoundTests (stpTests a b c d)
 unfolding stpTests verticesTest edgesTest
@@ -157,12 +147,11 @@ unfolding stpNumber
 not-malformed-number n h = rw (ne-eqb n 16 h) refl
 
 malformed-number : (n : ℕ) → (n ≡ 20 → ⊥) → stpNumber n ≡ 20 → n ≡ 16
-unfolding stpNumber
-malformed-number n h e = by-test (eqb n 16) refl e
+malformed-number n h e = by-test (eqb n 16) refl
   where
-    by-test : (b : Bool) → eqb n 16 ≡ b → cond b 20 n ≡ 20 → n ≡ 16
-    by-test true q e = eqb-true n 16 q
-    by-test false q e = absurd (h e)
+    by-test : (b : Bool) → eqb n 16 ≡ b → n ≡ 16
+    by-test true q = eqb-true n 16 q
+    by-test false q = absurd (h (sym (not-malformed-number n (eqb-false n 16 q)) ∙ e))
 
 module _ (gb fb sb wb : List ℕ) where
   abbrev tests : StpTests
@@ -339,25 +328,25 @@ module _ (gb fb sb wb : List ℕ) where
           let is : n ≡ 16 = malformed-number n (other (stp-refusals (length gb) (length fb) (length sb) (length wb) t n q h)) number in
           malformed t p (h ∙ (λ i. refused (is i) (place i)))
         where
-          other : StpRefusal n → n ≡ 20 → ⊥
+          other : StpRefusal n q → n ≡ 20 → ⊥
           other (of-its-form z) y = omega arith
-          other (vertices z) y = omega arith
-          other (edges z) y = omega arith
-          other (short z) y = omega arith
+          other (vertices z w) y = omega arith
+          other (edges z w) y = omega arith
+          other (short z w) y = omega arith
 
   module _ (t : List ℕ) (p : ℕ) (e : stpReading t gb fb sb wb ≡ refusal 20 p) where
     -- The bytes before the place of 20 begin a text of the subset.
-    pub malformed-begins : StpBegins t p
-    malformed-begins = begins t p (refused-there t p e)
+    pub stp-malformed-begins : StpBegins t p
+    stp-malformed-begins = begins t p (refused-there t p e)
 
     -- With the byte at that place they begin none.
-    pub malformed-stops : p < length t → (rest : List ℕ) → IsStp (take (p + 1) t ++ rest) → ⊥
-    malformed-stops h rest s =
+    pub stp-malformed-stops : p < length t → (rest : List ℕ) → IsStp (take (p + 1) t ++ rest) → ⊥
+    stp-malformed-stops h rest s =
         agrees-none t p (refused-there t p e) (take (p + 1) t ++ rest) (sym (take-at (take (p + 1) t) rest (p + 1) (length-take-le (p + 1) t (omega arith)))) s
 
     -- The text itself is none.
-    pub malformed-is-none : IsStp t → ⊥
-    malformed-is-none s = agrees-none t p (refused-there t p e) t refl s
+    pub stp-malformed-is-none : IsStp t → ⊥
+    stp-malformed-is-none s = agrees-none t p (refused-there t p e) t refl s
 
   -- A text of the subset that escapes 1, 3 and 7 is accepted, and what is read is what it says.
   pub escaping-accepted : (t : List ℕ) (x : StpContent) → StpEscapes t gb fb sb wb → InSubset x t → stpReading t gb fb sb wb ≡ answer x
@@ -380,8 +369,48 @@ module _ (gb fb sb wb : List ℕ) where
           reading-is : stpOutcome (stpWhole tests t) ≡ refusal n q
           reading-is = ap stpOutcome whole-is ∙ ap (λ (k : ℕ). refusal k q) (not-malformed-number n other)
 
-          by-number : StpRefusal n → ⊥
+          by-number : StpRefusal n q → ⊥
           by-number (of-its-form z) = other z
-          by-number (vertices z) = h .one q (reading-is ∙ ap (λ (k : ℕ). refusal k q) z)
-          by-number (edges z) = h .three q (reading-is ∙ ap (λ (k : ℕ). refusal k q) z)
-          by-number (short z) = h .seven q (reading-is ∙ ap (λ (k : ℕ). refusal k q) z)
+          by-number (vertices z w) = h .one q (reading-is ∙ ap (λ (k : ℕ). refusal k q) z)
+          by-number (edges z w) = h .three q (reading-is ∙ ap (λ (k : ℕ). refusal k q) z)
+          by-number (short z w) = h .seven q (reading-is ∙ ap (λ (k : ℕ). refusal k q) z)
+
+  -- ---- which refusals there are
+
+  -- Reading gives no refusals but 1, 3, 7 and 20, and 20 alone has a place other than 0.
+  pub stp-numbers : (t : List ℕ) (n p : ℕ) → stpReading t gb fb sb wb ≡ refusal n p → StpGives n p
+  unfolding stpReading stpOutcome stpNumber
+  stp-numbers t n p e = by-step (stpWhole tests t) refl e
+    where
+      by-step : (s : Step StpContent) → stpWhole tests t ≡ s → stpOutcome s ≡ refusal n p → StpGives n p
+      by-step (found x q) h e = let z : _≡_ {A = ℕ} 0 1 = cc in absurd (omega arith)
+      by-step (refused i q) h e = by-number (stp-refusals (length gb) (length fb) (length sb) (length wb) t i q h)
+        where
+          same : stpNumber i ≡ n
+          same = cc
+
+          place : p ≡ q
+          place = cc
+
+          by-number : StpRefusal i q → StpGives n p
+          by-number (of-its-form z) = gives-20 (sym same ∙ ap stpNumber z)
+          by-number (vertices z w) = gives-1 (sym same ∙ ap stpNumber z) (place ∙ w)
+          by-number (edges z w) = gives-3 (sym same ∙ ap stpNumber z) (place ∙ w)
+          by-number (short z w) = gives-7 (sym same ∙ ap stpNumber z) (place ∙ w)
+
+  -- A text outside the subset that escapes 1, 3 and 7 is refused with 20.
+  pub escaping-refused : (t : List ℕ) → StpEscapes t gb fb sb wb → (IsStp t → ⊥) → (p : ℕ) × (stpReading t gb fb sb wb ≡ refusal 20 p)
+  escaping-refused t h none = by-outcome (stpReading t gb fb sb wb) refl
+    where
+      by-outcome : (o : Outcome StpContent) → stpReading t gb fb sb wb ≡ o → (p : ℕ) × (stpReading t gb fb sb wb ≡ refusal 20 p)
+      by-outcome (answer x) e = absurd (none (record { says = x; is = accepted-in t x e .0 }))
+      by-outcome (refusal n p) e = by-number (stp-numbers t n p e)
+        where
+          is : {k : ℕ} → n ≡ k → stpReading t gb fb sb wb ≡ refusal k p
+          is z = e ∙ ap (λ (i : ℕ). refusal i p) z
+
+          by-number : StpGives n p → (p : ℕ) × (stpReading t gb fb sb wb ≡ refusal 20 p)
+          by-number (gives-1 z w) = absurd (h .one p (is z))
+          by-number (gives-3 z w) = absurd (h .three p (is z))
+          by-number (gives-7 z w) = absurd (h .seven p (is z))
+          by-number (gives-20 z) = (p, is z)

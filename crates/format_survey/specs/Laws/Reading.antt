@@ -17,7 +17,7 @@ use Rattle.format_grammar.specs.Laws.Step.{then-value, stored-found, stored-ref
 use Rattle.format_survey_lines.specs.Laws.Tests.{counts-passed}
 
 -- A buffer at the end, by the outcome.
-module _ {o : Outcome SurveyText} (values : SurveyText → List ℕ) where
+module _ {A : Type 0} {o : Outcome A} (values : A → List ℕ) where
   pub buffer-kept : {n p : ℕ} (old : List ℕ) → o ≡ refusal n p → old ≡ filled o values old
   unfolding filled
   buffer-kept old r = sym (ap (λ x. filled x values old) r)
@@ -25,7 +25,7 @@ module _ {o : Outcome SurveyText} (values : SurveyText → List ℕ) where
   pub buffer-refused : {end : Step ℕ} {n p i q : ℕ} (new old : List ℕ) → o ≡ refusal n p → end ≡ refused i q → storedIf end new old ≡ filled o values old
   buffer-refused new old r e = stored-refused new old e ∙ buffer-kept old r
 
-  pub buffer-found : {end : Step ℕ} {z p : ℕ} (s : SurveyText) (old : List ℕ) → o ≡ answer s → end ≡ found z p → length (values s) ≤ length old → storedIf end (sets old 0 (values s)) old ≡ filled o values old
+  pub buffer-found : {end : Step ℕ} {z p : ℕ} (s : A) (old : List ℕ) → o ≡ answer s → end ≡ found z p → length (values s) ≤ length old → storedIf end (sets old 0 (values s)) old ≡ filled o values old
   unfolding filled
   buffer-found s old r e h = stored-found (sets old 0 (values s)) old e ∙ sets-filled (values s) old h ∙ sym (ap (λ x. filled x values old) r)
 

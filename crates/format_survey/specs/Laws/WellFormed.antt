@@ -10,12 +10,12 @@ use lib.Seq.{take-at, take-all, length-take-le}
 use lib.Dec.{leb}
 use borrow.Author.Tests.{leb-true, leb-false}
 use Rattle.base_limits.specs.Limits.{maxPairs}
-use Rattle.base_limits.specs.Verdict.{refusal, answer, refuseIf, _before_}
+use Rattle.base_limits.specs.Verdict.{refusal, answer}
 use Rattle.base_limits.specs.declared.Verdict.the-variants.{Refused}
 use Rattle.format_survey_lines.specs.Line.{Lengths, pairRoom, Tests, testsFor, verticesTest, edgesTest, groupTest, Edge}
 use Rattle.format_survey.specs.Reading.{SurveyText, surveyOf, surveyAt, stepOutcome, reading}
 use Rattle.format_survey.specs.Render.{render}
-use Rattle.format_survey_lines.specs.Laws.Tests.{vertices-fine, edges-fine, group-line-fine, vertices-passed, edges-passed, group-passed}
+use Rattle.format_survey_lines.specs.Laws.Tests.{vertices-fine, edges-fine, group-line-fine, vertices-passed, edges-passed, group-passed, one-not-malformed, two-not-malformed}
 use Rattle.format_survey.specs.Laws.Content.{SurveyContent, contentWith, contentSurvey, contentAt, NeverMalformed, Accepted, Formed, reads-content, content-survey}
 use Rattle.format_grammar.specs.Bytes.{endAt}
 use Rattle.format_grammar.specs.Language.{ReadsBefore, NotMalformed, read, otherwise}
@@ -31,16 +31,6 @@ use Rattle.format_grammar.specs.Step.{Step, found, refused, _then_}
 use Rattle.format_survey.specs.WellFormed.{WellFormed, WithinCounts, surveyOfText, SurveyRoom, Accepting, Begins}
 
 -- No test gives 16.
-pub one-not-malformed : (x : Bool) (i u n p : ℕ) → (i ≡ 16 → ⊥) → refuseIf x i u ≡ Refused n p → n ≡ 16 → ⊥
-unfolding refuseIf
-one-not-malformed true i u n p h e z = let s : i ≡ n = cc in h (s ∙ z)
-one-not-malformed false i u n p h e z = let s : _≡_ {A = ℕ} 0 1 = cc in omega arith
-
-pub two-not-malformed : (x y : Bool) (i j u v n p : ℕ) → (i ≡ 16 → ⊥) → (j ≡ 16 → ⊥) → (refuseIf x i u before refuseIf y j v) ≡ Refused n p → n ≡ 16 → ⊥
-unfolding refuseIf _before_
-two-not-malformed true y i j u v n p h k e z = one-not-malformed true i u n p h e z
-two-not-malformed false y i j u v n p h k e z = one-not-malformed y j v n p k e z
-
 pub never-malformed : (lent : Lengths) → NeverMalformed (testsFor lent)
 unfolding testsFor verticesTest edgesTest groupTest
 never-malformed lent =

@@ -19,23 +19,23 @@ unfolding countsAt
 returns-2 c =
     c .stopped-head2 .ensures
     ∙ stopped-stays _ (c .before .before .before .edges-line .ensures) (c .before .enum-told2 .given .1)
-    ∙ sym (value-goes _ (c .before .before .before .before .before .before .before .vertices-line .ensures) (c .before .before .before .before .before .one .given .1))
+    ∙ sym (value-goes _ (c .before .before .before .before .before .before .before .before .vertices-line .ensures) (c .before .before .before .before .before .before .one .given .1))
 
 returns-3 : tie.Need-returns-3
 unfolding countsAt countsStep
-returns-3 c =
-    sym (value-goes _ (c .before .before .before .edges-line .ensures) (c .before .two .given .1))
-    ∙ sym (value-goes _ (c .before .before .before .before .before .before .before .vertices-line .ensures) (c .before .before .before .before .before .one .given .1))
+returns-3 c = sym (value-goes _ (c .before .before .before .edges-line .ensures) (c .before .two .given .1)) ∙ sym (value-goes _ (c .before .before .before .before .before .before .before .before .vertices-line .ensures) (c .before .before .before .before .before .before .one .given .1))
 
 pub counts-spec : {M : Type 1} → statement M
 counts-spec =
     tie.close
     (tie.spec
+    (λ c. search needs)
     (λ c κs. search needs)
     (λ c. search needs)
     enum-told
     (λ c κs. search needs)
     returns
+    (λ c. search needs)
     (λ c κs. search needs)
     (λ c. search needs)
     (λ c. search needs)

@@ -63,7 +63,6 @@ pub edges-line-spec : {M : Type 1} → statement M
 edges-line-spec =
     tie.close
     (tie.spec
-    (λ c. search needs)
     (λ c κs. search needs)
     (λ c. search needs)
     enum-told

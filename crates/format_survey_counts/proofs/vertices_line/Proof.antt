@@ -19,8 +19,8 @@ returns-2 : tie.Need-returns-2
 unfolding countLine numberStep
 returns-2 c =
     let a = c .before .before .before .before .before .before .before .args in
-    let n = c .before .before .step .given .0 .0 in
-    check-refused (verticesTest (a .lent)) (c .before .before .before .before .number-line .ensures) (c .before .before .step .given .1)
+    let n = c .before .before .line .given .0 .0 in
+    check-refused (verticesTest (a .lent)) (c .before .before .before .before .number-line .ensures) (c .before .before .line .given .1)
     (vertices-none (a .lent) n (c .if1 .taken))
 
 -- 1: too many vertices
@@ -28,8 +28,8 @@ returns-3 : tie.Need-returns-3
 unfolding countLine numberStep
 returns-3 c =
     let a = c .before .before .before .before .before .before .before .before .args in
-    let n = c .before .before .before .step .given .0 .0 in
-    check-refused (verticesTest (a .lent)) (c .before .before .before .before .before .number-line .ensures) (c .before .before .before .step .given .1)
+    let n = c .before .before .before .line .given .0 .0 in
+    check-refused (verticesTest (a .lent)) (c .before .before .before .before .before .number-line .ensures) (c .before .before .before .line .given .1)
     (vertices-many (a .lent) n (c .before .if1 .left) (c .if2 .taken))
 
 -- 7: the group buffer is short
@@ -37,8 +37,8 @@ returns-4 : tie.Need-returns-4
 unfolding countLine numberStep
 returns-4 c =
     let a = c .before .before .before .before .before .before .before .before .before .args in
-    let n = c .before .before .before .before .step .given .0 .0 in
-    check-refused (verticesTest (a .lent)) (c .before .before .before .before .before .before .number-line .ensures) (c .before .before .before .before .step .given .1)
+    let n = c .before .before .before .before .line .given .0 .0 in
+    check-refused (verticesTest (a .lent)) (c .before .before .before .before .before .before .number-line .ensures) (c .before .before .before .before .line .given .1)
     (vertices-short (a .lent) n (c .before .before .if1 .left) (c .before .if2 .left) (c .if3 .taken))
 
 -- the count passes
@@ -46,15 +46,14 @@ returns-5 : tie.Need-returns-5
 unfolding countLine numberStep
 returns-5 c =
     let a = c .before .before .before .before .before .before .before .before .before .args in
-    let n = c .before .before .before .before .step .given .0 .0 in
-    check-fine (verticesTest (a .lent)) (c .before .before .before .before .before .before .number-line .ensures) (c .before .before .before .before .step .given .1)
+    let n = c .before .before .before .before .line .given .0 .0 in
+    check-fine (verticesTest (a .lent)) (c .before .before .before .before .before .before .number-line .ensures) (c .before .before .before .before .line .given .1)
     (vertices-fine (a .lent) n (c .before .before .if1 .left) (c .before .if2 .left) (c .if3 .left))
 
 pub vertices-line-spec : {M : Type 1} → statement M
 vertices-line-spec =
     tie.close
     (tie.spec
-    (λ c. search needs)
     (λ c κs. search needs)
     (λ c. search needs)
     enum-told

@@ -2,7 +2,7 @@
 use Prim.Native.Nat.{ℕ, _^_, _≤_, _<_}
 use native.Mathlib.Omega.{arith}
 use native.Mathlib.Nat.{pow-le-pow-right}
-use mathlib.Core.Path.{_≡_, refl, ap, subst}
+use mathlib.Core.Path.{_≡_, refl, ap, _∙_, subst}
 use mathlib.Core.List.{List}
 use mathlib.Core.Bool.{Bool, true, false}
 use lib.Dec.{eqb, ltb}
@@ -153,3 +153,14 @@ counts-passed lent t {counts} {q} e =
     let same : _≡_ {A = SurveyCounts} (record { vertices = n .0; edges = m .0 }) counts = cc (u, v, two .3) in
     subst (CountsPassed lent) same
     record { vertices = vertices-passed (lent .groups) (n .0) (checked-fine _ _ _ (n .3)); edges = edges-passed (lent .firsts) (lent .seconds) (lent .weights) (m .0) (checked-fine _ _ _ (m .3)) }
+
+-- A refusal of a count is not 16: of one test, and of two one after the other.
+pub one-not-malformed : (x : Bool) (i u n p : ℕ) → (i ≡ 16 → ⊥) → refuseIf x i u ≡ Refused n p → n ≡ 16 → ⊥
+unfolding refuseIf
+one-not-malformed true i u n p h e z = let s : i ≡ n = cc in h (s ∙ z)
+one-not-malformed false i u n p h e z = let s : _≡_ {A = ℕ} 0 1 = cc in omega arith
+
+pub two-not-malformed : (x y : Bool) (i j u v n p : ℕ) → (i ≡ 16 → ⊥) → (j ≡ 16 → ⊥) → (refuseIf x i u before refuseIf y j v) ≡ Refused n p → n ≡ 16 → ⊥
+unfolding refuseIf _before_
+two-not-malformed true y i j u v n p h k e z = one-not-malformed true i u n p h e z
+two-not-malformed false y i j u v n p h k e z = one-not-malformed y j v n p k e z

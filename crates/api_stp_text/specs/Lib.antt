@@ -1,0 +1,2 @@
+pub mod StpOutput
+pub mod Laws

@@ -1,0 +1,29 @@
+-- `format_stp::stopped_counts` meets its contract, by the case that the step is.
+use borrow.Author.Needs.{needs}
+use mathlib.Core.Path.{sym, ap}
+use Rattle.format_survey_lines.specs.Answer.{countsStep}
+use Rattle.format_survey_lines.specs.Line.{SurveyCounts}
+use Rattle.format_grammar.specs.Step.{stopped}
+use Rattle.format_stp_rule.specs.StpReading.{stpOutcome, stpNumber}
+use Rattle.format_stp.specs.Answer.{stpAnswer}
+use Rattle.format_stp.proofs.stopped_counts.Statement.{statement}
+use Rattle.format_stp.proofs.stopped_counts.Tie as tie
+
+returns : tie.Need-returns
+unfolding stpAnswer countsStep stopped stpOutcome
+returns c =
+    rw (c .called .ensures) (sym (ap (λ x. stpOutcome (stopped {B = SurveyCounts} (countsStep x))) (c .before .before .head .given .1)))
+
+returns-2 : tie.Need-returns-2
+unfolding stpAnswer countsStep stopped stpOutcome stpNumber
+returns-2 c = sym (ap (λ x. stpOutcome (stopped {B = SurveyCounts} (countsStep x))) (c .before .head2 .given .1))
+
+pub stopped-counts-spec : {M : Type 1} → statement M
+stopped-counts-spec =
+    tie.close
+    (tie.spec
+    (λ c. search needs)
+    (λ c κs. search needs)
+    (λ c. search needs)
+    returns
+    returns-2)

@@ -1,0 +1,198 @@
+// Reads an STP text into the lent buffers of a survey: the counts, then the lines behind them.
+ghost use Rattle.base_buffer.specs.Lent.{old, new};
+ghost use mathlib.Core.Path.{_≡_};
+ghost use Rattle.format_grammar.specs.Step.{found, stopped, _then_};
+ghost use Rattle.format_number.specs.Answer.{numberStep};
+ghost use Rattle.format_survey_lines.specs.Answer.{countsStep};
+ghost use Rattle.format_survey_lines.specs.Line.{firstsOf, secondsOf, weightsOf};
+ghost use Rattle.format_survey.specs.Reading.{filled};
+ghost use Rattle.format_stp_rule.specs.StpReading.{stpTests, stpOutcome, stpReading, stpNumber};
+ghost use Rattle.format_stp.specs.Parts.{stpCounts, stpLines, storedBy};
+ghost use Rattle.format_stp.specs.Answer.{stpAnswer, stpCountsOf};
+use format_number::Cursor;
+use format_number::Number;
+use format_stp_head::head;
+use format_stp_head::skip;
+use format_stp_lines::edge_lines;
+use format_stp_terminals::terminals;
+use format_survey_lines::Head;
+use format_survey_counts::edges_line;
+use format_survey_counts::stopped_head;
+use format_survey_counts::vertices_line;
+
+const NODES: [u8; 6] = *b"Nodes ";
+
+const EDGES: [u8; 6] = *b"Edges ";
+
+pub enum StpRead {
+    Survey { vertices: usize, edges: usize },
+    Refused { number: u64, place: usize },
+}
+
+// The beginning of a text to its two counts; the lengths are those of the lent buffers.
+fn counts(text: &[u8], groups: usize, firsts: usize, seconds: usize, weights: usize) -> Head
+    ensures { λ r. ⌜ countsStep r ≡ stpCounts (stpTests groups firsts seconds weights) (old text) ⌝ }
+{
+    let one = head(text);
+    let Number::Value { value: _, next: a } = one else {
+        return stopped_head(one);
+    };
+    let two = vertices_line(text, skip(text, a), &NODES, groups);
+    let Number::Value {
+        value: vertices,
+        next: b,
+    } = two
+    else {
+        return stopped_head(two);
+    };
+    let three = edges_line(text, skip(text, b), &EDGES, firsts, seconds, weights);
+    let Number::Value { value: edges, next } = three else {
+        return stopped_head(three);
+    };
+    Head::Counts {
+        vertices: vertices as usize,
+        edges: edges as usize,
+        next,
+    }
+}
+
+// The lines behind the counts, to the end of the text. The tracks are read twice: into no buffer, and, where all is
+// read, into theirs.
+fn read_lines(
+    text: &[u8],
+    cursor: Cursor,
+    vertices: usize,
+    edges: usize,
+    groups: &mut [u8],
+    firsts: &mut [u32],
+    seconds: &mut [u32],
+    weights: &mut [u32],
+) -> Number
+    ensures { λ r.
+        let lines = stpLines vertices edges (old text) (cursor .at) in
+        ⌜ (numberStep r ≡ (lines then λ x p. found 0 p))
+        × (new groups ≡ storedBy lines (λ x. x .groups) (old groups))
+        × (new firsts ≡ storedBy lines (λ x. firstsOf (x .lines)) (old firsts))
+        × (new seconds ≡ storedBy lines (λ x. secondsOf (x .lines)) (old seconds))
+        × (new weights ≡ storedBy lines (λ x. weightsOf (x .lines)) (old weights)) ⌝ }
+{
+    let tracks = edge_lines(
+        text,
+        cursor,
+        vertices,
+        edges,
+        &mut firsts[0..0],
+        &mut seconds[0..0],
+        &mut weights[0..0],
+    );
+    let Number::Value { value: _, next } = tracks else {
+        return tracks;
+    };
+    let last = terminals(text, next, vertices, groups);
+    let Number::Value { value: _, next: _ } = last else {
+        return last;
+    };
+    edge_lines(text, cursor, vertices, edges, firsts, seconds, weights);
+    last
+}
+
+// A text of another form is refused with 20.
+fn called(number: u64) -> u64
+    ensures { λ r. ⌜ r ≡ stpNumber number ⌝ }
+{
+    if number == 16 {
+        return 20;
+    }
+    number
+}
+
+// Refused counts, as the answer of reading.
+fn stopped_counts(head: Head) -> StpRead
+    ensures { λ r. ⌜ stpAnswer r ≡ stpOutcome (stopped (countsStep head)) ⌝ }
+{
+    match head {
+        Head::Refused { number, place } => StpRead::Refused {
+            number: called(number),
+            place,
+        },
+        Head::Counts {
+            vertices: _,
+            edges: _,
+            next,
+        } => {
+            let place = next.at;
+            StpRead::Refused { number: 20, place }
+        }
+    }
+}
+
+// A refused line behind them, in the same way.
+fn stopped_lines(step: Number) -> StpRead
+    ensures { λ r. ⌜ stpAnswer r ≡ stpOutcome (stopped (numberStep step)) ⌝ }
+{
+    match step {
+        Number::Refused { number, place } => StpRead::Refused {
+            number: called(number),
+            place,
+        },
+        Number::Value { value: _, next } => {
+            let place = next.at;
+            StpRead::Refused { number: 20, place }
+        }
+    }
+}
+
+// Reads an STP text into the lent buffers; a refusal writes nothing.
+pub fn read_stp(
+    text: &[u8],
+    groups: &mut [u8],
+    firsts: &mut [u32],
+    seconds: &mut [u32],
+    weights: &mut [u32],
+) -> StpRead
+    ensures { λ r.
+        let read = stpReading (old text) (old groups) (old firsts) (old seconds) (old weights) in
+        ⌜ stpAnswer r ≡ stpCountsOf read ⌝ }
+    ensures { λ _.
+        let read = stpReading (old text) (old groups) (old firsts) (old seconds) (old weights) in
+        ⌜ new groups ≡ filled read (λ x. x .groups) (old groups) ⌝ }
+    ensures { λ _.
+        let read = stpReading (old text) (old groups) (old firsts) (old seconds) (old weights) in
+        ⌜ new firsts ≡ filled read (λ x. firstsOf (x .lines)) (old firsts) ⌝ }
+    ensures { λ _.
+        let read = stpReading (old text) (old groups) (old firsts) (old seconds) (old weights) in
+        ⌜ new seconds ≡ filled read (λ x. secondsOf (x .lines)) (old seconds) ⌝ }
+    ensures { λ _.
+        let read = stpReading (old text) (old groups) (old firsts) (old seconds) (old weights) in
+        ⌜ new weights ≡ filled read (λ x. weightsOf (x .lines)) (old weights) ⌝ }
+{
+    let head = counts(
+        text,
+        groups.len(),
+        firsts.len(),
+        seconds.len(),
+        weights.len(),
+    );
+    let Head::Counts {
+        vertices,
+        edges,
+        next,
+    } = head
+    else {
+        return stopped_counts(head);
+    };
+    let lines = read_lines(
+        text,
+        next,
+        vertices,
+        edges,
+        groups,
+        firsts,
+        seconds,
+        weights,
+    );
+    let Number::Value { value: _, next: _ } = lines else {
+        return stopped_lines(lines);
+    };
+    StpRead::Survey { vertices, edges }
+}

@@ -1,0 +1,1 @@
+// STP texts worked by hand, with no function: see specs/.

@@ -1,0 +1,34 @@
+-- An STP text from the end of its graph on (document 02, No. 5), in parts.
+use Prim.Native.Nat.{ℕ}
+use mathlib.Core.Bool.{cond}
+use mathlib.Core.List.{List}
+use lib.Dec.{ltb}
+use lib.Seq.{sets}
+use Rattle.base_limits.specs.Limits.{maxVertices}
+use Rattle.format_grammar.specs.Bytes.{endAt}
+use Rattle.format_grammar.specs.Step.{Step, found, refused, _then_}
+use Rattle.format_stp_rule.specs.StpKey.{endLine, terminalsLine, eofLine}
+use Rattle.format_stp_rule.specs.StpReading.{stpLine, terminalCount, terminalLines, terminalSection}
+use Rattle.format_stp_rule.specs.StpWord.{afterEmpty}
+
+-- The lines before the terminals: how many these are.
+unfoldable pub terminalsAnnounced : (n : ℕ) → List ℕ → (at : ℕ) → Step ℕ
+terminalsAnnounced n t at = stpLine endLine t at then λ z a. stpLine terminalsLine t a then λ y b. afterEmpty (terminalCount n) t b
+
+-- The lines behind them, and the end of the text.
+unfoldable pub terminalsClosed : List ℕ → (at : ℕ) → Step ℕ
+terminalsClosed t at = stpLine endLine t at then λ z a. stpLine eofLine t a then λ y b. afterEmpty endAt t b
+
+-- All of it, where the groups are these at the start.
+unfoldable pub terminalsFrom : (n : ℕ) (groups : List ℕ) → List ℕ → (at : ℕ) → Step (List ℕ)
+terminalsFrom n groups t at =
+    terminalsAnnounced n t at then λ k a. terminalLines n k groups t a then λ gs b. terminalsClosed t b then λ z c. found gs c
+
+-- The terminals, and the end of the text behind empty lines; 1 where there are more vertices than the limit.
+unfoldable pub terminalsToEnd : (n : ℕ) → List ℕ → (at : ℕ) → Step (List ℕ)
+terminalsToEnd n t at = cond (ltb maxVertices n) (refused 1 0) (terminalSection n t at then λ gs p. afterEmpty endAt t p then λ z q. found gs q)
+
+-- What a group buffer holds then: a refusal writes nothing.
+unfoldable pub groupsAfter : Step (List ℕ) → (old : List ℕ) → List ℕ
+groupsAfter (found gs next) old = sets old 0 gs
+groupsAfter (refused number place) old = old
