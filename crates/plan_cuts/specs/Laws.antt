@@ -1,3 +1,4 @@
 pub mod Side
 pub mod Word
 pub mod Taken
+pub mod Alone

@@ -1,19 +1,16 @@
--- In a forest, the side of an edge is crossed by that edge and by no other; so it decides whether the edge is needed.
+-- In a forest, the side of an edge is crossed by that edge and by no other; so it decides whether the edge is needed (`needed-by-cut`).
 use Prim.Native.Nat.{ℕ, zero, suc, _<_}
 use mathlib.Core.Path.{_≡_, refl, ap, sym, _∙_, subst}
 use mathlib.Core.Logic.{_⊎_, inl, inr}
 use mathlib.Core.Bool.{Bool, true, false, _&&_, xor, cond, false≢true}
 use native.Mathlib.Omega.{arith}
 use lib.Dec.{eqb, ltb}
-use borrow.Author.Tests.{eqb-true, eq-eqb, ne-eqb, lt-ltb}
+use borrow.Author.Tests.{eq-eqb, ne-eqb, lt-ltb}
 use Rattle.base_finite.specs.Laws.Test.{either, and-both}
 use Rattle.base_finite.specs.Laws.Below.{below-suc}
 use Rattle.theory_graph.specs.Path.{crosses, Forest}
 use Rattle.theory_graph.specs.Component.{components}
 use Rattle.theory_graph.specs.Laws.Component.{components-right}
-use Rattle.theory_steiner.specs.Problem.{Problem, Sound, Joins, separates, Bounded}
-use Rattle.theory_steiner.specs.Pruning.{needed}
-use Rattle.theory_steiner.specs.Laws.Cut.{needed-by-cut}
 use Rattle.survey_forest.specs.Laws.Forest.{forest-apart}
 use Rattle.plan_cuts.specs.Side.{sideStep, sides}
 
@@ -111,12 +108,3 @@ sides-cross n a b F forest (suc e) f g bf bg hf hg = by (λ x y. sides-cross n a
     by old (inr h) (inl x) (inl y) = rw h (old x y)
     by old (inr h) (inr x) y = absurd (false≢true (sym h ∙ ap F (sym x) ∙ hf))
     by old (inr h) (inl x) (inr y) = absurd (false≢true (sym h ∙ ap F (sym y) ∙ hg))
-
--- The side of an edge of a forest decides whether it is needed.
-pub needed-by-side : (p : Problem) (ok : Sound p) (F : ℕ → Bool) → Bounded p F → Joins p F → Forest (p .first) (p .second) F → (n e : ℕ) → F e ≡ true →
-    needed p F e ≡ separates p (sides n (p .first) (p .second) F (p .edges) e)
-needed-by-side p ok F bounded joins forest n e member =
-    needed-by-cut p ok F joins e (sides n (p .first) (p .second) F (p .edges) e)
-    (sides-cross n (p .first) (p .second) F forest (p .edges) e e (bounded e member) (bounded e member) member member ∙ eq-eqb e e refl)
-    (λ f h c. sym (eqb-true e f (sym (sides-cross n (p .first) (p .second) F forest (p .edges) e f (bounded e member) (bounded f h) member h) ∙ c)))
-    bounded member

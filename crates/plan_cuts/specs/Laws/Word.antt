@@ -72,14 +72,14 @@ unfolding ownWord inBatch
 own-in base i l h =
     counted-true (and-both (leb base i) (ltb (i - base) wordBits) (le-leb base i l) (lt-ltb (i - base) wordBits h)) (2 ^ (i - base))
 
-own-same : (base i k : ℕ) → i ≡ base + k → k < wordBits → bitAt (ownWord base i) k ≡ true
+pub own-same : (base i k : ℕ) → i ≡ base + k → k < wordBits → bitAt (ownWord base i) k ≡ true
 unfolding ownWord inBatch
 own-same base i k e b =
     let z : i - base ≡ k = omega arith in
     let t : (leb base i && ltb (i - base) wordBits) ≡ true = and-both _ _ (le-leb base i (omega arith)) (lt-ltb (i - base) wordBits (omega arith)) in
     bit-counted (leb base i && ltb (i - base) wordBits) (2 ^ (i - base)) k ∙ rw (t, z) (bit-power k k ∙ eq-eqb k k refl)
 
-own-other : (base i k : ℕ) → (i ≡ base + k → ⊥) → bitAt (ownWord base i) k ≡ false
+pub own-other : (base i k : ℕ) → (i ≡ base + k → ⊥) → bitAt (ownWord base i) k ≡ false
 unfolding ownWord inBatch
 own-other base i k d =
     bit-counted (leb base i && ltb (i - base) wordBits) (2 ^ (i - base)) k

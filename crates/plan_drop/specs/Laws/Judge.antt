@@ -7,9 +7,9 @@ use mathlib.Core.Logic.{_⊎_, inl, inr, ⊎-elim}
 use mathlib.Core.Bool.{Bool, true, false, _&&_, xor, not, cond}
 use mathlib.Core.List.{List, [], _∷_}
 use lib.ListN.{length, getD, set}
-use lib.Dec.{ltb, leb}
+use lib.Dec.{eqb, ltb, leb}
 use lib.Bits.{bitOr, bitXor}
-use borrow.Author.Tests.{lt-ltb, ltb-true, leb-true, le-leb, lt-leb, le-ltb}
+use borrow.Author.Tests.{eq-eqb, eqb-true, lt-ltb, ltb-true, leb-true, le-leb, lt-leb, le-ltb}
 use Rattle.base_finite.specs.Below.{counted, countBelow, anyBelow, tabulate}
 use Rattle.base_finite.specs.Laws.Below.{any-cong, lt-or-ge, getD-tabulate, counted-true, counted-false}
 use Rattle.base_finite.specs.Laws.Test.{either, and-left, and-right, and-both}
@@ -23,15 +23,13 @@ use Rattle.survey_mates.specs.Mate.{mateOf}
 use Rattle.survey_mates.specs.Laws.Mate.{separates-mates}
 use Rattle.base_buffer.specs.Store.{remade}
 use Rattle.base_buffer.specs.Laws.Store.{length-remade, remade-more}
-use Rattle.plan_cuts.specs.Side.{sides}
+use Rattle.theory_graph.specs.Path.{crosses, Forest}
+use Rattle.theory_steiner.specs.Laws.Cut.{needed-by-cut}
 use Rattle.survey_components.specs.Labels.{pickedIn}
-use Rattle.plan_cuts.specs.Word.{wordBits, inBatch, sideWords}
-use Rattle.plan_cuts.specs.Taken.{takenBelow}
+use Rattle.plan_cuts.specs.Word.{wordBits, inBatch, Alone, EndsBelow}
 use Rattle.plan_drop.specs.Prunable.{Prunable, unweighted}
 use Rattle.plan_drop.specs.Judge.{sideIn, partedBelow, judged, raised, prunedMarks, droppedMarks, batchMarks, MarkStep}
-use Rattle.plan_cuts.specs.Laws.Side.{needed-by-side}
-use Rattle.plan_cuts.specs.Laws.Word.{bit-xor, word-side, count-lt}
-use Rattle.plan_cuts.specs.Laws.Taken.{taken-words}
+use Rattle.plan_cuts.specs.Laws.Word.{bit-xor, count-lt}
 
 -- ---- stores at rising places
 
@@ -176,55 +174,51 @@ module _ (groups firsts seconds picked : List ℕ) (ok : Prunable groups firsts 
   abbrev F : ℕ → Bool
   F = pickedIn picked
 
-  abbrev words : ℕ → List ℕ
-  words base = tabulate maxVertices (sideWords maxVertices (λ e. getD firsts e 0) (λ e. getD seconds e 0) F base (length firsts))
-
-  -- The buffer that holds them: the ends are vertices.
-  words-held : (base : ℕ) {held : List ℕ} → held ≡ takenBelow maxVertices (λ e. getD firsts e 0) (λ e. getD seconds e 0) F base (length firsts) .words → held ≡ words base
+  ends-below : EndsBelow maxVertices (λ e. getD firsts e 0) (λ e. getD seconds e 0) (length firsts)
   unfolding problemOf edgeCount vertexCount
-  words-held base h =
+  ends-below e b =
       let few = ok .few in
-      h
-      ∙ taken-words maxVertices (λ e. getD firsts e 0) (λ e. getD seconds e 0) F base (length firsts)
-      (λ e b. let l : getD firsts e 0 < length groups = ok .sound .first-below e b in omega arith)
-      (λ e b. let l : getD seconds e 0 < length groups = ok .sound .second-below e b in omega arith)
-      .1
+      let first : getD firsts e 0 < length groups = ok .sound .first-below e b in
+      let second : getD seconds e 0 < length groups = ok .sound .second-below e b in
+      (omega arith, omega arith)
 
   -- Judging a picked edge by its bit is finding whether it is needed.
-  bit-needed : (base e : ℕ) → e < length firsts → F e ≡ true → InBatch base (countBelow e F)
-      → separates (problemOf (groupsAlone groups)) (sideIn (words base) (countBelow e F - base)) ≡ needed p F e
+  bit-needed : (base e : ℕ) {words : List ℕ} → Alone (λ e. getD firsts e 0) (λ e. getD seconds e 0) F base (length firsts) words → e < length firsts → F e ≡ true
+      → InBatch base (countBelow e F) → separates (problemOf (groupsAlone groups)) (sideIn words (countBelow e F - base)) ≡ needed p F e
   unfolding problemOf edgeCount vertexCount sideIn
-  bit-needed base e b t i =
-      let few = ok .few in
-      let below = i .below in
+  bit-needed base e {words} alone b t i =
       let from = i .from in
-      separates-groups groups firsts seconds (sideIn (words base) (countBelow e F - base))
-      ∙ separates-cong p (sideIn (words base) (countBelow e F - base)) (sides maxVertices (p .first) (p .second) F (p .edges) e)
-      (λ v c.
-      let w : v < maxVertices = omega arith in
-      ap (λ x. bitAt x (countBelow e F - base)) (getD-tabulate maxVertices (sideWords maxVertices (λ e. getD firsts e 0) (λ e. getD seconds e 0) F base (length firsts)) v 0 w)
-      ∙ word-side maxVertices (λ e. getD firsts e 0) (λ e. getD seconds e 0) F base (length firsts) e (countBelow e F - base) b t (omega arith) below v)
-      ∙ sym (needed-by-side p (ok .sound) F (ok .bounded) (ok .joins) (ok .forest) maxVertices e t)
+      let cut : (f : ℕ) → F f ≡ true → crosses (p .first) (p .second) (sideIn words (countBelow e F - base)) f ≡ eqb e f =
+      λ f h. alone .crossed e f (countBelow e F - base) b (ok .bounded f h) t h (omega arith) (i .below) in
+      separates-groups groups firsts seconds (sideIn words (countBelow e F - base))
+      ∙ sym
+      (needed-by-cut p (ok .sound) F (ok .joins) e (sideIn words (countBelow e F - base)) (cut e t ∙ eq-eqb e e refl)
+      (λ f h c. sym (eqb-true e f (sym (cut f h) ∙ c)))
+      (ok .bounded)
+      t)
 
   -- A batch by the words is the batch of the definition.
-  pub batch-is : (base : ℕ) (marks : List ℕ) {mates after held : List ℕ} → mates ≡ tabulate maxVertices (mateOf groups)
-      → held ≡ takenBelow maxVertices (λ e. getD firsts e 0) (λ e. getD seconds e 0) F base (length firsts) .words
-      → after ≡ remade (raised F (judged (partedBelow held mates (length groups)) base)) (length firsts) marks
+  pub batch-is : (base : ℕ) (marks : List ℕ) {mates after words : List ℕ} → mates ≡ tabulate maxVertices (mateOf groups)
+      → (EndsBelow maxVertices (λ e. getD firsts e 0) (λ e. getD seconds e 0) (length firsts) → Forest (λ e. getD firsts e 0) (λ e. getD seconds e 0) F
+      → Alone (λ e. getD firsts e 0) (λ e. getD seconds e 0) F base (length firsts) words)
+      → after ≡ remade (raised F (judged (partedBelow words mates (length groups)) base)) (length firsts) marks
       → after ≡ batchMarks p F base (length firsts) marks
-  unfolding batchMarks raised judged
-  batch-is base marks {mates} {after} {held} m h r =
-      r ∙ rw (words-held base h)
-      (remade-cong _ _ (length firsts) marks (λ e x b. ap (λ t. cond t 2 x) (by e b (either (F e)) (either (inBatch base (countBelow e F))))))
+  unfolding batchMarks raised judged problemOf
+  batch-is base marks {mates} {after} {words} m h r =
+      r ∙ remade-cong _ _ (length firsts) marks (λ e x b. ap (λ t. cond t 2 x) (by e b (either (F e)) (either (inBatch base (countBelow e F)))))
     where
       bits : ℕ
-      bits = partedBelow (words base) mates (length groups)
+      bits = partedBelow words mates (length groups)
 
       by : (e : ℕ) → e < length firsts → (F e ≡ true) ⊎ (F e ≡ false) → (inBatch base (countBelow e F) ≡ true) ⊎ (inBatch base (countBelow e F) ≡ false)
           → (F e && (inBatch base (countBelow e F) && bitAt bits (countBelow e F - base))) ≡ (F e && (inBatch base (countBelow e F) && needed p F e))
       by e b (inr t) i = rw t
       by e b (inl t) (inr i) = rw (t, i)
       by e b (inl t) (inl i) =
-          rw (t, i) (parted-separates (words base) mates groups (ok .few) m (countBelow e F - base) ∙ bit-needed base e b t (in-batch base (countBelow e F) i))
+          rw
+          (t, i)
+          (parted-separates words mates groups (ok .few) m (countBelow e F - base)
+          ∙ bit-needed base e (h ends-below (ok .forest)) b t (in-batch base (countBelow e F) i))
 
 -- ---- batch after batch
 
