@@ -15,10 +15,10 @@ use format_stp_head::head;
 use format_stp_head::skip;
 use format_stp_lines::edge_lines;
 use format_stp_terminals::terminals;
-use format_survey_lines::Head;
 use format_survey_counts::edges_line;
 use format_survey_counts::stopped_head;
 use format_survey_counts::vertices_line;
+use format_survey_lines::Head;
 
 const NODES: [u8; 6] = *b"Nodes ";
 

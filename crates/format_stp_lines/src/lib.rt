@@ -13,16 +13,16 @@ ghost use Rattle.format_stp_rule.specs.StpReading.{stpEnd, stpEdge, stpEdges};
 use base_buffer::wide;
 use base_limits::ENDPOINT_DIGITS;
 use base_limits::WEIGHT_DIGITS;
+use format_line::number_to;
 use format_number::Cursor;
 use format_number::Number;
 use format_reader::fixed;
-use format_line::number_to;
 use format_stp_head::skip;
 use format_stp_number::free_number;
 use format_stp_number::less;
-use format_survey_lines::EdgeLine;
 use format_survey_edge::stopped_edge;
 use format_survey_edges::stopped_line;
+use format_survey_lines::EdgeLine;
 
 const EDGE: [u8; 2] = *b"E ";
 

@@ -15,11 +15,11 @@ use base_limits::ENDPOINT_DIGITS;
 use base_limits::MAX_VERTICES;
 use format_number::Cursor;
 use format_number::Number;
+use format_put::put_bytes;
 use format_stp_head::line;
 use format_stp_head::skip;
 use format_stp_number::free_number;
 use format_stp_number::less;
-use format_put::put_bytes;
 
 const END: [u8; 4] = *b"END\n";
 
