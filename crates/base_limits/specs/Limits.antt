@@ -105,9 +105,20 @@ longestDual = 7 + wordDigits + longestMembers
 abbrev pub dualRoom : ℕ
 dualRoom = 2048
 
--- bytes that hold every plan within the limits: four counts behind 24 bytes of keys, a line of at most 10 bytes for each track, the moat lines
+-- bytes that hold the lines of the four counts, which have 24 bytes of keys
+abbrev pub countsRoom : ℕ
+countsRoom = 24 + 4 * (wordDigits + 1)
+
+-- bytes that hold the line of a kept track: 5 of its key, 4 digits, the newline
+abbrev pub keptRoom : ℕ
+keptRoom = 10
+
+-- bytes that hold every plan of so many tracks and moats, and every plan within the limits
+abbrev pub planRoomFor : (edges duals : ℕ) → ℕ
+planRoomFor edges duals = countsRoom + keptRoom * edges + longestDual * duals
+
 abbrev pub planRoom : ℕ
-planRoom = 24 + 4 * (wordDigits + 1) + 10 * maxEdges + longestDual * maxDuals
+planRoom = planRoomFor maxEdges maxDuals
 
 -- bytes that hold every refusal: two numbers, and 16 bytes of keys and newlines
 abbrev pub refusalRoom : ℕ

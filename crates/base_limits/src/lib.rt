@@ -64,10 +64,14 @@ pub const LONGEST_MEMBERS: usize = 4 * MAX_VERTICES - 111;
 
 pub const LONGEST_DUAL: usize = 7 + WORD_DIGITS + LONGEST_MEMBERS;
 
-// Bytes that hold every dual line, every plan within the limits.
+// Bytes that hold every dual line; a plan's lines of counts; the line of a kept edge; every plan within the limits.
 pub const DUAL_ROOM: usize = 2048;
 
-pub const PLAN_ROOM: usize = 24 + 4 * (WORD_DIGITS + 1) + 10 * MAX_EDGES + LONGEST_DUAL * MAX_DUALS;
+pub const COUNTS_ROOM: usize = 24 + 4 * (WORD_DIGITS + 1);
+
+pub const KEPT_ROOM: usize = 10;
+
+pub const PLAN_ROOM: usize = COUNTS_ROOM + KEPT_ROOM * MAX_EDGES + LONGEST_DUAL * MAX_DUALS;
 
 // Bytes that hold every reason: five numbers and their lines, and five bytes for each edge of a route.
 pub const WHY_ROOM: usize = 37 + 5 * WORD_DIGITS + 5 * MAX_ROUTE;

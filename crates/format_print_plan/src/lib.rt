@@ -1,28 +1,23 @@
 // Printing of a plan.
 ghost use Rattle.base_buffer.specs.Lent.{old, new};
-ghost use mathlib.Core.Bool.{true};
 ghost use mathlib.Core.Path.{_≡_};
 ghost use lib.ListN.{length};
 ghost use Rattle.base_limits.specs.Limits.{planRoom};
 ghost use Rattle.format_write.specs.Text.{countLines, planText};
 ghost use Rattle.format_print.specs.Print.{printed, printedOut};
-ghost use Rattle.format_print.specs.Within.{HoldsAll};
+ghost use Rattle.format_print.specs.Within.{holdsAll};
 ghost use Rattle.format_write.specs.Wrote.{Wrote};
+use base_limits::COUNTS_ROOM;
+use base_limits::KEPT_ROOM;
 use base_limits::LONGEST_DUAL;
 use base_limits::MAX_EDGES;
 use base_limits::PLAN_ROOM;
 use base_limits::RECORD_BYTES;
 use base_limits::RECORDS_ROOM;
-use base_limits::WORD_DIGITS;
 use format_print::Printed;
 use format_put::put_line;
 use format_put_plan::put_duals;
 use format_put_plan::put_marks;
-
-// Bytes of the lines of counts, and of the line of a kept edge, at most.
-const COUNTS_ROOM: usize = 24 + 4 * (WORD_DIGITS + 1);
-
-const KEPT_ROOM: usize = 10;
 
 // A buffer that holds every plan within the limits (laws in format_print, specs/Laws/Room.antt).
 pub fn plan_buffer() -> [u8; PLAN_ROOM]
@@ -68,7 +63,7 @@ fn put_plan(
 
 // Whether `room` bytes are known to hold every plan of so many marks and bytes of records.
 fn holds_all(marks: usize, records: usize, room: usize) -> bool
-    ensures { λ r. ⌜ (r ≡ true → HoldsAll marks records room) ⌝ }
+    ensures { λ r. ⌜ r ≡ holdsAll marks records room ⌝ }
 {
     if MAX_EDGES < marks {
         return false;

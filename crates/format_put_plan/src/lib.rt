@@ -1,13 +1,10 @@
 // Writes the lines of a plan's marks and duals in the same way.
 ghost use Rattle.base_buffer.specs.Lent.{old, new};
 ghost use mathlib.Core.Path.{_≡_};
-ghost use mathlib.Core.Bool.{_&&_, not, true};
-ghost use Prim.Native.Nat.{_*_, _≤_};
-ghost use Rattle.base_finite.specs.Below.{thoseBelow};
-ghost use Rattle.base_limits.specs.Limits.{memberBytes};
+ghost use mathlib.Core.Bool.{_&&_, not};
 ghost use Rattle.format_record.specs.Record.{memberIn};
 ghost use Rattle.format_write.specs.Text.{listed, membersOf, dualLine, keptLine, keptLines, dualLines};
-ghost use Rattle.format_write.specs.Wrote.{Wrote, itemOf, memberText, NoneInByte};
+ghost use Rattle.format_write.specs.Wrote.{Wrote, itemOf, memberText, beginsZero};
 use format_put::put;
 use format_put::put_bytes;
 use format_put::put_line;
@@ -62,9 +59,9 @@ fn put_member(out: &mut [u8], list: Listing, part: &[u8], v: usize) -> Listing
     }
 }
 
-// Whether v is the first number of a member byte that is 0.
+// Whether v is the first number of a byte of members that is 0.
 fn begins_zero(part: &[u8], v: usize) -> bool
-    ensures { λ r. ⌜ (r ≡ true → NoneInByte (old part) v) ⌝ }
+    ensures { λ r. ⌜ r ≡ beginsZero (old part) v ⌝ }
 {
     if 0 < v % 8 {
         return false;
@@ -72,31 +69,19 @@ fn begins_zero(part: &[u8], v: usize) -> bool
     base_buffer::at8(part, base_limits::VALUE_BYTES + v / 8) == 0
 }
 
-// Where the member bytes of 0 that begin at v end: v itself if none does. No member is passed over.
-fn past_zeros(part: &[u8], v: usize) -> usize
-    ensures { λ r. ⌜ thoseBelow r (memberIn (old part)) ≡ thoseBelow v (memberIn (old part)) ⌝ }
-    ensures { λ r. ⌜ (v ≤ 8 * memberBytes → r ≤ 8 * memberBytes) ⌝ }
-    ensures { λ r. ⌜ v ≤ r ⌝ }
-{
-    let mut next = v;
-    while next < 8 * base_limits::MEMBER_BYTES {
-        if !begins_zero(part, next) {
-            return next;
-        }
-        next += 8;
-    }
-    next
-}
-
 // Writes the members of a record, rising. A byte without members is passed over whole.
 fn put_members(out: &mut [u8], at: usize, part: &[u8]) -> usize
     ensures { λ r. ⌜ Wrote (old out) at (listed (membersOf (old part))) (new out) r ⌝ }
 {
     let mut list = Listing { at, first: true };
-    let mut v = past_zeros(part, 0);
+    let mut v = 0;
     while v < 8 * base_limits::MEMBER_BYTES {
-        list = put_member(out, list, part, v);
-        v = past_zeros(part, v + 1);
+        if begins_zero(part, v) {
+            v += 8;
+        } else {
+            list = put_member(out, list, part, v);
+            v += 1;
+        }
     }
     list.at
 }

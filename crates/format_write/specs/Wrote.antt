@@ -1,12 +1,13 @@
 -- What a writer does: its text stands in the buffer from a place on, as far as there is room, and the next place is behind it.
 -- Places stop at `farthest`, which is past the length of every buffer, so that a writer on an empty buffer measures its text.
-use Prim.Native.Nat.{ℕ, _+_, _%_, _^_, _<_, min, max}
+use Prim.Native.Nat.{ℕ, _+_, _/_, _%_, _^_, min, max}
 use mathlib.Core.Path.{_≡_}
-use mathlib.Core.Bool.{Bool, true, false, cond}
+use mathlib.Core.Bool.{Bool, true, false, _&&_, cond}
 use mathlib.Core.List.{List, [], _∷_, _++_}
-use lib.ListN.{length}
+use lib.ListN.{length, getD}
+use lib.Dec.{eqb}
 use lib.Seq.{sets}
-use Rattle.format_record.specs.Record.{memberIn}
+use Rattle.base_limits.specs.Limits.{valueBytes}
 use Rattle.format_key.specs.Key.{comma}
 use Rattle.format_write.specs.Decimal.{decimal}
 
@@ -29,7 +30,6 @@ itemOf first v = cond first (decimal v) ((comma ∷ []) ++ decimal v)
 unfoldable pub memberText : (first here : Bool) → ℕ → List ℕ
 memberText first here v = cond here (itemOf first v) []
 
--- v begins a byte of members that has none.
-pub record NoneInByte (part : List ℕ) (v : ℕ) : Type 0 where
-  pub begins : v % 8 ≡ 0
-  pub none : (i : ℕ) → i < 8 → memberIn part (v + i) ≡ false
+-- v is the first number of a byte of members, and that byte is 0.
+unfoldable pub beginsZero : (part : List ℕ) (v : ℕ) → Bool
+beginsZero part v = eqb (v % 8) 0 && eqb (getD part (valueBytes + v / 8) 0) 0

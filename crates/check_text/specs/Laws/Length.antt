@@ -9,7 +9,7 @@ use lib.ListN.{length, length-append}
 use Rattle.format_number.specs.Laws.NumberWord.{digits-most}
 use Rattle.base_finite.specs.Below.{sumBelow}
 use Rattle.base_finite.specs.Laws.Below.{lt-or-ge}
-use Rattle.base_limits.specs.Limits.{recordBytes, maxVertices, maxEdges, maxDuals, valueDigits, longestMembers, longestDual, planRoom}
+use Rattle.base_limits.specs.Limits.{recordBytes, maxVertices, maxEdges, maxDuals, valueDigits, longestMembers, longestDual, keptRoom, planRoom}
 use Rattle.base_limits.specs.Verdict.{answer}
 use Rattle.format_key.specs.Key.{keptKey, comma}
 use Rattle.format_write.specs.Decimal.{decimal}
@@ -97,13 +97,13 @@ duals-most (more {a = d} {l = ds} p r) =
 
 -- ---- keep lines
 
--- Keep lines of tracks that rise take at most 10 bytes for each track.
-kept-most : {m low : ℕ} {ks : List ℕ} → m ≤ maxEdges → low ≤ m → Rising m low ks → length (textOf (lineOf keptKey) ks) + 10 * low ≤ 10 * m
+-- Keep lines of tracks that rise take at most `keptRoom` bytes for each track.
+kept-most : {m low : ℕ} {ks : List ℕ} → m ≤ maxEdges → low ≤ m → Rising m low ks → length (textOf (lineOf keptKey) ks) + keptRoom * low ≤ keptRoom * m
 unfolding textOf keptLine
 kept-most few h ended = omega arith
 kept-most few h (rising {e = e} {es = ks} a b r) =
     let ih = kept-most few (omega arith) r in
-    let x : length (lineOf keptKey e) ≤ 10 = kept-line-le 2 e (omega arith) in
+    let x : length (lineOf keptKey e) ≤ keptRoom = kept-line-le 2 e (omega arith) in
     let l = length-append (lineOf keptKey e) (textOf (lineOf keptKey) ks) in
     omega arith
 

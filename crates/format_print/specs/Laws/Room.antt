@@ -1,16 +1,16 @@
 -- Laws of room: `dualRoom` bytes hold every moat line, `planRoom` every plan within the limits, `refusalRoom` every refusal.
 use Prim.Native.Nat.{ℕ, zero, suc, _+_, _*_, _/_, _^_, _≤_, _<_}
 use native.Mathlib.Omega.{arith}
-use borrow.Author.Tests.{le-ltb, eq-eqb}
+use borrow.Author.Tests.{le-ltb, eq-eqb, leb-true, le-leb, lt-leb}
 use mathlib.Core.Path.{_≡_, refl, ap}
 use mathlib.Core.Logic.{⊎-elim}
-use mathlib.Core.Bool.{Bool, true, false, cond}
+use mathlib.Core.Bool.{Bool, true, false, _&&_, cond}
 use mathlib.Core.List.{List, [], _∷_, _++_, append-nil}
 use lib.ListN.{length, getD, length-append}
-use lib.Dec.{eqb}
+use lib.Dec.{eqb, leb}
 use Rattle.base_finite.specs.Below.{sumBelow, thoseBelow}
-use Rattle.base_finite.specs.Laws.Test.{either}
-use Rattle.base_limits.specs.Limits.{memberBytes, recordBytes, maxEdges, maxDuals, wordDigits, longestMembers, longestDual, dualRoom, planRoom, refusalRoom}
+use Rattle.base_finite.specs.Laws.Test.{either, and-left, and-right}
+use Rattle.base_limits.specs.Limits.{memberBytes, recordBytes, maxEdges, recordsRoom, wordDigits, longestMembers, longestDual, dualRoom, countsRoom, keptRoom, planRoomFor, planRoom, refusalRoom}
 use Rattle.base_limits.specs.Verdict.{refuseIf, _before_}
 use Rattle.format_record.specs.Bits.{Bytes}
 use Rattle.format_record.specs.Record.{valueIn, memberIn, recordAt}
@@ -21,7 +21,7 @@ use Rattle.format_write.specs.Decimal.{digitsWithin, decimal}
 use Rattle.format_write.specs.Text.{lineOf, listed, membersOf, dualLine, textBelow, keptLine, keptLines, dualLines, countLines, planText, refusalText}
 use Rattle.format_write.specs.Wrote.{isNone, itemOf}
 use Rattle.format_print.specs.Print.{printRefusal, answerOf, printed, dualPrintRefusal, dualPrinted}
-use Rattle.format_print.specs.Within.{PlanWithin, roomFor}
+use Rattle.format_print.specs.Within.{PlanWithin, holdsAll}
 use Rattle.format_write.specs.Laws.Decimal.{length-decimal}
 use Rattle.format_write.specs.Laws.Text.{listed-snoc}
 
@@ -125,17 +125,17 @@ length-text-below (suc n) f most h =
     omega arith
 
 -- A keep line has at most four digits.
-pub kept-line-le : (mark e : ℕ) → e < maxEdges → length (keptLine mark e) ≤ 10
+pub kept-line-le : (mark e : ℕ) → e < maxEdges → length (keptLine mark e) ≤ keptRoom
 unfolding keptLine keptKey
 kept-line-le mark e h =
     let digits : length (decimal e) ≤ 4 = length-decimal 3 e (omega arith) in
     let line : length (lineOf keptKey e) ≡ 5 + length (decimal e) + 1 = length-line keptKey e in
     ⊎-elim (λ kept. rw kept (omega arith)) (λ other. rw other (omega arith)) (either (eqb mark 2))
 
-length-kept-lines : (marks : List ℕ) → length marks ≤ maxEdges → length (keptLines marks) ≤ 10 * length marks
+length-kept-lines : (marks : List ℕ) → length marks ≤ maxEdges → length (keptLines marks) ≤ keptRoom * length marks
 unfolding keptLines
 length-kept-lines marks h =
-    let all = length-text-below (length marks) (λ e. keptLine (getD marks e 0) e) 10 (λ e l. kept-line-le (getD marks e 0) e (omega arith)) in
+    let all = length-text-below (length marks) (λ e. keptLine (getD marks e 0) e) keptRoom (λ e l. kept-line-le (getD marks e 0) e (omega arith)) in
     omega arith
 
 length-dual-lines : (records : List ℕ) → Bytes records → length (dualLines records) ≤ longestDual * (length records / recordBytes)
@@ -147,7 +147,7 @@ length-dual-lines records h =
     omega arith
 
 -- Four counts of 64 bits.
-pub length-count-lines : (k c b r : ℕ) → k < 2 ^ 64 → c < 2 ^ 64 → b < 2 ^ 64 → r < 2 ^ 64 → length (countLines k c b r) ≤ 24 + 4 * (wordDigits + 1)
+pub length-count-lines : (k c b r : ℕ) → k < 2 ^ 64 → c < 2 ^ 64 → b < 2 ^ 64 → r < 2 ^ 64 → length (countLines k c b r) ≤ countsRoom
 unfolding countLines terminalsKey costKey boundKey roundsKey
 length-count-lines k c b r hk hc hb hr =
     let l₁ = lineOf terminalsKey k in
@@ -169,7 +169,7 @@ length-count-lines k c b r hk hc hb hr =
 
 -- No plan is longer than the longest of as many marks and records, and so none than the longest.
 pub plan-text-room : (k c b r : ℕ) (marks records : List ℕ) → PlanWithin k c b r marks records
-    → length (planText k c b r marks records) ≤ roomFor (length marks) (length records / recordBytes)
+    → length (planText k c b r marks records) ≤ planRoomFor (length marks) (length records / recordBytes)
 unfolding planText
 plan-text-room k c b r marks records w =
     let counts = countLines k c b r in
@@ -181,6 +181,36 @@ plan-text-room k c b r marks records w =
     let l₂ = length-kept-lines marks (w .marks-few) in
     let l₃ = length-dual-lines records (w .records-bytes) in
     omega arith
+
+-- What a room that holds all such plans has.
+pub record HoldsAll (marks records room : ℕ) : Type 0 where
+  pub few-marks : marks ≤ maxEdges
+  pub few-records : records ≤ recordsRoom
+  pub enough : planRoomFor marks (records / recordBytes) ≤ room
+
+pub holds-all-elim : (marks records room : ℕ) → holdsAll marks records room ≡ true → HoldsAll marks records room
+unfolding holdsAll
+holds-all-elim marks records room h =
+    let few : (leb marks maxEdges && leb records recordsRoom) ≡ true = and-left _ (leb (planRoomFor marks (records / recordBytes)) room) h in
+    record {
+      few-marks = leb-true marks maxEdges (and-left (leb marks maxEdges) (leb records recordsRoom) few);
+      few-records = leb-true records recordsRoom (and-right (leb marks maxEdges) (leb records recordsRoom) few);
+      enough = leb-true (planRoomFor marks (records / recordBytes)) room (and-right (leb marks maxEdges && leb records recordsRoom) _ h);
+    }
+
+-- The test by each of its three.
+pub many-marks : (marks records room : ℕ) → maxEdges < marks → false ≡ holdsAll marks records room
+unfolding holdsAll
+many-marks marks records room h = rw (lt-leb marks maxEdges h)
+
+pub many-records : (marks records room : ℕ) → marks ≤ maxEdges → recordsRoom < records → false ≡ holdsAll marks records room
+unfolding holdsAll
+many-records marks records room few h = rw (le-leb marks maxEdges few, lt-leb records recordsRoom h)
+
+pub few-hold : (marks records room : ℕ) → marks ≤ maxEdges → records ≤ recordsRoom
+    → leb (planRoomFor marks (records / recordBytes)) room ≡ holdsAll marks records room
+unfolding holdsAll
+few-hold marks records room few less = rw (le-leb marks maxEdges few, le-leb records recordsRoom less)
 
 pub plan-text-le : (k c b r : ℕ) (marks records : List ℕ) → PlanWithin k c b r marks records → length (planText k c b r marks records) ≤ planRoom
 plan-text-le k c b r marks records w =

@@ -1,28 +1,17 @@
 -- `holds_all`: too many marks, too many records, or the room is compared.
-use Prim.Native.Nat.{ℕ, _/_}
-use native.Mathlib.Omega.{arith}
-use mathlib.Core.Path.{_≡_}
-use borrow.Author.Tests.{leb-true}
 use borrow.Author.Needs.{needs}
-use Rattle.base_limits.specs.Limits.{recordBytes}
-use Rattle.format_print.specs.Within.{roomFor}
+use Rattle.format_print.specs.Laws.Room.{many-marks, many-records, few-hold}
 use Rattle.format_print_plan.proofs.holds_all.Statement.{statement}
 use Rattle.format_print_plan.proofs.holds_all.Tie as tie
 
 returns : tie.Need-returns
-returns c = λ h. let z : _≡_ {A = ℕ} 0 1 = cc in absurd (omega arith)
+returns c = let a = c .before .args in many-marks (a .marks) (a .records) (a .room) (c .if1 .taken)
 
 returns-2 : tie.Need-returns-2
-returns-2 c = λ h. let z : _≡_ {A = ℕ} 0 1 = cc in absurd (omega arith)
+returns-2 c = let a = c .before .before .args in many-records (a .marks) (a .records) (a .room) (c .before .if1 .left) (c .if2 .taken)
 
 returns-3 : tie.Need-returns-3
-returns-3 c = λ h.
-    let a = c .before .before .args in
-    record {
-      few-marks = c .before .if1 .left;
-      few-records = c .if2 .left;
-      enough = leb-true (roomFor (a .marks) (a .records / recordBytes)) (a .room) h;
-    }
+returns-3 c = let a = c .before .before .args in few-hold (a .marks) (a .records) (a .room) (c .before .if1 .left) (c .if2 .left)
 
 pub holds-all-spec : {M : Type 1} → statement M
 holds-all-spec =

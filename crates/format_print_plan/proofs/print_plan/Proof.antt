@@ -1,10 +1,12 @@
 -- `print_plan`: printed where every such plan fits; else refused by the measured text, or printed.
 use Prim.Native.Nat.{_<_, _≤_}
 use native.Mathlib.Omega.{arith}
+use mathlib.Core.Path.{sym, _∙_}
 use lib.ListN.{length}
 use Rattle.format_write.specs.Wrote.{farthest}
 use Rattle.format_write.specs.Text.{planText}
-use Rattle.format_print.specs.Laws.Print.{short-prints, fit-prints}
+use Rattle.format_print.specs.Laws.Print.{whole-prints, short-prints, fit-prints}
+use Rattle.format_print.specs.Laws.Room.{plan-text-room, holds-all-elim}
 use borrow.Author.Needs.{needs}
 use Rattle.format_print_plan.proofs.print_plan.Statement.{statement}
 use Rattle.format_print_plan.proofs.print_plan.Tie as tie
@@ -21,7 +23,7 @@ returns c =
     let entry = records .before .before in
     let a = entry .args in
     let text = planText (a .terminals) (a .cost) (a .bound) (a .rounds) (a .marks .now) (a .records .now) in
-    let all = test .before .holds-all .ensures (test .if1 .taken) in
+    let all = holds-all-elim (length (a .marks .now)) (length (a .records .now)) _ (sym (test .before .holds-all .ensures) ∙ test .if1 .taken) in
     let room = all .enough in
     let most =
     plan-text-room (a .terminals) (a .cost) (a .bound) (a .rounds) (a .marks .now) (a .records .now) (record {
