@@ -1,16 +1,21 @@
 -- `arise` meets its contract: the members of both parts, which are kept.
-use mathlib.Core.Path.{_∙_}
+use mathlib.Core.Path.{ap₂, _∙_}
+use Rattle.plan_duals.specs.Trace.{arisen}
+use Rattle.plan_duals.specs.Members.{unionOf}
 use borrow.Author.Needs.{needs}
 use Rattle.plan_draw.proofs.arise.Statement.{statement}
 use Rattle.plan_draw.proofs.arise.Tie as tie
 
 returns : tie.Need-returns
 returns c =
+    let a = c .before .before .before .before .before .before .before .before .before .before .before .before .before .before .before .before .args in
     let first = c .before .before .before .before .before .before .before .before .before .before .before .part-of .ensures in
     let second = c .before .before .before .before .before .before .before .before .before .part-of2 .ensures in
     let x = c .before .before .before .before .before .before .index32 .ensures ∙ first in
     let y = c .before .before .before .before .before .index322 .ensures ∙ second in
-    (rw (← x, ← y) (c .before .before .before .before .union-of .ensures), (rw (← first, ← second) (c .keep .ensures .0), c .keep .ensures .1))
+    let set = c .before .before .before .before .union-of .ensures ∙ ap₂ (unionOf (a .sets .now) (a .n)) x y in
+    let labels = c .keep .ensures .0 ∙ ap₂ (λ x y. arisen x y (a .n) (a .c) (a .labels .now)) first second in
+    (set, (labels, c .keep .ensures .1))
 
 pub arise-spec : {M : Type 1} → statement M
 arise-spec =
