@@ -1,9 +1,34 @@
 // The refusals of asking why: 1 to 6 and 18, then 7, 8 and 19.
 ghost use mathlib.Core.Path.{_≡_};
+ghost use lib.Dec.{leb};
+ghost use Rattle.base_limits.specs.Verdict.{refuseIf, _before_};
 ghost use Rattle.survey_core.specs.Survey.{lentWith};
 ghost use Rattle.why_rule.specs.Why.{whyRefusal};
 use base_limits::Verdict;
 use survey_components::Chosen;
+
+// 19: there is no such track.
+fn track_refusal(m: usize, track: usize) -> Verdict
+    ensures { λ r. ⌜ r ≡ refuseIf (leb m track) 19 track ⌝ }
+{
+    if m <= track {
+        return Verdict::Refused {
+            number: 19,
+            place: track,
+        };
+    }
+    Verdict::Fine
+}
+
+// The first finding; the second only where the first has none.
+fn first_of(first: Verdict, second: Verdict) -> Verdict
+    ensures { λ r. ⌜ r ≡ (first before second) ⌝ }
+{
+    let Verdict::Fine = first else {
+        return first;
+    };
+    second
+}
 
 // 1 to 6 and 18 for the survey, then 7 for a route buffer of fewer than n - 1 entries, then 8, then 19 for a track
 // number of m or more, with that number as place.
@@ -40,14 +65,6 @@ pub fn why_refusal(
         &[],
         8,
     );
-    let Verdict::Fine = apart else {
-        return apart;
-    };
-    if firsts.len() <= track {
-        return Verdict::Refused {
-            number: 19,
-            place: track,
-        };
-    }
-    Verdict::Fine
+    let past = track_refusal(firsts.len(), track);
+    first_of(apart, past)
 }

@@ -1,3 +1,4 @@
+pub mod First
 pub mod Pair
 pub mod Reason
 pub mod Promise

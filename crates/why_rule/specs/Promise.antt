@@ -46,8 +46,10 @@ pub record GivenReason (s : Survey) (e : ℕ) (before after : List ℕ) (c : Why
   -- document 02, No. 3: 'true of document 01's growth'
   pub is-true : TrueOf s e reason
   pub counts-are : c ≡ whyCounts reason
-  -- its route stands in front; what follows, and all where there is no route, is as it was
+  -- its route stands in front, and what follows is as it was
   pub entries-are : after ≡ routeIn reason ++ drop (length (routeIn reason)) before
+  -- a track that is not kept has no route, and the buffer stays
+  pub no-route : (c .kind ≡ 2 → ⊥) → after ≡ before
 
 -- What a call answers, for any survey, track number and buffer.
 pub record WhyPromises (s : Survey) (e : ℕ) (before after : List ℕ) (o : Outcome WhyCounts) : Type 0 where

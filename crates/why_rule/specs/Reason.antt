@@ -1,8 +1,7 @@
 -- Why a track is marked as it is (document 02, No. 3).
 use Prim.Native.Nat.{ℕ, suc}
 use mathlib.Core.Bool.{Bool, _&&_, not, cond}
-use mathlib.Core.List.{List, []}
-use lib.ListN.{length}
+use mathlib.Core.List.{List}
 use lib.Dec.{eqb, ltb}
 use Rattle.base_finite.specs.Below.{anyBelow}
 use Rattle.base_limits.specs.declared.Verdict.{Verdict}

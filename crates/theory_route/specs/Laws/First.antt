@@ -4,7 +4,7 @@ use native.Mathlib.Omega.{arith}
 use native.Mathlib.Numerals.{add-one}
 use mathlib.Core.Path.{_≡_, refl, sym, _∙_, subst}
 use mathlib.Core.Logic.{_⊎_, inl, inr, ⊎-elim}
-use mathlib.Core.Bool.{Bool, true, false, cond}
+use mathlib.Core.Bool.{Bool, true, false}
 use Rattle.base_finite.specs.Below.{anyBelow}
 use Rattle.base_finite.specs.Laws.Test.{either, true-not-false, not-true-false}
 use Rattle.base_finite.specs.Laws.Below.{below-suc, any-intro, any-elim, any-none, any-cong, Found}
@@ -24,10 +24,10 @@ unfolding firstBelow
 first-is zero t i h = absurd (let b : i < 0 = h .below in omega arith)
 first-is (suc n) t i h = ⊎-elim (earlier (λ k. first-is n t i k)) here (below-suc i n (h .below))
   where
-    earlier : (IsFirst n t i → firstBelow n t ≡ i) → i < n → cond (anyBelow n t) (firstBelow n t) (cond (t n) n (suc n)) ≡ i
+    earlier : (IsFirst n t i → firstBelow n t ≡ i) → i < n → firstBelow (suc n) t ≡ i
     earlier below b = rw (any-intro n t i b (h .passes)) (below (record { below = b; passes = h .passes; none-before = h .none-before }))
 
-    here : i ≡ n → cond (anyBelow n t) (firstBelow n t) (cond (t n) n (suc n)) ≡ i
+    here : i ≡ n → firstBelow (suc n) t ≡ i
     here e =
         let none : anyBelow n t ≡ false = none-any n t (λ j b. h .none-before j (omega arith)) in
         let at : t n ≡ true = subst (λ k. t k ≡ true) e (h .passes) in
@@ -44,7 +44,7 @@ first-exists zero t h = absurd (true-not-false false h refl)
 first-exists (suc n) t h = by (λ k. first-exists n t k) (either (anyBelow n t))
   where
     by : (anyBelow n t ≡ true → IsFirst n t (firstBelow n t)) → (anyBelow n t ≡ true) ⊎ (anyBelow n t ≡ false) →
-        IsFirst (suc n) t (cond (anyBelow n t) (firstBelow n t) (cond (t n) n (suc n)))
+        IsFirst (suc n) t (firstBelow (suc n) t)
     by below (inl k) =
         let f : IsFirst n t (firstBelow n t) = below k in
         let b : firstBelow n t < n = f .below in

@@ -1,7 +1,5 @@
 -- `explain` meets its contract: the marks are those of the plan (`mark-at`), and each is explained.
-use mathlib.Core.Path.{ap, sym, _∙_}
-use native.Mathlib.Omega.{arith}
-use lib.ListN.{length}
+use mathlib.Core.Path.{sym, _∙_}
 use Rattle.why_core.specs.Laws.Grown.{into-sound, picked-long, order-long, rounds-few, marks-long, kept-asked, no-other-mark, dropped-answer, passed-answer}
 use borrow.Author.Needs.{needs}
 use Rattle.why_core.proofs.explain.Statement.{statement}

@@ -1,13 +1,13 @@
 -- `explain_kept` meets its contract: the pair and the route are the definition's (`kept-answered`).
 use mathlib.Core.Path.{refl, sym, _∙_}
-use native.Mathlib.Omega.{arith}
-use Rattle.why_core.specs.Laws.Kept.{rest-long, kept-answered}
+use Rattle.why_parted.specs.Laws.Found.{twos-long}
+use Rattle.why_core.specs.Laws.Kept.{kept-answered}
 use borrow.Author.Needs.{needs}
 use Rattle.why_core.proofs.explain_kept.Statement.{statement}
 use Rattle.why_core.proofs.explain_kept.Tie as tie
 
 slice-aggregate-parted-pair : tie.Need-slice-aggregate-parted-pair
-slice-aggregate-parted-pair c = sym (rest-long _ (c .before .before .before .before .before .before .before .before .before .before .before .pre) (c .before .marks-but .ensures))
+slice-aggregate-parted-pair c = sym (twos-long _ _ (c .before .before .before .before .before .before .before .before .before .before .before .pre .asked .ok .joinable .askable .survey .edges-few) (c .before .marks-but .ensures))
 
 part-find-route-end : tie.Need-part-find-route-end
 part-find-route-end c = let few = c .before .before .before .before .before .before .before .before .before .before .before .before .before .before .pre .asked .ok .joinable .askable .survey .edges-few in search (needs, few)

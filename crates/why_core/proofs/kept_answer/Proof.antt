@@ -1,6 +1,6 @@
 -- `kept_answer` meets its contract: the numbers are those of the pair.
 use Rattle.why_rule.specs.Answer.{whyOutcome}
-use Rattle.why_core.specs.Parted.{keptCounts}
+use Rattle.why_core.specs.Asked.{keptCounts}
 use borrow.Author.Needs.{needs}
 use Rattle.why_core.proofs.kept_answer.Statement.{statement}
 use Rattle.why_core.proofs.kept_answer.Tie as tie

@@ -1,28 +1,26 @@
 -- From the growth of the poured lists to the marks of the survey's plan, and what is answered for a track that was dropped or not picked. `explain` cites it.
-use Prim.Native.Nat.{ℕ, zero, suc, _+_, _-_, _<_, _≤_}
+use Prim.Native.Nat.{ℕ, _-_, _<_, _≤_}
 use native.Mathlib.Omega.{arith}
 use native.Mathlib.Nat.{sub-zero}
 use mathlib.Core.Path.{_≡_, refl, ap, sym, _∙_, subst, fun-ext}
 use mathlib.Core.Logic.{⊎-elim}
-use mathlib.Core.Bool.{Bool, true, false, _&&_, not, cond}
-use mathlib.Core.List.{List, [], _++_}
+use mathlib.Core.Bool.{Bool, true, false, not}
+use mathlib.Core.List.{List, _++_}
 use lib.ListN.{length, getD, take, drop, replicate, length-replicate, List·getD-eq-default}
 use lib.Seq.{getD-take, length-take-le}
 use lib.Dec.{eqb, ltb}
 use borrow.Author.Tests.{eq-eqb, lt-ltb}
-use Rattle.base_finite.specs.Below.{counted, tabulate}
+use Rattle.base_finite.specs.Below.{counted}
 use Rattle.base_finite.specs.Laws.Below.{lt-or-ge, length-tabulate, getD-tabulate, counted-true}
 use Rattle.base_finite.specs.Laws.Test.{not-true-false, and-left}
-use Rattle.base_buffer.specs.Store.{remade}
 use Rattle.base_buffer.specs.Laws.Store.{length-remade, remade-passed}
 use Rattle.base_limits.specs.Limits.{maxVertices, maxEdges}
 use Rattle.base_limits.specs.Verdict.{answer, written}
-use Rattle.base_limits.specs.declared.Verdict.{Verdict}
 use Rattle.base_limits.specs.declared.Verdict.the-variants.{Fine}
 use Rattle.base_limits.specs.Laws.Verdict.{before-fine, refuse-false}
 use Rattle.theory_graph.specs.Path.{Forest}
 use Rattle.theory_graph.specs.Path.{without}
-use Rattle.theory_steiner.specs.Problem.{Problem, Sound, Bounded, Joins, joined}
+use Rattle.theory_steiner.specs.Problem.{Sound, Bounded, Joins, joined}
 use Rattle.theory_steiner.specs.Growth.{State, stateAt, grown}
 use Rattle.theory_steiner.specs.Pruning.{needed, picked, kept, markOf, mark}
 use Rattle.theory_steiner.specs.Laws.Rounds.{rounds-lt, grown-reached}
@@ -35,14 +33,14 @@ use Rattle.survey_core.specs.Laws.Group.{joins-fine}
 use Rattle.survey_components.specs.Labels.{pickedIn}
 use Rattle.survey_forest.specs.Forest.{forestRefusal}
 use Rattle.survey_forest.specs.Laws.Forest.{forest-fine}
-use Rattle.survey_lists.specs.Pouring.{pouredGroups, pouredSurvey}
+use Rattle.survey_lists.specs.Pouring.{pouredSurvey}
 use Rattle.survey_lists.specs.Laws.Pouring.{length-poured}
 use Rattle.survey_lists.specs.Laws.Plan.{poured-sound, poured-states, poured-kept, poured-joins}
 use Rattle.plan_growth.specs.Grown.{GrownAfter}
 use Rattle.plan_growth.specs.Represents.{pickAt}
 use Rattle.plan_growth.specs.declared.Growth.{Growth}
 use Rattle.plan_drop.specs.Judge.{prunedMarks, marksPruned}
-use Rattle.why_rule.specs.Reason.{reasonOf, keptReason, roundOf, spared, passed}
+use Rattle.why_rule.specs.Reason.{reasonOf, roundOf, spared, passed}
 use Rattle.why_rule.specs.Why.{whyCounts, routeIn}
 use Rattle.why_rule.specs.Answer.{whyOutcome}
 use Rattle.why_rule.specs.declared.Why.the-variants.{Dropped, Passed}

@@ -2,11 +2,11 @@
 use Prim.Native.Nat.{ℕ, zero, suc, _<_, _≤_}
 use native.Mathlib.Omega.{arith}
 use mathlib.Core.Path.{_≡_, refl, ap, sym, _∙_, subst}
-use mathlib.Core.Logic.{_⊎_, ⊎-elim, _↔_}
-use mathlib.Core.Bool.{Bool, true, false, _&&_, false≢true}
+use mathlib.Core.Logic.{⊎-elim}
+use mathlib.Core.Bool.{Bool, true, false≢true}
 use mathlib.Core.List.{List}
 use lib.ListN.{length, getD}
-use lib.Dec.{eqb, ltb}
+use lib.Dec.{ltb}
 use borrow.Author.Tests.{eqb-true, eq-eqb, lt-ltb, ltb-true}
 use Rattle.base_finite.specs.Laws.Test.{same-test, and-left, and-both}
 use Rattle.base_finite.specs.Laws.Below.{below-suc}
@@ -19,18 +19,13 @@ use Rattle.theory_steiner.specs.Growth.{State, start, Winner, nobody, edge, win
 use Rattle.theory_steiner.specs.Laws.Partition.{label-iff-linked}
 use Rattle.theory_steiner.specs.Laws.Round.{pick-more, pick-new, pick-only}
 use Rattle.theory_steiner.specs.Laws.Rounds.{stateAt-pick, takes-rounds}
-use Rattle.theory_route.specs.First.{firstBelow}
-use Rattle.theory_route.specs.Laws.First.{first-cong}
 use Rattle.survey_core.specs.Survey.{Survey, vertexCount, edgeCount, problemOf}
 use Rattle.survey_core.specs.Sound.{SurveySound}
 use Rattle.survey_core.specs.Laws.Refusal.{survey-sound}
 use Rattle.plan_growth.specs.Represents.{pickAt, winnerEdge}
 use Rattle.why_rule.specs.Reason.{joinedAfter, firstOrZero, roundOf}
+use Rattle.why_rule.specs.Laws.First.{zero-cong}
 use Rattle.why_round.specs.Replay.{labelsAfter, linkedAfter, roundIn}
-
-pub zero-cong : (n : ℕ) (s t : ℕ → Bool) → ((i : ℕ) → i < n → s i ≡ t i) → firstOrZero n s ≡ firstOrZero n t
-unfolding firstOrZero
-zero-cong n s t h = rw (first-cong n s t h)
 
 -- The pick of which round f is.
 record PickedAt (p : Problem) (r f : ℕ) : Type 0 where

@@ -1,7 +1,8 @@
 -- `is_apart` meets its contract.
 use mathlib.Core.Path.{sym, _∙_}
-use borrow.Author.Tests.{not-true, not-false}
+use borrow.Author.Tests.{not-true}
 use borrow.Author.Needs.{needs}
+use Rattle.why_pair.specs.Laws.Member.{labels-apart}
 use Rattle.why_pair.proofs.is_apart.Statement.{statement}
 use Rattle.why_pair.proofs.is_apart.Tie as tie
 
@@ -9,7 +10,9 @@ returns : tie.Need-returns
 returns c = rw (sym (c .before .is-member .ensures) ∙ not-true _ (c .if1 .taken))
 
 returns-2 : tie.Need-returns-2
-returns-2 c = rw (sym (c .before .before .before .is-member .ensures) ∙ not-false _ (c .before .before .if1 .left), ← c .before .at32 .ensures, ← c .at322 .ensures)
+returns-2 c =
+    let args = c .before .before .before .before .before .before .before .before .args in
+    labels-apart _ _ _ (args .labels .now) (args .u) (c .before .before .before .is-member .ensures) (c .before .before .if1 .left) (c .before .at32 .ensures) (c .at322 .ensures)
 
 pub is-apart-spec : {M : Type 1} → statement M
 is-apart-spec =

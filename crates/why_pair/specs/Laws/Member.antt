@@ -1,11 +1,11 @@
 -- A member of a list, as the code finds it: 0 is no list; by a pair; by its own group.
 use Prim.Native.Nat.{ℕ}
 use mathlib.Core.Path.{_≡_, refl, sym, _∙_}
-use mathlib.Core.Bool.{Bool, true, false, not}
+use mathlib.Core.Bool.{Bool, true, false, _&&_, not}
 use mathlib.Core.List.{[], List}
 use lib.ListN.{getD}
 use lib.Dec.{eqb}
-use borrow.Author.Tests.{eq-eqb, ne-eqb}
+use borrow.Author.Tests.{eq-eqb, ne-eqb, not-false}
 use Rattle.survey_core.specs.Lists.{Lists, listsFrom, isPaired, inList}
 
 paired-by : (groups owners others : List ℕ) (g v : ℕ) → isPaired (listsFrom [] owners others) g v ≡ isPaired (listsFrom groups owners others) g v
@@ -24,3 +24,8 @@ module _ (groups owners others : List ℕ) (g v : ℕ) (some : g ≡ 0 → ⊥) 
   pub by-group : {x : ℕ} → r ≡ false → x ≡ getD groups v 0 → eqb x g ≡ inList (listsFrom groups owners others) g v
   unfolding inList
   by-group h k = rw (ne-eqb g 0 some, sym (paired-by groups owners others g v) ∙ sym is ∙ h, k)
+
+-- A member, and two labels as the code reads them.
+pub labels-apart : (l : Lists) (g v : ℕ) (labels : List ℕ) (u : ℕ) {r : Bool} {x y : ℕ} → r ≡ inList l g v → not r ≡ false → x ≡ getD labels u 0 → y ≡ getD labels v 0
+    → not (eqb x y) ≡ (inList l g v && not (eqb (getD labels u 0) (getD labels v 0)))
+labels-apart l g v labels u {r} is member h k = rw (sym is ∙ not-false r member, h, k)

@@ -1,10 +1,10 @@
--- The refusals as the code finds them, one after the other: v is the survey's, x that of the lists.
+-- The refusals as the code finds them, one after the other: v is the survey's, x that of the lists, y that of the track.
 use Prim.Native.Nat.{ℕ, _-_, _≤_, _<_}
 use mathlib.Core.Path.{_≡_, ap, sym, _∙_}
 use mathlib.Core.List.{List}
 use lib.ListN.{length}
-use lib.Dec.{ltb, leb}
-use borrow.Author.Tests.{lt-ltb, le-ltb, le-leb, lt-leb}
+use lib.Dec.{leb}
+use borrow.Author.Tests.{lt-ltb, le-ltb}
 use Rattle.base_limits.specs.Verdict.{refuseIf, _before_}
 use Rattle.base_limits.specs.declared.Verdict.{Verdict}
 use Rattle.base_limits.specs.declared.Verdict.the-variants.{Fine, Refused}
@@ -29,25 +29,14 @@ module _ (s : Survey) (routeLength e : ℕ) {v : Verdict} (v-is : v ≡ surveyRe
     unfolding whyRefusal vertexCount
     route-stops h = goes-on v-is fine (sym (before-refused (refuse-true (lt-ltb routeLength (length (s .groups) - 1) h) 7 0) _))
 
-    module _ (marks : List ℕ) (fits : length (s .groups) - 1 ≤ routeLength) {x : Verdict} (x-is : x ≡ (surveyRefusal s before groupRefusal s 8 (chosen All marks))) where
-      lists-are : x ≡ groupRefusal s 8 (allUsable (problemOf s))
-      lists-are = x-is ∙ before-fine (sym v-is ∙ fine) _ ∙ sym (groups-of-all s 8 marks)
-
-      -- What is left behind 7.
-      behind : {w : Verdict} → w ≡ (groupRefusal s 8 (allUsable (problemOf s)) before refuseIf (leb (edgeCount s) e) 19 e) → w ≡ whyRefusal s routeLength e
-      unfolding whyRefusal vertexCount
-      behind h = goes-on v-is fine (h ∙ sym (before-fine (refuse-false (le-ltb routeLength (length (s .groups) - 1) fits) 7 0) _))
-
-      -- 8
-      pub lists-stop : {number place : ℕ} → x ≡ Refused number place → x ≡ whyRefusal s routeLength e
-      lists-stop h = behind (passed-on lists-are h _)
-
-      -- 19
-      pub track-stops : x ≡ Fine → length (s .firsts) ≤ e → Refused 19 e ≡ whyRefusal s routeLength e
-      unfolding edgeCount
-      track-stops h past = behind (goes-on lists-are h (sym (refuse-true (le-leb (length (s .firsts)) e past) 19 e)))
-
-      -- none
-      pub nothing-stops : x ≡ Fine → e < length (s .firsts) → Fine ≡ whyRefusal s routeLength e
-      unfolding edgeCount
-      nothing-stops h known = behind (goes-on lists-are h (sym (refuse-false (lt-leb (length (s .firsts)) e known) 19 e)))
+    -- 8, then 19
+    pub lists-decide : (marks : List ℕ) {x y z : Verdict} → length (s .groups) - 1 ≤ routeLength → x ≡ (surveyRefusal s before groupRefusal s 8 (chosen All marks))
+        → y ≡ refuseIf (leb (length (s .firsts)) e) 19 e → z ≡ (x before y) → z ≡ whyRefusal s routeLength e
+    unfolding whyRefusal vertexCount edgeCount
+    lists-decide marks {x} {y} fits x-is y-is z-is =
+        let lists : x ≡ groupRefusal s 8 (allUsable (problemOf s)) = x-is ∙ before-fine (sym v-is ∙ fine) _ ∙ sym (groups-of-all s 8 marks) in
+        goes-on v-is fine
+        (z-is
+        ∙ ap (λ (w : Verdict). w before y) lists
+        ∙ ap (λ (w : Verdict). groupRefusal s 8 (allUsable (problemOf s)) before w) y-is
+        ∙ sym (before-fine (refuse-false (le-ltb routeLength (length (s .groups) - 1) fits) 7 0) _))

@@ -1,34 +1,24 @@
 -- Laws of the picks merged in their order: what holds before each turn of the loop, and what it finds.
 use Prim.Native.Nat.{ℕ, suc, _+_, _<_, _≤_}
 use native.Mathlib.Omega.{arith}
-use mathlib.Core.Path.{_≡_, refl, ap, sym, _∙_, subst}
-use mathlib.Core.Logic.{_⊎_, inl, inr, ⊎-elim}
+use mathlib.Core.Path.{_≡_, refl, ap, sym, _∙_}
+use mathlib.Core.Logic.{⊎-elim}
 use mathlib.Core.Bool.{Bool, true, false}
 use mathlib.Core.List.{List}
-use lib.ListN.{length, getD, replicate, length-replicate, List·getD-eq-default}
+use lib.ListN.{length, getD, List·getD-eq-default}
 use lib.Dec.{eqb}
-use borrow.Author.Tests.{lt-ltb, le-ltb}
 use Rattle.base_finite.specs.Below.{tabulate}
 use Rattle.base_finite.specs.Laws.Below.{getD-tabulate, lt-or-ge}
 use Rattle.base_limits.specs.Limits.{maxVertices}
 use Rattle.base_buffer.specs.Store.{remade}
 use Rattle.base_buffer.specs.Laws.Store.{remade-table}
-use Rattle.theory_route.specs.First.{firstBelow}
-use Rattle.theory_route.specs.Laws.First.{IsFirst, Unmet, first-is, first-none, unmet-start, unmet-turn}
+use Rattle.theory_route.specs.Laws.First.{Unmet, unmet-start, unmet-turn}
 use Rattle.survey_core.specs.Survey.{Survey}
 use Rattle.survey_core.specs.Sound.{SurveySound}
 use Rattle.survey_labels.specs.Labels.{endsJoined}
 use Rattle.survey_labels.specs.Laws.Labels.{components-more, components-none}
-use Rattle.why_rule.specs.Reason.{firstOrZero}
+use Rattle.why_rule.specs.Laws.First.{zero-first, zero-none}
 use Rattle.why_round.specs.Replay.{labelsAfter, linkedAfter, roundIn, PicksFit}
-
-pub zero-first : (n : ℕ) (t : ℕ → Bool) (i : ℕ) → IsFirst n t i → i ≡ firstOrZero n t
-unfolding firstOrZero
-zero-first n t i h = rw (first-is n t i h, lt-ltb i n (h .below))
-
-pub zero-none : (n : ℕ) (t : ℕ → Bool) → ((j : ℕ) → j < n → t j ≡ false) → 0 ≡ firstOrZero n t
-unfolding firstOrZero
-zero-none n t h = rw (first-none n t h, le-ltb n n (omega arith))
 
 -- Two labels as the code reads them.
 pub read-both : (labels : List ℕ) {x y i j a b : ℕ} → x ≡ getD labels i 0 → i ≡ a → y ≡ getD labels j 0 → j ≡ b → eqb x y ≡ eqb (getD labels a 0) (getD labels b 0)

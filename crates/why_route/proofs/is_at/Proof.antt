@@ -2,14 +2,15 @@
 use mathlib.Core.Path.{sym, _∙_}
 use mathlib.Core.Bool.{_&&_, _||_}
 use borrow.Author.Needs.{needs}
-use borrow.Author.Tests.{eq-eqb, ne-eqb, not-true, not-false}
+use borrow.Author.Tests.{eq-eqb, ne-eqb, not-false}
 use Rattle.theory_route.specs.Route.{isEnd}
+use Rattle.why_route.specs.Laws.Walk.{not-of-forest}
 use Rattle.why_route.proofs.is_at.Statement.{statement}
 use Rattle.why_route.proofs.is_at.Tie as tie
 
 -- not of the forest
 returns : tie.Need-returns
-returns c = rw (sym (c .before .is-picked .ensures) ∙ not-true _ (c .if1 .taken))
+returns c = not-of-forest _ _ _ (c .before .is-picked .ensures) (c .if1 .taken)
 
 -- at its first end
 returns-2 : tie.Need-returns-2

@@ -6,12 +6,12 @@ use native.Mathlib.Numerals.{add-one}
 use native.Mathlib.Decide.{ℕ-discrete}
 use mathlib.Core.Path.{_≡_, refl, ap, sym, _∙_, subst}
 use mathlib.Core.Logic.{_⊎_, inl, inr, ⊎-elim}
-use mathlib.Core.Bool.{Bool, true, false, _&&_, cond}
+use mathlib.Core.Bool.{Bool, true, false, _&&_, not, cond}
 use mathlib.Core.List.{List, [], _∷_, _++_}
 use lib.ListN.{length, getD, set, length-set}
 use lib.Seq.{getD-set-same, getD-set-other}
 use lib.Dec.{eqb, ltb}
-use borrow.Author.Tests.{eqb-true, eqb-false, eq-eqb, ne-eqb, lt-ltb, le-ltb, ltb-true}
+use borrow.Author.Tests.{eqb-true, eqb-false, eq-eqb, ne-eqb, lt-ltb, le-ltb, ltb-true, not-true}
 use Rattle.base_finite.specs.Laws.Test.{either, and-left, and-right, and-both, true-not-false, not-true-false}
 use Rattle.base_finite.specs.Laws.Below.{below-suc}
 use Rattle.theory_graph.specs.Path.{Leads}
@@ -21,6 +21,12 @@ use Rattle.theory_route.specs.Laws.Route.{occurs-cases, none-occurs, end-at, fa
 use Rattle.why_route.specs.Walk.{unvisited, isFree, storedAt, endIn, Walkable, Explored, WalkEnds, arrives, fails}
 use Rattle.why_route.specs.declared.Walked.{Walked}
 use Rattle.why_route.specs.declared.Walked.the-variants.{Arrived, Lost}
+
+-- ---- edges
+
+-- An edge that is not of the forest is at no vertex of it.
+pub not-of-forest : (kept : List ℕ) (e : ℕ) (t : Bool) {r : Bool} → r ≡ pickedIn kept e → not r ≡ true → false ≡ (pickedIn kept e && t)
+not-of-forest kept e t {r} is h = rw (sym is ∙ not-true r h)
 
 -- ---- visiting
 

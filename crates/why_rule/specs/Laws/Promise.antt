@@ -1,10 +1,10 @@
 -- What an answer promises besides its equation with the definition: a reason exactly if none of the refusals applies, and it is true; 8 exactly if some list cannot be joined by any set
 -- of tracks, and then the lowest; 19 exactly if there is no such track; a refusal writes nothing.
-use Prim.Native.Nat.{ℕ, _-_, _≤_, _<_}
+use Prim.Native.Nat.{ℕ, _-_, _<_}
 use native.Mathlib.Omega.{arith}
 use mathlib.Core.Path.{_≡_, refl, ap, sym, _∙_, subst}
 use mathlib.Core.Logic.{_⊎_, inl, inr, ⊎-elim}
-use mathlib.Core.Bool.{Bool, true, false}
+use mathlib.Core.Bool.{true}
 use mathlib.Core.List.{List, _++_}
 use lib.ListN.{length, drop}
 use lib.Dec.{ltb, leb}
@@ -13,15 +13,15 @@ use Rattle.base_limits.specs.Verdict.{refuseIf, _before_, Outcome, refusal, ans
 use Rattle.base_limits.specs.declared.Verdict.{Verdict}
 use Rattle.base_limits.specs.declared.Verdict.the-variants.{Fine, Refused}
 use Rattle.base_limits.specs.Laws.Verdict.{before-fine, fine-left, fine-right, refuse-true, refuse-false, fine-refuse, refused-refuse, answer-fine, refusal-found}
-use Rattle.theory_steiner.specs.Problem.{Bounded, Joins, allUsable}
+use Rattle.theory_steiner.specs.Problem.{Bounded, allUsable}
 use Rattle.theory_steiner.specs.Laws.Finish.{allUsable-edges}
 use Rattle.survey_core.specs.Survey.{Survey, vertexCount, edgeCount, problemOf}
-use Rattle.survey_core.specs.Sound.{SurveySound, ByteGroups}
+use Rattle.survey_core.specs.Sound.{ByteGroups}
 use Rattle.survey_core.specs.Refusal.{surveyRefusal, groupRefusal, LowestUnjoined}
 use Rattle.survey_core.specs.Laws.Refusal.{survey-fine, fine-survey}
 use Rattle.survey_core.specs.Laws.Group.{group-fine, joins-fine, joins-groups, group-refused, unjoinable-iff}
 use Rattle.plan_rule.specs.Laws.Number.{before-cases, survey-never}
-use Rattle.why_rule.specs.Reason.{Reason, reasonOf}
+use Rattle.why_rule.specs.Reason.{Reason, needs, spared, passed, reasonOf}
 use Rattle.why_rule.specs.Why.{whyRefusal, WhyCounts, whyCounts, routeIn, reasoning, routeAfter}
 use Rattle.why_rule.specs.Promise.{Askable, Joinable, Explainable, UnjoinableList, UnknownTrack, GivenReason, WhyPromises}
 use Rattle.why_rule.specs.Laws.Reason.{reason-true}
@@ -140,9 +140,20 @@ module _ (s : Survey) (routeLength e : ℕ) where
 
 -- ---- the call
 
+-- Only a kept track has a route.
+kept-route : (r : Reason) (was : List ℕ) → (whyCounts r .kind ≡ 2 → ⊥) → (routeIn r ++ drop (length (routeIn r)) was) ≡ was
+unfolding whyCounts routeIn
+kept-route (needs group low high route) was h = absurd (h refl)
+kept-route spared was h = refl
+kept-route (passed round) was h = refl
+
 module _ (s : Survey) (numbered : ByteGroups s) (e : ℕ) (was : List ℕ) where
+  entries : whyRefusal s (length was) e ≡ Fine → routeAfter s e was ≡ routeIn (reasonOf s e) ++ drop (length (routeIn (reasonOf s e))) was
+  unfolding routeAfter written
+  entries h = ap (λ v. written v (routeIn (reasonOf s e) ++ drop (length (routeIn (reasonOf s e))) was) was) h
+
   given-reason : (c : WhyCounts) → reasoning s (length was) e ≡ answer c → GivenReason s e was (routeAfter s e was) c
-  unfolding reasoning routeAfter written
+  unfolding reasoning
   given-reason c h =
       let a = answer-fine (whyRefusal s (length was) e) (whyCounts (reasonOf s e)) c h in
       let ok : Explainable s (length was) e = fine-explainable s (length was) e numbered (a .0) in
@@ -151,8 +162,8 @@ module _ (s : Survey) (numbered : ByteGroups s) (e : ℕ) (was : List ℕ) where
         reason = reasonOf s e;
         is-true = reason-true s (ok .joinable .askable .survey) numbered (ok .joinable .joins) e (ok .known);
         counts-are = sym (a .1);
-        entries-are =
-            ap (λ v. written v (routeIn (reasonOf s e) ++ drop (length (routeIn (reasonOf s e))) was) was) (a .0);
+        entries-are = entries (a .0);
+        no-route = λ h. entries (a .0) ∙ kept-route (reasonOf s e) was (λ two. h (ap (λ (x : WhyCounts). x .kind) (sym (a .1)) ∙ two));
       }
 
   untouched-route : {number place : ℕ} → reasoning s (length was) e ≡ refusal number place → routeAfter s e was ≡ was

@@ -1,43 +1,41 @@
 -- Each reason is true of the growth: what it names is lowest, its route is the only path of kept tracks, without the track the pair is not linked; a dropped track is spared by every
 -- list; a round is the least after which the picks link the ends.
-use Prim.Native.Nat.{ℕ, zero, suc, _<_, _≤_}
+use Prim.Native.Nat.{ℕ, suc, _<_, _≤_}
 use native.Mathlib.Omega.{arith}
-use native.Mathlib.Decide.{ℕ-discrete}
-use mathlib.Core.Path.{_≡_, refl, ap, sym, _∙_, subst}
+use mathlib.Core.Path.{_≡_, refl, ap, sym, subst}
 use mathlib.Core.Logic.{_⊎_, inl, inr, ⊎-elim}
-use mathlib.Core.Bool.{Bool, true, false, not, cond}
-use mathlib.Core.List.{List}
-use lib.ListN.{length}
-use lib.Dec.{eqb, ltb}
-use borrow.Author.Tests.{eqb-true, eqb-false, eq-eqb, lt-ltb, le-ltb, ltb-true}
+use mathlib.Core.Bool.{Bool, true, false, not}
+use lib.Dec.{eqb}
+use borrow.Author.Tests.{eqb-true, eq-eqb}
 use Rattle.base_finite.specs.Below.{anyBelow}
 use Rattle.base_finite.specs.Laws.Test.{either, and-both, true-not-false, not-true-false}
-use Rattle.base_finite.specs.Laws.Below.{any-none, any-intro, lt-or-ge}
+use Rattle.base_finite.specs.Laws.Below.{any-none, lt-or-ge}
 use Rattle.base_limits.specs.declared.Verdict.{Verdict}
 use Rattle.base_limits.specs.declared.Verdict.the-variants.{Fine, Refused}
-use Rattle.theory_graph.specs.Path.{Leads, forth, back, Linked, without, Forest}
-use Rattle.theory_graph.specs.Laws.Linked.{linked-mono, without-elim, without-intro, without-mono, linked-without}
+use Rattle.theory_graph.specs.Path.{Leads, forth, back, without, Forest}
+use Rattle.theory_graph.specs.Laws.Linked.{linked-mono, without-elim, without-mono}
 use Rattle.theory_graph.specs.Laws.Component.{linked-same-label}
-use Rattle.theory_steiner.specs.Problem.{Problem, Sound, Bounded, Joins, allUsable, joined}
+use Rattle.theory_steiner.specs.Problem.{Sound, Bounded, Joins, allUsable, joined}
 use Rattle.theory_steiner.specs.Growth.{stateAt, grown, start}
 use Rattle.theory_steiner.specs.Pruning.{needed, picked, kept}
 use Rattle.theory_steiner.specs.Laws.Joined.{label-linked, linked-label, needed-iff, joined-elim}
 use Rattle.theory_steiner.specs.Laws.Partition.{picked-usable, partition}
 use Rattle.theory_steiner.specs.Laws.Round.{stateAt-reached}
-use Rattle.theory_steiner.specs.Laws.Rounds.{grown-reached, stateAt-last, stateAt-rounds, grown-still, takes-rounds}
+use Rattle.theory_steiner.specs.Laws.Rounds.{grown-reached, stateAt-last, takes-rounds}
 use Rattle.theory_steiner.specs.Laws.Finish.{kept-joins, kept-picked, kept-edges, picked-acyclic}
 use Rattle.theory_route.specs.First.{firstBelow}
-use Rattle.theory_route.specs.Laws.First.{IsFirst, first-none, first-exists}
+use Rattle.theory_route.specs.Laws.First.{IsFirst, first-exists}
 use Rattle.theory_route.specs.Route.{routeOf, IsRoute}
 use Rattle.theory_route.specs.Laws.Route.{route-of, route-is, route-uses}
-use Rattle.survey_core.specs.Survey.{Survey, vertexCount, edgeCount, member, problemOf, JoinsGroup, groupJoined, componentsOf}
+use Rattle.survey_core.specs.Survey.{Survey, vertexCount, edgeCount, problemOf, groupJoined, componentsOf}
 use Rattle.survey_core.specs.Sound.{SurveySound, ByteGroups}
 use Rattle.survey_core.specs.Refusal.{groupRefusal, LowestUnjoined}
 use Rattle.survey_core.specs.Laws.Refusal.{survey-sound}
 use Rattle.survey_core.specs.Laws.Group.{group-fine, group-refused, group-joined-elim, joins-groups}
 use Rattle.survey_forest.specs.Laws.Forest.{forest-sub}
-use Rattle.why_rule.specs.Reason.{Reason, needs, spared, passed, others, placeOf, partedList, isParted, lowMember, highMember, keptReason, joinedAfter, firstOrZero, roundOf, reasonOf}
-use Rattle.why_rule.specs.True.{LinkedBy, LowestPair, NeedsTrue, SparedTrue, LinkedAfter, FirstJoined, PassedTrue, TrueOf, needs-true, spared-true, passed-true}
+use Rattle.why_rule.specs.Reason.{spared, others, placeOf, partedList, isParted, lowMember, highMember, keptReason, joinedAfter, roundOf, reasonOf}
+use Rattle.why_rule.specs.True.{LinkedBy, LowestPair, NeedsTrue, SparedTrue, LinkedAfter, FirstJoined, TrueOf, needs-true, spared-true, passed-true}
+use Rattle.why_rule.specs.Laws.First.{zero-first, zero-none}
 use Rattle.why_rule.specs.Laws.Pair.{parted-first, parted-second, parted-labels, parted-intro, low-first, high-first, pair-parted, low-lt-high, pair-lowest}
 
 module _ (s : Survey) (sound : SurveySound s) where
@@ -85,7 +83,7 @@ module _ (s : Survey) (sound : SurveySound s) where
       (stateAt-last (problemOf s) (grown (problemOf s) .rounds) r (takes-rounds (problemOf s) ok some .ended) b) h
 
   pub round-true : (e : ℕ) → e < edgeCount s → ((roundOf (problemOf s) e ≡ 0) × ((r : ℕ) → LinkedAfter s e r → ⊥)) ⊎ FirstJoined s e (roundOf (problemOf s) e)
-  unfolding roundOf firstOrZero
+  unfolding roundOf
   round-true e b = by (either (anyBelow (suc (grown (problemOf s) .rounds)) (joinedAfter (problemOf s) e)))
     where
       R : ℕ
@@ -94,12 +92,12 @@ module _ (s : Survey) (sound : SurveySound s) where
       t : ℕ → Bool
       t = joinedAfter (problemOf s) e
 
-      by : (anyBelow (suc (grown (problemOf s) .rounds)) (joinedAfter (problemOf s) e) ≡ true) ⊎ (anyBelow (suc (grown (problemOf s) .rounds)) (joinedAfter (problemOf s) e) ≡ false)
-          → ((cond (ltb (firstBelow R t) R) (firstBelow R t) 0 ≡ 0) × ((r : ℕ) → LinkedAfter s e r → ⊥)) ⊎ FirstJoined s e (cond (ltb (firstBelow R t) R) (firstBelow R t) 0)
+      by : (anyBelow R t ≡ true) ⊎ (anyBelow R t ≡ false)
+          → ((roundOf (problemOf s) e ≡ 0) × ((r : ℕ) → LinkedAfter s e r → ⊥)) ⊎ FirstJoined s e (roundOf (problemOf s) e)
       by (inr h) =
           let none = any-none R t h in
           inl (
-            rw (first-none R t none, le-ltb R R (omega arith)) refl,
+            sym (zero-none R t none),
             λ r l.
                 let j = linked-joined e r l in
                 ⊎-elim
@@ -109,7 +107,8 @@ module _ (s : Survey) (sound : SurveySound s) where
           )
       by (inl h) =
           let f : IsFirst R t (firstBelow R t) = first-exists R t h in
-          inr (rw (lt-ltb (firstBelow R t) R (f .below))
+          inr
+          (subst (FirstJoined s e) (zero-first R t (firstBelow R t) f)
           (record {
             some = let z : firstBelow R t ≡ 0 → ⊥ = λ k. apart-at-first e b (subst (λ i. t i ≡ true) k (f .passes)) in omega arith;
             within = let k = f .below in omega arith;
@@ -227,8 +226,7 @@ module _ (s : Survey) (sound : SurveySound s) where
     unfolding reasonOf keptReason
     reason-true b = by (kept (problemOf s) e) (picked (problemOf s) e) refl refl
       where
-        by : (k p : Bool) → kept (problemOf s) e ≡ k → picked (problemOf s) e ≡ p
-            → TrueOf s e (cond (kept (problemOf s) e) (keptReason s e) (cond (picked (problemOf s) e) spared (passed (roundOf (problemOf s) e))))
+        by : (k p : Bool) → kept (problemOf s) e ≡ k → picked (problemOf s) e ≡ p → TrueOf s e (reasonOf s e)
         by true p hk hp = rw hk (needs-true (needs-holds hk))
         by false true hk hp = rw (hk, hp) (spared-true (spared-holds hp hk))
         by false false hk hp = rw (hk, hp) (passed-true (record { not-picked = hp; when = round-true e b }))

@@ -1,10 +1,10 @@
 -- `parted_pair` meets its contract: the labels in the buffer are those of the tracks marked 2.
-use mathlib.Core.Path.{ap, sym, _∙_}
+use mathlib.Core.Path.{sym}
 use Rattle.survey_components.specs.Laws.Labels.{length-labels}
-use Rattle.why_core.specs.Laws.Kept.{pair-found}
+use Rattle.why_parted.specs.Laws.Found.{pair-found}
 use borrow.Author.Needs.{needs}
-use Rattle.why_core.proofs.parted_pair.Statement.{statement}
-use Rattle.why_core.proofs.parted_pair.Tie as tie
+use Rattle.why_parted.proofs.parted_pair.Statement.{statement}
+use Rattle.why_parted.proofs.parted_pair.Tie as tie
 
 slice-aggregate-first-apart : tie.Need-slice-aggregate-first-apart
 slice-aggregate-first-apart c = sym (length-labels _ _ _ (c .before .before .set-labels .ensures))

@@ -1,10 +1,8 @@
 -- `mark_but` meets its contract: each return by its test.
-use Prim.Native.Nat.{ℕ, _≤_}
-use mathlib.Core.Path.{_≡_, sym, _∙_}
 use borrow.Author.Needs.{needs}
-use Rattle.why_core.specs.Laws.Kept.{below-least, left-out, marked-two}
-use Rattle.why_core.proofs.mark_but.Statement.{statement}
-use Rattle.why_core.proofs.mark_but.Tie as tie
+use Rattle.why_parted.specs.Laws.Found.{below-least, left-out, marked-two}
+use Rattle.why_parted.proofs.mark_but.Statement.{statement}
+use Rattle.why_parted.proofs.mark_but.Tie as tie
 
 returns : tie.Need-returns
 returns c = below-least _ _ _ _ (c .before .at8 .ensures) (c .if1 .taken)

@@ -1,4 +1,4 @@
--- What the code looks at for a kept track: the other picked tracks as marks, and the pair that they leave apart.
+-- Tracks by their marks, and the pair of a list's members that they leave apart.
 use Prim.Native.Nat.{ℕ}
 use mathlib.Core.Path.{_≡_}
 use mathlib.Core.Bool.{Bool, _&&_, not}
@@ -14,8 +14,7 @@ use Rattle.survey_components.specs.Labels.{chosen, labelsOf}
 use Rattle.survey_components.specs.declared.Chosen.the-variants.{Kept}
 use Rattle.theory_route.specs.First.{firstBelow}
 use Rattle.why_rule.specs.Reason.{placeOf}
-use Rattle.why_rule.specs.Why.{WhyCounts}
-use Rattle.why_core.specs.declared.Pair.{Pair}
+use Rattle.why_parted.specs.declared.Pair.{Pair}
 
 -- e has at least this mark, and is not the one left out.
 unfoldable pub markedBut : (marks : List ℕ) → (least out e : ℕ) → Bool
@@ -34,7 +33,3 @@ pub record PairOf (s : Survey) (marks : List ℕ) (p : Pair) : Type 0 where
   pub larger-is :
       p .larger
       ≡ firstBelow (length (s .groups)) (λ v. inList (listsOf s) (p .group) v && not (eqb (labelIn s marks (p .smaller)) (labelIn s marks v)))
-
--- The numbers of a kept track.
-unfoldable pub keptCounts : Pair → (entries : ℕ) → WhyCounts
-keptCounts p entries = record { kind = 2; group = p .group; low = p .smaller; high = p .larger; entries = entries; round = 0 }

@@ -7,10 +7,10 @@ use Rattle.base_finite.specs.Below.{counted}
 use Rattle.base_limits.specs.Limits.{maxEdges}
 use Rattle.base_buffer.specs.Store.{remade}
 use Rattle.base_buffer.specs.Laws.Store.{length-remade, remade-more, remade-end}
-use Rattle.why_core.specs.Parted.{markedBut}
+use Rattle.why_parted.specs.Parted.{markedBut}
 use borrow.Author.Needs.{needs}
-use Rattle.why_core.proofs.marks_but.Statement.{statement}
-use Rattle.why_core.proofs.marks_but.Tie as tie
+use Rattle.why_parted.proofs.marks_but.Statement.{statement}
+use Rattle.why_parted.proofs.marks_but.Tie as tie
 
 abbrev Inv-loop : tie.InvT-loop
 Inv-loop marks least out m chosen₀ e₀ chosen e =

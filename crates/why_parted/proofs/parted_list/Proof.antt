@@ -1,9 +1,8 @@
 -- `parted_list` meets its contract: the place of what is found.
-use mathlib.Core.Path.{sym, _∙_}
-use Rattle.why_core.specs.Laws.Kept.{no-place, the-place}
+use Rattle.why_parted.specs.Laws.Found.{no-place, the-place}
 use borrow.Author.Needs.{needs}
-use Rattle.why_core.proofs.parted_list.Statement.{statement}
-use Rattle.why_core.proofs.parted_list.Tie as tie
+use Rattle.why_parted.proofs.parted_list.Statement.{statement}
+use Rattle.why_parted.proofs.parted_list.Tie as tie
 
 returns : tie.Need-returns
 returns c = no-place (c .before .before .group-refusal .ensures) (c .enum-told .given .1)
