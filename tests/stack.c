@@ -1,6 +1,7 @@
 /* How much stack the library's calls take: each runs in a thread whose stack is painted before, and what is no longer
  * painted afterwards was used. The surveys are as large as can be. Prints the bytes of each call, and ends with 1 if one
- * takes more than FOAMSICKLE_STACK, or than the number given, or does not answer. */
+ * takes more than FOAMSICKLE_STACK (asking why: than FOAMSICKLE_WHY_STACK), or than the number given, or does not
+ * answer. */
 #include "foamsickle.h"
 
 #include <pthread.h>
@@ -11,10 +12,10 @@
 enum { N = FOAMSICKLE_MAX_VERTICES, M = FOAMSICKLE_MAX_EDGES, PAIRS = FOAMSICKLE_MAX_PAIRS, AREA = 16 << 20, PAINT = 0xa5 };
 
 static uint8_t groups[N], others[PAIRS], marks[M], records[FOAMSICKLE_RECORDS_ROOM];
-static uint32_t firsts[M], seconds[M], weights[M], owners[PAIRS];
+static uint32_t firsts[M], seconds[M], weights[M], owners[PAIRS], route[FOAMSICKLE_MAX_ROUTE];
 static uint8_t first_bytes[4 * M], second_bytes[4 * M], weight_bytes[4 * M], owner_bytes[4 * PAIRS];
 static uint8_t result[FOAMSICKLE_PLAN_BYTES], text[FOAMSICKLE_VERIFY_ROOM];
-static uint64_t counts[FOAMSICKLE_PLAN_FIGURES], figures[FOAMSICKLE_PLAN_FIGURES];
+static uint64_t counts[FOAMSICKLE_WHY_FIGURES], figures[FOAMSICKLE_PLAN_FIGURES];
 static size_t moat_bytes, survey_length, text_length;
 static uint64_t answer;
 
@@ -61,6 +62,14 @@ static void grow(void) {
 static void drop(void) {
     answer = foamsickle_drop(groups, N, firsts, M, seconds, M, weights, M, owners, PAIRS, others, PAIRS, marks, M, figures,
                              FOAMSICKLE_DROP_FIGURES);
+}
+
+/* The first track of the path: the junctions that it parts are the path's ends, so that the route is as long as can be. */
+static void why(void) {
+    answer = foamsickle_why(groups, N, firsts, M, seconds, M, weights, M, owners, PAIRS, others, PAIRS, M - (N - 1), route,
+                            FOAMSICKLE_MAX_ROUTE, counts, FOAMSICKLE_WHY_FIGURES);
+    if (answer == 0 && counts[4] != FOAMSICKLE_MAX_ROUTE)
+        answer = 1;
 }
 
 static void check(void) {
@@ -134,6 +143,7 @@ int main(int argc, char **argv) {
         {"foamsickle_grow", grow},
         {"foamsickle_drop", drop},
         {"foamsickle_plan", plan},
+        {"foamsickle_why", why},
         {"foamsickle_check", check},
         {"foamsickle_handset_plan", handset_plan},
         {"foamsickle_handset_check", handset_check},
@@ -143,13 +153,14 @@ int main(int argc, char **argv) {
         {"foamsickle_print_dual", print_moat},
         {"foamsickle_verify", verify},
     };
-    size_t limit = argc == 2 ? (size_t)strtoul(argv[1], NULL, 10) : FOAMSICKLE_STACK;
     uint8_t *area = aligned_alloc(4096, AREA);
     int over = 0;
     prepare();
     size_t empty = used(nothing, area);
     printf("a thread without a call: %zu bytes\n", empty);
     for (size_t i = 0; i < sizeof calls / sizeof *calls; i++) {
+        size_t own = calls[i].call == why ? FOAMSICKLE_WHY_STACK : FOAMSICKLE_STACK;
+        size_t limit = argc == 2 ? (size_t)strtoul(argv[1], NULL, 10) : own;
         size_t bytes = used(calls[i].call, area) - empty;
         printf("%s: %zu bytes more, of %zu\n", calls[i].name, bytes, limit);
         if (answer != 0) {

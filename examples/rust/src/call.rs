@@ -90,6 +90,10 @@ mod flat {
             groups: in u8, firsts: in u32, seconds: in u32, weights: in u32, owners: in u32, others: in u8,
             marks: out u8, counts: out u64,
         );
+        why = foamsickle_why(
+            groups: in u8, firsts: in u32, seconds: in u32, weights: in u32, owners: in u32, others: in u8,
+            track: by u32, route: out u32, counts: out u64,
+        );
         check = foamsickle_check(
             groups: in u8, firsts: in u32, seconds: in u32, weights: in u32, owners: in u32, others: in u8,
             marks: in u8, records: in u8, counts: out u64,
@@ -135,6 +139,11 @@ pub fn grow(s: Slices, marks: &mut [u8], records: &mut [u8], counts: &mut [u64])
 /// `counts` takes sites and cost.
 pub fn drop(s: Slices, marks: &mut [u8], counts: &mut [u64]) -> u64 {
     flat::drop(s.groups, s.firsts, s.seconds, s.weights, s.owners, s.others, marks, counts)
+}
+
+/// `counts` takes the mark, the group, its two members, the number of tracks between them and the round.
+pub fn why(s: Slices, track: u32, route: &mut [u32], counts: &mut [u64]) -> u64 {
+    flat::why(s.groups, s.firsts, s.seconds, s.weights, s.owners, s.others, track, route, counts)
 }
 
 /// `counts` takes sites, cost and bound.
