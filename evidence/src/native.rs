@@ -42,6 +42,7 @@ pub const LIBRARY: Library = Library {
     plan: |survey, marks, records, counts| call::plan(slices(survey), marks, records, counts),
     grow: |survey, marks, records, counts| call::grow(slices(survey), marks, records, counts),
     drop: |survey, marks, counts| call::drop(slices(survey), marks, counts),
+    why: |survey, track, route, counts| call::why(slices(survey), track, route, counts),
     check: |survey, marks, records, counts| call::check(slices(survey), marks, records, counts),
     print_moat: call::print_dual,
     print_plan,

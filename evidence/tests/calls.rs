@@ -435,6 +435,30 @@ fn dropped_printed(figures: Figures, marks: &[u8], records: &[u8], out: &mut [u8
     (SECOND.print_plan)(figures, &marks, records, out, counts)
 }
 
+fn route_backwards(survey: View, track: u32, route: &mut [u32], counts: &mut [u64]) -> u64 {
+    let answer = (SECOND.why)(survey, track, route, counts);
+    if answer == 0 {
+        route[..counts[4] as usize].reverse();
+    }
+    answer
+}
+
+fn larger_first(survey: View, track: u32, route: &mut [u32], counts: &mut [u64]) -> u64 {
+    let answer = (SECOND.why)(survey, track, route, counts);
+    if answer == 0 {
+        counts.swap(2, 3);
+    }
+    answer
+}
+
+fn nineteen_before_eight(survey: View, track: u32, route: &mut [u32], counts: &mut [u64]) -> u64 {
+    let answer = (SECOND.why)(survey, track, route, counts);
+    if answer % 256 == 8 && track as usize >= survey.first.len() {
+        return 19 + 256 * u64::from(track);
+    }
+    answer
+}
+
 fn ends_swapped(survey: View, out: &mut [u8], counts: &mut [u64]) -> u64 {
     (SECOND.print_survey)(View { first: survey.second, second: survey.first, ..survey }, out, counts)
 }
@@ -537,6 +561,9 @@ fn faults_are_found() {
         ("bytes past a line zeroed", Library { print_moat: later_bytes_zeroed, ..SECOND }),
         ("the bound printed for the cost", Library { print_plan: bound_for_cost, ..SECOND }),
         ("dropped tracks printed as kept", Library { print_plan: dropped_printed, ..SECOND }),
+        ("the route from the larger", Library { why: route_backwards, ..SECOND }),
+        ("the larger before the smaller", Library { why: larger_first, ..SECOND }),
+        ("19 before 8", Library { why: nineteen_before_eight, ..SECOND }),
         ("ends swapped", Library { print_survey: ends_swapped, ..SECOND }),
         ("7 before 2", Library { print_survey: seven_before_two, ..SECOND }),
         ("also lines not printed", Library { print_survey: alsos_not_printed, ..SECOND }),

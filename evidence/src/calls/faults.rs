@@ -70,6 +70,8 @@ pub enum Fault {
     MarkTwo,
     LoopClosed,
     PickRemoved,
+    RouteShort,
+    TrackOut,
 }
 
 use Fault::*;
@@ -178,6 +180,29 @@ pub const DROP_FAULTS: &[Fault] = &[
     LoopClosed,
     PickRemoved,
 ];
+pub const WHY_FAULTS: &[Fault] = &[
+    Nothing,
+    NoJunction,
+    ManyJunctions,
+    SecondUnequal,
+    PricesUnequal,
+    PairsUnequal,
+    ManyTracks,
+    EndOut,
+    EndsEqual,
+    PriceHigh,
+    PairOut,
+    PairNone,
+    PairOwn,
+    PairsFall,
+    PairTwice,
+    ManyPairs,
+    RouteShort,
+    CountsShort,
+    Unjoinable,
+    PairUnjoinable,
+    TrackOut,
+];
 /// The faults of pairs that are 18.
 pub const PAIR_FAULTS: &[Fault] = &[PairOut, PairNone, PairOwn, PairsFall, PairTwice, ManyPairs];
 /// The faults of also lines, and the refusal of each.
@@ -248,6 +273,17 @@ pub const DROP_PAIRS: Pairs = &[
     (9, &[10, 21, 14]),
     (10, &[21, 14]),
     (21, &[14]),
+];
+pub const WHY_PAIRS: Pairs = &[
+    (1, &[2, 3, 4, 5, 6, 18, 7, 8, 19]),
+    (2, &[3, 4, 5, 6, 18, 7, 8, 19]),
+    (3, &[4, 5, 6, 18, 7, 8, 19]),
+    (4, &[5, 6, 18, 7, 8, 19]),
+    (5, &[4, 6, 18, 7, 8, 19]),
+    (6, &[4, 5, 18, 7, 8, 19]),
+    (18, &[7, 8, 19]),
+    (7, &[8, 19]),
+    (8, &[19]),
 ];
 pub const PRINT_MOAT_PAIRS: Pairs = &[(9, &[7])];
 pub const PRINT_PLAN_PAIRS: Pairs = &[];

@@ -1,7 +1,9 @@
 //! Generated calls: a sound input, two faults put into it, and lent buffers with any bytes in them, each from a stream of its own.
 
 use super::faults::*;
-use super::{Figures, Library, CHECK_COUNTS, DROP_COUNTS, PLAN_COUNTS, PRINT_COUNTS, READ_COUNTS, SECOND, SHORT};
+use super::{
+    Figures, Library, CHECK_COUNTS, DROP_COUNTS, PLAN_COUNTS, PRINT_COUNTS, READ_COUNTS, SECOND, SHORT, WHY_COUNTS,
+};
 use crate::gen::{overlap, survey, Rng, Size};
 use crate::plan::{fast, owned, record_room, DROPPED, NOT_PICKED};
 use crate::print::survey_text;
@@ -310,6 +312,43 @@ fn drop_input(streams: &Streams, faults: [Fault; 2]) -> Box<dyn Call> {
     Box::new(Drop { survey, marks, counts })
 }
 
+/// Asking why a track has its mark.
+struct Why {
+    survey: Survey,
+    track: u32,
+    route: Vec<u32>,
+    counts: Vec<u64>,
+}
+
+impl Call for Why {
+    fn run(&self, library: &Library) -> Answer {
+        let (mut route, mut counts) = (before_others(&self.route, 0xa5a5), before_others(&self.counts, 0xa5a5));
+        let lent = &mut route[..self.route.len()];
+        let code = (library.why)(self.survey.view(), self.track, lent, &mut counts[..self.counts.len()]);
+        Answer { code, bytes: Vec::new(), words: vec![route], counts }
+    }
+
+    fn says(&self) -> String {
+        format!("track {} of {:?}", self.track, self.survey)
+    }
+}
+
+fn why_input(streams: &Streams, faults: [Fault; 2]) -> Box<dyn Call> {
+    let rng = &mut streams.base();
+    let mut survey = sound_lists(rng);
+    let mut track = rng.below(survey.first.len().max(1)) as u32;
+    for (i, fault) in faults.into_iter().enumerate() {
+        harm(&mut streams.fault(i), &mut survey, fault);
+    }
+    let rng = &mut streams.buffers();
+    if faults.contains(&TrackOut) {
+        let m = survey.first.len() as u32;
+        track = rng.pick(&[m, m, m + 1, m + 256, u32::MAX]);
+    }
+    let route = room(rng, survey.groups.len().saturating_sub(1), faults.contains(&RouteShort));
+    Box::new(Why { survey, track, route: words(rng, route), counts: counts(rng, WHY_COUNTS, faults) })
+}
+
 struct Check {
     survey: Survey,
     marks: Vec<u8>,
@@ -454,12 +493,13 @@ fn print_survey_input(streams: &Streams, faults: [Fault; 2]) -> Box<dyn Call> {
     print(streams, faults, need, survey, with)
 }
 
-pub const OPERATIONS: [Operation; 8] = [
+pub const OPERATIONS: [Operation; 9] = [
     Operation { name: "read", faults: READ_FAULTS, pairs: READ_PAIRS, input: read_input },
     Operation { name: "plan", faults: PLAN_FAULTS, pairs: PLAN_PAIRS, input: plan_input },
     Operation { name: "check", faults: CHECK_FAULTS, pairs: CHECK_PAIRS, input: check_input },
     Operation { name: "grow", faults: PLAN_FAULTS, pairs: PLAN_PAIRS, input: grow_input },
     Operation { name: "drop", faults: DROP_FAULTS, pairs: DROP_PAIRS, input: drop_input },
+    Operation { name: "why", faults: WHY_FAULTS, pairs: WHY_PAIRS, input: why_input },
     Operation { name: "print_moat", faults: PRINT_MOAT_FAULTS, pairs: PRINT_MOAT_PAIRS, input: print_moat_input },
     Operation { name: "print_plan", faults: PRINT_PLAN_FAULTS, pairs: PRINT_PLAN_PAIRS, input: print_plan_input },
     Operation {

@@ -14,6 +14,7 @@ use crate::plan::{fast, Counts, Plan};
 use crate::print::{moat_line, plan_lines, survey_text};
 use crate::read::{read, Lent};
 use crate::stages::{drop_tracks, grow};
+use crate::why::why;
 use crate::{Refusal, Survey, View, RECORD_BYTES};
 
 /// The figures of a printed plan: sites, cost, bound and rounds.
@@ -27,6 +28,7 @@ pub struct Library {
     pub check: fn(View, &[u8], &[u8], &mut [u64]) -> u64,
     pub grow: fn(View, &mut [u8], &mut [u8], &mut [u64]) -> u64,
     pub drop: fn(View, &mut [u8], &mut [u64]) -> u64,
+    pub why: fn(View, u32, &mut [u32], &mut [u64]) -> u64,
     pub print_moat: fn(&[u8], &mut [u8], &mut [u64]) -> u64,
     pub print_plan: fn(Figures, &[u8], &[u8], &mut [u8], &mut [u64]) -> u64,
     pub print_survey: fn(View, &mut [u8], &mut [u64]) -> u64,
@@ -38,6 +40,8 @@ pub const PLAN_COUNTS: usize = 5;
 pub const CHECK_COUNTS: usize = 3;
 /// Sites and cost of dropping; growing has planning's.
 pub const DROP_COUNTS: usize = 2;
+/// Kind, group, smaller, larger, entries and round of a reason.
+pub const WHY_COUNTS: usize = 6;
 pub const PRINT_COUNTS: usize = 1;
 
 /// 01: 0, or the refusal in one number.
@@ -115,6 +119,16 @@ fn drop_call(survey: View, marks: &mut [u8], counts: &mut [u64]) -> u64 {
     stored(drop_tracks(survey, marks).map(|kept| [kept.sites, kept.cost]), counts)
 }
 
+fn why_call(survey: View, track: u32, route: &mut [u32], counts: &mut [u64]) -> u64 {
+    if let Err(refusal) = survey.sound() {
+        return code(refusal);
+    }
+    if counts.len() < WHY_COUNTS {
+        return SHORT;
+    }
+    stored(why(survey, track, route).map(|r| [r.kind, r.list, r.smaller, r.larger, r.entries, r.round]), counts)
+}
+
 fn print_moat_call(record: &[u8], out: &mut [u8], counts: &mut [u64]) -> u64 {
     if record.len() == RECORD_BYTES && counts.len() < PRINT_COUNTS {
         return SHORT;
@@ -165,6 +179,7 @@ pub const SECOND: Library = Library {
     check: check_call,
     grow: grow_call,
     drop: drop_call,
+    why: why_call,
     print_moat: print_moat_call,
     print_plan: print_plan_call,
     print_survey: print_survey_call,
