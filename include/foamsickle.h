@@ -49,15 +49,19 @@ extern "C" {
 #define FOAMSICKLE_MAX_DUALS (2 * FOAMSICKLE_MAX_VERTICES - 1)
 #define FOAMSICKLE_RECORDS_ROOM (FOAMSICKLE_RECORD_BYTES * FOAMSICKLE_MAX_DUALS)
 
+/* Tracks of a route, at most. */
+#define FOAMSICKLE_MAX_ROUTE (FOAMSICKLE_MAX_VERTICES - 1)
+
 /* Bytes that hold every moat line; every plan's text; the text of every survey that planning takes; both of them. */
 #define FOAMSICKLE_DUAL_ROOM 2048
 #define FOAMSICKLE_PLAN_ROOM 1549248
 #define FOAMSICKLE_SURVEY_ROOM 65536
 #define FOAMSICKLE_VERIFY_ROOM 2097152
 
-/* Entries of `counts`: planning and growing, dropping, checking and verifying, reading, printing. */
+/* Entries of `counts`: planning and growing, dropping, asking why, checking and verifying, reading, printing. */
 #define FOAMSICKLE_PLAN_FIGURES 5
 #define FOAMSICKLE_DROP_FIGURES 2
+#define FOAMSICKLE_WHY_FIGURES 6
 #define FOAMSICKLE_CHECK_FIGURES 3
 #define FOAMSICKLE_READ_FIGURES 3
 #define FOAMSICKLE_PRINT_FIGURES 1
@@ -139,6 +143,26 @@ uint64_t foamsickle_drop(
     const uint32_t *owners, size_t owners_length,
     const uint8_t *others, size_t others_length,
     uint8_t *marks, size_t marks_length,
+    uint64_t *counts, size_t counts_length);
+
+/* Says why a track is on the sheet, or is not: the reason for the mark that planning gives it.
+ * Writes counts[0], the mark. 2, kept: counts[1] is the lowest group that is parted without the track, counts[2] and
+ * counts[3] the lowest pair of its members so parted, counts[4] the number of kept tracks between them, and the first
+ * entries of route are these in walking order from counts[2]. 1, picked and dropped: no group needs it. 0, not picked:
+ * counts[5] is the round, from 1, after which its ends were first in one component, 0 for never. Counts that are not
+ * named are 0, and without a route nothing is written into route.
+ * Refuses 1 to 6 and 18 as above, then 7 (counts or route too short), then 8 (a group that no set of tracks joins; place:
+ * the lowest such group), then 19 (track is m or more; place: track).
+ * Needed: n - 1 entries of route, of which FOAMSICKLE_MAX_ROUTE are always enough, and FOAMSICKLE_WHY_FIGURES counts. */
+uint64_t foamsickle_why(
+    const uint8_t *groups, size_t groups_length,
+    const uint32_t *firsts, size_t firsts_length,
+    const uint32_t *seconds, size_t seconds_length,
+    const uint32_t *weights, size_t weights_length,
+    const uint32_t *owners, size_t owners_length,
+    const uint8_t *others, size_t others_length,
+    uint32_t track,
+    uint32_t *route, size_t route_length,
     uint64_t *counts, size_t counts_length);
 
 /* Checks marks and moat records, whoever drew them, against a survey.

@@ -11,10 +11,10 @@
 enum { N = FOAMSICKLE_MAX_VERTICES, M = FOAMSICKLE_MAX_EDGES, PAIRS = FOAMSICKLE_MAX_PAIRS, AREA = 16 << 20, PAINT = 0xa5 };
 
 static uint8_t groups[N], others[PAIRS], marks[M], records[FOAMSICKLE_RECORDS_ROOM];
-static uint32_t firsts[M], seconds[M], weights[M], owners[PAIRS];
+static uint32_t firsts[M], seconds[M], weights[M], owners[PAIRS], route[FOAMSICKLE_MAX_ROUTE];
 static uint8_t first_bytes[4 * M], second_bytes[4 * M], weight_bytes[4 * M], owner_bytes[4 * PAIRS];
 static uint8_t result[FOAMSICKLE_PLAN_BYTES], text[FOAMSICKLE_VERIFY_ROOM];
-static uint64_t counts[FOAMSICKLE_PLAN_FIGURES], figures[FOAMSICKLE_PLAN_FIGURES];
+static uint64_t counts[FOAMSICKLE_WHY_FIGURES], figures[FOAMSICKLE_PLAN_FIGURES];
 static size_t moat_bytes, survey_length, text_length;
 static uint64_t answer;
 
@@ -61,6 +61,14 @@ static void grow(void) {
 static void drop(void) {
     answer = foamsickle_drop(groups, N, firsts, M, seconds, M, weights, M, owners, PAIRS, others, PAIRS, marks, M, figures,
                              FOAMSICKLE_DROP_FIGURES);
+}
+
+/* The first track of the path: the junctions that it parts are the path's ends, so that the route is as long as can be. */
+static void why(void) {
+    answer = foamsickle_why(groups, N, firsts, M, seconds, M, weights, M, owners, PAIRS, others, PAIRS, M - (N - 1), route,
+                            FOAMSICKLE_MAX_ROUTE, counts, FOAMSICKLE_WHY_FIGURES);
+    if (answer == 0 && counts[4] != FOAMSICKLE_MAX_ROUTE)
+        answer = 1;
 }
 
 static void check(void) {
@@ -134,6 +142,7 @@ int main(int argc, char **argv) {
         {"foamsickle_grow", grow},
         {"foamsickle_drop", drop},
         {"foamsickle_plan", plan},
+        {"foamsickle_why", why},
         {"foamsickle_check", check},
         {"foamsickle_handset_plan", handset_plan},
         {"foamsickle_handset_check", handset_check},

@@ -14,6 +14,7 @@ ghost use Rattle.api_code.specs.Code.{codeOf, capped, verdictOf, countsFor};
 ghost use Rattle.api_read.specs.Call.{readFiguresOf, readCall};
 ghost use Rattle.api_plan.specs.Call.{planCall, planMarks, planRecords, planCounts};
 ghost use Rattle.api_grow.specs.Call.{growMarks, growCounts, dropCall, dropMarks, droppedCounts};
+ghost use Rattle.api_why.specs.Call.{whyCall, whyRoute, whyFigured};
 ghost use Rattle.api_check.specs.Call.{checkFiguresOf, checkCall, checkCounts};
 ghost use Rattle.api_print.specs.Call.{dualCall, dualOut, dualCounts};
 ghost use Rattle.api_print.specs.Call.{textCall, textOut, textCounts, surveyCall, surveyOut, surveyCounts};
@@ -187,6 +188,43 @@ pub extern "C" fn foamsickle_drop(
         owners,
         others,
         marks,
+        counts,
+    )
+}
+
+// Says why a track has its mark. `counts` gets the mark, the group, its two members, the entries of the route and the
+// round; `route` the tracks between the two members.
+#[no_mangle]
+pub extern "C" fn foamsickle_why(
+    groups: &[u8],
+    firsts: &[u32],
+    seconds: &[u32],
+    weights: &[u32],
+    owners: &[u32],
+    others: &[u8],
+    track: u32,
+    route: &mut [u32],
+    counts: &mut [u64],
+) -> u64
+    ensures code { λ r.
+        let s = lentWith groups firsts seconds weights owners others in
+        ⌜ r ≡ codeOf (whyCall s track (old route) (old counts)) ⌝ }
+    ensures route { λ _.
+        let s = lentWith groups firsts seconds weights owners others in
+        ⌜ new route ≡ whyRoute s track (old route) (old counts) ⌝ }
+    ensures counts { λ _.
+        let s = lentWith groups firsts seconds weights owners others in
+        ⌜ new counts ≡ whyFigured s track (old route) (old counts) ⌝ }
+{
+    api_why::why_call(
+        groups,
+        firsts,
+        seconds,
+        weights,
+        owners,
+        others,
+        track,
+        route,
         counts,
     )
 }

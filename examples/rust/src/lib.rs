@@ -28,6 +28,7 @@ pub const READ_FIGURES: usize = 3;
 pub const STP_FIGURES: usize = 2;
 pub const PLAN_FIGURES: usize = 5;
 pub const DROP_FIGURES: usize = 2;
+pub const WHY_FIGURES: usize = 6;
 pub const CHECK_FIGURES: usize = 3;
 pub const PRINT_FIGURES: usize = 1;
 
@@ -70,6 +71,8 @@ pub enum Refusal {
     Group(u64),
     /// 18: this pair
     Pair(u64),
+    /// 19: there is no track of this number
+    Track(u64),
     /// 20: the STP file is malformed from this byte on
     MalformedStp(u64),
     /// 21: this picked track closes a loop with picked tracks of lower number
@@ -102,6 +105,7 @@ impl Refusal {
             16 => Malformed(place),
             17 => Group(place),
             18 => Pair(place),
+            19 => Track(place),
             20 => MalformedStp(place),
             21 => Loop(place),
             number => Other(number as u8, place),
@@ -218,6 +222,32 @@ pub fn drop_unneeded(survey: &Survey, marks: &mut [u8]) -> Result<(u64, u64), Re
     answered(call::drop(survey.slices(), marks, &mut counts))?;
     let [sites, cost] = counts;
     Ok((sites, cost))
+}
+
+/// Why a track has its mark.
+#[derive(Clone, Debug, PartialEq, Eq)]
+pub enum Reason {
+    /// Kept: without it these two members of this group are parted; the kept tracks between them, from the first.
+    Kept { group: u64, smaller: u64, larger: u64, route: Vec<u32> },
+    /// Picked and dropped: no group needs it.
+    Dropped,
+    /// Not picked: its ends were joined after this round, from 1, or never.
+    Unpicked { round: Option<u64> },
+}
+
+/// Says why a track has the mark that planning gives it.
+pub fn why(survey: &Survey, track: u32) -> Result<Reason, Refusal> {
+    let slices = survey.slices();
+    let mut route = vec![0; slices.groups.len() - 1];
+    let mut counts = [0; WHY_FIGURES];
+    answered(call::why(slices, track, &mut route, &mut counts))?;
+    let [mark, group, smaller, larger, entries, round] = counts;
+    route.truncate(entries as usize);
+    Ok(match mark {
+        2 => Reason::Kept { group, smaller, larger, route },
+        1 => Reason::Dropped,
+        _ => Reason::Unpicked { round: (round > 0).then_some(round) },
+    })
 }
 
 /// A survey that was read: groups, first ends, second ends and prices, and the pairs.
@@ -371,6 +401,23 @@ mod tests {
         assert_eq!((&grown.marks, &grown.records), (&plan.marks, &plan.records));
         let twins = Survey::new(&[1, 1], &[0, 0], &[1, 1], &[5, 5]).unwrap();
         assert_eq!(drop_unneeded(&twins, &mut [1, 1]), Err(Refusal::Loop(1)));
+    }
+
+    #[test]
+    fn a_track_is_explained() {
+        // P5 with a track between 2 and 3, and one between two junctions that stay apart.
+        let survey = Survey::new(&[1, 1, 0, 0, 0, 0], &[0, 0, 0, 2, 4], &[1, 2, 3, 3, 5], &[3, 1, 1, 9, 9]).unwrap();
+        let said = |track| why(&survey, track);
+        assert_eq!(said(0), Ok(Reason::Kept { group: 1, smaller: 0, larger: 1, route: vec![0] }));
+        assert_eq!(said(1), Ok(Reason::Dropped));
+        assert_eq!(said(3), Ok(Reason::Unpicked { round: Some(2) }));
+        assert_eq!(said(4), Ok(Reason::Unpicked { round: None }));
+        assert_eq!(said(5), Err(Refusal::Track(5)));
+        let text = read(P3.as_bytes()).unwrap();
+        let kept = why(&text.survey().unwrap(), 1);
+        assert_eq!(kept, Ok(Reason::Kept { group: 1, smaller: 0, larger: 2, route: vec![0, 1] }));
+        let apart = Survey::new(&[1, 1], &[], &[], &[]).unwrap();
+        assert_eq!(why(&apart, 7), Err(Refusal::Unjoinable(1)));
     }
 
     #[test]
