@@ -97,7 +97,7 @@ fn read_lines(
 }
 
 // A text of another form is refused with 20.
-fn called(number: u64) -> u64
+fn stp_number(number: u64) -> u64
     ensures { λ r. ⌜ r ≡ stpNumber number ⌝ }
 {
     if number == 16 {
@@ -112,7 +112,7 @@ fn stopped_counts(head: Head) -> StpRead
 {
     match head {
         Head::Refused { number, place } => StpRead::Refused {
-            number: called(number),
+            number: stp_number(number),
             place,
         },
         Head::Counts {
@@ -132,7 +132,7 @@ fn stopped_lines(step: Number) -> StpRead
 {
     match step {
         Number::Refused { number, place } => StpRead::Refused {
-            number: called(number),
+            number: stp_number(number),
             place,
         },
         Number::Value { value: _, next } => {

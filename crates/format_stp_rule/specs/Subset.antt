@@ -1,9 +1,7 @@
 -- The undirected subset of SteinLib STP (document 02, No. 5; docs/STP.md) as a grammar, with no word about how a text is read: which words stand one
 -- after another, and what they say.
-use Prim.Native.Nat.{ℕ, zero, suc, _+_, _≤_, _<_}
-use mathlib.Core.Bool.{Bool, true, false, _||_, cond}
+use Prim.Native.Nat.{ℕ, suc, _+_, _≤_, _<_}
 use mathlib.Core.List.{List, [], _∷_, _++_}
-use mathlib.Core.Logic.{_⊎_}
 use mathlib.Core.Path.{_≡_}
 use lib.ListN.{getD, length, set, replicate, take}
 use Rattle.base_limits.specs.Limits.{countDigits, endpointDigits, weightDigits, maxVertices, maxEdges}

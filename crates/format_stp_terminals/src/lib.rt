@@ -79,7 +79,7 @@ fn terminal_lines(
 }
 
 // The lines from the end of the graph to the number of terminals.
-fn announced(text: &[u8], cursor: Cursor, vertices: usize) -> Number
+fn terminals_announced(text: &[u8], cursor: Cursor, vertices: usize) -> Number
     ensures { λ r. ⌜ numberStep r ≡ terminalsAnnounced vertices (old text) (cursor .at) ⌝ }
 {
     let one = line(text, cursor, &END);
@@ -112,7 +112,7 @@ fn ended(text: &[u8], cursor: Cursor) -> Number
 }
 
 // The lines behind the terminals, to the end of the text.
-fn closed(text: &[u8], cursor: Cursor) -> Number
+fn terminals_closed(text: &[u8], cursor: Cursor) -> Number
     ensures { λ r. ⌜ numberStep r ≡ terminalsClosed (old text) (cursor .at) ⌝ }
 {
     let one = line(text, cursor, &END);
@@ -130,7 +130,7 @@ fn closed(text: &[u8], cursor: Cursor) -> Number
 fn terminals_from(text: &[u8], cursor: Cursor, vertices: usize, groups: &mut [u8]) -> Number
     ensures { λ r. ⌜ groupsStep r (new groups) ≡ terminalsFrom vertices (old groups) (old text) (cursor .at) ⌝ }
 {
-    let one = announced(text, cursor, vertices);
+    let one = terminals_announced(text, cursor, vertices);
     let Number::Value {
         value: count,
         next: a,
@@ -142,7 +142,7 @@ fn terminals_from(text: &[u8], cursor: Cursor, vertices: usize, groups: &mut [u8
     let Number::Value { value: _, next: b } = two else {
         return two;
     };
-    closed(text, b)
+    terminals_closed(text, b)
 }
 
 // From the end of the graph to the end of the text: group 1 for every terminal and 0 for the other vertices, written

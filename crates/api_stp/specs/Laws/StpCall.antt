@@ -1,8 +1,8 @@
 -- Reading an STP text: counts that fit, and it is the library's own; too short, and a group buffer of no length is lent on, which is refused.
-use Prim.Native.Nat.{ℕ, _+_, _*_, _-_, _^_, _<_, _≤_}
+use Prim.Native.Nat.{ℕ, _+_, _*_, _-_, _^_, _<_}
 use native.Mathlib.Omega.{arith}
-use mathlib.Core.Path.{_≡_, refl, ap, sym, _∙_, subst}
-use mathlib.Core.Bool.{Bool, true, false, cond}
+use mathlib.Core.Path.{_≡_, refl, ap, sym, _∙_}
+use mathlib.Core.Bool.{true, cond}
 use mathlib.Core.List.{List, [], _∷_, _++_}
 use lib.ListN.{length, take, drop}
 use lib.Seq.{sets}
@@ -18,7 +18,7 @@ use Rattle.format_stp.specs.Answer.{stpAnswer, stpCountsOf}
 use Rattle.format_stp.specs.declared.StpRead.{StpRead}
 use Rattle.format_stp.specs.declared.StpRead.the-variants.{Survey as SurveyFound, Refused as ReadRefused}
 use Rattle.api_code.specs.Code.{placeUnit, codeOf, capped, verdictOf, countsFor, lentOn}
-use Rattle.api_code.specs.Laws.Encodable.{Telling, Encodable, telling-encodable, encodable-fine, capped-code, at-zero, at-place}
+use Rattle.api_code.specs.Laws.Encodable.{Telling, Encodable, telling-encodable, encodable-fine, capped-code}
 use Rattle.api_code.specs.Laws.Lending.{lent-part, lent-rest}
 use Rattle.api_read.specs.Laws.Call.{filled-rest}
 use Rattle.api_stp.specs.Call.{stpFigures, stpFiguresOf, stpCall}

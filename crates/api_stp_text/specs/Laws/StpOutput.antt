@@ -1,13 +1,12 @@
 -- Laws of what `stp` prints: what is printed by the outcome of reading; that `surveyRoom` bytes hold it; that a printed survey is read back; that a
 -- text too long is known by its first bytes.
-use Prim.Native.Nat.{ℕ, zero, suc, _+_, _-_, _^_, _≤_, _<_}
+use Prim.Native.Nat.{ℕ, _+_, _-_, _^_, _≤_, _<_}
 use native.Mathlib.Omega.{arith}
 use native.Mathlib.Nat.{sub-zero}
-use mathlib.Core.List.{List, [], _∷_, _++_, map}
+use mathlib.Core.List.{List, [], map}
 use mathlib.Core.Logic.{_⊎_, inl, inr}
 use mathlib.Core.Path.{_≡_, refl, ap, sym, _∙_, subst}
-use lib.Dec.{ltb}
-use lib.ListN.{length, take, drop, getD, replicate, length-map, length-take, List·getD-map}
+use lib.ListN.{length, take, drop, getD, replicate, length-map, List·getD-map}
 use lib.Seq.{take-at, take-all, ext-getD, length-take-le}
 use borrow.Author.Tests.{lt-ltb, le-ltb}
 use Rattle.base_finite.specs.Below.{tabulate}
@@ -17,9 +16,8 @@ use Rattle.base_limits.specs.Verdict.{Outcome, refusal, answer}
 use Rattle.format_print.specs.Laws.Room.{refusal-text-le}
 use Rattle.format_print.specs.Print.{printed, printedOut}
 use Rattle.format_write.specs.Text.{refusalText}
-use Rattle.format_also.specs.Pair.{ownersOf, othersOf}
 use Rattle.format_also.specs.Render.{pairsFrom}
-use Rattle.format_survey_lines.specs.Line.{Edge, Lengths, widest, SurveyCounts, firstsOf, secondsOf, weightsOf}
+use Rattle.format_survey_lines.specs.Line.{Edge, widest, SurveyCounts, firstsOf, secondsOf, weightsOf}
 use Rattle.format_survey.specs.Laws.Longest.{longest-within}
 use Rattle.format_survey.specs.Laws.WellFormed.{read-render}
 use Rattle.format_survey.specs.Reading.{SurveyText, reading, filled}

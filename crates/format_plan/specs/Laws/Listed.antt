@@ -27,7 +27,7 @@ use Rattle.format_grammar.specs.Language.{Reads, Word, Extends, Fixed, Text, no
 use Rattle.format_grammar.specs.Laws.Language.{bound, read-again, text-stands}
 use Rattle.format_number.specs.Laws.NumberWord.{NumberOrNone, absent, present, number-or-none, number-is, no-digit-number, numeral-same}
 use Rattle.format_number.specs.Laws.Keyed.{Passes, reads-keyed, reads-tested}
-use Rattle.format_survey.specs.Laws.WellFormed.{one-not-malformed, two-not-malformed}
+use Rattle.format_survey_lines.specs.Laws.Tests.{one-not-malformed, two-not-malformed}
 use Rattle.format_grammar.specs.Items.{Broken, ListsItems, textFrom}
 use Rattle.format_plan_lines.specs.Lines.{keptTest, keepLine, keepReader, separator, memberStep, memberReader, membersAt, PrintedDual, dualTest, dualHead, listedDual, dualLineAt, dualReader}
 use Rattle.format_grammar.specs.Laws.Items.{items-stop}

@@ -1,6 +1,5 @@
 -- `format_stp::read_stp` meets its contract, by the cases of the counts and of the lines behind them.
 use borrow.Author.Needs.{needs}
-use Prim.Native.Nat.{ℕ}
 use mathlib.Core.Path.{ap, sym, _∙_}
 use Rattle.base_limits.specs.Verdict.{answer}
 use Rattle.format_grammar.specs.Step.{stopped}

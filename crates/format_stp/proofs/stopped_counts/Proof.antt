@@ -12,7 +12,7 @@ use Rattle.format_stp.proofs.stopped_counts.Tie as tie
 returns : tie.Need-returns
 unfolding stpAnswer countsStep stopped stpOutcome
 returns c =
-    rw (c .called .ensures) (sym (ap (λ x. stpOutcome (stopped {B = SurveyCounts} (countsStep x))) (c .before .before .head .given .1)))
+    rw (c .stp-number .ensures) (sym (ap (λ x. stpOutcome (stopped {B = SurveyCounts} (countsStep x))) (c .before .before .head .given .1)))
 
 returns-2 : tie.Need-returns-2
 unfolding stpAnswer countsStep stopped stpOutcome stpNumber

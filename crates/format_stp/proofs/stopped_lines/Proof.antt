@@ -12,7 +12,7 @@ use Rattle.format_stp.proofs.stopped_lines.Tie as tie
 returns : tie.Need-returns
 unfolding stpAnswer numberStep stopped stpOutcome
 returns c =
-    rw (c .called .ensures) (sym (ap (λ x. stpOutcome (stopped {B = SurveyCounts} (numberStep x))) (c .before .before .step .given .1)))
+    rw (c .stp-number .ensures) (sym (ap (λ x. stpOutcome (stopped {B = SurveyCounts} (numberStep x))) (c .before .before .step .given .1)))
 
 returns-2 : tie.Need-returns-2
 unfolding stpAnswer numberStep stopped stpOutcome stpNumber

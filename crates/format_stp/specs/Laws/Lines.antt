@@ -1,5 +1,5 @@
 -- Laws of the lines behind the counts: what they are by their parts, how many they are, and what two passes over them store.
-use Prim.Native.Nat.{ℕ, zero, suc, _-_, _≤_, _<_}
+use Prim.Native.Nat.{ℕ, zero, suc, _-_, _≤_}
 use native.Mathlib.Omega.{arith}
 use mathlib.Core.List.{List, [], _++_}
 use mathlib.Core.Path.{_≡_, refl, ap, sym, _∙_}
@@ -12,7 +12,7 @@ use Rattle.format_grammar.specs.Step.{Step, found, refused, _then_}
 use Rattle.format_survey.specs.Laws.Body.{pass-refused}
 use Rattle.format_stp_rule.specs.StpReading.{StpContent, stpEdges, terminalLine, terminalLines}
 use Rattle.format_stp_rule.specs.StpWord.{afterEmpty}
-use Rattle.format_stp_terminals.specs.Laws.TerminalTurn.{end-within, end-over}
+use Rattle.format_stp_terminals.specs.Laws.TerminalTurn.{end-within}
 use Rattle.format_stp_terminals.specs.Terminals.{terminalsFrom, terminalsAnnounced, terminalsClosed, terminalsToEnd, groupsAfter}
 use Rattle.base_limits.specs.Limits.{maxVertices}
 use Rattle.format_stp.specs.Parts.{stpLines, storedBy}

@@ -1,10 +1,9 @@
 -- Reading by its two parts is reading; and what is read fits into the lent buffers.
 use Prim.Native.Nat.{ℕ, _+_, _≤_}
 use native.Mathlib.Omega.{arith}
-use mathlib.Core.List.{List, _++_}
+use mathlib.Core.List.{List}
 use mathlib.Core.Path.{_≡_, refl, ap, sym, _∙_}
 use lib.ListN.{length, drop, length-map}
-use lib.Seq.{sets}
 use Rattle.base_limits.specs.Limits.{maxVertices, countDigits}
 use Rattle.base_limits.specs.Verdict.{Outcome, refusal, answer}
 use Rattle.base_limits.specs.declared.Verdict.{Verdict}
@@ -23,9 +22,9 @@ use Rattle.format_stp_rule.specs.StpKey.{nodesWord, edgesWord}
 use Rattle.format_stp_rule.specs.StpReading.{StpContent, StpTests, stpHead, stpEdges, stpBody, terminalSection, countThen, stpContent, stpWhole, stpTests, stpNumber, stpOutcome, stpReading}
 use Rattle.format_stp_rule.specs.StpWord.{emptyLines, afterEmpty, guarded}
 use Rattle.format_stp_terminals.specs.Laws.TerminalTurn.{each-then, end-within, from-zeros}
-use Rattle.format_stp_terminals.specs.Terminals.{terminalsFrom, terminalsToEnd}
+use Rattle.format_stp_terminals.specs.Terminals.{terminalsToEnd}
 use Rattle.format_stp.specs.Parts.{stpCounts, stpLines, storedBy}
-use Rattle.format_stp.specs.Laws.Lines.{saying, stored-by, groups-length, edges-length}
+use Rattle.format_stp.specs.Laws.Lines.{stored-by, groups-length, edges-length}
 
 -- ---- the two parts together
 

@@ -1,7 +1,7 @@
 -- What an STP file within the limits says is a survey within the counts of our own text: its groups are bytes, its ends have three digits.
 use Prim.Native.Nat.{ℕ, zero, suc, _+_, _≤_, _<_}
 use native.Mathlib.Omega.{arith}
-use mathlib.Core.List.{List, [], _∷_}
+use mathlib.Core.List.{List, []}
 use mathlib.Core.Path.{_≡_, refl, ap, sym, _∙_, subst}
 use lib.ListN.{length, set, replicate, length-set, length-replicate}
 use Rattle.base_limits.specs.Limits.{maxVertices, groupNumbers}
@@ -13,7 +13,7 @@ use Rattle.format_survey.specs.WellFormed.{WithinCounts}
 use Rattle.format_stp_rule.specs.Laws.Accepted.{accepted-in}
 use Rattle.format_stp_rule.specs.StpReading.{StpContent, stpReading}
 use Rattle.format_stp_rule.specs.StpWord.{AfterEmpty, Repeated, none, one}
-use Rattle.format_stp_rule.specs.Subset.{StpEdgeIn, stpEdgeText, TerminalLines, InSubset, StpFits}
+use Rattle.format_stp_rule.specs.Subset.{StpEdgeIn, stpEdgeText, TerminalLines, InSubset}
 use Rattle.format_stp_rule.specs.Subset.{none as noLine, one as oneLine}
 
 -- ---- tracks

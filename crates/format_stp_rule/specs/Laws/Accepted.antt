@@ -2,22 +2,21 @@
 -- text of the subset has there (document 02, No. 5).
 use Prim.Native.Nat.{ℕ, zero, suc, _+_, _-_, _≤_, _<_}
 use native.Mathlib.Omega.{arith}
-use mathlib.Core.Bool.{Bool, true, false, cond}
-use mathlib.Core.List.{List, [], _∷_, _++_, append-assoc, append-nil}
+use mathlib.Core.Bool.{Bool, true, false}
+use mathlib.Core.List.{List, [], _++_, append-nil}
 use mathlib.Core.Path.{_≡_, refl, ap, sym, _∙_, subst}
 use lib.Dec.{eqb, leb}
 use lib.ListN.{length, getD, take, drop, replicate, length-append, length-replicate, List·getD-eq-default}
 use lib.Seq.{take-at, take-all, length-take-le, getD-append-add}
-use borrow.Author.Tests.{eqb-true, eqb-false, eq-eqb, ne-eqb, leb-true, leb-false}
-use Rattle.base_limits.specs.Limits.{maxVertices, countDigits}
+use borrow.Author.Tests.{eqb-true, eqb-false, ne-eqb, leb-true, leb-false}
+use Rattle.base_limits.specs.Limits.{countDigits}
 use Rattle.base_limits.specs.Verdict.{Outcome, refusal, answer}
-use Rattle.base_limits.specs.declared.Verdict.the-variants.{Fine, Refused}
 use Rattle.format_key.specs.Key.{newline}
 use Rattle.format_grammar.specs.Bytes.{endAt}
-use Rattle.format_grammar.specs.Language.{Reads, NotMalformed, read, otherwise, Word, Extends, Seq, Text}
+use Rattle.format_grammar.specs.Language.{Reads, NotMalformed, read, otherwise, Word}
 use Rattle.format_grammar.specs.Laws.Bytes.{end-here, end-later, read-same}
 use Rattle.format_grammar.specs.Laws.Language.{read-again, bound}
-use Rattle.format_grammar.specs.Laws.Stands.{stands-whole, stands-first, stands-second, stands-same, stands-append, as-long}
+use Rattle.format_grammar.specs.Laws.Stands.{stands-whole, stands-first, stands-second, as-long}
 use Rattle.format_grammar.specs.Laws.Step.{then-found, then-refused, then-value, Stops, early, late, then-stops}
 use Rattle.format_grammar.specs.Stands.{Stands}
 use Rattle.format_grammar.specs.Step.{Step, found, refused, _then_}
@@ -30,8 +29,8 @@ use Rattle.format_stp_rule.specs.Laws.File.{SoundTests, reads-file}
 use Rattle.format_stp_rule.specs.Laws.Only.{StpRefusal, vertices, edges, short, stp-refusals}
 use Rattle.format_stp_rule.specs.Laws.Only.{malformed as of-its-form}
 use Rattle.format_stp_rule.specs.StpReading.{StpContent, StpTests, stpContent, stpWhole, stpTests, stpNumber, stpOutcome, stpReading}
-use Rattle.format_stp_rule.specs.StpWord.{emptyLines, afterEmpty, AfterEmpty}
-use Rattle.format_stp_rule.specs.Subset.{StpFile, CountThen, StpBody, InSubset, IsStp, StpFits, StpBegins, StpEscapes, StpGives, gives-1, gives-3, gives-7, gives-20}
+use Rattle.format_stp_rule.specs.StpWord.{emptyLines, afterEmpty}
+use Rattle.format_stp_rule.specs.Subset.{StpFile, InSubset, IsStp, StpFits, StpBegins, StpEscapes, StpGives, gives-1, gives-3, gives-7, gives-20}
 
 -- ---- the tests
 

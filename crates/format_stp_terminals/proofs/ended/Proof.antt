@@ -1,10 +1,9 @@
 -- `format_stp_terminals::ended` meets its contract: the end is looked for behind the empty lines.
 use borrow.Author.Needs.{needs}
-use Prim.Native.Nat.{ℕ, _≤_, _<_}
-use mathlib.Core.Path.{_≡_, ap, sym, _∙_}
+use Prim.Native.Nat.{ℕ}
+use mathlib.Core.Path.{ap, sym, _∙_}
 use Rattle.format_grammar.specs.Bytes.{endAt}
 use Rattle.format_grammar.specs.Laws.Bytes.{end-here, end-later}
-use Rattle.format_grammar.specs.Step.{found, refused}
 use Rattle.format_number.specs.Answer.{numberStep}
 use Rattle.format_stp_rule.specs.StpWord.{afterEmpty}
 use Rattle.format_stp_terminals.proofs.ended.Statement.{statement}

@@ -1,6 +1,6 @@
 -- `format_stp_terminals::terminal_lines` meets its contract: what is left to read, from the groups so far, is what the whole reads.
 use borrow.Author.Needs.{needs}
-use Prim.Native.Nat.{ℕ, _-_}
+use Prim.Native.Nat.{ℕ}
 use mathlib.Core.List.{List}
 use mathlib.Core.Path.{_≡_, refl, ap, sym, _∙_}
 use lib.ListN.{length, length-set}

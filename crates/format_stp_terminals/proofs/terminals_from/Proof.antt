@@ -14,7 +14,7 @@ returns : tie.Need-returns
 unfolding terminalsFrom groupsStep numberStep
 returns c =
     let told = c .enum-told .given .1 in
-    ap (λ x. groupsStep x (c .before .before .before .before .before .args .groups .now)) told ∙ sym (then-refused _ (sym (c .before .before .announced .ensures) ∙ ap numberStep told))
+    ap (λ x. groupsStep x (c .before .before .before .before .before .args .groups .now)) told ∙ sym (then-refused _ (sym (c .before .before .terminals-announced .ensures) ∙ ap numberStep told))
 
 same-length : tie.Need-same-length
 same-length c = c .before .before .before .groups .given
@@ -26,7 +26,7 @@ returns-2 c =
     let made = c .before .before .before .before .terminal-lines .last .1 .1 .1 .1 .0 in
     ap (λ x. groupsStep x made) told
     ∙ sym (then-refused _ (sym (c .before .before .before .before .terminal-lines .ensures) ∙ ap (λ x. groupsStep x made) told))
-    ∙ sym (value-goes _ (c .before .before .before .before .before .before .before .before .before .announced .ensures) (c .before .before .before .before .before .before .before .one .given .1))
+    ∙ sym (value-goes _ (c .before .before .before .before .before .before .before .before .before .terminals-announced .ensures) (c .before .before .before .before .before .before .before .one .given .1))
 
 same-length-2 : tie.Need-same-length-2
 same-length-2 c = c .before .before .before .before .before .groups .given
@@ -35,9 +35,9 @@ returns-3 : tie.Need-returns-3
 unfolding terminalsFrom groupsStep
 returns-3 c =
     let made = c .before .before .before .before .before .before .terminal-lines .last .1 .1 .1 .1 .0 in
-    closes (c .closed .result) made (c .closed .ensures)
+    closes (c .terminals-closed .result) made (c .terminals-closed .ensures)
     ∙ sym (then-found _ (sym (c .before .before .before .before .before .before .terminal-lines .ensures) ∙ ap (λ x. groupsStep x made) (c .before .before .two .given .1)))
-    ∙ sym (value-goes _ (c .before .before .before .before .before .before .before .before .before .before .before .announced .ensures) (c .before .before .before .before .before .before .before .before .before .one .given .1))
+    ∙ sym (value-goes _ (c .before .before .before .before .before .before .before .before .before .before .before .terminals-announced .ensures) (c .before .before .before .before .before .before .before .before .before .one .given .1))
 
 pub terminals-from-spec : {M : Type 1} → statement M
 terminals-from-spec =

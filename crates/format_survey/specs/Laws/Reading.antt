@@ -2,8 +2,8 @@
 use Prim.Native.Nat.{ℕ, _≤_, min}
 use native.Mathlib.Omega.{arith}
 use mathlib.Core.Path.{_≡_, ap, sym, _∙_}
-use mathlib.Core.List.{List, _++_}
-use lib.ListN.{length, drop, length-map}
+use mathlib.Core.List.{List}
+use lib.ListN.{length, length-map}
 use lib.Seq.{sets}
 use Rattle.format_survey_lines.specs.Laws.Body.{sets-filled, lines-sizes, lines-room}
 use Rattle.base_limits.specs.Limits.{maxVertices}
@@ -11,7 +11,7 @@ use Rattle.base_limits.specs.Verdict.{Outcome, refusal, answer}
 use Rattle.format_also.specs.Pair.{ownersOf, othersOf}
 use Rattle.format_grammar.specs.Step.{Step, found, refused, _then_, storedIf}
 use Rattle.format_survey_lines.specs.Line.{Lengths, pairRoom, testsFor, SurveyCounts, countsAt, firstsOf, secondsOf, weightsOf, SurveyLines, linesOf, linesAt}
-use Rattle.format_survey.specs.Reading.{bodyAt, bodyOf, SurveyText, surveyOf, surveyAt, stepOutcome, reading, filled}
+use Rattle.format_survey.specs.Reading.{bodyAt, bodyOf, surveyOf, surveyAt, stepOutcome, reading, filled}
 use Rattle.format_grammar.specs.Bytes.{endAt}
 use Rattle.format_grammar.specs.Laws.Step.{then-value, stored-found, stored-refused}
 use Rattle.format_survey_lines.specs.Laws.Tests.{counts-passed}

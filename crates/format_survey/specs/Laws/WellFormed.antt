@@ -11,7 +11,6 @@ use lib.Dec.{leb}
 use borrow.Author.Tests.{leb-true, leb-false}
 use Rattle.base_limits.specs.Limits.{maxPairs}
 use Rattle.base_limits.specs.Verdict.{refusal, answer}
-use Rattle.base_limits.specs.declared.Verdict.the-variants.{Refused}
 use Rattle.format_survey_lines.specs.Line.{Lengths, pairRoom, Tests, testsFor, verticesTest, edgesTest, groupTest, Edge}
 use Rattle.format_survey.specs.Reading.{SurveyText, surveyOf, surveyAt, stepOutcome, reading}
 use Rattle.format_survey.specs.Render.{render}

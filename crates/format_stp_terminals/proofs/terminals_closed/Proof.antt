@@ -1,10 +1,10 @@
--- `format_stp_terminals::closed` meets its contract: a refusal of any line stays, and a value goes on to the next.
+-- `format_stp_terminals::terminals_closed` meets its contract: a refusal of any line stays, and a value goes on to the next.
 use borrow.Author.Needs.{needs}
 use mathlib.Core.Path.{sym, _∙_}
 use Rattle.format_number.specs.Laws.Step.{refusal-stays, value-goes}
 use Rattle.format_stp_terminals.specs.Terminals.{terminalsClosed}
-use Rattle.format_stp_terminals.proofs.closed.Statement.{statement}
-use Rattle.format_stp_terminals.proofs.closed.Tie as tie
+use Rattle.format_stp_terminals.proofs.terminals_closed.Statement.{statement}
+use Rattle.format_stp_terminals.proofs.terminals_closed.Tie as tie
 
 returns : tie.Need-returns
 unfolding terminalsClosed
@@ -18,8 +18,8 @@ returns-3 : tie.Need-returns-3
 unfolding terminalsClosed
 returns-3 c = c .ended .ensures ∙ sym (value-goes _ (c .before .before .before .before .line2 .ensures) (c .before .before .two .given .1)) ∙ sym (value-goes _ (c .before .before .before .before .before .before .before .before .before .line .ensures) (c .before .before .before .before .before .before .before .one .given .1))
 
-pub closed-spec : {M : Type 1} → statement M
-closed-spec =
+pub terminals-closed-spec : {M : Type 1} → statement M
+terminals-closed-spec =
     tie.close
     (tie.spec
     (λ c. search needs)

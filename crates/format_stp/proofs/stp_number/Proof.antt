@@ -1,9 +1,9 @@
--- `format_stp::called` meets its contract, by its two cases.
+-- `format_stp::stp_number` meets its contract, by its two cases.
 use mathlib.Core.Path.{refl}
 use borrow.Author.Tests.{eq-eqb, ne-eqb}
 use Rattle.format_stp_rule.specs.StpReading.{stpNumber}
-use Rattle.format_stp.proofs.called.Statement.{statement}
-use Rattle.format_stp.proofs.called.Tie as tie
+use Rattle.format_stp.proofs.stp_number.Statement.{statement}
+use Rattle.format_stp.proofs.stp_number.Tie as tie
 
 returns : tie.Need-returns
 unfolding stpNumber
@@ -13,8 +13,8 @@ returns-2 : tie.Need-returns-2
 unfolding stpNumber
 returns-2 c = rw (ne-eqb (c .before .args .number) 16 (c .if1 .left)) refl
 
-pub called-spec : {M : Type 1} → statement M
-called-spec =
+pub stp-number-spec : {M : Type 1} → statement M
+stp-number-spec =
     tie.close
     (tie.spec
     returns
