@@ -169,7 +169,8 @@ fn round(
     time: u64,
 ) -> Delay
     requires { ⌜ Represents (surveyFrom (now groups) (now firsts) (now seconds) (now weights)) r time
-        (arraysFrom (now labels) (now loads) (now values) (now picked) (now order) (now keys) (now floors) (now flags)) ⌝ }
+        (arraysFrom (now labels) (now loads) (now values) (now picked) (now order) (now keys) (now floors)
+        (now flags)) ⌝ }
     requires { ⌜ now mates ≡ tabulate maxVertices (mateOf (now groups)) ⌝ }
     ensures { λ x.
         let p = problemOf (lentSurvey groups firsts seconds weights) in
