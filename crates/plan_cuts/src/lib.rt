@@ -227,8 +227,8 @@ fn is_alone(
     true
 }
 
-// The words of all vertices for the picked edges whose indexes are the 64 from base on. An order in which a forest hangs
-// together gives them at once; where the guess fails they are made edge by edge.
+// The words of all vertices for the picked edges whose indexes are the 64 from base on. An order in which a forest
+// hangs together gives them at once; where the guess fails they are made edge by edge.
 pub fn side_words(
     firsts: &[u32],
     seconds: &[u32],

@@ -1,4 +1,5 @@
-// Judging a batch of picked edges by the words: an edge is needed exactly if some vertex and its mate lie on its two sides.
+// Judging a batch of picked edges by the words: an edge is needed exactly if some vertex and its mate lie on its two
+// sides.
 ghost use Rattle.base_buffer.specs.Lent.{old, new};
 ghost use mathlib.Core.Path.{_≡_};
 ghost use Prim.Native.Nat.{_≤_};

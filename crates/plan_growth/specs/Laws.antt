@@ -1,3 +1,4 @@
 pub mod Raise
+pub mod Clock
 pub mod Round
 pub mod Rounds

@@ -12,8 +12,10 @@ ghost use Rattle.theory_steiner.specs.Problem.{Problem};
 ghost use Rattle.survey_core.specs.Refusal.{surveyRefusal};
 ghost use Rattle.theory_steiner.specs.Growth.{winner, stateAt};
 ghost use Rattle.survey_core.specs.Survey.{surveyFrom, lentSurvey, problemOf};
+ghost use Rattle.survey_labels.specs.Labels.{relabelled};
+ghost use Rattle.plan_active.specs.Flags.{mergedFlags};
 ghost use Rattle.plan_delay.specs.Between.{delayIn};
-ghost use Rattle.plan_growth.specs.Tables.{raisedValues, raisedLoads, RaiseFits, SumFits};
+ghost use Rattle.plan_growth.specs.Tables.{settledBy, settledAt, settledValues, raisedLoads, RaiseFits, SumFits};
 ghost use Rattle.plan_growth.specs.Represents.{arraysFrom, newArrays, roundsAfter, timeAfter, Represents};
 ghost use Rattle.theory_steiner.specs.Minima.{winnerDelay};
 ghost use Rattle.plan_growth.specs.Grown.{growthFrom, GrownAfter};
@@ -52,17 +54,39 @@ fn raised(x: u64, flag: u8, d: u64) -> u64
     x
 }
 
-// Every active component is raised.
-fn raise_values(values: &mut [u64; MAX_DUALS], flags: &[u8; MAX_DUALS], d: u64)
-    requires { ⌜ RaiseFits (now values) d ⌝ }
-    ensures { λ r. ⌜ new values ≡ raisedValues (old flags) d (old values) ⌝ }
+// A value in place of what is held for it, or the other way round.
+fn settled(held: u64, flag: u8, time: u64) -> u64
+    ensures { λ r. ⌜ r ≡ settledBy time (eqb flag 1) held ⌝ }
 {
+    if flag != 1 {
+        return held;
+    }
+    if held < time {
+        return time - held;
+    }
+    0
+}
+
+// The same for component c.
+fn settle(values: &mut [u64; MAX_DUALS], flags: &[u8; MAX_DUALS], c: u32, time: u64)
+    ensures { λ r. ⌜ new values ≡ settledAt (old flags) time c (old values) ⌝ }
+{
+    let i = base_buffer::index32(c);
+    let x = settled(at64(values, i), base_buffer::at8(flags, i), time);
+    put64(values, i, x);
+}
+
+// And for all components.
+fn settled_values(values: &[u64; MAX_DUALS], flags: &[u8; MAX_DUALS], time: u64) -> [u64; MAX_DUALS]
+    ensures { λ r. ⌜ r ≡ settledValues (old flags) time (old values) ⌝ }
+{
+    let mut all = [0u64; MAX_DUALS];
     let mut c = 0;
     while c < MAX_DUALS {
-        let x = raised(at64(values, c), base_buffer::at8(flags, c), d);
-        put64(values, c, x);
+        all[c] = settled(at64(values, c), base_buffer::at8(flags, c), time);
         c += 1;
     }
+    all
 }
 
 // Every vertex of an active component is loaded more.
@@ -83,6 +107,37 @@ fn raise_loads(
         put64(loads, v, x);
         v += 1;
     }
+}
+
+// The components of two vertices become z: their values are settled, and z's is held from now on.
+fn join(
+    values: &mut [u64; MAX_DUALS],
+    labels: &mut [u32; MAX_VERTICES],
+    flags: &mut [u8; MAX_DUALS],
+    mates: &[u32; MAX_VERTICES],
+    n: usize,
+    first: u32,
+    second: u32,
+    z: u32,
+    time: u64,
+)
+    ensures { λ r.
+        let x = getD (old labels) first 0 in
+        let y = getD (old labels) second 0 in
+        ⌜ (new labels ≡ relabelled x y z (old labels))
+        × (new flags ≡ mergedFlags (old mates) (new labels) n x y z (old flags)) ⌝ }
+    ensures { λ r.
+        let x = getD (old labels) first 0 in
+        let y = getD (old labels) second 0 in
+        let parts = settledAt (old flags) time y (settledAt (old flags) time x (old values)) in
+        ⌜ new values ≡ settledAt (new flags) time z parts ⌝ }
+{
+    let x = base_buffer::at32(labels, base_buffer::index32(first));
+    let y = base_buffer::at32(labels, base_buffer::index32(second));
+    settle(values, flags, x, time);
+    settle(values, flags, y, time);
+    plan_active::merge(labels, flags, mates, n, first, second, z);
+    settle(values, flags, z, time);
 }
 
 // Edge e is the pick of round r.
@@ -114,7 +169,8 @@ fn round(
     time: u64,
 ) -> Delay
     requires { ⌜ Represents (surveyFrom (now groups) (now firsts) (now seconds) (now weights)) r time
-        (arraysFrom (now labels) (now loads) (now values) (now picked) (now order) (now keys) (now floors) (now flags)) ⌝ }
+        (arraysFrom (now labels) (now loads) (now values) (now picked) (now order) (now keys) (now floors)
+        (now flags)) ⌝ }
     requires { ⌜ now mates ≡ tabulate maxVertices (mateOf (now groups)) ⌝ }
     ensures { λ x.
         let p = problemOf (lentSurvey groups firsts seconds weights) in
@@ -138,10 +194,10 @@ fn round(
     let Winner::Edge { e, d } = found else {
         return Delay::Never;
     };
-    raise_values(values, flags, d);
     raise_loads(loads, labels, flags, groups.len(), d);
     let z = (groups.len() + r) as u32;
-    plan_active::merge(
+    join(
+        values,
         labels,
         flags,
         mates,
@@ -149,6 +205,7 @@ fn round(
         base_buffer::at32(firsts, e),
         base_buffer::at32(seconds, e),
         z,
+        time + d,
     );
     note_pick(picked, order, e, r);
     Delay::After(d)
@@ -228,12 +285,14 @@ fn grow_rounds(groups: &[u8], firsts: &[u32], seconds: &[u32], weights: &[u32]) 
             time,
         );
         let Delay::After(d) = wait else {
-            return finished(groups.len(), r, labels, values, picked, order);
+            let all = settled_values(&values, &flags, time);
+            return finished(groups.len(), r, labels, all, picked, order);
         };
         time += d;
         r += 1;
     }
-    finished(groups.len(), r, labels, values, picked, order)
+    let all = settled_values(&values, &flags, time);
+    finished(groups.len(), r, labels, all, picked, order)
 }
 
 // No round at all.

@@ -1,6 +1,6 @@
-// In which order the vertices of a forest can be hung on one another: a vertex with one picked edge left is taken away with
-// that edge, until none is left. This is a guess, and nothing is claimed of it but that its numbers are few: whoever uses
-// it tries what comes out (`plan_cuts::is_alone`).
+// In which order the vertices of a forest can be hung on one another: a vertex with one picked edge left is taken away
+// with that edge, until none is left. This is a guess, and nothing is claimed of it but that its numbers are few:
+// whoever uses it tries what comes out (`plan_cuts::is_alone`).
 ghost use Rattle.base_buffer.specs.Lent.{old, new};
 ghost use mathlib.Core.Path.{_≡_};
 ghost use Prim.Native.Nat.{_+_, _≤_, _%_, _^_};
@@ -18,8 +18,8 @@ use base_limits::MAX_VERTICES;
 // One edge more or less at a vertex is one more, or 2^32 - 1 more: degrees are counted modulo 2^32.
 const ONE_LESS: u32 = 4294967295;
 
-// The vertices in the order in which they were taken away, and how many they are; for each vertex the other end of the edge
-// that it went with, and 1 more than the edge's index, or 0 for one that has none.
+// The vertices in the order in which they were taken away, and how many they are; for each vertex the other end of the
+// edge that it went with, and 1 more than the edge's index, or 0 for one that has none.
 pub struct Peeling {
     pub count: usize,
     pub order: [u32; MAX_VERTICES],

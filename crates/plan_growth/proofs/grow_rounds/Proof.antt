@@ -31,14 +31,15 @@ enum-told : tie.Need-enum-told Inv-loop μ-loop
 enum-told c = search needs
 
 finished-requires : tie.Need-finished-requires Inv-loop μ-loop
-finished-requires c κs = sum-fits (represents-over _ _ (c .before .before .round .ensures .1) (c .enum-told .given .1))
+finished-requires c κs =
+    sum-fits (represents-over _ _ (c .before .before .before .before .before .round .ensures .1) (c .before .before .before .enum-told .given .1)) (c .settled-values .ensures)
 
 -- a round without a winner
 returns : tie.Need-returns Inv-loop μ-loop
 returns c =
-    let call = c .before .before .before in
-    let told = c .before .enum-told .given .1 in
-    grown-end (represents-over _ _ (call .round .ensures .1) told) (call .round .ensures .0) told (c .finished .ensures)
+    let call = c .before .before .before .before .before .before in
+    let told = c .before .before .before .before .enum-told .given .1 in
+    grown-end (represents-over _ _ (call .round .ensures .1) told) (c .before .settled-values .ensures) (call .round .ensures .0) told (c .finished .ensures)
 
 add-time : tie.Need-add-time Inv-loop μ-loop
 add-time c = record { fits = time-fits (represents-won _ _ (c .before .before .before .round .ensures .1) (c .before .wait .given .1)) }
@@ -50,12 +51,12 @@ loop-again : tie.Need-loop-again Inv-loop μ-loop
 loop-again c = represents-won _ _ (c .before .before .before .round .ensures .1) (c .before .wait .given .1)
 
 finished-requires-2 : tie.Need-finished-requires-2 Inv-loop μ-loop
-finished-requires-2 c κs = sum-fits (c .before .loop .inv)
+finished-requires-2 c κs = sum-fits (c .before .before .before .before .loop .inv) (c .settled-values2 .ensures)
 
 -- n - 1 rounds
 returns-2 : tie.Need-returns-2 Inv-loop μ-loop
 returns-2 c =
-    grown-full (c .before .before .loop .inv) (omega arith) (c .finished2 .ensures)
+    grown-full (c .before .before .before .before .before .loop .inv) (c .before .settled-values2 .ensures) (omega arith) (c .finished2 .ensures)
 
 pub grow-rounds-spec : {M : Type 1} → statement M
 grow-rounds-spec =
@@ -72,11 +73,13 @@ grow-rounds-spec =
     round-requires
     (λ c. search needs)
     enum-told
+    (λ c κs. search needs)
     finished-requires
     returns
     add-time
     (λ c. search needs)
     loop-less
     loop-again
+    (λ c κs. search needs)
     finished-requires-2
     returns-2)

@@ -15,21 +15,8 @@ raise-fits f i {l} {now} {d} {x} r h k =
     let e : x ≡ getD l i 0 = k ∙ ap (λ t. getD t i 0) h ∙ remade-ahead f i l i (omega arith) in
     omega (arith, r .fits i)
 
--- One value more, and one load more, as the code reads them.
+-- One load more, as the code reads it.
 module _ (flags : List ℕ) (d i : ℕ) (l now : List ℕ) {x f y : ℕ} {next : List ℕ} (x-is : x ≡ getD now i 0) (y-is : y ≡ x + counted (eqb f 1) d) (stored : next ≡ set now i y) where
-  pub value-raised : now ≡ remade (λ k z. z + counted (eqb (getD flags k 0) 1) d) i l → f ≡ getD flags i 0
-      → next ≡ remade (λ k z. z + counted (eqb (getD flags k 0) 1) d) (i + 1) l
-  value-raised h f-is =
-      stored
-      ∙ remade-more
-      (λ k z. z + counted (eqb (getD flags k 0) 1) d)
-      i
-      l
-      now
-      y
-      h
-      (y-is ∙ ap (λ z. z + counted (eqb f 1) d) x-is ∙ ap (λ z. getD now i 0 + counted (eqb z 1) d) f-is)
-
   pub load-raised : (labels : List ℕ) {a b : ℕ} → now ≡ remade (λ k z. z + counted (eqb (getD flags (getD labels k 0) 0) 1) d) i l → a ≡ getD labels i 0 → b ≡ a → f ≡ getD flags b 0
       → next ≡ remade (λ k z. z + counted (eqb (getD flags (getD labels k 0) 0) 1) d) (i + 1) l
   load-raised labels h a-is b-is f-is =

@@ -17,9 +17,10 @@ use Rattle.base_limits.specs.Limits.{maxVertices, maxEdges, maxWeight, maxDuals
 use Rattle.theory_steiner.specs.Problem.{Problem, Sound, separates}
 use Rattle.theory_steiner.specs.Growth.{State, active, numbers, load, slack, delay, nobody, edge, winner, pick, stateAt, Reached}
 use Rattle.theory_steiner.specs.Laws.Activity.{active-cong}
-use Rattle.theory_steiner.specs.Laws.Round.{stateAt-reached, pick-rounds, pick-label, pick-value, pick-picked, pick-new}
-use Rattle.theory_steiner.specs.Laws.Rounds.{rounds-lt, stateAt-pick, delay-le, value-bounded, load-bounded}
-use Rattle.theory_steiner.specs.Laws.Partition.{label-below, winner-below}
+use Rattle.theory_steiner.specs.Laws.Round.{stateAt-reached, pick-rounds, pick-label, pick-picked, pick-new}
+use Rattle.theory_steiner.specs.Laws.Rounds.{rounds-lt, stateAt-pick, delay-le, load-bounded}
+use Rattle.theory_steiner.specs.Laws.Winner.{Candidate}
+use Rattle.theory_steiner.specs.Laws.Partition.{label-below, winner-below, winner-candidate}
 use Rattle.theory_steiner.specs.Laws.Weighed.{load-pick}
 use Rattle.survey_core.specs.Lists.{isPaired, inList, sameList}
 use Rattle.survey_core.specs.Survey.{Survey, surveyWith, groupsAlone, vertexCount, edgeCount, sameGroup, member, problemOf}
@@ -38,7 +39,8 @@ use Rattle.plan_winner.specs.Laws.Blocks.{passes-scan, passes-cong}
 use Rattle.plan_active.specs.Flags.{activeFlags, mergedFlags}
 use Rattle.plan_active.specs.Laws.Merged.{flags-merged}
 use Rattle.survey_mates.specs.Mate.{mateOf}
-use Rattle.plan_growth.specs.Tables.{raisedValues, raisedLoads, RaiseFits}
+use Rattle.plan_growth.specs.Tables.{heldValue, settledAt, raisedLoads, RaiseFits}
+use Rattle.plan_growth.specs.Laws.Clock.{settled-next, timely-next}
 use Rattle.plan_growth.specs.Represents.{winnerEdge, pickAt, Arrays, arraysFrom, roundsAfter, timeAfter, Represents}
 use Rattle.theory_steiner.specs.Minima.{winnerDelay}
 
@@ -64,6 +66,17 @@ below-more k r d = by (lt-or-ge k r)
     by : (k < r) ⊎ (r ≤ k) → ltb k r ≡ ltb k (r + 1)
     by (inl h) = lt-ltb k r h ∙ sym (lt-ltb k (r + 1) (omega arith))
     by (inr h) = le-ltb k r h ∙ sym (le-ltb k (r + 1) (omega (arith, d)))
+
+-- Flags by labels in a buffer say which components are active.
+flag-active : (s : Survey) → s .owners ≡ [] → length (s .groups) ≤ maxVertices → (label : ℕ → ℕ) {labels flags : List ℕ} → labels ≡ tabulate maxVertices label
+    → flags ≡ activeFlags (s .groups) labels → (c : ℕ) → c < maxDuals → eqb (getD flags c 0) 1 ≡ active (problemOf s) label c
+unfolding activeFlags problemOf vertexCount
+flag-active s plain few label {labels} l f c b =
+    ap (λ t. eqb (getD t c 0) 1) f
+    ∙ ap (λ x. eqb x 1) (getD-tabulate maxDuals _ c 0 b)
+    ∙ flag-is (active (problemOf (groupsAlone (s .groups))) (λ v. getD labels v 0) c)
+    ∙ active-groups s plain (λ v. getD labels v 0) c
+    ∙ active-cong (problemOf s) (λ v. getD labels v 0) label c (λ v q. ap (λ t. getD t v 0) l ∙ getD-tabulate maxVertices label v 0 (omega arith))
 
 module _ {s : Survey} {r time : ℕ} {a : Arrays} (h : Represents s r time a) where
   abbrev p : Problem
@@ -145,15 +158,8 @@ module _ {s : Survey} {r time : ℕ} {a : Arrays} (h : Represents s r time a) wh
     abbrev tables : Tables
     tables = tablesFrom (s .firsts) (s .seconds) (s .weights) (a .labels) (a .loads) flags
 
-    flag-at : (c : ℕ) → c < maxDuals → eqb (getD flags c 0) 1 ≡ active p (S .label) c
-    unfolding activeFlags
-    flag-at c b =
-        let e = vertices-are in
-        ap (λ t. eqb (getD t c 0) 1) f
-        ∙ ap (λ x. eqb x 1) (getD-tabulate maxDuals _ c 0 b)
-        ∙ flag-is (active (problemOf (groupsAlone (s .groups))) (λ v. getD (a .labels) v 0) c)
-        ∙ active-groups s (h .plain) (λ v. getD (a .labels) v 0) c
-        ∙ active-cong p (λ v. getD (a .labels) v 0) (S .label) c (λ v q. label-at v (omega arith))
+    pub flag-at : (c : ℕ) → c < maxDuals → eqb (getD flags c 0) 1 ≡ active p (S .label) c
+    flag-at c b = flag-active s (h .plain) (h .sound .few) (S .label) (h .labels-are) f c b
 
     delay-at : (e : ℕ) → e < length (s .firsts) → delayBy tables e ≡ delay p S e
     unfolding delayBy delayBetween delay slack problemOf
@@ -218,21 +224,9 @@ module _ {s : Survey} {r time : ℕ} {a : Arrays} (h : Represents s r time a) wh
     delay-small : d ≤ 2 * maxWeight
     delay-small = omega (arith, delay-le p S e d w, weights-light e (winner-below p S e d w))
 
-    values-fit : RaiseFits (a .values) d
-    values-fit = record { fits = λ c. by c (lt-or-ge c maxDuals) }
-      where
-        by : (c : ℕ) → (c < maxDuals) ⊎ (maxDuals ≤ c) → getD (a .values) c 0 + d < 2 ^ 64
-        by c (inl b) =
-            let k : getD (a .values) c 0 ≡ S .value c = ap (λ t. getD t c 0) (h .values-are) ∙ getD-tabulate maxDuals _ c 0 b in
-            let v = value-bounded p ok maxWeight weights-light reached c in
-            let q = rounds-few in
-            let l = delay-small in
-            omega arith
-        by c (inr b) =
-            let long : length (a .values) ≡ maxDuals = ap length (h .values-are) ∙ length-tabulate maxDuals _ in
-            let k : getD (a .values) c 0 ≡ 0 = List·getD-eq-default (a .values) 0 (omega arith) in
-            let l = delay-small in
-            omega arith
+    -- The time after the round fits.
+    later-fits : time + d < 2 ^ 64
+    later-fits = let t = in-time in let l = delay-small in omega arith
 
     loads-fit : RaiseFits (a .loads) d
     loads-fit = record { fits = λ v. by v (lt-or-ge v n) (lt-or-ge v maxVertices) }
@@ -320,23 +314,45 @@ module _ {s : Survey} {r time : ℕ} {a : Arrays} (h : Represents s r time a) wh
     rounds-next : stateAt p (r + 1) .rounds ≡ r + 1
     rounds-next = ap (λ t. t .rounds) state-next ∙ pick-rounds p S e d ∙ ap suc (h .rounds-are) ∙ sym (add-one r)
 
-    module _ {flags : List ℕ} (f : flags ≡ activeFlags (s .groups) (a .labels)) where
-      values-next : raisedValues flags d (a .values) ≡ tabulate maxDuals (stateAt p (r + 1) .value)
-      unfolding raisedValues
-      values-next =
-          rw
-          state-next
-          (remade-table
-          (λ c x. x + counted (eqb (getD flags c 0) 1) d)
-          maxDuals
-          (a .values)
-          (pick p S e d .value)
-          (ap length (h .values-are) ∙ length-tabulate maxDuals _)
-          (λ c b.
-          rw
-          (ap (λ t. getD t c 0) (h .values-are) ∙ getD-tabulate maxDuals (S .value) c 0 b, flag-at f c b)
-          (sym (pick-value p S e d c))))
+    merged-below : n + r < maxDuals
+    merged-below =
+        let few = h .sound .few in
+        let some = h .sound .some in
+        let q = vertices-are in
+        omega (arith, rounds-lt p ok (omega arith) (stateAt-reached p (r + 1)), rounds-next)
 
+    -- What is held for the values, settled where the round changes it.
+    values-next : {labels flags values : List ℕ} (x y : ℕ) → x ≡ S .label (p .first e) → y ≡ S .label (p .second e)
+        → labels ≡ tabulate maxVertices (stateAt p (r + 1) .label) → flags ≡ activeFlags (s .groups) labels
+        → values ≡ settledAt flags (time + d) (n + r) (settledAt (a .flags) (time + d) y (settledAt (a .flags) (time + d) x (a .values)))
+        → values ≡ tabulate maxDuals (λ c. heldValue (time + d) (active p (stateAt p (r + 1) .label) c) (stateAt p (r + 1) .value c))
+    unfolding settledAt problemOf
+    values-next {labels} {flags} x y x-is y-is l f made =
+        let ends = h .sound .edges e winner-edge in
+        let small-x = label-small (getD (s .firsts) e 0) (ends .first-below) in
+        let small-y = label-small (getD (s .seconds) e 0) (ends .second-below) in
+        settled-next p reached e d time (h .values-timely) (winner-candidate p S e d w .apart)
+        (λ q. fresh (getD (s .firsts) e 0) (ends .first-below) (label-at (getD (s .firsts) e 0) (ends .first-below) ∙ q ∙ numbers-are))
+        (λ q. fresh (getD (s .seconds) e 0) (ends .second-below) (label-at (getD (s .seconds) e 0) (ends .second-below) ∙ q ∙ numbers-are))
+        maxDuals
+        (h .values-are)
+        x-is
+        y-is
+        (sym numbers-are)
+        (ap (λ c. eqb (getD (a .flags) c 0) 1) x-is ∙ flag-at (h .flags-are) (S .label (getD (s .firsts) e 0)) small-x)
+        (ap (λ c. eqb (getD (a .flags) c 0) 1) y-is ∙ flag-at (h .flags-are) (S .label (getD (s .seconds) e 0)) small-y)
+        (flag-active s (h .plain) (h .sound .few) (stateAt p (r + 1) .label) l f (n + r) merged-below
+        ∙ ap (λ (t : State). active p (t .label) (n + r)) state-next
+        ∙ ap (active p (pick p S e d .label)) (sym numbers-are))
+        refl
+        refl
+        made
+        ∙ ap (λ (t : State). tabulate maxDuals (λ c. heldValue (time + d) (active p (t .label) c) (t .value c))) (sym state-next)
+
+    timely-after : (c : ℕ) → stateAt p (r + 1) .value c ≤ time + d
+    timely-after c = rw state-next (timely-next p reached e d time (h .values-timely) c)
+
+    module _ {flags : List ℕ} (f : flags ≡ activeFlags (s .groups) (a .labels)) where
       loads-next : raisedLoads (a .labels) flags n d (a .loads) ≡ tabulate maxVertices (λ v. counted (ltb v (p .vertices)) (load p (stateAt p (r + 1)) v))
       unfolding raisedLoads
       loads-next =
@@ -377,8 +393,8 @@ module _ {s : Survey} {r time : ℕ} {a : Arrays} (h : Represents s r time a) wh
 
     -- What the calls that pick edge e require.
     module _ {e d : ℕ} (t : x ≡ Edge e d) where
-      pub won-values : RaiseFits (a .values) d
-      won-values = values-fit (won t)
+      pub won-later : time + d < 2 ^ 64
+      won-later = later-fits (won t)
 
       pub won-loads : RaiseFits (a .loads) d
       won-loads = loads-fit (won t)
@@ -403,6 +419,7 @@ module _ {s : Survey} {r time : ℕ} {a : Arrays} (h : Represents s r time a) wh
           labels-are = h .labels-are;
           loads-are = h .loads-are;
           values-are = h .values-are;
+          values-timely = h .values-timely;
           picked-are = h .picked-are;
           order-is = h .order-is;
           keyed = search-keyed (h .flags-are) k l;
@@ -413,39 +430,48 @@ module _ {s : Survey} {r time : ℕ} {a : Arrays} (h : Represents s r time a) wh
 
       -- Edge e is picked: the arrays represent the next state.
       pub round-won : {e d : ℕ} {labels loads values picked order flags mates : List ℕ} (u v : ℕ) → x ≡ Edge e d
-          → values ≡ raisedValues (a .flags) d (a .values)
           → loads ≡ raisedLoads (a .labels) (a .flags) n d (a .loads)
           → u ≡ getD (s .firsts) e 0
           → v ≡ getD (s .seconds) e 0
           → mates ≡ tabulate maxVertices (mateOf (s .groups))
           → (labels ≡ relabelled (getD (a .labels) u 0) (getD (a .labels) v 0) (n + r) (a .labels))
           × (flags ≡ mergedFlags mates labels n (getD (a .labels) u 0) (getD (a .labels) v 0) (n + r) (a .flags))
+          → values ≡ settledAt flags (time + d) (n + r)
+          (settledAt (a .flags) (time + d) (getD (a .labels) v 0) (settledAt (a .flags) (time + d) (getD (a .labels) u 0) (a .values)))
           → (picked ≡ set (a .picked) e 1) × (order ≡ set (a .order) r e)
           → (delayIn (After d) ≡ winnerDelay (winner p S))
           × Represents s (roundsAfter r (delayIn (After d))) (timeAfter time (delayIn (After d))) (arraysFrom labels loads values picked order keys floors flags)
       unfolding delayIn winnerDelay roundsAfter timeAfter problemOf
-      round-won {e} {d} u v t values-made loads-made u-is v-is mates-are made noted =
+      round-won {e} {d} {labels} {flags = flags} u v t loads-made u-is v-is mates-are made values-made noted =
           let w = won t in
-          let ends = h .sound .edges e (winner-edge w) in (
+          let ends = h .sound .edges e (winner-edge w) in
+          let labels-made : labels ≡ tabulate maxVertices (stateAt p (r + 1) .label) = made .0 ∙ rw (u-is, v-is) (labels-next w) in
+          let flags-made : flags ≡ activeFlags (s .groups) labels =
+          flags-merged (s .groups) (a .labels) _ _ (n + r) (h .sound .few) (ap length (h .labels-are) ∙ length-tabulate maxVertices _)
+          (rw u-is (fresh w (getD (s .firsts) e 0) (ends .first-below)))
+          (rw v-is (fresh w (getD (s .seconds) e 0) (ends .second-below)))
+          (h .flags-are)
+          mates-are
+          (made .0)
+          (made .1) in (
             sym (ap winnerDelay w),
             record {
               sound = h .sound;
               plain = h .plain;
               rounds-are = rounds-next w;
-              labels-are = made .0 ∙ rw (u-is, v-is) (labels-next w);
+              labels-are = labels-made;
               loads-are = loads-made ∙ loads-next w (h .flags-are);
-              values-are = values-made ∙ values-next w (h .flags-are);
+              values-are =
+                  values-next w _ _ (ap (λ i. getD (a .labels) i 0) u-is ∙ label-at (getD (s .firsts) e 0) (ends .first-below))
+                  (ap (λ i. getD (a .labels) i 0) v-is ∙ label-at (getD (s .seconds) e 0) (ends .second-below))
+                  labels-made
+                  flags-made
+                  values-made;
+              values-timely = timely-after w;
               picked-are = noted .0 ∙ picked-next w;
               order-is = noted .1 ∙ order-next w;
               keyed = keyed-next p ok weights-light r time e d w (search-keyed (h .flags-are) k l);
               floored = search-floored (h .flags-are) k l;
-              flags-are =
-                  flags-merged (s .groups) (a .labels) _ _ (n + r) (h .sound .few) (ap length (h .labels-are) ∙ length-tabulate maxVertices _)
-                  (rw u-is (fresh w (getD (s .firsts) e 0) (ends .first-below)))
-                  (rw v-is (fresh w (getD (s .seconds) e 0) (ends .second-below)))
-                  (h .flags-are)
-                  mates-are
-                  (made .0)
-                  (made .1);
+              flags-are = flags-made;
             },
           )

@@ -7,13 +7,13 @@ use mathlib.Core.Logic.{_⊎_, inl, inr}
 use mathlib.Core.Bool.{Bool, true, false}
 use mathlib.Core.List.{[], List}
 use lib.ListN.{length, getD, replicate, List·getD-eq-default}
-use lib.Dec.{ltb}
+use lib.Dec.{eqb, ltb}
 use borrow.Author.Tests.{lt-ltb, le-ltb}
 use Rattle.base_finite.specs.Below.{counted, sumBelow, tabulate}
 use Rattle.base_finite.specs.Laws.Below.{sum-cong, sum-zero, length-tabulate, getD-tabulate, counted-false, lt-or-ge}
 use Rattle.base_limits.specs.Limits.{maxVertices, maxEdges, maxWeight, maxValue, maxDuals}
 use Rattle.theory_steiner.specs.Problem.{Problem}
-use Rattle.theory_steiner.specs.Growth.{Winner, nobody, edge, never, winner, numbers, start, stateAt}
+use Rattle.theory_steiner.specs.Growth.{Winner, nobody, edge, never, active, winner, numbers, start, stateAt}
 use Rattle.theory_steiner.specs.Pruning.{dualBound}
 use Rattle.theory_steiner.specs.Laws.Round.{stateAt-reached, pick-rounds}
 use Rattle.theory_steiner.specs.Laws.Rounds.{rounds-lt, stateAt-pick, stateAt-last, value-bounded}
@@ -30,11 +30,12 @@ use Rattle.plan_delay.specs.Between.{delayIn}
 use Rattle.plan_delay.specs.declared.Delay.{Delay}
 use Rattle.plan_delay.specs.declared.Delay.the-variants.{Never, After}
 use Rattle.plan_growth.specs.declared.Growth.{Growth}
-use Rattle.plan_growth.specs.Tables.{SumFits}
+use Rattle.plan_growth.specs.Tables.{heldValue, settledBy, settledValues, SumFits}
+use Rattle.plan_growth.specs.Laws.Clock.{held-settled}
 use Rattle.plan_growth.specs.Represents.{winnerEdge, pickAt, Arrays, arraysFrom, roundsAfter, timeAfter, Represents}
 use Rattle.theory_steiner.specs.Minima.{winnerDelay}
 use Rattle.plan_growth.specs.Grown.{growthFrom, GrownAfter}
-use Rattle.plan_growth.specs.Laws.Round.{going, weights-light}
+use Rattle.plan_growth.specs.Laws.Round.{going, weights-light, flag-at}
 
 -- ---- before the first round
 
@@ -42,6 +43,11 @@ none : (x : Bool) {y : ℕ} → y ≡ 0 → counted x y ≡ 0
 unfolding counted
 none true h = h
 none false h = refl
+
+held-zero : (t : Bool) → heldValue 0 t 0 ≡ 0
+unfolding heldValue
+held-zero true = refl
+held-zero false = refl
 
 -- No step at all.
 pub grown-start : (p : Problem) {labels : List ℕ} → labels ≡ remade (λ v x. v) maxVertices (replicate maxVertices 0)
@@ -70,7 +76,8 @@ represents-start {s} sound plain h f =
       labels-are = g .labels-are;
       loads-are =
           replicate-table maxVertices 0 ∙ tabulate-cong maxVertices _ _ (λ v _. sym (none (ltb v (problemOf s .vertices)) (load-start (problemOf s) v)));
-      values-are = g .values-are;
+      values-are = replicate-table maxDuals 0 ∙ tabulate-cong maxDuals _ _ (λ c _. sym (held-zero (active (problemOf s) (λ v. v) c)));
+      values-timely = λ c. omega arith;
       picked-are = g .picked-are;
       order-is = g .order-is;
       keyed = keyed-start (problemOf s) maxEdges (replicate-table maxEdges 0);
@@ -112,62 +119,6 @@ module _ {s : Survey} {r time : ℕ} {a : Arrays} (h : Represents s r time a) wh
   pub time-fits : time < 2 ^ 64
   time-fits = let q = h .rounds-are in let g = going h in let t = h .keyed .early in let few = h .sound .few in omega arith
 
-  value-at : (c : ℕ) → c < maxDuals → getD (a .values) c 0 ≡ stateAt (problemOf s) r .value c
-  value-at c b = ap (λ t. getD t c 0) (h .values-are) ∙ getD-tabulate maxDuals _ c 0 b
-
-  pub sum-fits : SumFits (a .values) (length (s .groups) + r)
-  sum-fits =
-      let few = h .sound .few in
-      let g = going h in
-      record { few = omega arith; low = λ c. by c (lt-or-ge c maxDuals) }
-    where
-      by : (c : ℕ) → (c < maxDuals) ⊎ (maxDuals ≤ c) → getD (a .values) c 0 ≤ maxVertices * maxValue
-      by c (inl b) =
-          let k = value-at c b in
-          let q = value-bounded (problemOf s) (survey-sound s (h .sound)) maxWeight (weights-light h) (stateAt-reached (problemOf s) r) c in
-          let few = h .sound .few in
-          let g = going h in
-          let n = h .rounds-are in
-          omega arith
-      by c (inr b) =
-          let long : length (a .values) ≡ maxDuals = ap length (h .values-are) ∙ length-tabulate maxDuals _ in
-          let k : getD (a .values) c 0 ≡ 0 = List·getD-eq-default (a .values) 0 (omega arith) in
-          omega arith
-
-  bound-at : sumBelow (length (s .groups) + r) (λ c. getD (a .values) c 0) ≡ dualBound (problemOf s) (stateAt (problemOf s) r)
-  unfolding dualBound numbers problemOf vertexCount
-  bound-at =
-      let few = h .sound .few in
-      let g = going h in
-      rw
-      (h .rounds-are)
-      (sum-cong (length (s .groups) + r) (λ c. getD (a .values) c 0) (stateAt (problemOf s) r .value) (λ c k. value-at c (omega arith)))
-
-  -- With no candidate left this is the growth.
-  grown-still : {g : Growth} → winner (problemOf s) (stateAt (problemOf s) r) ≡ nobody
-      → g ≡ growthFrom r (sumBelow (length (s .groups) + r) (λ c. getD (a .values) c 0)) (a .labels) (a .values) (a .picked) (a .order)
-      → GrownAfter (problemOf s) (length (s .groups)) g
-  grown-still w e =
-      let p = problemOf s in
-      let still = sym (stateAt-last p r (length (s .groups)) w (omega (arith, going h))) in
-      rw
-      e
-      (record {
-        rounds-are = sym (h .rounds-are) ∙ ap (λ t. t .rounds) still;
-        bound-is = bound-at ∙ ap (dualBound p) still;
-        labels-are = h .labels-are ∙ ap (λ t. tabulate maxVertices (t .label)) still;
-        values-are = h .values-are ∙ ap (λ t. tabulate maxDuals (t .value)) still;
-        picked-are = h .picked-are ∙ ap (λ t. tabulate maxEdges (λ i. counted (t .picked i) 1)) still;
-        order-is = h .order-is ∙ tabulate-cong maxVertices _ _ (λ i _. last-picks p r (length (s .groups)) w (omega (arith, going h)) i);
-      })
-
-  -- A round without a winner was the last.
-  pub grown-end : {x : Delay} {g : Growth} → delayIn x ≡ winnerDelay (winner (problemOf s) (stateAt (problemOf s) r)) → x ≡ Never
-      → g ≡ growthFrom r (sumBelow (length (s .groups) + r) (λ c. getD (a .values) c 0)) (a .labels) (a .values) (a .picked) (a .order)
-      → GrownAfter (problemOf s) (length (s .groups)) g
-  unfolding delayIn
-  grown-end delays t = grown-still (no-win (winner (problemOf s) (stateAt (problemOf s) r)) (sym (ap delayIn t) ∙ delays))
-
   -- After n - 1 rounds no candidate is left.
   all-merged : length (s .groups) - 1 ≤ r → winner (problemOf s) (stateAt (problemOf s) r) ≡ nobody
   unfolding problemOf vertexCount
@@ -185,7 +136,79 @@ module _ {s : Survey} {r time : ℕ} {a : Arrays} (h : Represents s r time a) wh
             h .rounds-are,
           ))
 
-  pub grown-full : {g : Growth} → length (s .groups) - 1 ≤ r
-      → g ≡ growthFrom r (sumBelow (length (s .groups) + r) (λ c. getD (a .values) c 0)) (a .labels) (a .values) (a .picked) (a .order)
-      → GrownAfter (problemOf s) (length (s .groups)) g
-  grown-full b = grown-still (all-merged b)
+  -- ---- the values, when all is settled
+
+  module _ {values : List ℕ} (v : values ≡ settledValues (a .flags) time (a .values)) where
+    values-settled : values ≡ tabulate maxDuals (stateAt (problemOf s) r .value)
+    unfolding settledValues
+    values-settled =
+        v
+        ∙ tabulate-cong
+        maxDuals
+        (λ c. settledBy time (eqb (getD (a .flags) c 0) 1) (getD (a .values) c 0))
+        (stateAt (problemOf s) r .value)
+        (λ c b.
+        rw
+        (flag-at h (h .flags-are) c b, ap (λ t. getD t c 0) (h .values-are) ∙ getD-tabulate maxDuals _ c 0 b)
+        (held-settled time (stateAt (problemOf s) r .value c) (active (problemOf s) (stateAt (problemOf s) r .label) c) (h .values-timely c)))
+
+    value-at : (c : ℕ) → c < maxDuals → getD values c 0 ≡ stateAt (problemOf s) r .value c
+    value-at c b = ap (λ t. getD t c 0) values-settled ∙ getD-tabulate maxDuals _ c 0 b
+
+    pub sum-fits : SumFits values (length (s .groups) + r)
+    sum-fits =
+        let few = h .sound .few in
+        let g = going h in
+        record { few = omega arith; low = λ c. by c (lt-or-ge c maxDuals) }
+      where
+        by : (c : ℕ) → (c < maxDuals) ⊎ (maxDuals ≤ c) → getD values c 0 ≤ maxVertices * maxValue
+        by c (inl b) =
+            let k = value-at c b in
+            let q = value-bounded (problemOf s) (survey-sound s (h .sound)) maxWeight (weights-light h) (stateAt-reached (problemOf s) r) c in
+            let few = h .sound .few in
+            let g = going h in
+            let n = h .rounds-are in
+            omega arith
+        by c (inr b) =
+            let long : length values ≡ maxDuals = ap length values-settled ∙ length-tabulate maxDuals _ in
+            let k : getD values c 0 ≡ 0 = List·getD-eq-default values 0 (omega arith) in
+            omega arith
+
+    bound-at : sumBelow (length (s .groups) + r) (λ c. getD values c 0) ≡ dualBound (problemOf s) (stateAt (problemOf s) r)
+    unfolding dualBound numbers problemOf vertexCount
+    bound-at =
+        let few = h .sound .few in
+        let g = going h in
+        rw
+        (h .rounds-are)
+        (sum-cong (length (s .groups) + r) (λ c. getD values c 0) (stateAt (problemOf s) r .value) (λ c k. value-at c (omega arith)))
+
+    -- With no candidate left this is the growth.
+    grown-still : {g : Growth} → winner (problemOf s) (stateAt (problemOf s) r) ≡ nobody
+        → g ≡ growthFrom r (sumBelow (length (s .groups) + r) (λ c. getD values c 0)) (a .labels) values (a .picked) (a .order)
+        → GrownAfter (problemOf s) (length (s .groups)) g
+    grown-still w e =
+        let p = problemOf s in
+        let still = sym (stateAt-last p r (length (s .groups)) w (omega (arith, going h))) in
+        rw
+        e
+        (record {
+          rounds-are = sym (h .rounds-are) ∙ ap (λ t. t .rounds) still;
+          bound-is = bound-at ∙ ap (dualBound p) still;
+          labels-are = h .labels-are ∙ ap (λ t. tabulate maxVertices (t .label)) still;
+          values-are = values-settled ∙ ap (λ t. tabulate maxDuals (t .value)) still;
+          picked-are = h .picked-are ∙ ap (λ t. tabulate maxEdges (λ i. counted (t .picked i) 1)) still;
+          order-is = h .order-is ∙ tabulate-cong maxVertices _ _ (λ i _. last-picks p r (length (s .groups)) w (omega (arith, going h)) i);
+        })
+
+    -- A round without a winner was the last.
+    pub grown-end : {x : Delay} {g : Growth} → delayIn x ≡ winnerDelay (winner (problemOf s) (stateAt (problemOf s) r)) → x ≡ Never
+        → g ≡ growthFrom r (sumBelow (length (s .groups) + r) (λ c. getD values c 0)) (a .labels) values (a .picked) (a .order)
+        → GrownAfter (problemOf s) (length (s .groups)) g
+    unfolding delayIn
+    grown-end delays t = grown-still (no-win (winner (problemOf s) (stateAt (problemOf s) r)) (sym (ap delayIn t) ∙ delays))
+
+    pub grown-full : {g : Growth} → length (s .groups) - 1 ≤ r
+        → g ≡ growthFrom r (sumBelow (length (s .groups) + r) (λ c. getD values c 0)) (a .labels) values (a .picked) (a .order)
+        → GrownAfter (problemOf s) (length (s .groups)) g
+    grown-full b = grown-still (all-merged b)
