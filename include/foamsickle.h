@@ -58,12 +58,13 @@ extern "C" {
 #define FOAMSICKLE_SURVEY_ROOM 65536
 #define FOAMSICKLE_VERIFY_ROOM 2097152
 
-/* Entries of `counts`: planning and growing, dropping, asking why, checking and verifying, reading, printing. */
+/* Entries of `counts`: planning and growing, dropping, asking why, checking and verifying, reading, reading STP, printing. */
 #define FOAMSICKLE_PLAN_FIGURES 5
 #define FOAMSICKLE_DROP_FIGURES 2
 #define FOAMSICKLE_WHY_FIGURES 6
 #define FOAMSICKLE_CHECK_FIGURES 3
 #define FOAMSICKLE_READ_FIGURES 3
+#define FOAMSICKLE_STP_FIGURES 2
 #define FOAMSICKLE_PRINT_FIGURES 1
 
 /* Bytes of the handset's `result`: planning, checking. */
@@ -94,6 +95,21 @@ uint64_t foamsickle_read(
     uint32_t *weights, size_t weights_length,
     uint32_t *owners, size_t owners_length,
     uint8_t *others, size_t others_length,
+    uint64_t *counts, size_t counts_length);
+
+/* Reads a SteinLib STP text of the undirected subset (docs/STP.md); junctions count from 1 there and from 0 here, and all
+ * terminals form group 1.
+ * Writes the first n groups (1 for a terminal, else 0), the first m firsts, seconds and weights; counts[0] n, counts[1] m.
+ * Refuses what stands first in the text: 20 where it is malformed (place: the byte's offset), 1 and 3 when the line of a
+ * count is complete, then 7 if the slices for it are short (for n also where counts has less than 2 entries). 5 and 6 are
+ * left to planning. An answer that 64 bits do not hold is 2^64 - 1; a text of less than 4 GiB has none.
+ * Enough for every text: FOAMSICKLE_MAX_VERTICES groups, FOAMSICKLE_MAX_EDGES firsts, seconds and weights. */
+uint64_t foamsickle_read_stp(
+    const uint8_t *text, size_t text_length,
+    uint8_t *groups, size_t groups_length,
+    uint32_t *firsts, size_t firsts_length,
+    uint32_t *seconds, size_t seconds_length,
+    uint32_t *weights, size_t weights_length,
     uint64_t *counts, size_t counts_length);
 
 /* Plans a survey.

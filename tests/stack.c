@@ -15,7 +15,8 @@ static uint32_t firsts[M], seconds[M], weights[M], owners[PAIRS], route[FOAMSICK
 static uint8_t first_bytes[4 * M], second_bytes[4 * M], weight_bytes[4 * M], owner_bytes[4 * PAIRS];
 static uint8_t result[FOAMSICKLE_PLAN_BYTES], text[FOAMSICKLE_VERIFY_ROOM];
 static uint64_t counts[FOAMSICKLE_WHY_FIGURES], figures[FOAMSICKLE_PLAN_FIGURES];
-static size_t moat_bytes, survey_length, text_length;
+static char stp[FOAMSICKLE_SURVEY_ROOM];
+static size_t moat_bytes, survey_length, text_length, stp_length;
 static uint64_t answer;
 
 static void spell(uint8_t *bytes, const uint32_t *numbers, size_t count) {
@@ -43,6 +44,17 @@ static void prepare(void) {
     spell(second_bytes, seconds, M);
     spell(weight_bytes, weights, M);
     spell(owner_bytes, owners, PAIRS);
+}
+
+/* The longest STP file without a comment and empty lines. */
+static void prepare_stp(void) {
+    char *at = stp + sprintf(stp, "33D32945 STP File, STP Format Version 1.0\nSECTION Graph\nNodes %d\nEdges %d\n", N, M);
+    for (int e = 0; e < M; e++)
+        at += sprintf(at, "E %d %d 999999999\n", N, N - 1);
+    at += sprintf(at, "END\nSECTION Terminals\nTerminals %d\n", N);
+    for (int v = N; v > 0; v--)
+        at += sprintf(at, "T %d\n", v);
+    stp_length = (size_t)(at - stp) + (size_t)sprintf(at, "END\nEOF\n");
 }
 
 static void nothing(void) { answer = 0; }
@@ -98,6 +110,14 @@ static void read_survey(void) {
                              PAIRS, counts, FOAMSICKLE_READ_FIGURES);
 }
 
+/* Into buffers of its own, so that the survey stays. */
+static void read_stp(void) {
+    static uint8_t stp_groups[N];
+    static uint32_t ends[3][M];
+    answer = foamsickle_read_stp((const uint8_t *)stp, stp_length, stp_groups, N, ends[0], M, ends[1], M, ends[2], M, counts,
+                                 FOAMSICKLE_STP_FIGURES);
+}
+
 static void print_plan(void) {
     answer = foamsickle_print_plan(figures[0], figures[1], figures[2], figures[3], marks, M, records, moat_bytes,
                                    text + survey_length, sizeof text - survey_length, counts, 1);
@@ -148,6 +168,7 @@ int main(int argc, char **argv) {
         {"foamsickle_handset_check", handset_check},
         {"foamsickle_print_survey", print_survey},
         {"foamsickle_read", read_survey},
+        {"foamsickle_read_stp", read_stp},
         {"foamsickle_print_plan", print_plan},
         {"foamsickle_print_dual", print_moat},
         {"foamsickle_verify", verify},
@@ -156,6 +177,7 @@ int main(int argc, char **argv) {
     uint8_t *area = aligned_alloc(4096, AREA);
     int over = 0;
     prepare();
+    prepare_stp();
     size_t empty = used(nothing, area);
     printf("a thread without a call: %zu bytes\n", empty);
     for (size_t i = 0; i < sizeof calls / sizeof *calls; i++) {

@@ -6,12 +6,14 @@ ghost use Rattle.base_buffer.specs.Lent.{old, new};
 ghost use Rattle.survey_core.specs.Survey.{lentWith};
 ghost use Rattle.format_write.specs.Text.{planText};
 ghost use lib.ListN.{length};
-ghost use Rattle.format_survey_lines.specs.Line.{lentLengths};
+ghost use Rattle.format_survey_lines.specs.Line.{lentLengths, firstsOf, secondsOf, weightsOf};
 ghost use Rattle.format_survey_print.specs.Print.{surveyLent};
 ghost use Rattle.format_survey.specs.Reading.{filled};
 ghost use Rattle.format_survey.specs.Answer.{countsOf};
 ghost use Rattle.api_code.specs.Code.{codeOf, capped, verdictOf, countsFor};
 ghost use Rattle.api_read.specs.Call.{readFiguresOf, readCall};
+ghost use Rattle.format_stp.specs.Answer.{stpCountsOf};
+ghost use Rattle.api_stp.specs.Call.{stpFiguresOf, stpCall};
 ghost use Rattle.api_plan.specs.Call.{planCall, planMarks, planRecords, planCounts};
 ghost use Rattle.api_grow.specs.Call.{growMarks, growCounts, dropCall, dropMarks, droppedCounts};
 ghost use Rattle.api_why.specs.Call.{whyCall, whyRoute, whyFigured};
@@ -78,6 +80,38 @@ pub extern "C" fn foamsickle_read(
         others,
         counts,
     )
+}
+
+// Reads an STP text. `counts` gets n and m.
+#[no_mangle]
+pub extern "C" fn foamsickle_read_stp(
+    text: &[u8],
+    groups: &mut [u8],
+    firsts: &mut [u32],
+    seconds: &mut [u32],
+    weights: &mut [u32],
+    counts: &mut [u64],
+) -> u64
+    ensures code { λ r.
+        let read = stpCall (old text) (old groups) (old firsts) (old seconds) (old weights) (length (old counts)) in
+        ⌜ r ≡ capped (codeOf (verdictOf read)) ⌝ }
+    ensures groups { λ _.
+        let read = stpCall (old text) (old groups) (old firsts) (old seconds) (old weights) (length (old counts)) in
+        ⌜ new groups ≡ filled read (λ x. x .groups) (old groups) ⌝ }
+    ensures firsts { λ _.
+        let read = stpCall (old text) (old groups) (old firsts) (old seconds) (old weights) (length (old counts)) in
+        ⌜ new firsts ≡ filled read (λ x. firstsOf (x .lines)) (old firsts) ⌝ }
+    ensures seconds { λ _.
+        let read = stpCall (old text) (old groups) (old firsts) (old seconds) (old weights) (length (old counts)) in
+        ⌜ new seconds ≡ filled read (λ x. secondsOf (x .lines)) (old seconds) ⌝ }
+    ensures weights { λ _.
+        let read = stpCall (old text) (old groups) (old firsts) (old seconds) (old weights) (length (old counts)) in
+        ⌜ new weights ≡ filled read (λ x. weightsOf (x .lines)) (old weights) ⌝ }
+    ensures counts { λ _.
+        let read = stpCall (old text) (old groups) (old firsts) (old seconds) (old weights) (length (old counts)) in
+        ⌜ new counts ≡ countsFor (stpCountsOf read) stpFiguresOf (old counts) ⌝ }
+{
+    api_stp::stp_call(text, groups, firsts, seconds, weights, counts)
 }
 
 // Plans a survey with pairs (owners, others). `counts` gets k, cost, bound, rounds and the number of moats.
