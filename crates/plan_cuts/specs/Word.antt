@@ -56,8 +56,8 @@ areAlone a b F base m words =
     allBelow m (λ e. not (F e) || eqb (bitXor (getD words (a e) 0) (getD words (b e) 0)) (ownWord base (countBelow e F)))
 
 -- The ends of all edges below m are below N.
-abbrev pub EndsBelow : (N : ℕ) (a b : ℕ → ℕ) → (m : ℕ) → Type 0
-EndsBelow N a b m = (e : ℕ) → e < m → (a e < N) × (b e < N)
+abbrev pub CutEndsBelow : (N : ℕ) (a b : ℕ → ℕ) → (m : ℕ) → Type 0
+CutEndsBelow N a b m = (e : ℕ) → e < m → (a e < N) × (b e < N)
 
 -- Vertex v hangs on another one by the edge with index mark - 1, and gets its word, turned in that edge's bit; mark 0 is no edge.
 unfoldable pub hungAt : (others marks : List ℕ) → (base v : ℕ) → (words : List ℕ) → List ℕ

@@ -7,7 +7,7 @@ ghost use mathlib.Core.List.{[], _∷_};
 ghost use lib.ListN.{length};
 ghost use Rattle.format_record.specs.Record.{recordOf};
 ghost use Rattle.plan_duals.specs.Drawing.{recordsOver, recordsFrom, dualIf, RecordsFit};
-ghost use Rattle.plan_duals.specs.Members.{unionOf, keptIn, ArisesWithin};
+ghost use Rattle.plan_duals.specs.Members.{unionOf, setsKept, ArisesWithin};
 ghost use Rattle.plan_duals.specs.Trace.{endOf, partOf, arisen, traceFrom, lentTrace};
 ghost use Rattle.plan_duals.specs.Trace.{traceDuals, Drawable, drawnDuals};
 use base_buffer::at32;
@@ -78,7 +78,7 @@ fn keep(
 )
     requires { ⌜ ArisesWithin n c ⌝ }
     ensures labels { λ _. ⌜ new labels ≡ arisen x y n c (old labels) ⌝ }
-    ensures sets { λ _. ⌜ ((S : ℕ → Bool) → old set ≡ recordOf 0 S → new sets ≡ keptIn n c S (old sets)) ⌝ }
+    ensures sets { λ _. ⌜ ((S : ℕ → Bool) → old set ≡ recordOf 0 S → new sets ≡ setsKept n c S (old sets)) ⌝ }
 {
     if c < n {
         return;
@@ -106,7 +106,7 @@ fn arise(
         let x = partOf (endOf (old firsts) (old order)) n (old labels) c in
         let y = partOf (endOf (old seconds) (old order)) n (old labels) c in
         ⌜ new labels ≡ arisen x y n c (old labels) ⌝ }
-    ensures sets { λ r. ⌜ ((S : ℕ → Bool) → r ≡ recordOf 0 S → new sets ≡ keptIn n c S (old sets)) ⌝ }
+    ensures sets { λ r. ⌜ ((S : ℕ → Bool) → r ≡ recordOf 0 S → new sets ≡ setsKept n c S (old sets)) ⌝ }
 {
     let x = part_of(labels, firsts, order, n, c);
     let y = part_of(labels, seconds, order, n, c);

@@ -30,8 +30,8 @@ abbrev pub setOf : (ℕ → Bool) → Dual
 setOf S = record { value = 0; holds = S }
 
 -- The records of the rounds when component c with members S has arisen: a single vertex has none.
-unfoldable pub keptIn : (n c : ℕ) → (ℕ → Bool) → List ℕ → List ℕ
-keptIn n c S sets = cond (ltb c n) sets (recordsFrom (c - n) (setOf S ∷ []) sets)
+unfoldable pub setsKept : (n c : ℕ) → (ℕ → Bool) → List ℕ → List ℕ
+setsKept n c S sets = cond (ltb c n) sets (recordsFrom (c - n) (setOf S ∷ []) sets)
 
 -- What the first r rounds have left there.
 unfoldable pub setsBelow : Trace → ℕ → List Dual

@@ -1,6 +1,6 @@
 // Reads a SteinLib STP text on standard input and prints the survey that it says, as our own text, or the two lines of
 // a refusal. All between reading and writing is `api_stp_text::stp_whole`. One byte more than the room is read, so that
-// a longer text is refused and not cut (`output-first-bytes`).
+// a longer text is refused and not cut (`stp-first-bytes`).
 ghost use mathlib.Core.Path.{_≡_};
 ghost use Prim.Native.Nat.{_+_};
 ghost use lib.ListN.{length};

@@ -1,6 +1,6 @@
 // Reads a survey text on standard input and a track number as its argument, and prints why the track has its mark, or
 // the two lines of a refusal. All between reading and writing is `api_why_text::why_whole`; a text longer than the
-// buffer has the output of its first bytes (`output-first-bytes`). Where the argument is no track number nothing is
+// buffer has the output of its first bytes (`why-first-bytes`). Where the argument is no track number nothing is
 // printed.
 ghost use mathlib.Core.Path.{_≡_};
 ghost use lib.ListN.{length};

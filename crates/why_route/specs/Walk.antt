@@ -22,8 +22,8 @@ unvisited [] = 0
 unvisited (x ∷ xs) = cond (eqb x 0) 1 0 + unvisited xs
 
 -- v is a vertex that is not visited yet.
-unfoldable pub isFree : List ℕ → ℕ → Bool
-isFree visited v = ltb v (length visited) && eqb (getD visited v 0) 0
+unfoldable pub isUnvisited : List ℕ → ℕ → Bool
+isUnvisited visited v = ltb v (length visited) && eqb (getD visited v 0) 0
 
 -- The entries from place i on, the last one stored first.
 unfoldable pub storedAt : List ℕ → (i : ℕ) → (entries : List ℕ) → List ℕ

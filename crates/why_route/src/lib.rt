@@ -11,7 +11,7 @@ ghost use Rattle.base_limits.specs.Verdict.{written};
 ghost use Rattle.survey_core.specs.Survey.{lentSurvey, problemOf};
 ghost use Rattle.survey_components.specs.Labels.{pickedIn};
 ghost use Rattle.theory_route.specs.Route.{isEnd, farEnd, routeOf};
-ghost use Rattle.why_route.specs.Walk.{isFree, endIn, Walkable, WalkEnds, routeRefusal};
+ghost use Rattle.why_route.specs.Walk.{isUnvisited, endIn, Walkable, WalkEnds, routeRefusal};
 use base_buffer::at32;
 use base_buffer::index32;
 use base_limits::MAX_VERTICES;
@@ -25,8 +25,8 @@ enum Walked {
 
 // Visits v; whether it is a vertex that was not visited yet.
 fn visit(visited: &mut [u8], v: usize) -> bool
-    ensures { λ r. ⌜ r ≡ isFree (old visited) v ⌝ }
-    ensures { λ _. ⌜ new visited ≡ cond (isFree (old visited) v) (set (old visited) v 1) (old visited) ⌝ }
+    ensures { λ r. ⌜ r ≡ isUnvisited (old visited) v ⌝ }
+    ensures { λ _. ⌜ new visited ≡ cond (isUnvisited (old visited) v) (set (old visited) v 1) (old visited) ⌝ }
 {
     if visited.len() <= v {
         return false;

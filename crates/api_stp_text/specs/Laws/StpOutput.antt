@@ -203,8 +203,8 @@ output-read-back t x e = ap (λ (o : Outcome StpContent). reading (stpText o) wi
     by-length (inr h) = back h
 
 -- The first stpRoom + 1 bytes of a text decide what is printed for it.
-pub output-first-bytes : (t : List ℕ) → stpOutput (take (stpRoom + 1) t) ≡ stpOutput t
-output-first-bytes t = by-length (lt-or-ge stpRoom (length t))
+pub stp-first-bytes : (t : List ℕ) → stpOutput (take (stpRoom + 1) t) ≡ stpOutput t
+stp-first-bytes t = by-length (lt-or-ge stpRoom (length t))
   where
     by-length : (stpRoom < length t) ⊎ (length t ≤ stpRoom) → stpOutput (take (stpRoom + 1) t) ≡ stpOutput t
     by-length (inl h) =

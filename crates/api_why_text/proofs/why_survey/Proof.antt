@@ -7,7 +7,7 @@ use Rattle.survey_core.specs.Survey.{surveyWith}
 use Rattle.survey_core.specs.Sound.{ByteGroups}
 use Rattle.why_rule.specs.Answer.{whyOutcome}
 use Rattle.format_print.specs.Laws.Print.{prints-as}
-use Rattle.api_why_text.specs.Laws.Output.{route-buffer, refusal-fits, unasked-lines, CountsFit, entries-few, given-lines, given-fits}
+use Rattle.api_why_text.specs.Laws.Output.{route-buffer, why-refusal-fits, unasked-lines, ReasonCountsFit, entries-few, given-lines, given-fits}
 use Rattle.api_why_text.proofs.why_survey.Statement.{statement}
 use Rattle.api_why_text.proofs.why_survey.Tie as tie
 
@@ -75,7 +75,7 @@ returns-4 c =
     let a = call .before .before .before .before .before .before .before .before .before .before .args in
     let s = surveyWith (a .groups .now) (a .firsts .now) (a .seconds .now) (a .weights .now) (a .owners .now) (a .others .now) in
     let text = unasked-lines s (a .track) route-buffer (call .why .ensures .0) (ap whyOutcome (c .before .before .before .before .before .number .given .1)) in
-    prints-as whyRoom (a .out .now) text (c .before .before .print-refusal .ensures) (refusal-fits _ _ (omega arith) (omega arith))
+    prints-as whyRoom (a .out .now) text (c .before .before .print-refusal .ensures) (why-refusal-fits _ _ (omega arith) (omega arith))
 
 pub why-survey-spec : {M : Type 1} → statement M
 why-survey-spec =

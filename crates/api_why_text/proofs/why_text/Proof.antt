@@ -1,4 +1,4 @@
--- `why_text` meets its contract: the refusal of reading is printed (`refused-output`), or the track of what was read is explained (`said-output`).
+-- `why_text` meets its contract: the refusal of reading is printed (`why-refused-output`), or the track of what was read is explained (`why-said-output`).
 use native.Mathlib.Omega.{arith}
 use borrow.Author.Needs.{needs}
 use mathlib.Core.Path.{ap}
@@ -8,7 +8,7 @@ use Rattle.base_limits.specs.Limits.{maxVertices, maxEdges, maxPairs, whyRoom}
 use Rattle.format_survey.specs.Answer.{countsOutcome}
 use Rattle.format_print.specs.Laws.Print.{prints-as}
 use Rattle.api_plan_text.specs.Laws.Read.{survey-buffers, refused-read, counts-few, survey-said}
-use Rattle.api_why_text.specs.Laws.Output.{refusal-fits, refused-output, said-output}
+use Rattle.api_why_text.specs.Laws.Output.{why-refusal-fits, why-refused-output, why-said-output}
 use Rattle.api_why_text.proofs.why_text.Statement.{statement}
 use Rattle.api_why_text.proofs.why_text.Tie as tie
 
@@ -66,8 +66,8 @@ unfolding countsOutcome
 returns c =
     let call = c .before .before .before .before .before .before .before .before .before .before .before .before .before in
     let a = call .before .before .before .before .before .before .before .before .before .args in
-    let text = refused-output (a .text .now) (a .track) (refused-read (a .text .now) survey-buffers (call .read .ensures .0) (ap countsOutcome (c .before .before .before .before .before .number .given .1))) in
-    prints-as whyRoom (a .out .now) text (c .before .before .print-refusal .ensures) (refusal-fits _ _ (omega arith) (omega arith))
+    let text = why-refused-output (a .text .now) (a .track) (refused-read (a .text .now) survey-buffers (call .read .ensures .0) (ap countsOutcome (c .before .before .before .before .before .number .given .1))) in
+    prints-as whyRoom (a .out .now) text (c .before .before .print-refusal .ensures) (why-refusal-fits _ _ (omega arith) (omega arith))
 
 -- what is printed for the survey
 returns-2 : tie.Need-returns-2
@@ -83,7 +83,7 @@ returns-2 c =
     survey-said (a .text .now) survey-buffers (read .0) told (replicate maxVertices 0) edges edges edges pairs pairs
     (read .1 .0) (read .1 .1 .0) (read .1 .1 .1 .0) (read .1 .1 .1 .1 .0) (read .1 .1 .1 .1 .1 .0) (read .1 .1 .1 .1 .1 .1) in
     let made = c .before .before .why-survey .ensures in
-    prints-as whyRoom (a .out .now) (said-output (a .track) said) (made .0, made .1 .0) (made .1 .1)
+    prints-as whyRoom (a .out .now) (why-said-output (a .track) said) (made .0, made .1 .0) (made .1 .1)
 
 pub why-text-spec : {M : Type 1} → statement M
 why-text-spec =

@@ -9,6 +9,6 @@ use Rattle.format_survey.specs.Laws.Cut.{reading-first-bytes}
 use Rattle.api_plan_text.specs.Output.{surveyRead}
 use Rattle.api_why_text.specs.Output.{readReason, reasonLines, whyOutput}
 
-pub output-first-bytes : (t : List ℕ) (e : ℕ) → whyOutput (take surveyRoom t) e ≡ whyOutput t e
+pub why-first-bytes : (t : List ℕ) (e : ℕ) → whyOutput (take surveyRoom t) e ≡ whyOutput t e
 unfolding whyOutput surveyRead
-output-first-bytes t e = ap (λ o. reasonLines e (readReason o e)) (reading-first-bytes t widest)
+why-first-bytes t e = ap (λ o. reasonLines e (readReason o e)) (reading-first-bytes t widest)

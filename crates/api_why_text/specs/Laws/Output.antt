@@ -34,20 +34,20 @@ use Rattle.api_why_text.specs.Output.{surveyReason, readReason, reasonLi
 
 -- ---- reading
 
-pub refused-output : (t : List ℕ) (e : ℕ) {n p : ℕ} → surveyRead t ≡ refusal n p → refusalText n p ≡ whyOutput t e
+pub why-refused-output : (t : List ℕ) (e : ℕ) {n p : ℕ} → surveyRead t ≡ refusal n p → refusalText n p ≡ whyOutput t e
 unfolding whyOutput readReason reasonLines
-refused-output t e refused = ap (λ o. reasonLines e (readReason o e)) (sym refused)
+why-refused-output t e refused = ap (λ o. reasonLines e (readReason o e)) (sym refused)
 
 -- What is printed for a survey in buffers is what is printed for the text that says it.
-pub said-output : {t : List ℕ} {s : Survey} (e : ℕ) → SaidBy t s → surveyLines s e ≡ whyOutput t e
+pub why-said-output : {t : List ℕ} {s : Survey} (e : ℕ) → SaidBy t s → surveyLines s e ≡ whyOutput t e
 unfolding surveyLines whyOutput readReason
-said-output e h = ap (λ s. reasonLines e (surveyReason s e)) (h .same) ∙ ap (λ o. reasonLines e (readReason o e)) (sym (h .is))
+why-said-output e h = ap (λ s. reasonLines e (surveyReason s e)) (h .same) ∙ ap (λ o. reasonLines e (readReason o e)) (sym (h .is))
 
 -- ---- asking
 
 -- A refusal's lines fit the room for reasons.
-pub refusal-fits : (number place : ℕ) → number < 2 ^ 64 → place < 2 ^ 64 → length (refusalText number place) ≤ whyRoom
-refusal-fits number place hn hp = let l = refusal-text-le number place hn hp in omega arith
+pub why-refusal-fits : (number place : ℕ) → number < 2 ^ 64 → place < 2 ^ 64 → length (refusalText number place) ≤ whyRoom
+why-refusal-fits number place hn hp = let l = refusal-text-le number place hn hp in omega arith
 
 -- The tracks of a route are tracks of its set.
 route-below : {a b : ℕ → ℕ} {F : ℕ → Bool} {u w : ℕ} {es vs : List ℕ} (m : ℕ) → 0 < m → ((f : ℕ) → F f ≡ true → f < m) → Route a b F u w es vs → (i : ℕ) → getD es i 0 < m
@@ -69,7 +69,7 @@ entries-are spared = refl
 entries-are (passed round) = refl
 
 -- The numbers of a reason that 64 bits hold.
-pub record CountsFit (c : WhyCounts) : Type 0 where
+pub record ReasonCountsFit (c : WhyCounts) : Type 0 where
   pub kind-fits : c .kind < 2 ^ 64
   pub group-fits : c .group < 2 ^ 64
   pub low-fits : c .low < 2 ^ 64
@@ -138,7 +138,7 @@ module _ (s : Survey) (e : ℕ) {was : List ℕ} (buffer : RouteBuffer was) {o :
           ap (reasonText e (c .kind) (c .group) (c .low) (c .high) (c .round)) r ∙ lines
 
       -- It fits the room.
-      pub given-fits : ByteGroups s → e < 2 ^ 64 → CountsFit c → length after ≡ maxRoute → length (surveyLines s e) ≤ whyRoom
+      pub given-fits : ByteGroups s → e < 2 ^ 64 → ReasonCountsFit c → length after ≡ maxRoute → length (surveyLines s e) ≤ whyRoom
       unfolding edgeCount problemOf vertexCount
       given-fits numbered small fit h =
           let ok : Explainable s (length was) e = fine-explainable s (length was) e numbered fine in

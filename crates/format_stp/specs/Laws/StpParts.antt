@@ -73,7 +73,7 @@ count-fine key test t at e =
     ap test (sym (checked-value (test (f .0)) (f .0) (f .1) (f .3))) ∙ checked-fine (test (f .0)) (f .0) (f .1) (f .3)
 
 -- Values that the lent buffers have room for.
-pub record Fits (gb fb sb wb : List ℕ) (x : StpContent) : Type 0 where
+pub record StpRoomFits (gb fb sb wb : List ℕ) (x : StpContent) : Type 0 where
   pub groups : length (x .groups) ≤ length gb
   pub firsts : length (firstsOf (x .lines)) ≤ length fb
   pub seconds : length (secondsOf (x .lines)) ≤ length sb
@@ -122,7 +122,7 @@ module _ (t gb fb sb wb : List ℕ) where
     stp-found f = reading-is ∙ ap stpOutcome f
 
     -- What is read says the counts, and fits.
-    pub stp-fits : {x : StpContent} {q : ℕ} → stpLines n m t at ≡ found x q → (x .vertices ≡ n) × (x .edges ≡ m) × Fits gb fb sb wb x
+    pub stp-fits : {x : StpContent} {q : ℕ} → stpLines n m t at ≡ found x q → (x .vertices ≡ n) × (x .edges ≡ m) × StpRoomFits gb fb sb wb x
     unfolding stpLines whole firstsOf secondsOf weightsOf
     stp-fits {x} {q} f =
         let a = then-value (whole (stpEdges n t m at)) _ f in

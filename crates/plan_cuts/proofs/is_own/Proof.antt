@@ -1,6 +1,6 @@
 -- `is_own` meets its contract: a branch on whether the edge is picked.
 use mathlib.Core.Path.{sym, _∙_}
-use Rattle.plan_cuts.specs.Laws.Alone.{own-read, own-passed}
+use Rattle.plan_cuts.specs.Laws.Alone.{own-word-read, own-passed}
 use borrow.Author.Needs.{needs}
 use Rattle.plan_cuts.proofs.is_own.Statement.{statement}
 use Rattle.plan_cuts.proofs.is_own.Tie as tie
@@ -9,7 +9,7 @@ use Rattle.plan_cuts.proofs.is_own.Tie as tie
 returns : tie.Need-returns
 returns c =
     let test = c .before .before .before .before .before .before .before .before .before in
-    own-read _ _ (test .before .before .before .before .before .args .words .now) (sym (test .before .is-picked .ensures) ∙ test .if1 .taken)
+    own-word-read _ _ (test .before .before .before .before .before .args .words .now) (sym (test .before .is-picked .ensures) ∙ test .if1 .taken)
     (c .before .before .before .before .before .before .before .index32 .ensures ∙ c .before .before .before .before .before .before .before .before .at32 .ensures) (c .before .before .before .before .before .index322 .ensures ∙ c .before .before .before .before .before .before .at322 .ensures)
     (c .before .before .before .at64 .ensures) (c .before .at642 .ensures) (c .own-word .ensures)
 

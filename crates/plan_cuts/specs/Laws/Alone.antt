@@ -17,7 +17,7 @@ use Rattle.base_finite.specs.Laws.Test.{or-cases, true-not-false, not-true-fals
 use Rattle.theory_graph.specs.Path.{crosses, Forest}
 use Rattle.format_record.specs.Bits.{bitAt}
 use Rattle.plan_cuts.specs.Side.{sides}
-use Rattle.plan_cuts.specs.Word.{wordBits, ownWord, sideWords, Alone, areAlone, EndsBelow, hungAt, hungFrom}
+use Rattle.plan_cuts.specs.Word.{wordBits, ownWord, sideWords, Alone, areAlone, CutEndsBelow, hungAt, hungFrom}
 use Rattle.plan_cuts.specs.Taken.{takenBelow}
 use Rattle.plan_cuts.specs.Laws.Side.{sides-cross}
 use Rattle.plan_cuts.specs.Laws.Word.{bit-xor, own-same, own-other, count-lt, word-side}
@@ -78,7 +78,7 @@ module _ (a b : ℕ → ℕ) (F : ℕ → Bool) (base : ℕ) (words : List ℕ) 
 
 -- ---- the definition's words
 
-pub taken-alone : (N : ℕ) (a b : ℕ → ℕ) (F : ℕ → Bool) (base m : ℕ) {words : List ℕ} → EndsBelow N a b m → Forest a b F
+pub taken-alone : (N : ℕ) (a b : ℕ → ℕ) (F : ℕ → Bool) (base m : ℕ) {words : List ℕ} → CutEndsBelow N a b m → Forest a b F
     → words ≡ takenBelow N a b F base m .words → Alone a b F base m words
 unfolding crosses
 taken-alone N a b F base m {words} ends forest h =
@@ -98,9 +98,9 @@ taken-alone N a b F base m {words} ends forest h =
 -- ---- what calls leave
 
 -- A picked edge, and another, as calls read them.
-pub own-read : (base i : ℕ) (words : List ℕ) {in-set : Bool} {a b u v x y own : ℕ} → in-set ≡ true → u ≡ a → v ≡ b → x ≡ getD words u 0 → y ≡ getD words v 0
+pub own-word-read : (base i : ℕ) (words : List ℕ) {in-set : Bool} {a b u v x y own : ℕ} → in-set ≡ true → u ≡ a → v ≡ b → x ≡ getD words u 0 → y ≡ getD words v 0
     → own ≡ ownWord base i → eqb (bitXor x y) own ≡ (not in-set || eqb (bitXor (getD words a 0) (getD words b 0)) (ownWord base i))
-own-read base i words t u v x y o = rw (t, x, y, u, v, o)
+own-word-read base i words t u v x y o = rw (t, x, y, u, v, o)
 
 pub own-passed : (r : Bool) {in-set : Bool} → in-set ≡ false → true ≡ (not in-set || r)
 own-passed r t = rw t

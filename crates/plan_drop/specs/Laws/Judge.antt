@@ -26,7 +26,7 @@ use Rattle.base_buffer.specs.Laws.Store.{length-remade, remade-more}
 use Rattle.theory_graph.specs.Path.{crosses, Forest}
 use Rattle.theory_steiner.specs.Laws.Cut.{needed-by-cut}
 use Rattle.survey_components.specs.Labels.{pickedIn}
-use Rattle.plan_cuts.specs.Word.{wordBits, inBatch, Alone, EndsBelow}
+use Rattle.plan_cuts.specs.Word.{wordBits, inBatch, Alone, CutEndsBelow}
 use Rattle.plan_drop.specs.Prunable.{Prunable, unweighted}
 use Rattle.plan_drop.specs.Judge.{sideIn, partedBelow, judged, raised, prunedMarks, droppedMarks, batchMarks, MarkStep}
 use Rattle.plan_cuts.specs.Laws.Word.{bit-xor, count-lt}
@@ -174,7 +174,7 @@ module _ (groups firsts seconds picked : List ℕ) (ok : Prunable groups firsts 
   abbrev F : ℕ → Bool
   F = pickedIn picked
 
-  ends-below : EndsBelow maxVertices (λ e. getD firsts e 0) (λ e. getD seconds e 0) (length firsts)
+  ends-below : CutEndsBelow maxVertices (λ e. getD firsts e 0) (λ e. getD seconds e 0) (length firsts)
   unfolding problemOf edgeCount vertexCount
   ends-below e b =
       let few = ok .few in
@@ -199,7 +199,7 @@ module _ (groups firsts seconds picked : List ℕ) (ok : Prunable groups firsts 
 
   -- A batch by the words is the batch of the definition.
   pub batch-is : (base : ℕ) (marks : List ℕ) {mates after words : List ℕ} → mates ≡ tabulate maxVertices (mateOf groups)
-      → (EndsBelow maxVertices (λ e. getD firsts e 0) (λ e. getD seconds e 0) (length firsts) → Forest (λ e. getD firsts e 0) (λ e. getD seconds e 0) F
+      → (CutEndsBelow maxVertices (λ e. getD firsts e 0) (λ e. getD seconds e 0) (length firsts) → Forest (λ e. getD firsts e 0) (λ e. getD seconds e 0) F
       → Alone (λ e. getD firsts e 0) (λ e. getD seconds e 0) F base (length firsts) words)
       → after ≡ remade (raised F (judged (partedBelow words mates (length groups)) base)) (length firsts) marks
       → after ≡ batchMarks p F base (length firsts) marks

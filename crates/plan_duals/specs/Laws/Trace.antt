@@ -20,7 +20,7 @@ use Rattle.survey_labels.specs.Labels.{relabelled}
 use Rattle.survey_labels.specs.Laws.Labels.{relabelled-table}
 use Rattle.plan_duals.specs.Drawing.{recordsOf, recordsOver, recordsFrom, dualIf, dualsBelow, DualsWritten}
 use Rattle.plan_duals.specs.Trace.{Trace, labelAfter, partOf, arisen, memberOf, traceDuals, Drawable}
-use Rattle.plan_duals.specs.Members.{withPart, unionOf, setOf, keptIn, setsBelow}
+use Rattle.plan_duals.specs.Members.{withPart, unionOf, setOf, setsKept, setsBelow}
 use Rattle.plan_duals.specs.Laws.Drawing.{nothing, over-more, record-at-over, written-none, written-more, written-end}
 use Rattle.plan_duals.specs.Laws.Members.{ored-records, label-below, single-members, union-of-parts}
 
@@ -104,8 +104,8 @@ module _ (t : Trace) (few : t .vertices ≤ maxVertices) (sets₀ : List ℕ) wh
 
   -- Its record is kept.
   kept-more : (c : ℕ) {sets : List ℕ} → sets ≡ recordsOver (setsBelow t (c - t .vertices)) sets₀ →
-      keptIn (t .vertices) c (memberOf t c) sets ≡ recordsOver (setsBelow t (c + 1 - t .vertices)) sets₀
-  unfolding keptIn setsBelow tabulate
+      setsKept (t .vertices) c (memberOf t c) sets ≡ recordsOver (setsBelow t (c + 1 - t .vertices)) sets₀
+  unfolding setsKept setsBelow tabulate
   kept-more c {sets} h = ⊎-elim single made (lt-or-ge c n)
     where
       n : ℕ
@@ -183,7 +183,7 @@ pub replayed-more : (t : Trace) (c : ℕ) {labels labels' sets₀ sets sets' set
     c < t .vertices + t .rounds → Replayed t c labels sets₀ sets old mid k →
     set ≡ unionOf sets (t .vertices) (partOf (t .first) (t .vertices) labels c) (partOf (t .second) (t .vertices) labels c) →
     labels' ≡ arisen (partOf (t .first) (t .vertices) labels c) (partOf (t .second) (t .vertices) labels c) (t .vertices) c labels →
-    ((S : ℕ → Bool) → set ≡ recordOf 0 S → sets' ≡ keptIn (t .vertices) c S sets) →
+    ((S : ℕ → Bool) → set ≡ recordOf 0 S → sets' ≡ setsKept (t .vertices) c S sets) →
     x ≡ t .value c →
     ((S : ℕ → Bool) → set ≡ recordOf 0 S → (count ≡ k + length (dualIf x S)) × (new ≡ recordsFrom k (dualIf x S) mid)) →
     Replayed t (c + 1) labels' sets₀ sets' old new count

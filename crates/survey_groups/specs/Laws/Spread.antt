@@ -259,11 +259,11 @@ module _ (s : Survey) (plain : s .owners ≡ []) where
 -- ---- the table of all groups
 
 -- One more vertex in a table of f, which its own group alone can change.
-pub table-more : (s : Survey) → s .owners ≡ [] → (f : (g v : ℕ) → ℕ) → ((g v : ℕ) → member s g v ≡ false → f g v ≡ f g (v + 1))
+pub spread-table-more : (s : Survey) → s .owners ≡ [] → (f : (g v : ℕ) → ℕ) → ((g v : ℕ) → member s g v ≡ false → f g v ≡ f g (v + 1))
     → (v x : ℕ) → (member s (getD (s .groups) v 0) v ≡ true → x ≡ f (getD (s .groups) v 0) (v + 1))
     → cond (eqb (getD (s .groups) v 0) 0) (tabulate groupNumbers (λ g. f g v)) (set (tabulate groupNumbers (λ g. f g v)) (getD (s .groups) v 0) x)
     ≡ tabulate groupNumbers (λ g. f g (v + 1))
-table-more s plain f stays v x h = by (ℕ-discrete g 0)
+spread-table-more s plain f stays v x h = by (ℕ-discrete g 0)
   where
     g : ℕ
     g = getD (s .groups) v 0
@@ -296,7 +296,7 @@ pub spread-more : (s : Survey) → s .owners ≡ [] → (label : ℕ → ℕ) (v
     → notedIn (tabulate groupNumbers (λ g. spread s label g v)) (getD (s .groups) v 0) (label v) ≡ tabulate groupNumbers (λ g. spread s label g (v + 1))
 unfolding notedIn
 spread-more s plain label v b =
-    table-more s plain (spread s label)
+    spread-table-more s plain (spread s label)
     (λ g u m. rw (add-one u, spread-suc s label g u, m))
     v
     _

@@ -18,7 +18,7 @@ use Rattle.theory_steiner.specs.Laws.Joined.{Split, separates-elim, separates-i
 use Rattle.survey_core.specs.Survey.{groupsAlone, vertexCount, member, problemOf}
 use Rattle.survey_core.specs.Laws.Member.{member-elim, member-intro}
 use Rattle.survey_core.specs.Laws.Group.{Shared, same-group-shared, members-same-group}
-use Rattle.survey_groups.specs.Laws.Spread.{table-more}
+use Rattle.survey_groups.specs.Laws.Spread.{spread-table-more}
 use Rattle.survey_mates.specs.Mate.{lastBelow, mateBy, mateOf, lastIn}
 
 xor-differ : (s t : Bool) → xor s t ≡ false → s ≡ t
@@ -168,7 +168,7 @@ module _ (groups : List ℕ) where
   unfolding lastIn
   last-step v t a e f =
       a ∙ rw (t, e, f)
-      (table-more (groupsAlone groups) refl (lastBelow groups)
+      (spread-table-more (groupsAlone groups) refl (lastBelow groups)
       (λ g u m. rw (add-one u, last-suc g u, m))
       v
       (v + 1)

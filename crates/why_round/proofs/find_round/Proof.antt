@@ -6,12 +6,12 @@ use lib.ListN.{length, replicate, length-replicate}
 use Rattle.base_finite.specs.Laws.Below.{length-tabulate}
 use Rattle.base_limits.specs.Limits.{maxVertices}
 use borrow.Author.Needs.{needs}
-use Rattle.why_round.specs.Laws.Replay.{Replayed, own-after, joined-at-once, replay-start, replay-turn, replay-found, replay-end}
+use Rattle.why_round.specs.Laws.Replay.{PicksReplayed, own-after, joined-at-once, replay-start, replay-turn, replay-found, replay-end}
 use Rattle.why_round.proofs.find_round.Statement.{statement}
 use Rattle.why_round.proofs.find_round.Tie as tie
 
 abbrev Inv-loop : tie.InvT-loop
-Inv-loop firsts seconds order e labels₀ r₀ labels r = Replayed firsts seconds order e r labels
+Inv-loop firsts seconds order e labels₀ r₀ labels r = PicksReplayed firsts seconds order e r labels
 
 abbrev μ-loop : tie.MeasureT-loop
 μ-loop firsts seconds order e labels₀ r₀ labels r = length order - r

@@ -46,7 +46,7 @@ picks-fit s sound = record { first-below = first; second-below = second }
         (lt-or-ge e (length (s .firsts)))
 
 -- Before each turn: the labels are those of r picks, and none of the first r links the ends.
-pub record Replayed (firsts seconds order : List ℕ) (e r : ℕ) (labels : List ℕ) : Type 0 where
+pub record PicksReplayed (firsts seconds order : List ℕ) (e r : ℕ) (labels : List ℕ) : Type 0 where
   pub within : r ≤ length order
   pub labels-are : labels ≡ tabulate maxVertices (labelsAfter firsts seconds order r)
   pub unmet : Unmet (suc (length order)) (linkedAfter firsts seconds order e) (r + 1)
@@ -77,7 +77,7 @@ module _ (firsts seconds order : List ℕ) (e : ℕ) (ok : PicksFit firsts secon
       (record { below = omega arith; passes = sym (test-is 0 h) ∙ sym is ∙ same; none-before = λ j b. absurd (omega arith) })
 
   pub replay-start : {labels : List ℕ} {r : Bool} → labels ≡ tabulate maxVertices (labelsAfter firsts seconds order 0)
-      → r ≡ eqb (getD labels (getD firsts e 0) 0) (getD labels (getD seconds e 0) 0) → r ≡ false → Replayed firsts seconds order e 0 labels
+      → r ≡ eqb (getD labels (getD firsts e 0) 0) (getD labels (getD seconds e 0) 0) → r ≡ false → PicksReplayed firsts seconds order e 0 labels
   replay-start h is misses =
       record {
         within = omega arith;
@@ -86,7 +86,7 @@ module _ (firsts seconds order : List ℕ) (e : ℕ) (ok : PicksFit firsts secon
       }
 
   -- One more pick.
-  module _ {r : ℕ} {labels after : List ℕ} {t : Bool} (h : Replayed firsts seconds order e r labels) (b : r < length order)
+  module _ {r : ℕ} {labels after : List ℕ} {t : Bool} (h : PicksReplayed firsts seconds order e r labels) (b : r < length order)
       (merged : after ≡ endsJoined (getD firsts (getD order r 0) 0) (getD seconds (getD order r 0) 0) labels)
       (is : t ≡ eqb (getD after (getD firsts e 0) 0) (getD after (getD seconds e 0) 0)) where
     after-is : after ≡ tabulate maxVertices (labelsAfter firsts seconds order (r + 1))
@@ -95,7 +95,7 @@ module _ (firsts seconds order : List ℕ) (e : ℕ) (ok : PicksFit firsts secon
         components-more maxVertices (λ i. getD firsts (getD order i 0) 0) (λ i. getD seconds (getD order i 0) 0) (λ i. true) maxVertices r
         (ok .first-below (getD order r 0)) (ok .second-below (getD order r 0)) (h .labels-are) merged
 
-    pub replay-turn : t ≡ false → Replayed firsts seconds order e (r + 1) after
+    pub replay-turn : t ≡ false → PicksReplayed firsts seconds order e (r + 1) after
     replay-turn misses =
         record { within = omega arith; labels-are = after-is; unmet = unmet-turn (h .unmet) (omega arith) (is ∙ test-is (r + 1) after-is) misses }
 
@@ -105,6 +105,6 @@ module _ (firsts seconds order : List ℕ) (e : ℕ) (ok : PicksFit firsts secon
         zero-first (suc (length order)) (linkedAfter firsts seconds order e) (r + 1)
         (record { below = omega arith; passes = sym (is ∙ test-is (r + 1) after-is) ∙ found; none-before = h .unmet .none })
 
-  pub replay-end : {r : ℕ} {labels : List ℕ} → Replayed firsts seconds order e r labels → length order ≤ r → 0 ≡ roundIn firsts seconds order e
+  pub replay-end : {r : ℕ} {labels : List ℕ} → PicksReplayed firsts seconds order e r labels → length order ≤ r → 0 ≡ roundIn firsts seconds order e
   unfolding roundIn
   replay-end h c = zero-none (suc (length order)) (linkedAfter firsts seconds order e) (λ j b. h .unmet .none j (omega arith))

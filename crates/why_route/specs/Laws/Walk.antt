@@ -18,7 +18,7 @@ use Rattle.theory_graph.specs.Path.{Leads}
 use Rattle.survey_components.specs.Labels.{pickedIn}
 use Rattle.theory_route.specs.Route.{occurs, Route, arrived, onward, isEnd, farEnd}
 use Rattle.theory_route.specs.Laws.Route.{occurs-cases, none-occurs, end-at, far-end-is, is-end, leads-far}
-use Rattle.why_route.specs.Walk.{unvisited, isFree, storedAt, endIn, Walkable, Explored, WalkEnds, arrives, fails}
+use Rattle.why_route.specs.Walk.{unvisited, isUnvisited, storedAt, endIn, Walkable, Explored, WalkEnds, arrives, fails}
 use Rattle.why_route.specs.declared.Walked.{Walked}
 use Rattle.why_route.specs.declared.Walked.the-variants.{Arrived, Lost}
 
@@ -31,23 +31,23 @@ not-of-forest kept e t {r} is h = rw (sym is ∙ not-true r h)
 -- ---- visiting
 
 module _ (l : List ℕ) (v : ℕ) where
-  pub free-below : isFree l v ≡ true → v < length l
-  unfolding isFree
+  pub free-below : isUnvisited l v ≡ true → v < length l
+  unfolding isUnvisited
   free-below h = ltb-true v (length l) (and-left (ltb v (length l)) (eqb (getD l v 0) 0) h)
 
-  pub free-zero : isFree l v ≡ true → getD l v 0 ≡ 0
-  unfolding isFree
+  pub free-zero : isUnvisited l v ≡ true → getD l v 0 ≡ 0
+  unfolding isUnvisited
   free-zero h = eqb-true (getD l v 0) 0 (and-right (ltb v (length l)) (eqb (getD l v 0) 0) h)
 
-  pub free-is : v < length l → getD l v 0 ≡ 0 → isFree l v ≡ true
-  unfolding isFree
+  pub free-is : v < length l → getD l v 0 ≡ 0 → isUnvisited l v ≡ true
+  unfolding isUnvisited
   free-is b h = and-both (ltb v (length l)) (eqb (getD l v 0) 0) (lt-ltb v (length l) b) (eq-eqb (getD l v 0) 0 h)
 
-  pub free-out : length l ≤ v → isFree l v ≡ false
-  free-out h = not-true-false (isFree l v) (λ k. let b = free-below k in omega arith)
+  pub free-out : length l ≤ v → isUnvisited l v ≡ false
+  free-out h = not-true-false (isUnvisited l v) (λ k. let b = free-below k in omega arith)
 
-  pub free-visited : (getD l v 0 ≡ 0 → ⊥) → isFree l v ≡ false
-  free-visited h = not-true-false (isFree l v) (λ k. h (free-zero k))
+  pub free-visited : (getD l v 0 ≡ 0 → ⊥) → isUnvisited l v ≡ false
+  free-visited h = not-true-false (isUnvisited l v) (λ k. h (free-zero k))
 
 pub set-unvisited : (l : List ℕ) (i : ℕ) → i < length l → getD l i 0 ≡ 0 → unvisited (set l i 1) + 1 ≡ unvisited l
 unfolding unvisited
@@ -124,7 +124,7 @@ module _ {a b : ℕ → ℕ} {F : ℕ → Bool} {v goal m : ℕ} where
 
 -- ---- a vertex that has just been visited
 
-module _ (first : List ℕ) (v : ℕ) (free : isFree first v ≡ true) where
+module _ (first : List ℕ) (v : ℕ) (free : isUnvisited first v ≡ true) where
   entered-here : getD (set first v 1) v 0 ≡ 0 → ⊥
   entered-here h = let one : getD (set first v 1) v 0 ≡ 1 = getD-set-same first v 1 0 (free-below first v free) in omega arith
 
@@ -138,7 +138,7 @@ stored-more : (route : List ℕ) (i e : ℕ) (es : List ℕ) → set (storedAt r
 unfolding storedAt
 stored-more route i e es = refl
 
-module _ {a b : ℕ → ℕ} {F : ℕ → Bool} {v goal m : ℕ} {first : List ℕ} (free : isFree first v ≡ true) {was : List ℕ} (entered : was ≡ set first v 1) where
+module _ {a b : ℕ → ℕ} {F : ℕ → Bool} {v goal m : ℕ} {first : List ℕ} (free : isUnvisited first v ≡ true) {was : List ℕ} (entered : was ≡ set first v 1) where
   -- All edges at v have been tried.
   pub walking-end : {now route stored : List ℕ} {e depth : ℕ} → (v ≡ goal → ⊥) → ((f : ℕ) → F f ≡ true → f < m) → Walking a b F v goal m was now e → m ≤ e → stored ≡ route
       → WalkEnds a b F v goal depth first now route stored Lost
@@ -193,7 +193,7 @@ module _ {a b : ℕ → ℕ} {F : ℕ → Bool} {v goal m : ℕ} {first : List �
       stored-is : set stored depth e ≡ storedAt route depth (e ∷ es)
       stored-is = ap (λ l. set l depth e) w ∙ stored-more route depth e es
 
-module _ {a b : ℕ → ℕ} {F : ℕ → Bool} (v : ℕ) {goal : ℕ} {first : List ℕ} (free : isFree first v ≡ true) where
+module _ {a b : ℕ → ℕ} {F : ℕ → Bool} (v : ℕ) {goal : ℕ} {first : List ℕ} (free : isUnvisited first v ≡ true) where
   -- The goal itself.
   pub walk-here : {left route : List ℕ} {depth : ℕ} → v ≡ goal → WalkEnds a b F v goal depth first left route route (Arrived depth)
   unfolding storedAt
@@ -219,8 +219,8 @@ module _ {a b : ℕ → ℕ} {F : ℕ → Bool} (v : ℕ) {goal : ℕ} {first : 
 
 -- ---- as the code finds it: r is what `visit` answers, and `was` what it leaves
 
-module _ (first : List ℕ) (v : ℕ) {r : Bool} {was : List ℕ} (r-is : r ≡ isFree first v) (was-is : was ≡ cond (isFree first v) (set first v 1) first) where
-  pub is-free : r ≡ true → isFree first v ≡ true
+module _ (first : List ℕ) (v : ℕ) {r : Bool} {was : List ℕ} (r-is : r ≡ isUnvisited first v) (was-is : was ≡ cond (isUnvisited first v) (set first v 1) first) where
+  pub is-free : r ≡ true → isUnvisited first v ≡ true
   is-free h = sym r-is ∙ h
 
   pub visit-made : r ≡ true → was ≡ set first v 1
@@ -229,14 +229,14 @@ module _ (first : List ℕ) (v : ℕ) {r : Bool} {was : List ℕ} (r-is : r ≡ 
   -- A vertex that is visited already, or none.
   pub walk-refused : {a b : ℕ → ℕ} {F : ℕ → Bool} {goal depth : ℕ} {route : List ℕ} → r ≡ false → WalkEnds a b F v goal depth first was route route Lost
   walk-refused {a} {b} {F} {goal} {depth} {route} h =
-      let taken : isFree first v ≡ false = sym r-is ∙ h in
+      let taken : isUnvisited first v ≡ false = sym r-is ∙ h in
       let same : was ≡ first = was-is ∙ rw taken in
       subst (λ l. WalkEnds a b F v goal depth first l route route Lost) (sym same)
-      (fails (explored-none first) (λ inside z. true-not-false (isFree first v) (free-is first v inside z) taken) refl)
+      (fails (explored-none first) (λ inside z. true-not-false (isUnvisited first v) (free-is first v inside z) taken) refl)
 
 -- The same with the buffers as the code has them.
 pub walking-stored : {a b : ℕ → ℕ} {F : ℕ → Bool} {v goal m : ℕ} {first was now left other route started stored after : List ℕ} {e x y depth entries : ℕ} {r : Walked}
-    → isFree first v ≡ true → was ≡ set first v 1 → Walking a b F v goal m was now e × (route ≡ started) → (F e && isEnd a b e v) ≡ true → y ≡ farEnd a b e v
+    → isUnvisited first v ≡ true → was ≡ set first v 1 → Walking a b F v goal m was now e × (route ≡ started) → (F e && isEnd a b e v) ≡ true → y ≡ farEnd a b e v
     → WalkEnds a b F y goal (depth + 1) now left route stored r → r ≡ Arrived entries → after ≡ set stored depth x → x ≡ e
     → WalkEnds a b F v goal depth first other started after (Arrived entries)
 walking-stored {a} {b} {F} {v} {goal} {first = first} {other = other} {route = route} {started = started} {stored = stored} {after = after} {e = e} {depth = depth} {entries = entries}
@@ -246,12 +246,12 @@ walking-stored {a} {b} {F} {v} {goal} {first = first} {other = other} {route = r
     (walking-arrives free entered (h .0) at far ends told))
 
 -- The measure falls, and the next call may be made.
-pub walk-falls : {a b : ℕ → ℕ} {F : ℕ → Bool} {goal : ℕ} (first : List ℕ) (v : ℕ) {was now : List ℕ} → isFree first v ≡ true → was ≡ set first v 1
+pub walk-falls : {a b : ℕ → ℕ} {F : ℕ → Bool} {goal : ℕ} (first : List ℕ) (v : ℕ) {was now : List ℕ} → isUnvisited first v ≡ true → was ≡ set first v 1
     → Explored a b F goal was now → unvisited now < unvisited first
 walk-falls {a} {b} {F} {goal} first v {was} {now} free entered h =
     let k = fewer-left first v free (subst (λ l. Explored a b F goal l now) entered h) in omega arith
 
-pub walk-next : {a b : ℕ → ℕ} {F : ℕ → Bool} {goal : ℕ} (first : List ℕ) (v : ℕ) {firsts seconds kept was now : List ℕ} {depth : ℕ} → isFree first v ≡ true → was ≡ set first v 1
+pub walk-next : {a b : ℕ → ℕ} {F : ℕ → Bool} {goal : ℕ} (first : List ℕ) (v : ℕ) {firsts seconds kept was now : List ℕ} {depth : ℕ} → isUnvisited first v ≡ true → was ≡ set first v 1
     → Explored a b F goal was now → Walkable firsts seconds kept first depth → Walkable firsts seconds kept now (depth + 1)
 walk-next {a} {b} {F} {goal} first v {now = now} free entered h ok = walk-on v free ok (subst (λ l. Explored a b F goal l now) entered h)
 
