@@ -2,3 +2,4 @@ pub mod Side
 pub mod Word
 pub mod Taken
 pub mod Alone
+pub mod Tried

@@ -1,4 +1,5 @@
 pub mod Side
 pub mod Word
 pub mod Taken
+pub mod Tried
 pub mod Laws

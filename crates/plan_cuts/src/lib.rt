@@ -10,10 +10,10 @@ ghost use Rattle.base_finite.specs.Below.{counted};
 ghost use Rattle.base_limits.specs.Limits.{maxVertices};
 ghost use Rattle.survey_components.specs.Labels.{pickedIn};
 ghost use Rattle.survey_labels.specs.Labels.{endsJoined};
-ghost use Rattle.theory_graph.specs.Path.{Forest};
 ghost use Rattle.plan_cuts.specs.Word.{ownWord, turned, turnedAll, edgeTaken};
-ghost use Rattle.plan_cuts.specs.Word.{Alone, areAlone, CutEndsBelow, hungAt, hungFrom};
+ghost use Rattle.plan_cuts.specs.Word.{areAlone, hungAt, hungFrom};
 ghost use Rattle.plan_cuts.specs.Taken.{EdgeStep, takenBelow};
+ghost use Rattle.plan_cuts.specs.Tried.{triedWords};
 use base_buffer::at64;
 use base_buffer::put64;
 use base_limits::MAX_VERTICES;
@@ -238,8 +238,7 @@ pub fn side_words(
     ensures { λ r. let first : ℕ → ℕ = λ e. getD (old firsts) e 0 in
         let second : ℕ → ℕ = λ e. getD (old seconds) e 0 in
         let m = length (old firsts) in
-        ⌜ (CutEndsBelow maxVertices first second m → Forest first second (pickedIn (old picked))
-        → Alone first second (pickedIn (old picked)) base m r) ⌝ }
+        ⌜ r ≡ triedWords maxVertices first second (pickedIn (old picked)) base m ⌝ }
 {
     let guess = plan_peel::peel(firsts, seconds, picked);
     let order = guess.order;

@@ -1,15 +1,16 @@
 // In which order the vertices of a forest can be hung on one another: a vertex with one picked edge left is taken away
-// with that edge, until none is left. This is a guess, and nothing is claimed of it but that its numbers are few:
-// whoever uses it tries what comes out (`plan_cuts::is_alone`).
+// with that edge, until none is left. That a forest comes apart so is claimed nowhere: whoever uses the order tries
+// what comes out (`plan_cuts::is_alone`).
 ghost use Rattle.base_buffer.specs.Lent.{old, new};
 ghost use mathlib.Core.Path.{_≡_};
-ghost use Prim.Native.Nat.{_+_, _≤_, _%_, _^_};
-ghost use lib.ListN.{getD, set, length};
-ghost use lib.Bits.{bitXor};
+ghost use Prim.Native.Nat.{ℕ, _+_, _%_, _^_};
+ghost use lib.ListN.{getD, length};
 ghost use mathlib.Core.Bool.{cond};
 ghost use Rattle.base_finite.specs.Below.{countBelow};
 ghost use Rattle.base_limits.specs.Limits.{maxVertices};
 ghost use Rattle.survey_components.specs.Labels.{pickedIn};
+ghost use Rattle.plan_peel.specs.Peel.{endsOf, queueOf, peelOf, endTurned, edgeNoted, edgesNoted};
+ghost use Rattle.plan_peel.specs.Peel.{leafQueued, leavesQueued, leafTaken, peeled};
 use base_buffer::at32;
 use base_buffer::index32;
 use base_buffer::put32;
@@ -37,9 +38,8 @@ fn turn_end(
     mark: u32,
     more: u32,
 )
-    ensures { λ r. ⌜ new degrees ≡ set (old degrees) v ((getD (old degrees) v 0 + more) % 2 ^ 32) ⌝ }
-    ensures { λ r. ⌜ new others ≡ set (old others) v (bitXor (getD (old others) v 0) w) ⌝ }
-    ensures { λ r. ⌜ new marks ≡ set (old marks) v (bitXor (getD (old marks) v 0) mark) ⌝ }
+    ensures { λ r. let before = endsOf (old degrees) (old others) (old marks) in
+        ⌜ endsOf (new degrees) (new others) (new marks) ≡ endTurned v w mark more before ⌝ }
 {
     let i = index32(v);
     let degree = std::num::wrapping_add_u32(at32(degrees, i), more);
@@ -62,6 +62,11 @@ fn note_edge(
     i: u32,
 ) -> u32
     ensures { λ r. ⌜ r ≡ cond (pickedIn (old picked) e) ((i + 1) % 2 ^ 32) i ⌝ }
+    ensures { λ r. let first = getD (old firsts) e 0 in
+        let second = getD (old seconds) e 0 in
+        let before = endsOf (old degrees) (old others) (old marks) in
+        let noted = edgeNoted first second ((i + 1) % 2 ^ 32) before in
+        ⌜ endsOf (new degrees) (new others) (new marks) ≡ cond (pickedIn (old picked) e) noted before ⌝ }
 {
     if survey_components::is_picked(picked, e) {
         let a = at32(firsts, e);
@@ -84,6 +89,11 @@ fn note_edges(
     marks: &mut [u32; MAX_VERTICES],
 ) -> u32
     ensures { λ r. ⌜ r ≡ countBelow (length (old firsts)) (pickedIn (old picked)) % 2 ^ 32 ⌝ }
+    ensures { λ r. let first : ℕ → ℕ = λ e. getD (old firsts) e 0 in
+        let second : ℕ → ℕ = λ e. getD (old seconds) e 0 in
+        let before = endsOf (old degrees) (old others) (old marks) in
+        ⌜ endsOf (new degrees) (new others) (new marks)
+        ≡ edgesNoted first second (pickedIn (old picked)) (length (old firsts)) before ⌝ }
 {
     let mut i = 0;
     let mut e = 0;
@@ -101,8 +111,7 @@ fn queue_leaf(
     v: u32,
     count: usize,
 ) -> usize
-    requires { ⌜ count ≤ maxVertices ⌝ }
-    ensures { λ r. ⌜ r ≤ maxVertices ⌝ }
+    ensures { λ r. ⌜ queueOf (new order) r ≡ leafQueued maxVertices (old degrees) v (queueOf (old order) count) ⌝ }
 {
     if at32(degrees, index32(v)) != 1 {
         return count;
@@ -116,7 +125,8 @@ fn queue_leaf(
 
 // The vertices that have one edge from the start.
 fn queue_leaves(degrees: &[u32; MAX_VERTICES], order: &mut [u32; MAX_VERTICES]) -> usize
-    ensures { λ r. ⌜ r ≤ maxVertices ⌝ }
+    ensures { λ r. ⌜ queueOf (new order) r
+        ≡ leavesQueued maxVertices (old degrees) maxVertices (queueOf (old order) 0) ⌝ }
 {
     let mut count = 0;
     let mut v = 0;
@@ -136,8 +146,9 @@ fn take_leaf(
     k: usize,
     count: usize,
 ) -> usize
-    requires { ⌜ count ≤ maxVertices ⌝ }
-    ensures { λ r. ⌜ r ≤ maxVertices ⌝ }
+    ensures { λ r. let before = peelOf (endsOf (old degrees) (old others) (old marks)) (queueOf (old order) count) in
+        let after = peelOf (endsOf (new degrees) (new others) (new marks)) (queueOf (new order) r) in
+        ⌜ after ≡ leafTaken maxVertices k before ⌝ }
 {
     let v = at32(order, k);
     if at32(degrees, index32(v)) != 1 {
@@ -151,7 +162,11 @@ fn take_leaf(
 
 // The order for the picked edges.
 pub fn peel(firsts: &[u32], seconds: &[u32], picked: &[u8]) -> Peeling
-    ensures { λ r. ⌜ r .count ≤ maxVertices ⌝ }
+    ensures { λ r. let first : ℕ → ℕ = λ e. getD (old firsts) e 0 in
+        let second : ℕ → ℕ = λ e. getD (old seconds) e 0 in
+        let end = peeled maxVertices first second (pickedIn (old picked)) (length (old firsts)) in
+        ⌜ (r .count ≡ end .queue .count) × (r .order ≡ end .queue .order)
+        × (r .others ≡ end .ends .others) × (r .marks ≡ end .ends .marks) ⌝ }
 {
     let mut degrees = [0u32; MAX_VERTICES];
     let mut others = [0u32; MAX_VERTICES];

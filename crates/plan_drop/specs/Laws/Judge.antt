@@ -23,10 +23,12 @@ use Rattle.survey_mates.specs.Mate.{mateOf}
 use Rattle.survey_mates.specs.Laws.Mate.{separates-mates}
 use Rattle.base_buffer.specs.Store.{remade}
 use Rattle.base_buffer.specs.Laws.Store.{length-remade, remade-more}
-use Rattle.theory_graph.specs.Path.{crosses, Forest}
+use Rattle.theory_graph.specs.Path.{crosses}
 use Rattle.theory_steiner.specs.Laws.Cut.{needed-by-cut}
 use Rattle.survey_components.specs.Labels.{pickedIn}
 use Rattle.plan_cuts.specs.Word.{wordBits, inBatch, Alone, CutEndsBelow}
+use Rattle.plan_cuts.specs.Tried.{triedWords}
+use Rattle.plan_cuts.specs.Laws.Tried.{tried-words-alone}
 use Rattle.plan_drop.specs.Prunable.{Prunable, unweighted}
 use Rattle.plan_drop.specs.Judge.{sideIn, partedBelow, judged, raised, prunedMarks, droppedMarks, batchMarks, MarkStep}
 use Rattle.plan_cuts.specs.Laws.Word.{bit-xor, count-lt}
@@ -199,8 +201,7 @@ module _ (groups firsts seconds picked : List ℕ) (ok : Prunable groups firsts 
 
   -- A batch by the words is the batch of the definition.
   pub batch-is : (base : ℕ) (marks : List ℕ) {mates after words : List ℕ} → mates ≡ tabulate maxVertices (mateOf groups)
-      → (CutEndsBelow maxVertices (λ e. getD firsts e 0) (λ e. getD seconds e 0) (length firsts) → Forest (λ e. getD firsts e 0) (λ e. getD seconds e 0) F
-      → Alone (λ e. getD firsts e 0) (λ e. getD seconds e 0) F base (length firsts) words)
+      → words ≡ triedWords maxVertices (λ e. getD firsts e 0) (λ e. getD seconds e 0) F base (length firsts)
       → after ≡ remade (raised F (judged (partedBelow words mates (length groups)) base)) (length firsts) marks
       → after ≡ batchMarks p F base (length firsts) marks
   unfolding batchMarks raised judged problemOf
@@ -218,7 +219,7 @@ module _ (groups firsts seconds picked : List ℕ) (ok : Prunable groups firsts 
           rw
           (t, i)
           (parted-separates words mates groups (ok .few) m (countBelow e F - base)
-          ∙ bit-needed base e (h ends-below (ok .forest)) b t (in-batch base (countBelow e F) i))
+          ∙ bit-needed base e (tried-words-alone maxVertices _ _ F base (length firsts) ends-below (ok .forest) h) b t (in-batch base (countBelow e F) i))
 
 -- ---- batch after batch
 

@@ -1,28 +1,29 @@
--- `queue_leaves` meets its contract: there is never more than there is room for.
+-- `queue_leaves` meets its contract: after v vertices the order is that of the definition.
 use Prim.Native.Nat.{_≤_, _-_}
+use mathlib.Core.Path.{_≡_, sym}
 use native.Mathlib.Omega.{arith}
-use borrow.Author.Needs.{needs}
 use Rattle.base_limits.specs.Limits.{maxVertices}
+use Rattle.plan_peel.specs.Peel.{queueOf, leavesQueued}
+use Rattle.plan_peel.specs.Laws.Peel.{leaves-none, leaves-more, leaves-end}
+use borrow.Author.Needs.{needs}
 use Rattle.plan_peel.proofs.queue_leaves.Statement.{statement}
 use Rattle.plan_peel.proofs.queue_leaves.Tie as tie
 
 abbrev Inv-loop : tie.InvT-loop
-Inv-loop degrees order₀ count₀ v₀ order count v = (v ≤ maxVertices) × (count ≤ maxVertices)
+Inv-loop degrees order₀ count₀ v₀ order count v =
+    (v ≤ maxVertices) × (queueOf order count ≡ leavesQueued maxVertices degrees v (queueOf order₀ 0))
 
 abbrev μ-loop : tie.MeasureT-loop
 μ-loop degrees order₀ count₀ v₀ order count v = maxVertices - v
 
 loop-holds : tie.Need-loop-holds Inv-loop μ-loop
-loop-holds c = (omega arith, omega arith)
-
-queue-leaf-requires : tie.Need-queue-leaf-requires Inv-loop μ-loop
-queue-leaf-requires c κs = c .before .before .loop .inv .1
+loop-holds c = (omega arith, sym (leaves-none maxVertices _ _))
 
 loop-again : tie.Need-loop-again Inv-loop μ-loop
-loop-again c = (omega arith, c .queue-leaf .ensures)
+loop-again c = (omega arith, leaves-more maxVertices _ _ _ (c .before .before .before .loop .inv .1) (c .queue-leaf .ensures))
 
 returns : tie.Need-returns Inv-loop μ-loop
-returns c = c .before .loop .inv .1
+returns c = leaves-end maxVertices _ maxVertices _ _ (omega arith) (omega arith) (c .before .loop .inv .1)
 
 pub queue-leaves-spec : {M : Type 1} → statement M
 queue-leaves-spec =
@@ -32,7 +33,7 @@ queue-leaves-spec =
     μ-loop
     loop-holds
     (λ c. search needs)
-    queue-leaf-requires
+    (λ c κs. search needs)
     (λ c. search needs)
     (λ c. search needs)
     loop-again

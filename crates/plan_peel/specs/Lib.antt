@@ -1,0 +1,2 @@
+pub mod Peel
+pub mod Laws
