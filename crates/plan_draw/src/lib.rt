@@ -24,10 +24,6 @@ use survey_labels::relabel;
 // Bytes of a record for each round.
 const SETS_ROOM: usize = RECORD_BYTES * MAX_VERTICES;
 
-fn room() -> [u8; SETS_ROOM] {
-    [0; SETS_ROOM]
-}
-
 // Writes the record of value x with these members after the first k records.
 fn put_record(records: &mut [u8], k: usize, x: u64, set: &[u8; RECORD_BYTES])
     requires { ⌜ RecordsFit (k + 1) (now records) ⌝ }
@@ -133,7 +129,7 @@ fn draw_trace(
 {
     let mut labels = [0u32; MAX_VERTICES];
     own_labels(&mut labels);
-    let mut sets = room();
+    let mut sets = [0u8; SETS_ROOM];
     let end = n + rounds;
     let mut count = 0;
     let mut c = 0;

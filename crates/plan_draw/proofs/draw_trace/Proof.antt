@@ -20,26 +20,26 @@ abbrev μ-loop : tie.MeasureT-loop
     end - c
 
 add-end : tie.Need-add-end Inv-loop μ-loop
-add-end c = let pre = c .before .before .before .before .before .before .before .before .before .pre in omega arith
+add-end c = let pre = c .before .before .before .before .before .before .before .before .pre in omega arith
 
 loop-holds : tie.Need-loop-holds Inv-loop μ-loop
 loop-holds c =
-    (omega arith, replayed-none _ _ _ (c .before .before .own-labels .ensures ∙ remade-table (λ v x. v) maxVertices _ (λ v. v) refl (λ v b. refl)))
+    (omega arith, replayed-none _ _ _ (c .before .own-labels .ensures ∙ remade-table (λ v x. v) maxVertices _ (λ v. v) refl (λ v b. refl)))
 
 arise-requires : tie.Need-arise-requires Inv-loop μ-loop
 arise-requires c κs =
-    let pre = c .before .before .before .before .before .before .before .before .before .before .before .before .before .pre in
+    let pre = c .before .before .before .before .before .before .before .before .before .before .before .before .pre in
     record { few = omega arith; below = omega arith }
 
 write-dual-requires : tie.Need-write-dual-requires Inv-loop μ-loop
 write-dual-requires c κs =
-    let entry = c .before .before .before .before .before .before .before .before .before .before .before .before .before .before .before .before .before in
+    let entry = c .before .before .before .before .before .before .before .before .before .before .before .before .before .before .before .before in
     let a = entry .args in
     written-fits _ _ (a .n + a .rounds) (c .before .before .before .before .before .before .before .loop .c) (entry .pre .room) (c .before .before .before .before .before .before .loop-test .taken) (c .before .before .before .before .before .before .before .loop .inv .1 .duals-written)
 
 loop-again : tie.Need-loop-again Inv-loop μ-loop
 loop-again c =
-    let entry = c .before .before .before .before .before .before .before .before .before .before .before .before .before .before .before .before .before .before .before .before in
+    let entry = c .before .before .before .before .before .before .before .before .before .before .before .before .before .before .before .before .before .before .before in
     let turn = c .before .before .before .before .before .before .before .before .before .before in
     let a = entry .args in
     let made = c .before .before .before .before .before .before .arise .ensures in (
@@ -54,7 +54,7 @@ loop-again c =
 
 same-length : tie.Need-same-length Inv-loop μ-loop
 same-length c =
-    let pre = c .before .before .before .before .before .before .before .before .before .before .before .pre in
+    let pre = c .before .before .before .before .before .before .before .before .before .before .pre in
     written-length _ _ _ (omega arith) (c .before .loop .inv .1 .duals-written)
 
 returns : tie.Need-returns Inv-loop μ-loop
@@ -69,7 +69,6 @@ draw-trace-spec =
     Inv-loop
     μ-loop
     (λ c. search needs)
-    (λ c κs. search needs)
     (λ c κs. search needs)
     add-end
     loop-holds
