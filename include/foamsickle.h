@@ -71,8 +71,9 @@ extern "C" {
 #define FOAMSICKLE_PLAN_BYTES (8 * FOAMSICKLE_PLAN_FIGURES)
 #define FOAMSICKLE_CHECK_BYTES (8 * FOAMSICKLE_CHECK_FIGURES)
 
-/* Bytes of stack that a call takes, at most. */
+/* Bytes of stack that a call takes, at most; foamsickle_why, which walks a route, takes up to the second. */
 #define FOAMSICKLE_STACK 131072
+#define FOAMSICKLE_WHY_STACK 262144
 
 /* What an answer other than 0 says. */
 #define FOAMSICKLE_NUMBER(answer) ((unsigned)((answer) % 256))

@@ -1,6 +1,6 @@
 /* How much stack the library's calls take: each runs in a thread whose stack is painted before, and what is no longer
  * painted afterwards was used. The surveys are as large as can be. Prints the bytes of each call, and ends with 1 if one
- * takes more than FOAMSICKLE_STACK, or than the number given, or does not answer. */
+ * takes more than FOAMSICKLE_STACK (asking why: FOAMSICKLE_WHY_STACK), or than the number given, or does not answer. */
 #include "foamsickle.h"
 
 #include <pthread.h>
@@ -182,12 +182,13 @@ int main(int argc, char **argv) {
     printf("a thread without a call: %zu bytes\n", empty);
     for (size_t i = 0; i < sizeof calls / sizeof *calls; i++) {
         size_t bytes = used(calls[i].call, area) - empty;
-        printf("%s: %zu bytes more, of %zu\n", calls[i].name, bytes, limit);
+        size_t most = argc != 2 && calls[i].call == why ? FOAMSICKLE_WHY_STACK : limit;
+        printf("%s: %zu bytes more, of %zu\n", calls[i].name, bytes, most);
         if (answer != 0) {
             printf("%s answers %llu\n", calls[i].name, (unsigned long long)answer);
             over = 1;
         }
-        if (bytes > limit)
+        if (bytes > most)
             over = 1;
     }
     free(area);

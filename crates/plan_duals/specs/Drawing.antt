@@ -1,11 +1,11 @@
 -- Duals as records in a buffer (document 01, 'What a plan holds': moat records).
 use Prim.Native.Nat.{ℕ, zero, suc, _*_, _≤_}
 use mathlib.Core.Path.{_≡_}
-use mathlib.Core.Bool.{Bool, cond}
+use mathlib.Core.Bool.{Bool, _&&_, cond}
 use mathlib.Core.List.{List, [], _∷_, _++_}
-use lib.ListN.{length, take, drop}
-use lib.Dec.{ltb}
-use Rattle.base_limits.specs.Limits.{recordBytes}
+use lib.ListN.{length, getD, take, drop}
+use lib.Dec.{eqb, ltb}
+use Rattle.base_limits.specs.Limits.{maxVertices, recordBytes}
 use Rattle.format_record.specs.Record.{recordOf}
 use Rattle.theory_steiner.specs.Dual.{Dual}
 
@@ -36,6 +36,16 @@ unfoldable pub dualsBelow : (value : ℕ → ℕ) → (holds : ℕ → ℕ → B
 dualsBelow value holds zero = []
 dualsBelow value holds (suc c) = dualsBelow value holds c ++ dualIf (value c) (holds c)
 
--- There is room for k records.
-pub record RecordsFit (k : ℕ) (records : List ℕ) : Type 0 where
+-- The vertices below n that have label c.
+unfoldable pub withLabel : (labels : List ℕ) → (n c : ℕ) → ℕ → Bool
+withLabel labels n c v = ltb v n && eqb (getD labels v 0) c
+
+-- There is room for one record, and for every vertex in it.
+pub record RecordFits (n : ℕ) (part : List ℕ) : Type 0 where
+  pub few : n ≤ maxVertices
+  pub long : length part ≡ recordBytes
+
+-- There is room for k records, and for every vertex in each.
+pub record RecordsFit (n k : ℕ) (records : List ℕ) : Type 0 where
+  pub few : n ≤ maxVertices
   pub room : recordBytes * k ≤ length records

@@ -1,4 +1,4 @@
--- `draw_trace` meets its contract: up to component number c, labels and members are the trace's and the duals stand in the buffer.
+-- `draw_trace` meets its contract: up to component number c, the labels are the trace's and the duals stand in the buffer.
 use borrow.Author.Needs.{needs}
 use Prim.Native.Nat.{_+_, _≤_, _-_}
 use mathlib.Core.Path.{refl, _∙_}
@@ -12,11 +12,11 @@ use Rattle.plan_draw.proofs.draw_trace.Statement.{statement}
 use Rattle.plan_draw.proofs.draw_trace.Tie as tie
 
 abbrev Inv-loop : tie.InvT-loop
-Inv-loop n firsts seconds values order rounds records₀ labels₀ sets₀ end count₀ c₀ records labels sets count c =
-    (c ≤ end) × Replayed (traceFrom n firsts seconds values order rounds) c labels sets₀ sets records₀ records count
+Inv-loop n firsts seconds values order rounds records₀ labels₀ end count₀ c₀ records labels count c =
+    (c ≤ end) × Replayed (traceFrom n firsts seconds values order rounds) c labels records₀ records count
 
 abbrev μ-loop : tie.MeasureT-loop
-μ-loop n firsts seconds values order rounds records₀ labels₀ sets₀ end count₀ c₀ records labels sets count c =
+μ-loop n firsts seconds values order rounds records₀ labels₀ end count₀ c₀ records labels count c =
     end - c
 
 add-end : tie.Need-add-end Inv-loop μ-loop
@@ -24,32 +24,32 @@ add-end c = let pre = c .before .before .before .before .before .before .before 
 
 loop-holds : tie.Need-loop-holds Inv-loop μ-loop
 loop-holds c =
-    (omega arith, replayed-none _ _ _ (c .before .own-labels .ensures ∙ remade-table (λ v x. v) maxVertices _ (λ v. v) refl (λ v b. refl)))
+    (omega arith, replayed-none _ _ (c .before .own-labels .ensures ∙ remade-table (λ v x. v) maxVertices _ (λ v. v) refl (λ v b. refl)))
 
 arise-requires : tie.Need-arise-requires Inv-loop μ-loop
-arise-requires c κs =
-    let pre = c .before .before .before .before .before .before .before .before .before .before .before .before .pre in
-    record { few = omega arith; below = omega arith }
+arise-requires c κs = let pre = c .before .before .before .before .before .before .before .before .before .before .before .pre in omega arith
+
+cast-write-dual : tie.Need-cast-write-dual Inv-loop μ-loop
+cast-write-dual c =
+    let entry = c .before .before .before .before .before .before .before .before .before .before .before .before .before .before .before in
+    let pre = entry .pre in omega arith
 
 write-dual-requires : tie.Need-write-dual-requires Inv-loop μ-loop
 write-dual-requires c κs =
-    let entry = c .before .before .before .before .before .before .before .before .before .before .before .before .before .before .before .before in
+    let entry = c .before .before .before .before .before .before .before .before .before .before .before .before .before .before .before in
     let a = entry .args in
-    written-fits _ _ (a .n + a .rounds) (c .before .before .before .before .before .before .before .loop .c) (entry .pre .room) (c .before .before .before .before .before .before .loop-test .taken) (c .before .before .before .before .before .before .before .loop .inv .1 .duals-written)
+    let pre = entry .pre in
+    written-fits _ _ (a .n) (a .n + a .rounds) (c .before .before .before .before .before .before .loop .c) (pre .few) (pre .room) (c .before .before .before .before .before .loop-test .taken) (c .before .before .before .before .before .before .loop .inv .1 .duals-written)
 
 loop-again : tie.Need-loop-again Inv-loop μ-loop
 loop-again c =
-    let entry = c .before .before .before .before .before .before .before .before .before .before .before .before .before .before .before .before .before .before .before in
-    let turn = c .before .before .before .before .before .before .before .before .before .before in
+    let entry = c .before .before .before .before .before .before .before .before .before .before .before .before .before .before .before .before .before .before in
     let a = entry .args in
-    let made = c .before .before .before .before .before .before .arise .ensures in (
+    let w = c .before .before .write-dual .ensures in (
       omega arith,
-      replayed-more (traceFrom (a .n) (a .firsts .now) (a .seconds .now) (a .values .now) (a .order .now) (a .rounds)) (turn .loop .c) (entry .pre) (c .before .before .before .before .before .before .before .before .before .loop-test .taken) (turn .loop .inv .1)
-          (made .0)
-          (made .1 .0)
-          (made .1 .1)
-          (c .before .before .before .before .at64 .ensures)
-          (c .before .before .write-dual .ensures),
+      replayed-more (traceFrom (a .n) (a .firsts .now) (a .seconds .now) (a .values .now) (a .order .now) (a .rounds)) (c .before .before .before .before .before .before .before .before .before .loop .c) (entry .pre) (c .before .before .before .before .before .before .before .before .loop-test .taken) (c .before .before .before .before .before .before .before .before .before .loop .inv .1) (c .before .before .before .before .before .before .arise .ensures) (c .before .before .before .before .at64 .ensures)
+          (w .0)
+          (w .1),
     )
 
 same-length : tie.Need-same-length Inv-loop μ-loop
@@ -74,6 +74,7 @@ draw-trace-spec =
     loop-holds
     arise-requires
     (λ c κs. search needs)
+    cast-write-dual
     write-dual-requires
     (λ c. search needs)
     (λ c. search needs)
