@@ -9,12 +9,12 @@ use lib.Bits.{bitXor}
 use Rattle.base_finite.specs.Below.{countBelow}
 
 -- Of each vertex how many edges are left, and the exclusive ors of these edges' other ends and of their marks: with one edge left they are its own.
-pub record Ends : Type 0 where
+pub record EndSums : Type 0 where
   pub degrees : List ℕ
   pub others : List ℕ
   pub marks : List ℕ
 
-abbrev pub endsOf : (degrees others marks : List ℕ) → Ends
+abbrev pub endsOf : (degrees others marks : List ℕ) → EndSums
 endsOf d o m = record { degrees = d; others = o; marks = m }
 
 -- The vertices that are to go, in order, and how many they are.
@@ -26,10 +26,10 @@ abbrev pub queueOf : (order : List ℕ) (count : ℕ) → Queue
 queueOf o c = record { order = o; count = c }
 
 pub record Peel : Type 0 where
-  pub ends : Ends
+  pub ends : EndSums
   pub queue : Queue
 
-abbrev pub peelOf : Ends → Queue → Peel
+abbrev pub peelOf : EndSums → Queue → Peel
 peelOf e q = record { ends = e; queue = q }
 
 -- 1 edge more or less at a vertex.
@@ -40,7 +40,7 @@ abbrev pub oneLess : ℕ
 oneLess = 4294967295
 
 -- An edge to w with this mark comes to v, or goes from it.
-unfoldable pub endTurned : (v w mark more : ℕ) → Ends → Ends
+unfoldable pub endTurned : (v w mark more : ℕ) → EndSums → EndSums
 endTurned v w mark more s =
     record {
       degrees = set (s .degrees) v ((getD (s .degrees) v 0 + more) % 2 ^ 32);
@@ -49,11 +49,11 @@ endTurned v w mark more s =
     }
 
 -- An edge comes to both its ends.
-unfoldable pub edgeNoted : (a b mark : ℕ) → Ends → Ends
+unfoldable pub edgeNoted : (a b mark : ℕ) → EndSums → EndSums
 edgeNoted a b mark s = endTurned b a mark oneMore (endTurned a b mark oneMore s)
 
 -- The edges of F below m; an edge's mark is 1 more than its index.
-unfoldable pub edgesNoted : (a b : ℕ → ℕ) → (ℕ → Bool) → (m : ℕ) → Ends → Ends
+unfoldable pub edgesNoted : (a b : ℕ → ℕ) → (ℕ → Bool) → (m : ℕ) → EndSums → EndSums
 edgesNoted a b F zero s = s
 edgesNoted a b F (suc e) s =
     let before = edgesNoted a b F e s in cond (F e) (edgeNoted (a e) (b e) ((countBelow e F + 1) % 2 ^ 32) before) before
@@ -91,6 +91,6 @@ unpeeled N a b F m =
     let noted = edgesNoted a b F m (endsOf zeros zeros zeros) in
     peelOf noted (leavesQueued N (noted .degrees) N (queueOf zeros 0))
 
--- And the whole. N are never too few (law `taken-end`).
+-- And the whole. N are never too few (law `peel-last`).
 unfoldable pub peeled : (N : ℕ) (a b : ℕ → ℕ) → (ℕ → Bool) → (m : ℕ) → Peel
 peeled N a b F m = leavesTaken N N (unpeeled N a b F m)

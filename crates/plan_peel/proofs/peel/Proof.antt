@@ -6,7 +6,7 @@ use native.Mathlib.Omega.{arith}
 use Rattle.base_limits.specs.Limits.{maxVertices}
 use Rattle.survey_components.specs.Labels.{pickedIn}
 use Rattle.plan_peel.specs.Peel.{endsOf, queueOf, Peel, peelOf, leavesTaken, unpeeled}
-use Rattle.plan_peel.specs.Laws.Peel.{taken-more, peel-start, peel-few, peel-end}
+use Rattle.plan_peel.specs.Laws.Peel.{peel-more, peel-start, peel-few, peel-end}
 use borrow.Author.Needs.{needs}
 use Rattle.plan_peel.proofs.peel.Statement.{statement}
 use Rattle.plan_peel.proofs.peel.Tie as tie
@@ -29,7 +29,7 @@ loop-less c = omega (arith, peel-few maxVertices _ _ _ _ _ (c .before .before .b
 loop-again : tie.Need-loop-again Inv-loop μ-loop
 loop-again c = (
   omega (arith, peel-few maxVertices _ _ _ _ _ (c .before .before .before .before .before .before .loop .inv .1)),
-  taken-more maxVertices _ _ (c .before .before .before .before .before .before .loop .inv .1) (c .before .before .before .before .before .loop-test .taken) (c .take-leaf .ensures),
+  peel-more maxVertices _ _ (c .before .before .before .before .before .before .loop .inv .1) (c .before .before .before .before .before .loop-test .taken) (c .take-leaf .ensures),
 )
 
 returns : tie.Need-returns Inv-loop μ-loop

@@ -13,7 +13,7 @@ use borrow.Author.Tests.{eq-eqb, ne-eqb, lt-ltb, le-ltb}
 use Rattle.base_finite.specs.Below.{countBelow}
 use Rattle.base_finite.specs.Laws.Below.{lt-or-ge}
 use Rattle.base_finite.specs.Laws.Test.{either}
-use Rattle.plan_peel.specs.Peel.{Ends, endsOf, Queue, queueOf, Peel, peelOf, oneMore, oneLess, endTurned, edgeNoted, edgesNoted, leafQueued, leavesQueued, leafGone, leafTaken, leavesTaken, unpeeled, peeled}
+use Rattle.plan_peel.specs.Peel.{EndSums, endsOf, Queue, queueOf, Peel, peelOf, oneMore, oneLess, endTurned, edgeNoted, edgesNoted, leafQueued, leavesQueued, leafGone, leafTaken, leavesTaken, unpeeled, peeled}
 
 -- ---- edges
 
@@ -26,26 +26,26 @@ unfolding endTurned
 turned-by v w mark more degrees others marks d o m = rw (d, o, m)
 
 -- A picked edge, and another.
-pub noted-picked : (a b i : ℕ) (s : Ends) {in-set : Bool} {u v mark : ℕ} {mid after : Ends} → in-set ≡ true → u ≡ a → v ≡ b → mark ≡ (i + 1) % 2 ^ 32
+pub noted-picked : (a b i : ℕ) (s : EndSums) {in-set : Bool} {u v mark : ℕ} {mid after : EndSums} → in-set ≡ true → u ≡ a → v ≡ b → mark ≡ (i + 1) % 2 ^ 32
     → mid ≡ endTurned u v mark oneMore s → after ≡ endTurned v u mark oneMore mid → after ≡ cond in-set (edgeNoted a b ((i + 1) % 2 ^ 32) s) s
 unfolding edgeNoted
 noted-picked a b i s t u v m h k = k ∙ rw (h, u, v, m, t)
 
-pub noted-passed : (n s : Ends) {in-set : Bool} → in-set ≡ false → s ≡ cond in-set n s
+pub noted-passed : (n s : EndSums) {in-set : Bool} → in-set ≡ false → s ≡ cond in-set n s
 noted-passed n s t = rw t
 
-module _ (a b : ℕ → ℕ) (F : ℕ → Bool) (s : Ends) where
+module _ (a b : ℕ → ℕ) (F : ℕ → Bool) (s : EndSums) where
   pub edges-none : edgesNoted a b F 0 s ≡ s
   unfolding edgesNoted
   edges-none = refl
 
-  pub edges-more : (e : ℕ) {i : ℕ} {now after : Ends} → i ≡ countBelow e F % 2 ^ 32 → now ≡ edgesNoted a b F e s
+  pub edges-more : (e : ℕ) {i : ℕ} {now after : EndSums} → i ≡ countBelow e F % 2 ^ 32 → now ≡ edgesNoted a b F e s
       → after ≡ cond (F e) (edgeNoted (a e) (b e) ((i + 1) % 2 ^ 32) now) now → after ≡ edgesNoted a b F (e + 1) s
   unfolding edgesNoted
   edges-more e {i} h k r =
       let mark : (i + 1) % 2 ^ 32 ≡ (countBelow e F + 1) % 2 ^ 32 = omega arith in r ∙ rw (mark, k, add-one e)
 
-  pub edges-end : (m e : ℕ) {now : Ends} → e ≤ m → m ≤ e → now ≡ edgesNoted a b F e s → now ≡ edgesNoted a b F m s
+  pub edges-end : (m e : ℕ) {now : EndSums} → e ≤ m → m ≤ e → now ≡ edgesNoted a b F e s → now ≡ edgesNoted a b F m s
   edges-end m e l k h = let q : m ≡ e = omega arith in rw q h
 
 -- ---- leaves
@@ -91,41 +91,37 @@ module _ (N : ℕ) (degrees : List ℕ) where
 -- ---- taking them away
 
 module _ (N : ℕ) where
-  pub taken-not : (k : ℕ) (s : Peel) {v : ℕ} → v ≡ getD (s .queue .order) k 0 → (getD (s .ends .degrees) v 0 ≡ 1 → ⊥) → s ≡ leafTaken N k s
+  pub leaf-kept : (k : ℕ) (s : Peel) {v : ℕ} → v ≡ getD (s .queue .order) k 0 → (getD (s .ends .degrees) v 0 ≡ 1 → ⊥) → s ≡ leafTaken N k s
   unfolding leafTaken
-  taken-not k s {v} e h = rw⁻¹ e (rw (ne-eqb (getD (s .ends .degrees) v 0) 1 h))
+  leaf-kept k s {v} e h = rw⁻¹ e (rw (ne-eqb (getD (s .ends .degrees) v 0) 1 h))
 
-  pub taken-gone : (k : ℕ) (s : Peel) {v w mark : ℕ} {ends : Ends} {queue : Queue} → v ≡ getD (s .queue .order) k 0 → getD (s .ends .degrees) v 0 ≡ 1
+  pub leaf-gone : (k : ℕ) (s : Peel) {v w mark : ℕ} {ends : EndSums} {queue : Queue} → v ≡ getD (s .queue .order) k 0 → getD (s .ends .degrees) v 0 ≡ 1
       → w ≡ getD (s .ends .others) v 0 → mark ≡ getD (s .ends .marks) v 0 → ends ≡ endTurned w v mark oneLess (s .ends)
       → queue ≡ leafQueued N (ends .degrees) w (s .queue) → peelOf ends queue ≡ leafTaken N k s
   unfolding leafTaken leafGone
-  taken-gone k s {v} e h o m r q = rw (q, r, m, o, e) (rw (eq-eqb (getD (s .ends .degrees) (getD (s .queue .order) k 0) 0) 1 (rw⁻¹ e h)))
+  leaf-gone k s {v} e h o m r q = rw (q, r, m, o, e) (rw (eq-eqb (getD (s .ends .degrees) (getD (s .queue .order) k 0) 0) 1 (rw⁻¹ e h)))
 
-  taken-few : (k : ℕ) (s : Peel) → s .queue .count ≤ N → leafTaken N k s .queue .count ≤ N
+  leaf-few : (k : ℕ) (s : Peel) → s .queue .count ≤ N → leafTaken N k s .queue .count ≤ N
   unfolding leafTaken leafGone
-  taken-few k s l =
+  leaf-few k s l =
       ⊎-elim (λ t. rw t (queued-few N _ _ (s .queue) l)) (λ t. rw t l) (either (eqb (getD (s .ends .degrees) (getD (s .queue .order) k 0) 0) 1))
 
   all-few : (k : ℕ) (s : Peel) → s .queue .count ≤ N → leavesTaken N k s .queue .count ≤ N
   unfolding leavesTaken
   all-few zero s l = l
   all-few (suc k) s l =
-      ⊎-elim (λ t. rw t (taken-few k _ (all-few k s l))) (λ t. rw t (all-few k s l)) (either (ltb k (leavesTaken N k s .queue .count)))
+      ⊎-elim (λ t. rw t (leaf-few k _ (all-few k s l))) (λ t. rw t (all-few k s l)) (either (ltb k (leavesTaken N k s .queue .count)))
 
-  pub taken-none : (s : Peel) → leavesTaken N 0 s ≡ s
-  unfolding leavesTaken
-  taken-none s = refl
-
-  pub taken-more : (k : ℕ) (s : Peel) {now after : Peel} → now ≡ leavesTaken N k s → k < now .queue .count → after ≡ leafTaken N k now
+  pub peel-more : (k : ℕ) (s : Peel) {now after : Peel} → now ≡ leavesTaken N k s → k < now .queue .count → after ≡ leafTaken N k now
       → after ≡ leavesTaken N (k + 1) s
   unfolding leavesTaken
-  taken-more k s {now} h l r = r ∙ rw (add-one k) (rw⁻¹ h (rw (lt-ltb k (now .queue .count) l)))
+  peel-more k s {now} h l r = r ∙ rw (add-one k) (rw⁻¹ h (rw (lt-ltb k (now .queue .count) l)))
 
   -- Behind the last of the order nothing changes any more.
-  taken-still : (k : ℕ) (s : Peel) → leavesTaken N k s .queue .count ≤ k → (n : ℕ) → k ≤ n → leavesTaken N n s ≡ leavesTaken N k s
+  peel-still : (k : ℕ) (s : Peel) → leavesTaken N k s .queue .count ≤ k → (n : ℕ) → k ≤ n → leavesTaken N n s ≡ leavesTaken N k s
   unfolding leavesTaken
-  taken-still k s few zero l = let q : k ≡ 0 = omega arith in rw q
-  taken-still k s few (suc n) l = by (lt-or-ge n k) (λ h. taken-still k s few n h)
+  peel-still k s few zero l = let q : k ≡ 0 = omega arith in rw q
+  peel-still k s few (suc n) l = by (lt-or-ge n k) (λ h. peel-still k s few n h)
     where
       by : (n < k) ⊎ (k ≤ n) → (k ≤ n → leavesTaken N n s ≡ leavesTaken N k s) → leavesTaken N (suc n) s ≡ leavesTaken N k s
       by (inl h) old = let q : k ≡ suc n = omega arith in rw q
@@ -133,8 +129,8 @@ module _ (N : ℕ) where
           let last : leavesTaken N n s .queue .count ≤ n = rw (old h) (omega arith) in
           rw (le-ltb n (leavesTaken N n s .queue .count) last) (old h)
 
-  pub taken-end : (k : ℕ) (s : Peel) {now : Peel} → k ≤ N → now ≡ leavesTaken N k s → now .queue .count ≤ k → now ≡ leavesTaken N N s
-  taken-end k s few h l = h ∙ sym (taken-still k s (rw⁻¹ h l) N few)
+  pub peel-last : (k : ℕ) (s : Peel) {now : Peel} → k ≤ N → now ≡ leavesTaken N k s → now .queue .count ≤ k → now ≡ leavesTaken N N s
+  peel-last k s few h l = h ∙ sym (peel-still k s (rw⁻¹ h l) N few)
 
 -- ---- the whole
 
@@ -145,7 +141,7 @@ module _ (N : ℕ) (a b : ℕ → ℕ) (F : ℕ → Bool) (m : ℕ) where
   peel-few k h = rw h (all-few N k _ (leaves-few N _ N _ (omega arith)))
 
   -- What the first two loops leave.
-  pub peel-start : {ends : Ends} {queue : Queue} → ends ≡ edgesNoted a b F m (endsOf (replicate N 0) (replicate N 0) (replicate N 0))
+  pub peel-start : {ends : EndSums} {queue : Queue} → ends ≡ edgesNoted a b F m (endsOf (replicate N 0) (replicate N 0) (replicate N 0))
       → queue ≡ leavesQueued N (ends .degrees) N (queueOf (replicate N 0) 0) → peelOf ends queue ≡ leavesTaken N 0 (unpeeled N a b F m)
   unfolding leavesTaken unpeeled
   peel-start h k = rw (k, h)
@@ -153,4 +149,4 @@ module _ (N : ℕ) (a b : ℕ → ℕ) (F : ℕ → Bool) (m : ℕ) where
   -- And the last.
   pub peel-end : (k : ℕ) {now : Peel} → k ≤ N → now ≡ leavesTaken N k (unpeeled N a b F m) → now .queue .count ≤ k → now ≡ peeled N a b F m
   unfolding peeled
-  peel-end k few h l = taken-end N k _ few h l
+  peel-end k few h l = peel-last N k _ few h l
