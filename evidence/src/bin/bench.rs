@@ -25,7 +25,9 @@ const PLANNERS: &[&str] = if cfg!(feature = "native") { &["fast", "native"] } el
 const SIZES: [(usize, usize); 9] =
     [(64, 2048), (128, 2048), (256, 2048), (256, 1024), (256, 512), (256, 300), (448, 2048), (448, 1024), (448, 512)];
 /// Those of which instructions are counted.
-const COUNTED: [(usize, usize); 4] = [(256, 300), (256, 512), (448, 512), (448, 2048)];
+const COUNTED: [(usize, usize); 5] = [(256, 300), (256, 512), (448, 512), (448, 2048), SPARSE];
+/// In place of a size: random surveys with few tracks and few sites.
+const SPARSE: (usize, usize) = (0, 0);
 
 type Timed<'a> = &'a mut dyn FnMut(View, &mut [u8], &mut [u8]) -> Result<Counts, Refusal>;
 
@@ -39,8 +41,11 @@ struct Options {
     one: Option<(String, usize, usize)>,
 }
 
-/// The i-th survey of a size.
+/// The i-th survey of a size, or of those with few tracks and few sites.
 fn survey_of(options: &Options, (n, m): (usize, usize), i: usize) -> Survey {
+    if (n, m) == SPARSE {
+        return sparse(&mut Rng::of_case(!options.seed, i as u64));
+    }
     timed(&mut Rng::of_case(options.seed, (1_000 * n + i) as u64), n, m, i)
 }
 
@@ -132,7 +137,7 @@ fn spread(mut values: Vec<f64>) -> [f64; 3] {
 fn sample(options: &Options, planners: &mut [Timed]) {
     let (mut ours, mut ratios) = (Vec::new(), Vec::new());
     for i in 0..options.sample {
-        let survey = sparse(&mut Rng::of_case(!options.seed, i));
+        let survey = survey_of(options, SPARSE, i as usize);
         compare(&survey, &owned(fast, survey.view()).expect("it can be joined"), planners);
         let least: Vec<f64> = times(&[&survey], planners, 5).iter().map(|time| time[1] as f64).collect();
         ours.push(least[0]);
@@ -198,7 +203,11 @@ fn instructions(options: &Options) -> ExitCode {
             return ExitCode::FAILURE;
         };
         let each: Vec<u64> = each.iter().map(|sum| sum / options.surveys as u64).collect();
-        print!("{} junctions, {} tracks: fast {} instructions per plan", counts.0, counts.1, each[0]);
+        match counts {
+            SPARSE => print!("sparse surveys with few sites"),
+            (n, m) => print!("{n} junctions, {m} tracks"),
+        }
+        print!(": fast {} instructions per plan", each[0]);
         if let Some(outside) = each.get(1) {
             print!(", native {outside}, {:.2} times", *outside as f64 / each[0] as f64);
         }
