@@ -2,13 +2,12 @@
 // Definitions in specs/.
 ghost use Rattle.base_buffer.specs.Lent.{old, new};
 ghost use mathlib.Core.Path.{_≡_};
-ghost use mathlib.Core.Bool.{cond};
 ghost use Prim.Native.Nat.{_+_, _-_, _*_, _≤_};
 ghost use lib.ListN.{getD, length};
 ghost use lib.Dec.{eqb};
 ghost use Rattle.base_finite.specs.Below.{counted, countBelow};
 ghost use Rattle.plan_winner.specs.Scan.{blockEdges};
-ghost use Rattle.plan_wake.specs.Wake.{endsAt, idleVertex, notesFrom, wokenEdge, wokenOn, wokenAt, wokenBy, wholeBlocks};
+ghost use Rattle.plan_wake.specs.Wake.{endsAt, notesFrom, wokenEdge, wokenOn, wokenAt, wokenBy, wholeBlocks};
 use base_buffer::at32;
 use base_buffer::index32;
 use base_buffer::put64;
@@ -116,7 +115,8 @@ fn whole_blocks(m: usize, k: usize) -> usize
 // All edges that end at c.
 fn wake_ends(firsts: &[u32], seconds: &[u32], c: u32, keys: &mut [u64], floors: &mut [u64])
     ensures { λ r.
-        let s = wokenOn (endsAt (old firsts) (old seconds) c) (notesFrom (old keys) (old floors)) 0 (length (old firsts)) in
+        let m = length (old firsts) in
+        let s = wokenOn (endsAt (old firsts) (old seconds) c) (notesFrom (old keys) (old floors)) 0 m in
         ⌜ notesFrom (new keys) (new floors) ≡ s ⌝ }
 {
     let blocks = whole_blocks(firsts.len(), seconds.len());

@@ -1,6 +1,6 @@
 -- The search over tables: what it reads from arrays (laws of `plan_growth` say that it is what the definition reads).
 use Prim.Native.Nat.{ℕ, _+_, _*_}
-use mathlib.Core.Bool.{cond}
+use mathlib.Core.Bool.{Bool, _&&_, _||_, not, cond}
 use mathlib.Core.List.{List}
 use lib.ListN.{getD, length}
 use lib.Dec.{eqb}
@@ -40,12 +40,20 @@ secondBy t time e = endAt (t .labels) (t .loads) (t .flags) time (getD (t .secon
 unfoldable pub delayBy : Tables → (time e : ℕ) → Delay
 delayBy t time e = delayBetween (firstBy t time e) (secondBy t time e) (getD (t .weights) e 0)
 
--- The key of an edge of weight w between two ends.
-unfoldable pub keyBetween : (time : ℕ) → (a b : End) → (w : ℕ) → ℕ
-keyBetween time a b w = cond (eqb (a .label) (b .label)) noKey (2 * time + slackBetween a b w)
+-- The end at vertex v is a component of its own, and not active.
+unfoldable pub aloneAt : (v : ℕ) → End → Bool
+aloneAt v x = not (eqb (x .flag) 1) && eqb (x .label) v
+
+-- An edge between vertices u and v rests.
+unfoldable pub restsBetween : (u v : ℕ) → (a b : End) → Bool
+restsBetween u v a b = aloneAt u a && aloneAt v b
+
+-- The key of an edge of weight w between the ends at two vertices.
+unfoldable pub keyBetween : (time u v : ℕ) → (a b : End) → (w : ℕ) → ℕ
+keyBetween time u v a b w = cond (eqb (a .label) (b .label) || restsBetween u v a b) noKey (2 * time + slackBetween a b w)
 
 unfoldable pub keyBy : Tables → (time e : ℕ) → ℕ
-keyBy t time e = keyBetween time (firstBy t time e) (secondBy t time e) (getD (t .weights) e 0)
+keyBy t time e = keyBetween time (getD (t .firsts) e 0) (getD (t .seconds) e 0) (firstBy t time e) (secondBy t time e) (getD (t .weights) e 0)
 
 -- So many edges more, and so many blocks, over the tables.
 unfoldable pub onBy : Tables → (time : ℕ) → Scan → (from count : ℕ) → Scan

@@ -7,7 +7,8 @@ ghost use lib.ListN.{set, length};
 ghost use Rattle.theory_steiner.specs.Growth.{better};
 ghost use Rattle.plan_winner.specs.Scan.{timeLimit, limitOf, cappedTime};
 ghost use Rattle.plan_winner.specs.Scan.{blockEdges, blockSize, blocksOf, lowestKey};
-ghost use Rattle.plan_winner.specs.Tables.{tablesIn, delayBy, keyBetween, keyBy, onBy, passBy, scanFrom};
+ghost use Rattle.plan_winner.specs.Tables.{tablesIn, delayBy, aloneAt, restsBetween, keyBetween, keyBy};
+ghost use Rattle.plan_winner.specs.Tables.{onBy, passBy, scanFrom};
 ghost use Rattle.plan_delay.specs.Between.{winnerIn, delayBetween};
 use base_buffer::at64;
 use base_buffer::put64;
@@ -19,7 +20,7 @@ use plan_delay::delay_of;
 use plan_delay::edge_slack;
 use plan_delay::end_at;
 
-// The key of an edge inside a component (`noKey`).
+// The key of an edge inside a component or at rest (`noKey`).
 const NO_KEY: u64 = 18446744073709551615;
 
 // The search goes by times below 2^62, whose sums fit (`timeLimit`).
@@ -47,21 +48,47 @@ fn limit_of(time: u64, best: Winner) -> u64
     NO_KEY
 }
 
-// Notes the key of edge e between two ends: the best with it.
+// Whether the end at vertex v is a component of its own, and not active.
+fn alone_at(v: usize, end: End) -> bool
+    ensures { λ r. ⌜ r ≡ aloneAt v end ⌝ }
+{
+    if end.flag == 1 {
+        return false;
+    }
+    base_buffer::index32(end.label) == v
+}
+
+// Whether an edge between vertices u and v rests.
+fn rests_between(u: usize, v: usize, first: End, second: End) -> bool
+    ensures { λ r. ⌜ r ≡ restsBetween u v first second ⌝ }
+{
+    if alone_at(u, first) {
+        return alone_at(v, second);
+    }
+    false
+}
+
+// Notes the key of edge e between the ends at two vertices: the best with it.
 fn note_edge(
     keys: &mut [u64],
     e: usize,
     time: u64,
     weight: u32,
+    u: usize,
+    v: usize,
     first: End,
     second: End,
     best: Winner,
 ) -> Winner
     requires { ⌜ time < timeLimit ⌝ }
     ensures { λ r. ⌜ winnerIn r ≡ better (winnerIn best) e (delayBetween first second weight) ⌝ }
-    ensures { λ r. ⌜ new keys ≡ set (old keys) e (keyBetween time first second weight) ⌝ }
+    ensures { λ r. ⌜ new keys ≡ set (old keys) e (keyBetween time u v first second weight) ⌝ }
 {
     if first.label == second.label {
+        put64(keys, e, NO_KEY);
+        return best;
+    }
+    if rests_between(u, v, first, second) {
         put64(keys, e, NO_KEY);
         return best;
     }
@@ -95,7 +122,7 @@ fn look(
     let b = base_buffer::index32(base_buffer::at32(seconds, e));
     let first = end_at(labels, loads, flags, time, a);
     let second = end_at(labels, loads, flags, time, b);
-    note_edge(keys, e, time, base_buffer::at32(weights, e), first, second, best)
+    note_edge(keys, e, time, base_buffer::at32(weights, e), a, b, first, second, best)
 }
 
 // Looks at the edges of a block whose noted keys do not say that they come later than the best so far.

@@ -1,24 +1,66 @@
 -- What the code reads of an edge, read by read, is what the tables say of it.
 use Prim.Native.Nat.{ℕ, _+_, _*_}
-use mathlib.Core.Path.{_≡_, ap, sym}
+use mathlib.Core.Path.{_≡_, refl, ap, sym, _∙_}
+use mathlib.Core.Bool.{Bool, true, false, _&&_, _||_, not, cond}
 use mathlib.Core.List.{List}
 use lib.ListN.{getD, set}
-use borrow.Author.Tests.{eq-eqb, ne-eqb}
-use Rattle.theory_steiner.specs.Growth.{Winner, better}
+use lib.Dec.{eqb}
+use borrow.Author.Tests.{eq-eqb, ne-eqb, not-true}
+use Rattle.base_finite.specs.Laws.Test.{and-left, and-right, or-right}
+use Rattle.theory_steiner.specs.Growth.{never, activeEnds, delayFor, delayOf, Winner, better}
 use Rattle.plan_delay.specs.declared.End.{End}
 use Rattle.plan_delay.specs.Between.{endAt, slackBetween, delayBetween}
 use Rattle.plan_winner.specs.Scan.{noKey}
-use Rattle.plan_winner.specs.Tables.{Tables, firstBy, secondBy, delayBy, keyBetween, keyBy}
+use Rattle.plan_winner.specs.Tables.{Tables, firstBy, secondBy, delayBy, aloneAt, restsBetween, keyBetween, keyBy}
+
+-- One end.
+module _ (v : ℕ) (x : End) where
+  pub alone-active : x .flag ≡ 1 → false ≡ aloneAt v x
+  unfolding aloneAt
+  alone-active h = rw (eq-eqb (x .flag) 1 h)
+
+  pub alone-idle : {c : ℕ} → (x .flag ≡ 1 → ⊥) → c ≡ x .label → eqb c v ≡ aloneAt v x
+  unfolding aloneAt
+  alone-idle h c-is = rw (ne-eqb (x .flag) 1 h, c-is)
+
+  alone-flag : aloneAt v x ≡ true → eqb (x .flag) 1 ≡ false
+  unfolding aloneAt
+  alone-flag h = not-true (eqb (x .flag) 1) (and-left (not (eqb (x .flag) 1)) (eqb (x .label) v) h)
 
 -- Between two ends.
-module _ (time : ℕ) (a b : End) (w : ℕ) where
-  pub key-inside : a .label ≡ b .label → noKey ≡ keyBetween time a b w
-  unfolding keyBetween
-  key-inside h = rw (eq-eqb (a .label) (b .label) h)
+module _ (u v : ℕ) (a b : End) where
+  pub rests-second : {s t : Bool} → s ≡ aloneAt u a → s ≡ true → t ≡ aloneAt v b → t ≡ restsBetween u v a b
+  unfolding restsBetween
+  rests-second s-is h t-is = rw (sym s-is ∙ h) t-is
 
-  pub key-apart : {s : ℕ} → (a .label ≡ b .label → ⊥) → s ≡ slackBetween a b w → 2 * time + s ≡ keyBetween time a b w
-  unfolding keyBetween
-  key-apart apart s-is = rw (ne-eqb (a .label) (b .label) apart) (ap (λ z. 2 * time + z) s-is)
+  pub rests-not : {s : Bool} → s ≡ aloneAt u a → s ≡ false → false ≡ restsBetween u v a b
+  unfolding restsBetween
+  rests-not s-is h = rw (sym s-is ∙ h)
+
+  -- An edge at rest leaves the best.
+  pub better-resting : (w : ℕ) (best : Winner) (e : ℕ) {t : Bool} → t ≡ restsBetween u v a b → t ≡ true → best ≡ better best e (delayBetween a b w)
+  unfolding delayBetween delayOf activeEnds delayFor better restsBetween
+  better-resting w best e t-is h =
+      let r : (aloneAt u a && aloneAt v b) ≡ true = sym t-is ∙ h in
+      rw (alone-flag u a (and-left (aloneAt u a) (aloneAt v b) r), alone-flag v b (and-right (aloneAt u a) (aloneAt v b) r)) (by (eqb (a .label) (b .label)))
+    where
+      by : (t : Bool) → best ≡ better best e (cond t never never)
+      by true = refl
+      by false = refl
+
+  module _ (time w : ℕ) where
+    pub key-inside : a .label ≡ b .label → noKey ≡ keyBetween time u v a b w
+    unfolding keyBetween
+    key-inside h = rw (eq-eqb (a .label) (b .label) h)
+
+    pub key-resting : {t : Bool} → t ≡ restsBetween u v a b → t ≡ true → noKey ≡ keyBetween time u v a b w
+    unfolding keyBetween
+    key-resting t-is h = rw (or-right (eqb (a .label) (b .label)) (restsBetween u v a b) (sym t-is ∙ h))
+
+    pub key-apart : {s : ℕ} {t : Bool} → (a .label ≡ b .label → ⊥) → t ≡ restsBetween u v a b → t ≡ false → s ≡ slackBetween a b w
+        → 2 * time + s ≡ keyBetween time u v a b w
+    unfolding keyBetween
+    key-apart apart t-is h s-is = rw (ne-eqb (a .label) (b .label) apart, sym t-is ∙ h) (ap (λ z. 2 * time + z) s-is)
 
 -- Edge e of the tables: what is noted of its ends and its weight is noted of it.
 module _ (t : Tables) (time e : ℕ) {u v w : ℕ} {a b : End} (u-is : u ≡ getD (t .firsts) e 0) (v-is : v ≡ getD (t .seconds) e 0)
@@ -28,6 +70,6 @@ module _ (t : Tables) (time e : ℕ) {u v w : ℕ} {a b : End} (u-is : u ≡ get
     unfolding delayBy firstBy secondBy
     best-read best h = rw (sym u-is, sym v-is, sym a-is, sym b-is, sym w-is) h
 
-    pub keys-read : (keys : List ℕ) {after : List ℕ} → after ≡ set keys e (keyBetween time a b w) → after ≡ set keys e (keyBy t time e)
+    pub keys-read : (keys : List ℕ) {after : List ℕ} → after ≡ set keys e (keyBetween time u v a b w) → after ≡ set keys e (keyBy t time e)
     unfolding keyBy firstBy secondBy
     keys-read keys h = rw (sym u-is, sym v-is, sym a-is, sym b-is, sym w-is) h
