@@ -4,16 +4,14 @@ ghost use mathlib.Core.Path.{_≡_};
 ghost use Prim.Native.Nat.{_+_, _<_, _^_};
 ghost use lib.ListN.{getD, set, length};
 ghost use lib.Dec.{eqb};
-ghost use Rattle.base_finite.specs.Below.{counted, sumBelow, tabulate};
-ghost use Rattle.base_limits.specs.Limits.{maxVertices};
-ghost use Rattle.survey_mates.specs.Mate.{mateOf};
+ghost use Rattle.base_finite.specs.Below.{counted, sumBelow};
 ghost use Rattle.base_limits.specs.Verdict.{written};
 ghost use Rattle.theory_steiner.specs.Problem.{Problem};
 ghost use Rattle.survey_core.specs.Refusal.{surveyRefusal};
 ghost use Rattle.theory_steiner.specs.Growth.{winner, stateAt};
 ghost use Rattle.survey_core.specs.Survey.{surveyFrom, lentSurvey, problemOf};
 ghost use Rattle.survey_labels.specs.Labels.{relabelled};
-ghost use Rattle.plan_active.specs.Flags.{mergedFlags};
+ghost use Rattle.plan_active.specs.Flags.{MatesListed, joinedActive, mergedFlags};
 ghost use Rattle.plan_delay.specs.Between.{delayIn};
 ghost use Rattle.plan_growth.specs.Tables.{settledBy, settledAt, settledValues, raisedLoads, RaiseFits, SumFits};
 ghost use Rattle.plan_growth.specs.Represents.{arraysFrom, newArrays, roundsAfter, timeAfter, Represents};
@@ -115,7 +113,8 @@ fn join(
     labels: &mut [u32; MAX_VERTICES],
     flags: &mut [u8; MAX_DUALS],
     mates: &[u32; MAX_VERTICES],
-    n: usize,
+    members: &[u32; MAX_VERTICES],
+    count: usize,
     first: u32,
     second: u32,
     z: u32,
@@ -124,8 +123,8 @@ fn join(
     ensures { λ r.
         let x = getD (old labels) first 0 in
         let y = getD (old labels) second 0 in
-        ⌜ (new labels ≡ relabelled x y z (old labels))
-        × (new flags ≡ mergedFlags (old mates) (new labels) n x y z (old flags)) ⌝ }
+        let active = joinedActive (old mates) (old labels) (old members) count first second in
+        ⌜ (new labels ≡ relabelled x y z (old labels)) × (new flags ≡ mergedFlags x y z (counted active 1) (old flags)) ⌝ }
     ensures { λ r.
         let x = getD (old labels) first 0 in
         let y = getD (old labels) second 0 in
@@ -134,9 +133,10 @@ fn join(
 {
     let x = base_buffer::at32(labels, base_buffer::index32(first));
     let y = base_buffer::at32(labels, base_buffer::index32(second));
+    let flag = plan_active::joined_flag(mates, labels, members, count, first, second);
     settle(values, flags, x, time);
     settle(values, flags, y, time);
-    plan_active::merge(labels, flags, mates, n, first, second, z);
+    plan_active::merge(labels, flags, x, y, z, flag);
     settle(values, flags, z, time);
 }
 
@@ -165,13 +165,15 @@ fn round(
     floors: &mut [u64; MAX_BLOCKS],
     flags: &mut [u8; MAX_DUALS],
     mates: &[u32; MAX_VERTICES],
+    members: &[u32; MAX_VERTICES],
+    count: usize,
     r: usize,
     time: u64,
 ) -> Delay
     requires { ⌜ Represents (surveyFrom (now groups) (now firsts) (now seconds) (now weights)) r time
         (arraysFrom (now labels) (now loads) (now values) (now picked) (now order) (now keys) (now floors)
         (now flags)) ⌝ }
-    requires { ⌜ now mates ≡ tabulate maxVertices (mateOf (now groups)) ⌝ }
+    requires { ⌜ MatesListed (now groups) (now mates) (now members) count ⌝ }
     ensures { λ x.
         let p = problemOf (lentSurvey groups firsts seconds weights) in
         ⌜ delayIn x ≡ winnerDelay (winner p (stateAt p r)) ⌝ }
@@ -201,7 +203,8 @@ fn round(
         labels,
         flags,
         mates,
-        groups.len(),
+        members,
+        count,
         base_buffer::at32(firsts, e),
         base_buffer::at32(seconds, e),
         z,
@@ -262,6 +265,8 @@ fn grow_rounds(groups: &[u8], firsts: &[u32], seconds: &[u32], weights: &[u32]) 
     let mut floors = [0u64; MAX_BLOCKS];
     survey_labels::own_labels(&mut labels);
     let mates = survey_mates::mates(groups);
+    let mut members = [0u32; MAX_VERTICES];
+    let count = plan_active::list_members(&mates, &mut members);
     let mut flags = plan_active::active_flags(groups, &labels);
     let most = groups.len() - 1;
     let mut time = 0;
@@ -281,6 +286,8 @@ fn grow_rounds(groups: &[u8], firsts: &[u32], seconds: &[u32], weights: &[u32]) 
             &mut floors,
             &mut flags,
             &mates,
+            &members,
+            count,
             r,
             time,
         );

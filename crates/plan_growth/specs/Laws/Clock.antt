@@ -22,6 +22,8 @@ use Rattle.theory_steiner.specs.Laws.Round.{pick-label, pick-value}
 use Rattle.theory_steiner.specs.Laws.Partition.{active-below}
 use Rattle.theory_steiner.specs.Laws.Weighed.{value-fresh, value-newborn}
 use Rattle.theory_steiner.specs.Laws.Activity.{active-cong, active-other, active-gone}
+use Rattle.survey_labels.specs.Labels.{relabelled}
+use Rattle.plan_active.specs.Flags.{mergedFlags}
 use Rattle.plan_growth.specs.Tables.{heldValue, settledBy, settledAt}
 
 -- ---- one value
@@ -53,6 +55,12 @@ pub settled-three : (flags after values : List ℕ) (time z : ℕ) {one two thre
     → two ≡ settledAt flags time j one → three ≡ settledAt after time z two
     → three ≡ settledAt after time z (settledAt flags time y (settledAt flags time x values))
 settled-three flags after values time z h k a b c = c ∙ rw (b, a, h, k)
+
+-- Two of them merged, at places that were read.
+pub joined-by : (labels flags : List ℕ) (z : ℕ) {i j x y f flag : ℕ} {labels-after flags-after : List ℕ} → i ≡ x → j ≡ y → f ≡ flag
+    → (labels-after ≡ relabelled i j z labels) × (flags-after ≡ mergedFlags i j z f flags)
+    → (labels-after ≡ relabelled x y z labels) × (flags-after ≡ mergedFlags x y z flag flags)
+joined-by labels flags z h k l made = (made .0 ∙ rw (h, k), made .1 ∙ rw (h, k, l))
 
 -- ---- a round that picks edge e
 

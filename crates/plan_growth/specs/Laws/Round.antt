@@ -36,9 +36,8 @@ use Rattle.plan_winner.specs.Scan.{timeLimit, key, cappedTime, Scan, scanOf, Ke
 use Rattle.plan_winner.specs.Tables.{Tables, tablesFrom, delayBy, keyBetween, keyBy, passBy}
 use Rattle.plan_winner.specs.Laws.Scan.{capped-is, scan-wins, keyed-next}
 use Rattle.plan_winner.specs.Laws.Blocks.{passes-scan, passes-cong}
-use Rattle.plan_active.specs.Flags.{activeFlags, mergedFlags}
+use Rattle.plan_active.specs.Flags.{activeFlags, MatesListed, joinedActive, mergedFlags}
 use Rattle.plan_active.specs.Laws.Merged.{flags-merged}
-use Rattle.survey_mates.specs.Mate.{mateOf}
 use Rattle.plan_growth.specs.Tables.{heldValue, settledAt, raisedLoads, RaiseFits}
 use Rattle.plan_growth.specs.Laws.Clock.{settled-next, timely-next}
 use Rattle.plan_growth.specs.Represents.{winnerEdge, pickAt, Arrays, arraysFrom, roundsAfter, timeAfter, Represents}
@@ -429,13 +428,13 @@ module _ {s : Survey} {r time : ℕ} {a : Arrays} (h : Represents s r time a) wh
       )
 
       -- Edge e is picked: the arrays represent the next state.
-      pub round-won : {e d : ℕ} {labels loads values picked order flags mates : List ℕ} (u v : ℕ) → x ≡ Edge e d
+      pub round-won : {e d count : ℕ} {labels loads values picked order flags mates members : List ℕ} (u v : ℕ) → x ≡ Edge e d
           → loads ≡ raisedLoads (a .labels) (a .flags) n d (a .loads)
           → u ≡ getD (s .firsts) e 0
           → v ≡ getD (s .seconds) e 0
-          → mates ≡ tabulate maxVertices (mateOf (s .groups))
+          → MatesListed (s .groups) mates members count
           → (labels ≡ relabelled (getD (a .labels) u 0) (getD (a .labels) v 0) (n + r) (a .labels))
-          × (flags ≡ mergedFlags mates labels n (getD (a .labels) u 0) (getD (a .labels) v 0) (n + r) (a .flags))
+          × (flags ≡ mergedFlags (getD (a .labels) u 0) (getD (a .labels) v 0) (n + r) (counted (joinedActive mates (a .labels) members count u v) 1) (a .flags))
           → values ≡ settledAt flags (time + d) (n + r)
           (settledAt (a .flags) (time + d) (getD (a .labels) v 0) (settledAt (a .flags) (time + d) (getD (a .labels) u 0) (a .values)))
           → (picked ≡ set (a .picked) e 1) × (order ≡ set (a .order) r e)
@@ -447,11 +446,12 @@ module _ {s : Survey} {r time : ℕ} {a : Arrays} (h : Represents s r time a) wh
           let ends = h .sound .edges e (winner-edge w) in
           let labels-made : labels ≡ tabulate maxVertices (stateAt p (r + 1) .label) = made .0 ∙ rw (u-is, v-is) (labels-next w) in
           let flags-made : flags ≡ activeFlags (s .groups) labels =
-          flags-merged (s .groups) (a .labels) _ _ (n + r) (h .sound .few) (ap length (h .labels-are) ∙ length-tabulate maxVertices _)
-          (rw u-is (fresh w (getD (s .firsts) e 0) (ends .first-below)))
-          (rw v-is (fresh w (getD (s .seconds) e 0) (ends .second-below)))
-          (h .flags-are)
+          flags-merged (s .groups) (a .labels) (h .sound .few) (ap length (h .labels-are) ∙ length-tabulate maxVertices _)
           mates-are
+          (rw u-is (ends .first-below))
+          (rw v-is (ends .second-below))
+          (fresh w)
+          (h .flags-are)
           (made .0)
           (made .1) in (
             sym (ap winnerDelay w),
