@@ -124,7 +124,8 @@ fn join(
         let x = getD (old labels) first 0 in
         let y = getD (old labels) second 0 in
         let active = joinedActive (old mates) (old labels) (old members) count first second in
-        ⌜ (new labels ≡ relabelled x y z (old labels)) × (new flags ≡ mergedFlags x y z (counted active 1) (old flags)) ⌝ }
+        ⌜ (new labels ≡ relabelled x y z (old labels))
+        × (new flags ≡ mergedFlags x y z (counted active 1) (old flags)) ⌝ }
     ensures { λ r.
         let x = getD (old labels) first 0 in
         let y = getD (old labels) second 0 in
