@@ -1,6 +1,6 @@
 -- When two components become one, the flags of these three are all that changes (`theory_steiner`, law `active-other`), and that of the new one is
 -- found by the mates, before the labels change.
-use Prim.Native.Nat.{ℕ, _+_, _<_, _≤_}
+use Prim.Native.Nat.{ℕ, _<_, _≤_}
 use native.Mathlib.Omega.{arith}
 use native.Mathlib.Decide.{ℕ-discrete}
 use mathlib.Core.Path.{_≡_, refl, ap, sym, _∙_}
@@ -10,9 +10,9 @@ use mathlib.Core.List.{List}
 use lib.ListN.{length, getD, set, length-replicate, List·getD-eq-default}
 use lib.Dec.{eqb}
 use borrow.Author.Tests.{eq-eqb, ne-eqb}
-use Rattle.base_finite.specs.Below.{counted, countBelow, anyBelow, tabulate}
+use Rattle.base_finite.specs.Below.{counted, anyBelow, tabulate}
 use Rattle.base_finite.specs.Laws.Below.{any-intro, any-elim, any-cong, counted-false, getD-tabulate, lt-or-ge}
-use Rattle.base_finite.specs.Laws.Test.{or-cases, or-left, or-right, true-not-false, same-test}
+use Rattle.base_finite.specs.Laws.Test.{or-cases, or-right, true-not-false, same-test}
 use Rattle.base_limits.specs.Limits.{maxVertices, maxDuals}
 use Rattle.theory_graph.specs.Component.{merged}
 use Rattle.theory_steiner.specs.Problem.{separates}
@@ -25,7 +25,7 @@ use Rattle.survey_labels.specs.Labels.{relabelled}
 use Rattle.survey_mates.specs.Mate.{mateOf}
 use Rattle.survey_mates.specs.Laws.Mate.{Mated, mated, separates-mates}
 use Rattle.base_buffer.specs.Laws.Store.{set-table, remade-passed}
-use Rattle.plan_active.specs.Flags.{activeFlags, hasMate, gathered, MatesListed, ofEither, apartFromMate, joinedActive, mergedFlags}
+use Rattle.plan_active.specs.Flags.{activeFlags, hasMate, MatesListed, ofEither, apartFromMate, joinedActive, mergedFlags}
 use Rattle.plan_active.specs.Laws.Listed.{any-gathered}
 
 -- ---- apart from a mate
