@@ -21,9 +21,9 @@ noKey = 2 ^ 64 - 1
 abbrev pub timeLimit : ℕ
 timeLimit = 2 ^ 62
 
--- A vertex that is a component of its own, under its own number, and not active.
+-- Vertex v is not active, and a component of its own, under its own number.
 unfoldable pub idleAlone : Problem → State → ℕ → Bool
-idleAlone p s v = eqb (s .label v) v && not (active p (s .label) (s .label v))
+idleAlone p s v = not (active p (s .label) (s .label v)) && eqb (s .label v) v
 
 -- An edge rests while both its ends are such: it has no delay, and needs no bound until one of them is joined (law `keyed-next`).
 unfoldable pub resting : Problem → State → ℕ → Bool

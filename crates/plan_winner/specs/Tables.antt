@@ -40,7 +40,7 @@ secondBy t time e = endAt (t .labels) (t .loads) (t .flags) time (getD (t .secon
 unfoldable pub delayBy : Tables → (time e : ℕ) → Delay
 delayBy t time e = delayBetween (firstBy t time e) (secondBy t time e) (getD (t .weights) e 0)
 
--- The end at vertex v is a component of its own, and not active.
+-- The end at vertex v is not active, and a component of its own.
 unfoldable pub aloneAt : (v : ℕ) → End → Bool
 aloneAt v x = not (eqb (x .flag) 1) && eqb (x .label) v
 

@@ -48,7 +48,7 @@ fn limit_of(time: u64, best: Winner) -> u64
     NO_KEY
 }
 
-// Whether the end at vertex v is a component of its own, and not active.
+// Whether the end at vertex v is not active, and a component of its own.
 fn alone_at(v: usize, end: End) -> bool
     ensures { λ r. ⌜ r ≡ aloneAt v end ⌝ }
 {

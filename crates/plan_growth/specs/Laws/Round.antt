@@ -13,6 +13,7 @@ use lib.Seq.{ext-getD, getD-set-same}
 use lib.Dec.{eqb, ltb}
 use borrow.Author.Tests.{ne-eqb, lt-ltb, le-ltb}
 use Rattle.base_finite.specs.Below.{counted, anyBelow, tabulate}
+use Rattle.base_finite.specs.Laws.Test.{and-both, not-of-false}
 use Rattle.base_finite.specs.Laws.Below.{length-tabulate, getD-tabulate, counted-true, counted-false, lt-or-ge}
 use Rattle.theory_graph.specs.Component.{merged}
 use Rattle.base_limits.specs.Limits.{maxVertices, maxEdges, maxWeight, maxDuals}
@@ -35,10 +36,12 @@ use Rattle.plan_delay.specs.Between.{delayIn, winnerIn, endAt, slackBetween, de
 use Rattle.plan_delay.specs.declared.Delay.the-variants.{Never, After}
 use Rattle.plan_delay.specs.declared.Winner.{Winner}
 use Rattle.plan_delay.specs.declared.Winner.the-variants.{Nobody, Edge}
-use Rattle.plan_winner.specs.Scan.{timeLimit, key, cappedTime, Scan, scanOf, Keyed, Pass, blocksOf, passOf, Floored}
-use Rattle.plan_winner.specs.Tables.{Tables, tablesFrom, firstBy, secondBy, delayBy, keyBetween, keyBy, passBy}
-use Rattle.plan_winner.specs.Laws.Scan.{capped-is, scan-wins, keyed-next}
+use Rattle.plan_winner.specs.Scan.{timeLimit, idleAlone, resting, key, cappedTime, Scan, scanOf, Keyed, Pass, blocksOf, passOf, Floored}
+use Rattle.plan_winner.specs.Tables.{Tables, tablesFrom, firstBy, secondBy, delayBy, aloneAt, restsBetween, keyBetween, keyBy, passBy}
+use Rattle.plan_winner.specs.Laws.Scan.{capped-is, idle-elim, scan-wins, keyed-next}
 use Rattle.plan_winner.specs.Laws.Blocks.{passes-scan, passes-cong}
+use Rattle.plan_wake.specs.Wake.{idleVertex, KeyNotes, notesFrom, wokenBy}
+use Rattle.plan_wake.specs.Laws.Wake.{woken-keys, woken-floored}
 use Rattle.plan_active.specs.Flags.{activeFlags, MatesListed, joinedActive, mergedFlags}
 use Rattle.plan_active.specs.Laws.Merged.{flags-merged}
 use Rattle.plan_growth.specs.Tables.{settledAt, turnedTo}
@@ -203,7 +206,7 @@ module _ {s : Survey} {r time : ℕ} {a : Arrays} (h : Represents s r time a) wh
         (cond-not (eqb (S .label u) (S .label v)) _ _)
 
     key-at : (e : ℕ) → e < length (s .firsts) → keyBy tables time e ≡ key p S time e
-    unfolding keyBy firstBy secondBy endAt keyBetween slackBetween key slack problemOf
+    unfolding keyBy firstBy secondBy endAt aloneAt restsBetween keyBetween slackBetween idleAlone resting key slack problemOf
     key-at e b =
         let u = getD (s .firsts) e 0 in
         let v = getD (s .seconds) e 0 in
@@ -471,6 +474,34 @@ module _ {s : Survey} {r time : ℕ} {a : Arrays} (h : Represents s r time a) wh
               ∙ counted-false out (heldLoad p S time v)
               ∙ sym (counted-false out (heldLoad p (stateAt p (r + 1)) (time + d) v))
 
+    -- A vertex at rest is idle by its flag.
+    idle-at : (v : ℕ) → v < n → idleAlone p S v ≡ true → idleVertex (a .flags) n v ≡ true
+    unfolding idleVertex
+    idle-at v b i =
+        let alone = idle-elim p S v i in
+        let small = label-small v b in
+        let own = alone .own in
+        and-both (ltb v n) (not (eqb (getD (a .flags) v 0) 1)) (lt-ltb v n b)
+        (not-of-false _ (flag-at (h .flags-are) v (omega arith) ∙ ap (active p (S .label)) (sym own) ∙ alone .idle))
+
+    -- The keys and floors that waking leaves.
+    module _ (keys floors : List ℕ) {after below : List ℕ} (made : notesFrom after below ≡ wokenBy (s .firsts) (s .seconds) (a .labels) (a .flags) n e (notesFrom keys floors)) where
+      woken-keyed : Keyed p S time keys → Keyed p (stateAt p (r + 1)) (time + d) after
+      unfolding problemOf edgeCount
+      woken-keyed k =
+          let ends = h .sound .edges e winner-edge in
+          let woken =
+          woken-keys (s .firsts) (s .seconds) (a .labels) (a .flags) n e (notesFrom keys floors) p S refl (λ f. (refl, refl))
+          (λ f b i. idle-at (getD (s .firsts) f 0) (h .sound .edges f b .first-below) i)
+          (λ f b i. idle-at (getD (s .seconds) f 0) (h .sound .edges f b .second-below) i) in
+          keyed-next p ok weights-light r time e d w k
+          (rw (ap (λ (t : KeyNotes). t .keys) made, ← label-at (getD (s .firsts) e 0) (ends .first-below), ← label-at (getD (s .seconds) e 0) (ends .second-below)) woken)
+
+      woken-low : Floored (length (s .firsts)) keys floors → Floored (length (s .firsts)) after below
+      woken-low f =
+          rw (ap (λ (t : KeyNotes). t .keys) made, ap (λ (t : KeyNotes). t .floors) made)
+          (woken-floored (s .firsts) (s .seconds) (a .labels) (a .flags) n e (notesFrom keys floors) (length (s .firsts)) f)
+
   -- ---- what `round` cites: the search has found x
 
   module _ {x : Winner} (found : winnerIn x ≡ passBy (tables (h .flags-are)) (cappedTime time) (a .keys) (a .floors) (blocksOf (length (s .firsts))) .scanned .best) where
@@ -518,7 +549,8 @@ module _ {s : Survey} {r time : ℕ} {a : Arrays} (h : Represents s r time a) wh
       )
 
       -- Edge e is picked: the arrays represent the next state.
-      pub round-won : {e d count : ℕ} {labels loads values picked order flags mates members : List ℕ} (u v : ℕ) → x ≡ Edge e d
+      pub round-won : {e d count : ℕ} {labels loads values picked order flags mates members after below : List ℕ} (u v : ℕ) → x ≡ Edge e d
+          → notesFrom after below ≡ wokenBy (s .firsts) (s .seconds) (a .labels) (a .flags) n e (notesFrom keys floors)
           → u ≡ getD (s .firsts) e 0
           → v ≡ getD (s .seconds) e 0
           → MatesListed (s .groups) mates members count
@@ -530,9 +562,9 @@ module _ {s : Survey} {r time : ℕ} {a : Arrays} (h : Represents s r time a) wh
           (turnedTo (counted (joinedActive mates (a .labels) members count u v) 1) (a .flags) (a .labels) n (time + d) (getD (a .labels) u 0) (a .loads)))
           → (picked ≡ set (a .picked) e 1) × (order ≡ set (a .order) r e)
           → (delayIn (After d) ≡ winnerDelay (winner p S))
-          × Represents s (roundsAfter r (delayIn (After d))) (timeAfter time (delayIn (After d))) (arraysFrom labels loads values picked order keys floors flags)
+          × Represents s (roundsAfter r (delayIn (After d))) (timeAfter time (delayIn (After d))) (arraysFrom labels loads values picked order after below flags)
       unfolding delayIn winnerDelay roundsAfter timeAfter problemOf
-      round-won {e} {d} {count} {labels} {flags = flags} {mates} {members} u v t u-is v-is mates-are made values-made loads-made noted =
+      round-won {e} {d} {count} {labels} {flags = flags} {mates} {members} u v t woken u-is v-is mates-are made values-made loads-made noted =
           let w = won t in
           let ends = h .sound .edges e (winner-edge w) in
           let labels-made : labels ≡ tabulate maxVertices (stateAt p (r + 1) .label) = made .0 ∙ rw (u-is, v-is) (labels-next w) in
@@ -560,8 +592,8 @@ module _ {s : Survey} {r time : ℕ} {a : Arrays} (h : Represents s r time a) wh
               values-timely = timely-after w;
               picked-are = noted .0 ∙ picked-next w;
               order-is = noted .1 ∙ order-next w;
-              keyed = keyed-next p ok weights-light r time e d w (search-keyed (h .flags-are) k l);
-              floored = search-floored (h .flags-are) k l;
+              keyed = woken-keyed w _ _ woken (search-keyed (h .flags-are) k l);
+              floored = woken-low w _ _ woken (search-floored (h .flags-are) k l);
               flags-are = flags-made;
             },
           )

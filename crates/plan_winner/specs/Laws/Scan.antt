@@ -72,13 +72,13 @@ pub idle-elim : (p : Problem) (s : State) (v : ℕ) → idleAlone p s v ≡ true
 unfolding idleAlone
 idle-elim p s v h =
     record {
-      own = eqb-true (s .label v) v (and-left (eqb (s .label v) v) (not (active p (s .label) (s .label v))) h);
-      idle = not-true (active p (s .label) (s .label v)) (and-right (eqb (s .label v) v) (not (active p (s .label) (s .label v))) h);
+      own = eqb-true (s .label v) v (and-right (not (active p (s .label) (s .label v))) (eqb (s .label v) v) h);
+      idle = not-true (active p (s .label) (s .label v)) (and-left (not (active p (s .label) (s .label v))) (eqb (s .label v) v) h);
     }
 
 idle-intro : (p : Problem) (s : State) (v : ℕ) → IdleAlone p s v → idleAlone p s v ≡ true
 unfolding idleAlone
-idle-intro p s v h = and-both (eqb (s .label v) v) _ (eq-eqb (s .label v) v (h .own)) (not-of-false _ (h .idle))
+idle-intro p s v h = and-both _ (eqb (s .label v) v) (not-of-false _ (h .idle)) (eq-eqb (s .label v) v (h .own))
 
 -- An edge that waits does not rest.
 waits-awake : (p : Problem) (s : State) (e d : ℕ) → delay p s e ≡ after d → resting p s e ≡ false
