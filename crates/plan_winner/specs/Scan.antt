@@ -4,15 +4,16 @@
 -- `grow` answers is said without it, by the rounds of `theory_steiner: Growth`.
 use Prim.Native.Nat.{ℕ, zero, suc, _+_, _*_, _-_, _/_, _<_, _≤_, _^_}
 use mathlib.Core.Path.{_≡_}
-use mathlib.Core.Bool.{cond}
+use mathlib.Core.Logic.{_⊎_}
+use mathlib.Core.Bool.{Bool, true, false, _&&_, _||_, not, cond}
 use mathlib.Core.List.{List}
 use lib.ListN.{getD, set}
 use lib.Dec.{eqb, ltb}
 use Rattle.base_limits.specs.Limits.{maxEdges, maxWeight}
 use Rattle.theory_steiner.specs.Problem.{Problem}
-use Rattle.theory_steiner.specs.Growth.{State, slack, Delay, Winner, nobody, edge, better, delay}
+use Rattle.theory_steiner.specs.Growth.{State, active, slack, Delay, Winner, nobody, edge, better, delay}
 
--- The key of an edge inside a component, which is never reached: no sum of the search comes to it.
+-- The key of an edge that is not reached as things stand, inside a component or at rest: no sum of the search comes to it.
 abbrev pub noKey : ℕ
 noKey = 2 ^ 64 - 1
 
@@ -20,8 +21,16 @@ noKey = 2 ^ 64 - 1
 abbrev pub timeLimit : ℕ
 timeLimit = 2 ^ 62
 
+-- Vertex v is not active, and a component of its own, under its own number.
+unfoldable pub idleAlone : Problem → State → ℕ → Bool
+idleAlone p s v = not (active p (s .label) (s .label v)) && eqb (s .label v) v
+
+-- An edge rests while both its ends are such: it has no delay, and needs no bound until one of them is joined (law `keyed-next`).
+unfoldable pub resting : Problem → State → ℕ → Bool
+resting p s e = idleAlone p s (p .first e) && idleAlone p s (p .second e)
+
 unfoldable pub key : Problem → State → (time e : ℕ) → ℕ
-key p s time e = cond (eqb (s .label (p .first e)) (s .label (p .second e))) noKey (2 * time + slack p s e)
+key p s time e = cond (eqb (s .label (p .first e)) (s .label (p .second e)) || resting p s e) noKey (2 * time + slack p s e)
 
 -- The time that the search goes by: no growth comes to the limit (law `capped-is`), and a later time is taken for the last before it.
 unfoldable pub cappedTime : (time : ℕ) → ℕ
@@ -55,10 +64,16 @@ scanOn delays fresh time s from (suc k) = looked delays fresh time (scanOn delay
 unfoldable pub scanOf : Problem → State → (time : ℕ) → (keys : List ℕ) → Scan
 scanOf p s time keys = scan (delay p s) (key p s time) time keys (p .edges)
 
--- Keys that bound from below, and a time within what so many rounds can take.
+-- Keys that bound from below where an edge does not rest, and a time within what so many rounds can take.
 pub record Keyed (p : Problem) (s : State) (time : ℕ) (keys : List ℕ) : Type 0 where
   pub early : time ≤ s .rounds * (2 * maxWeight)
-  pub low : (e : ℕ) → e < p .edges → (s .label (p .first e) ≡ s .label (p .second e) → ⊥) → getD keys e 0 ≤ 2 * time + slack p s e
+  pub low : (e : ℕ) → e < p .edges → (s .label (p .first e) ≡ s .label (p .second e) → ⊥) → resting p s e ≡ false → getD keys e 0 ≤ 2 * time + slack p s e
+
+-- Keys after a round that joins components x and y: none is higher, and those of the edges that rested and have x or y as an end are 0.
+pub record Woken (p : Problem) (s : State) (x y : ℕ) (keys woken : List ℕ) : Type 0 where
+  pub lower : (e : ℕ) → getD woken e 0 ≤ getD keys e 0
+  pub first-up : (e : ℕ) → e < p .edges → idleAlone p s (p .first e) ≡ true → (p .first e ≡ x) ⊎ (p .first e ≡ y) → getD woken e 0 ≡ 0
+  pub second-up : (e : ℕ) → e < p .edges → idleAlone p s (p .second e) ≡ true → (p .second e ≡ x) ⊎ (p .second e ≡ y) → getD woken e 0 ≡ 0
 
 -- ---- blocks
 

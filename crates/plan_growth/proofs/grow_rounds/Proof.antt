@@ -10,22 +10,25 @@ use Rattle.plan_growth.proofs.grow_rounds.Statement.{statement}
 use Rattle.plan_growth.proofs.grow_rounds.Tie as tie
 
 abbrev Inv-loop : tie.InvT-loop
-Inv-loop groups firsts seconds weights labels₀ loads₀ values₀ picked₀ order₀ keys₀ floors₀ mates flags₀ most time₀ r₀ labels loads values picked order keys floors flags time r =
+Inv-loop groups firsts seconds weights labels₀ loads₀ values₀ picked₀ order₀ keys₀ floors₀ mates members count flags₀ most time₀ r₀ labels loads values picked order keys floors flags time r =
     Represents (surveyFrom groups firsts seconds weights) r time (arraysFrom labels loads values picked order keys floors flags)
 
 abbrev μ-loop : tie.MeasureT-loop
-μ-loop groups firsts seconds weights labels₀ loads₀ values₀ picked₀ order₀ keys₀ floors₀ mates flags₀ most time₀ r₀ labels loads values picked order keys floors flags time r =
+μ-loop groups firsts seconds weights labels₀ loads₀ values₀ picked₀ order₀ keys₀ floors₀ mates members count flags₀ most time₀ r₀ labels loads values picked order keys floors flags time r =
     most - r
 
 loop-holds : tie.Need-loop-holds Inv-loop μ-loop
 loop-holds c =
-    let labels = c .before .before .before .before in
+    let labels = c .before .before .before .before .before .before .before in
     represents-start (labels .before .before .before .before .before .before .pre) refl (labels .own-labels .ensures) (c .active-flags .ensures)
 
 round-requires : tie.Need-round-requires Inv-loop μ-loop
 round-requires c κs =
-    let turn = c .before .before .before .before .before .before .before .before .before .before in
-    (turn .loop .inv, turn .before .before .before .mates .ensures)
+    let turn = c .before .before .before .before .before .before .before .before .before .before .before in
+    let listed = turn .before .before .before in (
+      turn .loop .inv,
+      record { mates-are = listed .before .before .before .mates .ensures; members-are = listed .list-members .ensures .1; count-is = listed .list-members .ensures .0 },
+    )
 
 enum-told : tie.Need-enum-told Inv-loop μ-loop
 enum-told c = search needs
@@ -65,6 +68,7 @@ grow-rounds-spec =
     Inv-loop
     μ-loop
     (λ c. search needs)
+    (λ c κs. search needs)
     (λ c κs. search needs)
     (λ c κs. search needs)
     (λ c κs. search needs)

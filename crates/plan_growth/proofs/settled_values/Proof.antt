@@ -7,7 +7,8 @@ use native.Mathlib.Omega.{arith}
 use Rattle.base_limits.specs.Limits.{maxDuals}
 use Rattle.base_buffer.specs.Store.{remade}
 use Rattle.base_buffer.specs.Laws.Store.{remade-more, stored-table}
-use Rattle.plan_growth.specs.Tables.{settledBy, settledValues}
+use Rattle.plan_delay.specs.Held.{settledBy}
+use Rattle.plan_growth.specs.Tables.{settledValues}
 use borrow.Author.Needs.{needs}
 use Rattle.plan_growth.proofs.settled_values.Statement.{statement}
 use Rattle.plan_growth.proofs.settled_values.Tie as tie

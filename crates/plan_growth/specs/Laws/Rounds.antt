@@ -30,9 +30,10 @@ use Rattle.plan_delay.specs.Between.{delayIn}
 use Rattle.plan_delay.specs.declared.Delay.{Delay}
 use Rattle.plan_delay.specs.declared.Delay.the-variants.{Never, After}
 use Rattle.plan_growth.specs.declared.Growth.{Growth}
-use Rattle.plan_growth.specs.Tables.{heldValue, settledBy, settledValues, SumFits}
-use Rattle.plan_growth.specs.Laws.Clock.{held-settled}
-use Rattle.plan_growth.specs.Represents.{winnerEdge, pickAt, Arrays, arraysFrom, roundsAfter, timeAfter, Represents}
+use Rattle.plan_delay.specs.Held.{heldValue, settledBy}
+use Rattle.plan_delay.specs.Laws.Held.{held-settled}
+use Rattle.plan_growth.specs.Tables.{settledValues, SumFits}
+use Rattle.plan_growth.specs.Represents.{winnerEdge, pickAt, heldLoad, Arrays, arraysFrom, roundsAfter, timeAfter, Represents}
 use Rattle.theory_steiner.specs.Minima.{winnerDelay}
 use Rattle.plan_growth.specs.Grown.{growthFrom, GrownAfter}
 use Rattle.plan_growth.specs.Laws.Round.{going, weights-light, flag-at}
@@ -48,6 +49,10 @@ held-zero : (t : Bool) → heldValue 0 t 0 ≡ 0
 unfolding heldValue
 held-zero true = refl
 held-zero false = refl
+
+held-start : (p : Problem) (v : ℕ) → heldLoad p start 0 v ≡ 0
+unfolding heldLoad start
+held-start p v = ap (heldValue 0 (active p (λ v. v) v)) (load-start p v) ∙ held-zero (active p (λ v. v) v)
 
 -- No step at all.
 pub grown-start : (p : Problem) {labels : List ℕ} → labels ≡ remade (λ v x. v) maxVertices (replicate maxVertices 0)
@@ -75,7 +80,8 @@ represents-start {s} sound plain h f =
       rounds-are = refl;
       labels-are = g .labels-are;
       loads-are =
-          replicate-table maxVertices 0 ∙ tabulate-cong maxVertices _ _ (λ v _. sym (none (ltb v (problemOf s .vertices)) (load-start (problemOf s) v)));
+          replicate-table maxVertices 0 ∙ tabulate-cong maxVertices _ _ (λ v _. sym (none (ltb v (problemOf s .vertices)) (held-start (problemOf s) v)));
+      loads-timely = λ v _. omega (arith, load-start (problemOf s) v);
       values-are = replicate-table maxDuals 0 ∙ tabulate-cong maxDuals _ _ (λ c _. sym (held-zero (active (problemOf s) (λ v. v) c)));
       values-timely = λ c. omega arith;
       picked-are = g .picked-are;

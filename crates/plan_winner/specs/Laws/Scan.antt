@@ -2,26 +2,31 @@
 use Prim.Native.Nat.{ℕ, zero, suc, _+_, _*_, _-_, _/_, _<_, _≤_}
 use native.Mathlib.Omega.{arith}
 use native.Mathlib.Numerals.{add-one}
+use native.Mathlib.Decide.{ℕ-discrete}
 use mathlib.Core.Path.{_≡_, refl, ap, sym, _∙_, subst}
-use mathlib.Core.Bool.{Bool, true, false, cond}
+use mathlib.Core.Bool.{Bool, true, false, _&&_, _||_, not, cond}
 use mathlib.Core.List.{List}
 use lib.ListN.{length, getD, set, length-set, List·getD-eq-default}
 use lib.Seq.{getD-set-same, getD-set-other}
 use lib.Dec.{eqb, ltb}
-use borrow.Author.Tests.{eqb-true, eqb-false, ne-eqb, ltb-true, ltb-false, lt-ltb, le-ltb}
+use borrow.Author.Tests.{eq-eqb, eqb-true, eqb-false, ne-eqb, not-true, ltb-true, ltb-false, lt-ltb, le-ltb}
 use Rattle.base_finite.specs.Below.{counted, tabulate}
 use Rattle.base_finite.specs.Laws.Below.{counted-le, lt-or-ge, length-tabulate, getD-tabulate}
+use Rattle.base_finite.specs.Laws.Test.{either, and-left, and-right, and-both, true-not-false, not-true-false, not-of-false}
 use Rattle.base_limits.specs.Limits.{maxVertices, maxWeight}
-use mathlib.Core.Logic.{_⊎_, inl, inr}
+use mathlib.Core.Logic.{_⊎_, inl, inr, ⊎-elim}
+use Rattle.theory_graph.specs.Component.{merged}
+use Rattle.theory_graph.specs.Laws.Component.{Merging, inside, outside, merging}
 use Rattle.theory_steiner.specs.Problem.{Problem, Sound}
-use Rattle.theory_steiner.specs.Growth.{State, active, load, slack, Delay, never, after, delay, Winner, nobody, edge, better, winnerBelow, winner, pick, stateAt}
+use Rattle.theory_steiner.specs.Growth.{State, active, numbers, load, slack, Delay, never, after, delay, Winner, nobody, edge, better, winnerBelow, winner, pick, stateAt}
 use Rattle.theory_steiner.specs.Laws.Winner.{Waits, one-first, one-second, both, delay-elim}
-use Rattle.theory_steiner.specs.Laws.Round.{stateAt-reached, pick-rounds}
+use Rattle.theory_steiner.specs.Laws.Activity.{active-cong, active-other}
+use Rattle.theory_steiner.specs.Laws.Round.{stateAt-reached, pick-rounds, pick-label}
 use Rattle.theory_steiner.specs.Laws.Rounds.{stateAt-pick, delay-le}
 use Rattle.theory_steiner.specs.Laws.Partition.{winner-below}
 use Rattle.theory_steiner.specs.Laws.Weighed.{load-pick}
 use Rattle.theory_steiner.specs.Laws.Degree.{label-later}
-use Rattle.plan_winner.specs.Scan.{noKey, timeLimit, key, cappedTime, limitOf, Scan, looked, scan, scanOf, Keyed, blockEdges, Floored}
+use Rattle.plan_winner.specs.Scan.{noKey, timeLimit, idleAlone, resting, key, cappedTime, limitOf, Scan, looked, scan, scanOf, Keyed, Woken, blockEdges, Floored}
 
 -- ---- the time
 
@@ -57,6 +62,41 @@ waits-half c (one-first a b e) h = omega arith
 waits-half c (one-second a b e) h = omega arith
 waits-half c (both a b e) h = omega arith
 
+-- ---- edges at rest
+
+pub record IdleAlone (p : Problem) (s : State) (v : ℕ) : Type 0 where
+  pub own : s .label v ≡ v
+  pub idle : active p (s .label) (s .label v) ≡ false
+
+pub idle-elim : (p : Problem) (s : State) (v : ℕ) → idleAlone p s v ≡ true → IdleAlone p s v
+unfolding idleAlone
+idle-elim p s v h =
+    record {
+      own = eqb-true (s .label v) v (and-right (not (active p (s .label) (s .label v))) (eqb (s .label v) v) h);
+      idle = not-true (active p (s .label) (s .label v)) (and-left (not (active p (s .label) (s .label v))) (eqb (s .label v) v) h);
+    }
+
+idle-intro : (p : Problem) (s : State) (v : ℕ) → IdleAlone p s v → idleAlone p s v ≡ true
+unfolding idleAlone
+idle-intro p s v h = and-both _ (eqb (s .label v) v) (not-of-false _ (h .idle)) (eq-eqb (s .label v) v (h .own))
+
+-- An edge that waits does not rest.
+waits-awake : (p : Problem) (s : State) (e d : ℕ) → delay p s e ≡ after d → resting p s e ≡ false
+unfolding resting
+waits-awake p s e d q =
+    not-true-false
+    (idleAlone p s (p .first e) && idleAlone p s (p .second e))
+    (λ t.
+    by
+    (idle-elim p s (p .first e) (and-left (idleAlone p s (p .first e)) (idleAlone p s (p .second e)) t) .idle)
+    (idle-elim p s (p .second e) (and-right (idleAlone p s (p .first e)) (idleAlone p s (p .second e)) t) .idle)
+    (delay-elim p s e d q .waits))
+  where
+    by : {x y : Bool} {r : ℕ} → x ≡ false → y ≡ false → Waits x y r d → ⊥
+    by {x} {y} f g (one-first a b c) = true-not-false x a f
+    by {x} {y} f g (one-second a b c) = true-not-false y b g
+    by {x} {y} f g (both a b c) = true-not-false x a f
+
 module _ (p : Problem) (s : State) (light : (e : ℕ) → e < p .edges → p .weight e ≤ maxWeight) (few : s .rounds < maxVertices) (time : ℕ) where
   -- An edge whose key is not below the limit changes nothing.
   pass-keeps : {keys : List ℕ} (k : ℕ) (best : Winner) → Keyed p s time keys → k < p .edges → limitOf time best ≤ getD keys k 0 → better best k (delay p s k) ≡ best
@@ -69,7 +109,7 @@ module _ (p : Problem) (s : State) (light : (e : ℕ) → e < p .edges → p .we
       by-delay : (w : Delay) → delay p s k ≡ w → (best : Winner) → limitOf time best ≤ getD keys k 0 → better best k w ≡ best
       by-delay never q best l = refl
       by-delay (after d) q nobody l =
-          let low = h .low k b (delay-elim p s k d q .apart) in
+          let low = h .low k b (delay-elim p s k d q .apart) (waits-awake p s k d q) in
           let w = light k b in
           let t = early in
           absurd (omega arith)
@@ -77,20 +117,20 @@ module _ (p : Problem) (s : State) (light : (e : ℕ) → e < p .edges → p .we
         where
           by-size : (x : Bool) → ltb c timeLimit ≡ x → cond (ltb d c) (edge k d) (edge f c) ≡ edge f c
           by-size true x =
-              let low = h .low k b (delay-elim p s k d q .apart) in
+              let low = h .low k b (delay-elim p s k d q .apart) (waits-awake p s k d q) in
               let m : 2 * (time + c) ≤ getD keys k 0 = rw x at l in
               let g = waits-half c (delay-elim p s k d q .waits) (omega arith) in
               rw (le-ltb d c g)
           by-size false x =
-              let low = h .low k b (delay-elim p s k d q .apart) in
+              let low = h .low k b (delay-elim p s k d q .apart) (waits-awake p s k d q) in
               let m : noKey ≤ getD keys k 0 = rw x at l in
               let w = light k b in
               let t = early in
               absurd (omega arith)
 
-  key-low : (e : ℕ) → (s .label (p .first e) ≡ s .label (p .second e) → ⊥) → key p s time e ≤ 2 * time + slack p s e
+  key-low : (e : ℕ) → (s .label (p .first e) ≡ s .label (p .second e) → ⊥) → resting p s e ≡ false → key p s time e ≤ 2 * time + slack p s e
   unfolding key
-  key-low e h = rw (ne-eqb (s .label (p .first e)) (s .label (p .second e)) h) (omega arith)
+  key-low e h k = rw (ne-eqb (s .label (p .first e)) (s .label (p .second e)) h, k) (omega arith)
 
   scan-below : (keys : List ℕ) (k : ℕ) → k ≤ p .edges → Keyed p s time keys
       → (scan (delay p s) (key p s time) time keys k .best ≡ winnerBelow p s k) × Keyed p s time (scan (delay p s) (key p s time) time keys k .keys)
@@ -108,7 +148,8 @@ module _ (p : Problem) (s : State) (light : (e : ℕ) → e < p .edges → p .we
         ap (λ w. better w k (delay p s k)) ih,
         record {
           early = ik .early;
-          low = λ e c a. set-low (S .keys) k (key p s time k) e (2 * time + slack p s e) (λ q. subst (λ i. key p s time i ≤ 2 * time + slack p s e) q (key-low e a)) (λ d. ik .low e c a);
+          low = λ e c a n.
+              set-low (S .keys) k (key p s time k) e (2 * time + slack p s e) (λ q. subst (λ i. key p s time i ≤ 2 * time + slack p s e) q (key-low e a n)) (λ d. ik .low e c a n);
         },
       )
       by-limit false x (ih, ik) =
@@ -130,39 +171,104 @@ zero-at n {l} h i = by (lt-or-ge i n)
 
 -- Keys and floors of 0 bound nothing.
 pub keyed-start : (p : Problem) (n : ℕ) {keys : List ℕ} → keys ≡ tabulate n (λ e. 0) → Keyed p (stateAt p 0) 0 keys
-keyed-start p n h = record { early = omega arith; low = λ e b a. let z = zero-at n h e in omega arith }
+keyed-start p n h = record { early = omega arith; low = λ e b a q. let z = zero-at n h e in omega arith }
 
 pub floored-start : (m n : ℕ) (keys : List ℕ) {floors : List ℕ} → floors ≡ tabulate n (λ b. 0) → Floored m keys floors
 floored-start m n keys h = record { low = λ e b. let z = zero-at n h (e / blockEdges) in omega arith }
 
 module _ (p : Problem) (ok : Sound p) (light : (e : ℕ) → e < p .edges → p .weight e ≤ maxWeight) (r time : ℕ) where
-  -- Good keys are good after the round: no edge comes nearer than by the delay at each end, and components never part.
-  pub keyed-next : (e d : ℕ) {keys : List ℕ} → winner p (stateAt p r) ≡ edge e d → Keyed p (stateAt p r) time keys → Keyed p (stateAt p (r + 1)) (time + d) keys
-  unfolding slack
-  keyed-next e d {keys} w h =
-      record {
-        early =
-            let l = delay-le p s e d w in
-            let m = light e (winner-below p s e d w) in
-            let t = h .early in
-            let q : stateAt p (r + 1) .rounds ≡ suc (s .rounds) = ap (λ x. x .rounds) next ∙ pick-rounds p s e d in
-            omega arith;
-        low = λ f b a.
-            let k = h .low f b (λ q. a (label-later p r 1 (p .first f) (p .second f) q)) in
+  -- What the round that picks edge e after d leaves of vertices that are alone and idle: all but the two that it joins.
+  module _ (e d : ℕ) (w : winner p (stateAt p r) ≡ edge e d) where
+    abbrev s : State
+    s = stateAt p r
+
+    abbrev x : ℕ
+    x = stateAt p r .label (p .first e)
+
+    abbrev y : ℕ
+    y = stateAt p r .label (p .second e)
+
+    next : stateAt p (r + 1) ≡ pick p s e d
+    next = ap (stateAt p) (add-one r) ∙ stateAt-pick p r e d w
+
+    label-next : (v : ℕ) → stateAt p (r + 1) .label v ≡ merged x y (numbers p s) (s .label) v
+    label-next v = ap (λ t. t .label v) next ∙ pick-label p s e d v
+
+    idle-next : (v : ℕ) → v < p .vertices → idleAlone p s v ≡ true → (v ≡ x → ⊥) → (v ≡ y → ⊥) → idleAlone p (stateAt p (r + 1)) v ≡ true
+    unfolding numbers
+    idle-next v b h vx vy = idle-intro p (stateAt p (r + 1)) v (record { own = own; idle = idle })
+      where
+        was : IdleAlone p s v
+        was = idle-elim p s v h
+
+        by : Merging x y (numbers p s) (s .label) v → merged x y (numbers p s) (s .label) v ≡ v
+        by (inside k i) = absurd (⊎-elim (λ q. vx (sym (was .own) ∙ q)) (λ q. vy (sym (was .own) ∙ q)) k)
+        by (outside j k i) = i ∙ was .own
+
+        own : stateAt p (r + 1) .label v ≡ v
+        own = label-next v ∙ by (merging x y (numbers p s) (s .label) v)
+
+        fresh : v ≡ numbers p s → ⊥
+        fresh q = omega arith
+
+        idle : active p (stateAt p (r + 1) .label) (stateAt p (r + 1) .label v) ≡ false
+        idle =
+            ap (active p (stateAt p (r + 1) .label)) own
+            ∙ active-cong p (stateAt p (r + 1) .label) (merged x y (numbers p s) (s .label)) v (λ u c. label-next u)
+            ∙ active-other p (s .label) x y (numbers p s) v vx vy fresh
+            ∙ ap (active p (s .label)) (sym (was .own))
+            ∙ was .idle
+
+    load-next : (v : ℕ) → v < p .vertices → load p (stateAt p (r + 1)) v ≤ load p s v + d
+    load-next v b =
+        let a : load p (stateAt p (r + 1)) v ≡ load p s v + counted (active p (s .label) (s .label v)) d =
+        ap (λ t. load p t v) next ∙ load-pick p ok (stateAt-reached p r) e d v b in
+        let c = counted-le (active p (s .label) (s .label v)) d in
+        omega arith
+
+    -- An edge that rests no more has an end that was joined, so that its key is 0.
+    rested : {keys woken : List ℕ} → Woken p s x y keys woken → (f : ℕ) → f < p .edges → resting p s f ≡ true → resting p (stateAt p (r + 1)) f ≡ false → getD woken f 0 ≡ 0
+    unfolding resting
+    rested {woken = woken} k f b h n = by (ℕ-discrete (p .first f) x) (ℕ-discrete (p .first f) y) (ℕ-discrete (p .second f) x) (ℕ-discrete (p .second f) y)
+      where
+        i : idleAlone p s (p .first f) ≡ true
+        i = and-left (idleAlone p s (p .first f)) (idleAlone p s (p .second f)) h
+
+        j : idleAlone p s (p .second f) ≡ true
+        j = and-right (idleAlone p s (p .first f)) (idleAlone p s (p .second f)) h
+
+        by : Dec (p .first f ≡ x) → Dec (p .first f ≡ y) → Dec (p .second f ≡ x) → Dec (p .second f ≡ y) → getD woken f 0 ≡ 0
+        by (yes q) _ _ _ = k .first-up f b i (inl q)
+        by (no _) (yes q) _ _ = k .first-up f b i (inr q)
+        by (no _) (no _) (yes q) _ = k .second-up f b j (inl q)
+        by (no _) (no _) (no _) (yes q) = k .second-up f b j (inr q)
+        by (no t) (no u) (no v) (no z) =
+            true-not-false
+            (idleAlone p (stateAt p (r + 1)) (p .first f) && idleAlone p (stateAt p (r + 1)) (p .second f))
+            (and-both _ _ (idle-next (p .first f) (ok .first-below f b) i t u) (idle-next (p .second f) (ok .second-below f b) j v z))
+            n
+
+    -- Good keys are good after the round, once the edges are woken that rested at a vertex that was joined: no edge comes nearer than by the delay at each end, and
+    -- components never part.
+    pub keyed-next : {keys woken : List ℕ} → Keyed p s time keys → Woken p s x y keys woken → Keyed p (stateAt p (r + 1)) (time + d) woken
+    unfolding slack
+    keyed-next {keys} {woken} h k =
+        record {
+          early =
+              let l = delay-le p s e d w in
+              let m = light e (winner-below p s e d w) in
+              let t = h .early in
+              let q : stateAt p (r + 1) .rounds ≡ suc (s .rounds) = ap (λ x. x .rounds) next ∙ pick-rounds p s e d in
+              omega arith;
+          low = λ f b a n. by f b a n (either (resting p s f));
+        }
+      where
+        by : (f : ℕ) → f < p .edges → (stateAt p (r + 1) .label (p .first f) ≡ stateAt p (r + 1) .label (p .second f) → ⊥) → resting p (stateAt p (r + 1)) f ≡ false
+            → (resting p s f ≡ true) ⊎ (resting p s f ≡ false) → getD woken f 0 ≤ 2 * (time + d) + slack p (stateAt p (r + 1)) f
+        by f b a n (inl t) = let z = rested k f b t n in omega arith
+        by f b a n (inr t) =
+            let l = k .lower f in
+            let q = h .low f b (λ q. a (label-later p r 1 (p .first f) (p .second f) q)) t in
             let x = load-next (p .first f) (ok .first-below f b) in
             let y = load-next (p .second f) (ok .second-below f b) in
-            omega arith;
-      }
-    where
-      s : State
-      s = stateAt p r
-
-      next : stateAt p (r + 1) ≡ pick p s e d
-      next = ap (stateAt p) (add-one r) ∙ stateAt-pick p r e d w
-
-      load-next : (v : ℕ) → v < p .vertices → load p (stateAt p (r + 1)) v ≤ load p s v + d
-      load-next v b =
-          let a : load p (stateAt p (r + 1)) v ≡ load p s v + counted (active p (s .label) (s .label v)) d =
-          ap (λ x. load p x v) next ∙ load-pick p ok (stateAt-reached p r) e d v b in
-          let c = counted-le (active p (s .label) (s .label v)) d in
-          omega arith
+            omega arith

@@ -1,0 +1,257 @@
+-- Waking one edge, block and vertex after another, as the code goes.
+use Prim.Native.Nat.{ℕ, zero, suc, _+_, _*_, _-_, _/_, _<_, _≤_, _^_}
+use native.Mathlib.Omega.{arith}
+use native.Mathlib.Numerals.{add-one}
+use native.Mathlib.Nat.{add-zero, add-suc}
+use mathlib.Core.Path.{_≡_, refl, ap, sym, _∙_, subst}
+use mathlib.Core.Bool.{Bool, true, false, _&&_, _||_, not, cond, or-false}
+use mathlib.Core.List.{List}
+use lib.ListN.{length, getD, set, take, drop, length-drop}
+use lib.Seq.{length-take-le, getD-take, getD-drop}
+use lib.Dec.{eqb, ltb}
+use borrow.Author.Tests.{eq-eqb, ne-eqb, lt-ltb, le-ltb, ltb-true, ltb-false}
+use Rattle.base_finite.specs.Below.{counted, countBelow, sumBelow}
+use Rattle.base_finite.specs.Laws.Below.{count-le, counted-le, count-positive}
+use Rattle.base_finite.specs.Laws.Test.{not-true-false, and-both, not-of-false}
+use Rattle.plan_winner.specs.Scan.{blockEdges}
+use Rattle.plan_wake.specs.Wake.{endsAt, idleVertex, KeyNotes, notesFrom, wokenEdge, wokenOn, wokenAt, wokenBy, wholeBlocks}
+use Rattle.plan_wake.specs.Laws.Wake.{on-length}
+
+-- ---- how many ends of a block are c
+
+module _ (ends : List ℕ) (c i : ℕ) {x one count : ℕ} (x-is : x ≡ getD ends i 0) (one-is : one ≡ counted (eqb x c) 1) (count-is : count ≡ countBelow i (λ k. eqb (getD ends k 0) c)) where
+  pub hits-fit : i < length ends → length ends ≤ blockEdges → count + one < 2 ^ 32
+  hits-fit b l = let k = count-le i (λ k. eqb (getD ends k 0) c) in let h = counted-le (eqb x c) 1 in omega arith
+
+  pub hits-more : count + one ≡ countBelow (i + 1) (λ k. eqb (getD ends k 0) c)
+  unfolding countBelow sumBelow
+  hits-more =
+      ap (λ n. n + one) count-is
+      ∙ ap (λ n. countBelow i (λ k. eqb (getD ends k 0) c) + n) (one-is ∙ ap (λ z. counted (eqb z c) 1) x-is)
+      ∙ ap (λ n. countBelow n (λ k. eqb (getD ends k 0) c)) (sym (add-one i))
+
+pub hits-end : (ends : List ℕ) (c i : ℕ) {count : ℕ} → i ≤ length ends → length ends ≤ i → count ≡ countBelow i (λ k. eqb (getD ends k 0) c)
+    → count ≡ countBelow (length ends) (λ k. eqb (getD ends k 0) c)
+hits-end ends c i a b h = let q : i ≡ length ends = omega arith in h ∙ ap (λ n. countBelow n (λ k. eqb (getD ends k 0) c)) q
+
+-- ---- one edge
+
+pub ends-first : (firsts seconds : List ℕ) (c e : ℕ) {u : ℕ} → u ≡ getD firsts e 0 → u ≡ c → true ≡ endsAt firsts seconds c e
+unfolding endsAt
+ends-first firsts seconds c e u-is h = sym (ap (λ t. t || eqb (getD seconds e 0) c) (eq-eqb (getD firsts e 0) c (sym u-is ∙ h)))
+
+pub ends-second : (firsts seconds : List ℕ) (c e : ℕ) {u v : ℕ} → u ≡ getD firsts e 0 → v ≡ getD seconds e 0 → (u ≡ c → ⊥) → eqb v c ≡ endsAt firsts seconds c e
+unfolding endsAt
+ends-second firsts seconds c e u-is v-is h =
+    ap (λ z. eqb z c) v-is ∙ sym (ap (λ t. t || eqb (getD seconds e 0) c) (ne-eqb (getD firsts e 0) c (λ q. h (u-is ∙ q))))
+
+module _ (wakes : ℕ → Bool) (s : KeyNotes) (e : ℕ) {t : Bool} (t-is : t ≡ wakes e) where
+  pub edge-woken : {keys floors : List ℕ} → t ≡ true → keys ≡ set (s .keys) e 0 → floors ≡ set (s .floors) (e / blockEdges) 0
+      → notesFrom keys floors ≡ wokenEdge wakes s e
+  unfolding wokenEdge
+  edge-woken h k f = rw (sym t-is ∙ h, k, f) refl
+
+  pub edge-left : t ≡ false → s ≡ wokenEdge wakes s e
+  unfolding wokenEdge
+  edge-left h = rw (sym t-is ∙ h) refl
+
+-- ---- some edges
+
+-- Before edge e.
+pub record Waking (wakes : ℕ → Bool) (s : KeyNotes) (from to e : ℕ) (keys floors : List ℕ) : Type 0 where
+  pub from-le : from ≤ e
+  pub upto : e - from ≤ to - from
+  pub made : notesFrom keys floors ≡ wokenOn wakes s from (e - from)
+
+pub waking-start : (wakes : ℕ → Bool) (s : KeyNotes) (from to : ℕ) → Waking wakes s from to from (s .keys) (s .floors)
+unfolding wokenOn
+waking-start wakes s from to = let z : from - from ≡ 0 = omega arith in record { from-le = omega arith; upto = omega arith; made = rw z refl }
+
+module _ {wakes : ℕ → Bool} {s : KeyNotes} {from to e : ℕ} {keys floors : List ℕ} (h : Waking wakes s from to e keys floors) where
+  pub waking-more : {keys' floors' : List ℕ} → e < to → notesFrom keys' floors' ≡ wokenEdge wakes (notesFrom keys floors) e → Waking wakes s from to (e + 1) keys' floors'
+  unfolding wokenOn
+  waking-more b k =
+      let a = h .from-le in
+      let next-is : e + 1 - from ≡ suc (e - from) = omega arith in
+      let here : from + (e - from) ≡ e = omega arith in
+      record {
+        from-le = omega arith;
+        upto = omega arith;
+        made = rw (next-is, here) (k ∙ ap (λ t. wokenEdge wakes t e) (h .made));
+      }
+
+  pub waking-long : (length keys ≡ length (s .keys)) × (length floors ≡ length (s .floors))
+  waking-long =
+      let l = on-length wakes s from (e - from) in
+      (ap (λ (t : KeyNotes). length (t .keys)) (h .made) ∙ l .0, ap (λ (t : KeyNotes). length (t .floors)) (h .made) ∙ l .1)
+
+  pub waking-end : to ≤ e → notesFrom keys floors ≡ wokenOn wakes s from (to - from)
+  waking-end b = let a = h .from-le in let u = h .upto in let z : to - from ≡ e - from = omega arith in rw z (h .made)
+
+-- ---- blocks
+
+module _ (wakes : ℕ → Bool) where
+  -- Edges none of which is to be woken.
+  on-skip : (s : KeyNotes) (from n : ℕ) → ((k : ℕ) → k < n → wakes (from + k) ≡ false) → s ≡ wokenOn wakes s from n
+  unfolding wokenOn
+  on-skip s from zero h = refl
+  on-skip s from (suc n) h =
+      edge-left wakes s (from + n) refl (h n (omega arith)) ∙ ap (λ t. wokenEdge wakes t (from + n)) (on-skip s from n (λ k b. h k (omega arith)))
+
+  on-join : (s : KeyNotes) (from a b : ℕ) → wokenOn wakes (wokenOn wakes s from a) (from + a) b ≡ wokenOn wakes s from (a + b)
+  unfolding wokenOn
+  on-join s from a zero = ap (wokenOn wakes s from) (sym (add-zero a))
+  on-join s from a (suc b) =
+      let q : from + a + b ≡ from + (a + b) = omega arith in
+      ap (λ t. wokenEdge wakes t (from + a + b)) (on-join s from a b)
+      ∙ ap (wokenEdge wakes (wokenOn wakes s from (a + b))) q
+      ∙ ap (wokenOn wakes s from) (sym (add-suc a b))
+
+-- A part of a list of ends.
+part-long : (l : List ℕ) (from : ℕ) → from + blockEdges ≤ length l → length (take (from + blockEdges - from) (drop from l)) ≡ blockEdges
+part-long l from b =
+    let q : from + blockEdges - from ≡ blockEdges = omega arith in
+    rw q (length-take-le blockEdges (drop from l) (omega (arith, length-drop from l)))
+
+pub part-fits : (l : List ℕ) (from : ℕ) → from + blockEdges ≤ length l → length (take (from + blockEdges - from) (drop from l)) ≤ blockEdges
+part-fits l from b = let q = part-long l from b in omega arith
+
+part-none : (l : List ℕ) (from c : ℕ) {count : ℕ} → from + blockEdges ≤ length l
+    → count ≡ countBelow (length (take (from + blockEdges - from) (drop from l))) (λ i. eqb (getD (take (from + blockEdges - from) (drop from l)) i 0) c) → count ≡ 0
+    → (k : ℕ) → k < blockEdges → eqb (getD l (from + k) 0) c ≡ false
+part-none l from c b h z k u =
+    let q : from + blockEdges - from ≡ blockEdges = omega arith in
+    let long = part-long l from b in
+    let same : getD (take (from + blockEdges - from) (drop from l)) k 0 ≡ getD l (from + k) 0 =
+    getD-take (from + blockEdges - from) (drop from l) k 0 (omega arith) ∙ getD-drop from l k 0 in
+    not-true-false
+    (eqb (getD l (from + k) 0) c)
+    (λ t.
+    let some =
+    count-positive (length (take (from + blockEdges - from) (drop from l))) (λ i. eqb (getD (take (from + blockEdges - from) (drop from l)) i 0) c) k (omega arith)
+    (ap (λ x. eqb x c) same ∙ t) in
+    omega arith)
+
+pub hits-sum : (l m : List ℕ) (from c : ℕ) {p q : ℕ} → from + blockEdges ≤ length l → from + blockEdges ≤ length m
+    → p ≡ countBelow (length (take (from + blockEdges - from) (drop from l))) (λ i. eqb (getD (take (from + blockEdges - from) (drop from l)) i 0) c)
+    → q ≡ countBelow (length (take (from + blockEdges - from) (drop from m))) (λ i. eqb (getD (take (from + blockEdges - from) (drop from m)) i 0) c)
+    → p + q < 2 ^ 32
+hits-sum l m from c a b h k =
+    omega (
+      arith,
+      part-long l from a,
+      part-long m from b,
+      count-le (length (take (from + blockEdges - from) (drop from l))) (λ i. eqb (getD (take (from + blockEdges - from) (drop from l)) i 0) c),
+      count-le (length (take (from + blockEdges - from) (drop from m))) (λ i. eqb (getD (take (from + blockEdges - from) (drop from m)) i 0) c),
+    )
+
+-- A block that has c at no end.
+pub block-left : (firsts seconds : List ℕ) (from c : ℕ) (s : KeyNotes) {p q : ℕ} → from + blockEdges ≤ length firsts → from + blockEdges ≤ length seconds
+    → p ≡ countBelow (length (take (from + blockEdges - from) (drop from firsts))) (λ i. eqb (getD (take (from + blockEdges - from) (drop from firsts)) i 0) c)
+    → q ≡ countBelow (length (take (from + blockEdges - from) (drop from seconds))) (λ i. eqb (getD (take (from + blockEdges - from) (drop from seconds)) i 0) c)
+    → p + q ≤ 0 → s ≡ wokenOn (endsAt firsts seconds c) s from blockEdges
+unfolding endsAt
+block-left firsts seconds from c s a b h k z =
+    on-skip (endsAt firsts seconds c) s from blockEdges
+    (λ i u.
+    ap (λ t. t || eqb (getD seconds (from + i) 0) c) (part-none firsts from c a h (omega arith) i u)
+    ∙ part-none seconds from c b k (omega arith) i u)
+
+pub block-woken : (wakes : ℕ → Bool) (s t : KeyNotes) (from : ℕ) → t ≡ wokenOn wakes s from (from + blockEdges - from) → t ≡ wokenOn wakes s from blockEdges
+block-woken wakes s t from h = let q : from + blockEdges - from ≡ blockEdges = omega arith in rw q at h
+
+pub whole-fits : (m k b : ℕ) {n : ℕ} → n ≡ wholeBlocks m k → b < n → (blockEdges * b + blockEdges ≤ m) × (blockEdges * b + blockEdges ≤ k)
+unfolding wholeBlocks
+whole-fits m k b {n} h l = by (ltb k m) refl h
+  where
+    by : (t : Bool) → ltb k m ≡ t → n ≡ cond t (k / blockEdges) (m / blockEdges) → (blockEdges * b + blockEdges ≤ m) × (blockEdges * b + blockEdges ≤ k)
+    by true g q = let u = ltb-true k m g in (omega arith, omega arith)
+    by false g q = let u = ltb-false k m g in (omega arith, omega arith)
+
+pub whole-le : (m k b : ℕ) {n : ℕ} → n ≡ wholeBlocks m k → b ≤ n → blockEdges * b ≤ m
+unfolding wholeBlocks
+whole-le m k b {n} h l = by (ltb k m) refl h
+  where
+    by : (t : Bool) → ltb k m ≡ t → n ≡ cond t (k / blockEdges) (m / blockEdges) → blockEdges * b ≤ m
+    by true g q = let u = ltb-true k m g in omega arith
+    by false g q = omega arith
+
+-- Before block b.
+pub record WakingBlocks (wakes : ℕ → Bool) (s : KeyNotes) (n b : ℕ) (keys floors : List ℕ) : Type 0 where
+  pub upto : b ≤ n
+  pub made : notesFrom keys floors ≡ wokenOn wakes s 0 (blockEdges * b)
+
+pub blocks-start : (wakes : ℕ → Bool) (s : KeyNotes) (n : ℕ) → WakingBlocks wakes s n 0 (s .keys) (s .floors)
+unfolding wokenOn
+blocks-start wakes s n = record { upto = omega arith; made = refl }
+
+module _ {wakes : ℕ → Bool} {s : KeyNotes} {n b : ℕ} {keys floors : List ℕ} (h : WakingBlocks wakes s n b keys floors) where
+  pub blocks-more : {keys' floors' : List ℕ} → b < n → notesFrom keys' floors' ≡ wokenOn wakes (notesFrom keys floors) (blockEdges * b) blockEdges
+      → WakingBlocks wakes s n (b + 1) keys' floors'
+  blocks-more l k =
+      let q : blockEdges * b + blockEdges ≡ blockEdges * (b + 1) = omega arith in
+      let z : 0 + blockEdges * b ≡ blockEdges * b = omega arith in
+      record {
+        upto = omega arith;
+        made =
+            k
+            ∙ ap (λ t. wokenOn wakes t (blockEdges * b) blockEdges) (h .made)
+            ∙ ap (λ i. wokenOn wakes (wokenOn wakes s 0 (blockEdges * b)) i blockEdges) (sym z)
+            ∙ on-join wakes s 0 (blockEdges * b) blockEdges
+            ∙ ap (wokenOn wakes s 0) q;
+      }
+
+  -- And the edges that are left.
+  pub blocks-end : (m k : ℕ) {keys' floors' : List ℕ} → n ≡ wholeBlocks m k → notesFrom keys' floors' ≡ wokenOn wakes (notesFrom keys floors) (blockEdges * b) (m - blockEdges * b)
+      → notesFrom keys' floors' ≡ wokenOn wakes s 0 m
+  blocks-end m k whole g =
+      let z : 0 + blockEdges * b ≡ blockEdges * b = omega arith in
+      let l = whole-le m k b whole (h .upto) in
+      let q : blockEdges * b + (m - blockEdges * b) ≡ m = omega arith in
+      g
+      ∙ ap (λ t. wokenOn wakes t (blockEdges * b) (m - blockEdges * b)) (h .made)
+      ∙ ap (λ i. wokenOn wakes (wokenOn wakes s 0 (blockEdges * b)) i (m - blockEdges * b)) (sym z)
+      ∙ on-join wakes s 0 (blockEdges * b) (m - blockEdges * b)
+      ∙ ap (wokenOn wakes s 0) q
+
+  pub blocks-long : (length keys ≡ length (s .keys)) × (length floors ≡ length (s .floors))
+  blocks-long =
+      let l = on-length wakes s 0 (blockEdges * b) in
+      (ap (λ (t : KeyNotes). length (t .keys)) (h .made) ∙ l .0, ap (λ (t : KeyNotes). length (t .floors)) (h .made) ∙ l .1)
+
+-- ---- a vertex
+
+module _ (firsts seconds flags : List ℕ) (n c : ℕ) (s : KeyNotes) where
+  -- Not a vertex's number.
+  pub vertex-past : {i : ℕ} → i ≡ c → n ≤ i → s ≡ wokenAt firsts seconds flags n c s
+  unfolding wokenAt idleVertex
+  vertex-past i-is h =
+      on-skip _ s 0 (length firsts) (λ k u. ap (λ t. t && not (eqb (getD flags c 0) 1) && endsAt firsts seconds c (0 + k)) (le-ltb c n (omega arith)))
+
+  -- An active one.
+  pub vertex-active : {i f : ℕ} → i ≡ c → f ≡ getD flags i 0 → f ≡ 1 → s ≡ wokenAt firsts seconds flags n c s
+  unfolding wokenAt idleVertex
+  vertex-active {i} i-is f-is h = on-skip _ s 0 (length firsts) (λ k u. by (ltb c n) (endsAt firsts seconds c (0 + k)))
+    where
+      flag : eqb (getD flags c 0) 1 ≡ true
+      flag = eq-eqb (getD flags c 0) 1 (ap (λ j. getD flags j 0) (sym i-is) ∙ sym f-is ∙ h)
+
+      by : (t w : Bool) → ((t && not (eqb (getD flags c 0) 1)) && w) ≡ false
+      by true w = ap (λ b. not b && w) flag
+      by false w = refl
+
+  pub vertex-idle : {t : KeyNotes} {i f : ℕ} → i ≡ c → i < n → f ≡ getD flags i 0 → (f ≡ 1 → ⊥)
+      → t ≡ wokenOn (endsAt firsts seconds c) s 0 (length firsts) → t ≡ wokenAt firsts seconds flags n c s
+  unfolding wokenAt idleVertex
+  vertex-idle i-is below f-is h k =
+      let flag : eqb (getD flags c 0) 1 ≡ false = ne-eqb (getD flags c 0) 1 (λ q. h (f-is ∙ ap (λ j. getD flags j 0) i-is ∙ q)) in
+      let idle : (ltb c n && not (eqb (getD flags c 0) 1)) ≡ true = and-both (ltb c n) (not (eqb (getD flags c 0) 1)) (lt-ltb c n (omega arith)) (not-of-false _ flag) in
+      k ∙ ap (λ b. wokenOn (λ e. b && endsAt firsts seconds c e) s 0 (length firsts)) (sym idle)
+
+-- The two components that edge e joins, as they are read.
+pub joined-woken : (firsts seconds labels flags : List ℕ) (n e : ℕ) (s : KeyNotes) {t u : KeyNotes} {a b i j x y : ℕ} → a ≡ getD firsts e 0 → i ≡ a → x ≡ getD labels i 0
+    → b ≡ getD seconds e 0 → j ≡ b → y ≡ getD labels j 0
+    → t ≡ wokenAt firsts seconds flags n x s → u ≡ wokenAt firsts seconds flags n y t → u ≡ wokenBy firsts seconds labels flags n e s
+unfolding wokenBy
+joined-woken firsts seconds labels flags n e s a-is i-is x-is b-is j-is y-is t-is u-is =
+    u-is ∙ rw (t-is, x-is, y-is, i-is, j-is, a-is, b-is) refl

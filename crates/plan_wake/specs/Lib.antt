@@ -1,0 +1,2 @@
+pub mod Wake
+pub mod Laws
