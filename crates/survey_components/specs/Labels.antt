@@ -1,5 +1,5 @@
 -- The sets of edges that are joined, and the labels of the components that they make.
-use Prim.Native.Nat.{ℕ, _<_}
+use Prim.Native.Nat.{ℕ}
 use mathlib.Core.Path.{_≡_}
 use mathlib.Core.Bool.{Bool, true, not}
 use mathlib.Core.List.{List}
@@ -11,6 +11,7 @@ use Rattle.base_limits.specs.Limits.{maxVertices}
 use Rattle.survey_components.specs.declared.Chosen.{Chosen}
 use Rattle.survey_components.specs.declared.Chosen.the-variants.{All, Kept}
 use Rattle.survey_core.specs.Survey.{Survey}
+use Rattle.survey_labels.specs.Labels.{EndsWithin}
 
 -- All tracks, or those marked 2.
 unfoldable pub chosenMark : Chosen → ℕ → Bool
@@ -24,11 +25,10 @@ chosen set marks e = chosenMark set (getD marks e 0)
 unfoldable pub pickedIn : (marks : List ℕ) → ℕ → Bool
 pickedIn marks e = not (eqb (getD marks e 0) 0)
 
--- Every end has a label in the buffer.
+-- Every vertex of the buffer is its own component, and every end has a label there.
 pub record EndsFit (firsts seconds labels : List ℕ) : Type 0 where
-  pub long : length labels ≡ maxVertices
-  pub first-below : (e : ℕ) → e < length firsts → getD firsts e 0 < maxVertices
-  pub second-below : (e : ℕ) → e < length firsts → getD seconds e 0 < maxVertices
+  pub own : labels ≡ tabulate (length labels) (λ v. v)
+  pub ends : EndsWithin (length labels) (length firsts) (λ e. getD firsts e 0) (λ e. getD seconds e 0)
 
 -- The labels of the components that a set of edges makes, in a buffer for every survey.
 unfoldable pub labelsOf : Survey → (ℕ → Bool) → List ℕ

@@ -77,15 +77,14 @@ fn join_edge(
     }
 }
 
-// The labels of the components that the edges of the set make.
+// Vertices that are their own components get the labels of those that the edges of the set make.
 fn label_components(set: Chosen, firsts: &[u32], seconds: &[u32], marks: &[u8], labels: &mut [u32])
     requires { ⌜ EndsFit (now firsts) (now seconds) (now labels) ⌝ }
     ensures { λ r. let first : ℕ → ℕ = λ e. getD (old firsts) e 0 in
         let second : ℕ → ℕ = λ e. getD (old seconds) e 0 in
         let label = components maxVertices first second (chosen set (old marks)) (length (old firsts)) in
-        ⌜ new labels ≡ tabulate maxVertices label ⌝ }
+        ⌜ new labels ≡ tabulate (length (old labels)) label ⌝ }
 {
-    own_labels(labels);
     let mut e = 0;
     while e < firsts.len() {
         join_edge(set, firsts, seconds, marks, labels, e);
@@ -110,6 +109,7 @@ pub fn set_labels(
     let Verdict::Fine = found else {
         return labels;
     };
-    label_components(set, firsts, seconds, marks, &mut labels);
+    own_labels(&mut labels);
+    label_components(set, firsts, seconds, marks, &mut labels[0..groups.len()]);
     labels
 }

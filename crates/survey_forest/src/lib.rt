@@ -59,7 +59,7 @@ fn loop_refusal(groups: &[u8], firsts: &[u32], seconds: &[u32], picked: &[u8]) -
     survey_labels::own_labels(&mut labels);
     let mut e = 0;
     while e < firsts.len() {
-        let found = join_picked(firsts, seconds, picked, &mut labels, e);
+        let found = join_picked(firsts, seconds, picked, &mut labels[0..groups.len()], e);
         let Verdict::Fine = found else {
             return found;
         };

@@ -1,12 +1,12 @@
 -- The groups that a set of tracks leaves apart, by the labels of its components in a buffer. The code of refusals 8 and 14 uses it.
-use Prim.Native.Nat.{ℕ, _<_, _≤_}
+use Prim.Native.Nat.{ℕ, _-_, _<_, _≤_}
 use native.Mathlib.Omega.{arith}
-use mathlib.Core.Path.{_≡_, refl, ap, _∙_}
+use mathlib.Core.Path.{_≡_, refl, ap, sym, _∙_}
 use mathlib.Core.Bool.{Bool, _&&_, _||_, not}
-use mathlib.Core.List.{List}
-use lib.ListN.{length, getD, replicate, length-replicate}
+use mathlib.Core.List.{List, _++_}
+use lib.ListN.{length, getD, take, drop, replicate, length-replicate}
 use lib.Dec.{eqb}
-use Rattle.base_finite.specs.Below.{allBelow}
+use Rattle.base_finite.specs.Below.{allBelow, tabulate}
 use Rattle.base_finite.specs.Laws.Below.{all-cong, length-tabulate, getD-tabulate}
 use Rattle.theory_graph.specs.Component.{components}
 use Rattle.base_limits.specs.Limits.{maxVertices, groupNumbers}
@@ -16,9 +16,12 @@ use Rattle.base_limits.specs.declared.Verdict.the-variants.{Fine, Refused}
 use Rattle.base_limits.specs.Laws.Verdict.{lowest-cong}
 use Rattle.survey_core.specs.Survey.{Survey, surveyWith, surveyFrom, vertexCount, edgeCount, member, groupJoined, listsAlone, componentsOf, problemOf}
 use Rattle.survey_core.specs.Refusal.{surveyRefusal, groupRefusal}
+use Rattle.survey_core.specs.Sound.{SurveySound}
 use Rattle.survey_core.specs.Laws.Refusal.{fine-survey, fine-plain}
+use Rattle.survey_labels.specs.Labels.{EndsWithin}
+use Rattle.survey_labels.specs.Laws.Front.{components-outside, table-front, table-front-changed}
 use Rattle.survey_labels.specs.Laws.Labels.{components-stored}
-use Rattle.survey_components.specs.Labels.{labelsOf}
+use Rattle.survey_components.specs.Labels.{EndsFit, labelsOf}
 
 -- A group is joined by labels that agree on the vertices.
 joined-cong : (s : Survey) (f g : ℕ → ℕ) (k : ℕ) → ((v : ℕ) → v < vertexCount s → f v ≡ g v) → groupJoined s f k ≡ groupJoined s g k
@@ -81,3 +84,31 @@ lists-by-labels groups firsts seconds weights owners others F number fine h =
     (h
     ∙ ap (λ v. written v (labelsOf (surveyFrom groups firsts seconds weights) F) (replicate maxVertices 0))
     (fine-plain groups firsts seconds weights owners others fine))
+
+-- ---- labels of the vertices of a sound survey, in a buffer for every survey
+
+-- Every end is a vertex.
+pub ends-within : (s : Survey) → SurveySound s → EndsWithin (length (s .groups)) (length (s .firsts)) (λ e. getD (s .firsts) e 0) (λ e. getD (s .seconds) e 0)
+ends-within s sound = record { first-within = λ e b. sound .edges e b .first-below; second-within = λ e b. sound .edges e b .second-below }
+
+module _ (s : Survey) (sound : SurveySound s) {labels : List ℕ} (numbered : labels ≡ tabulate maxVertices (λ v. v)) where
+  front-long : length (take (length (s .groups) - 0) labels) ≡ length (s .groups)
+  front-long = ap length (table-front (length (s .groups)) maxVertices (λ v. v) (sound .few) numbered) ∙ length-tabulate (length (s .groups)) (λ v. v)
+
+  pub front-fits : EndsFit (s .firsts) (s .seconds) (take (length (s .groups) - 0) labels)
+  front-fits =
+      record {
+        own = rw front-long (table-front (length (s .groups)) maxVertices (λ v. v) (sound .few) numbered);
+        ends = rw front-long (ends-within s sound);
+      }
+
+  -- The places behind the vertices keep their numbers.
+  pub front-labelled : (F : ℕ → Bool) {front : List ℕ}
+      → front ≡ tabulate (length (take (length (s .groups) - 0) labels)) (components maxVertices (λ e. getD (s .firsts) e 0) (λ e. getD (s .seconds) e 0) F (length (s .firsts)))
+      → front ++ drop (length (s .groups) - 0) labels ≡ labelsOf s F
+  unfolding labelsOf
+  front-labelled F h =
+      let label : ℕ → ℕ = components maxVertices (λ e. getD (s .firsts) e 0) (λ e. getD (s .seconds) e 0) F (length (s .firsts)) in
+      table-front-changed (length (s .groups)) maxVertices (λ v. v) label (sound .few) numbered
+      (λ v b. sym (components-outside maxVertices (length (s .groups)) _ _ F (length (s .firsts)) (ends-within s sound) v b))
+      (h ∙ ap (λ k. tabulate k label) front-long)

@@ -6,6 +6,7 @@ use Rattle.base_finite.specs.Laws.Below.{length-tabulate}
 use Rattle.base_limits.specs.Limits.{maxVertices}
 use Rattle.base_buffer.specs.Laws.Store.{remade-table}
 use Rattle.survey_forest.specs.Laws.Forest.{Joining, joining-start, joining-found, joining-turn, joining-end}
+use native.Mathlib.Omega.{arith}
 use borrow.Author.Needs.{needs}
 use Rattle.survey_forest.proofs.loop_refusal.Statement.{statement}
 use Rattle.survey_forest.proofs.loop_refusal.Tie as tie
@@ -20,8 +21,10 @@ loop-holds : tie.Need-loop-holds Inv-loop μ-loop
 loop-holds c =
     joining-start _ _ _ _ (c .before .before .before .before .before .before .before .pre) (c .before .own-labels .ensures ∙ remade-table (λ v x. v) maxVertices _ (λ v. v) refl (λ v b. refl))
 
-slice-aggregate-join-picked : tie.Need-slice-aggregate-join-picked Inv-loop μ-loop
-slice-aggregate-join-picked c = sym (ap length (c .before .before .loop .inv .labels-are) ∙ length-tabulate maxVertices _)
+part-labels-end : tie.Need-part-labels-end Inv-loop μ-loop
+part-labels-end c =
+    let few = c .before .before .before .before .before .before .before .before .before .pre .few in
+    omega (arith, ap length (c .before .loop .inv .labels-are) ∙ length-tabulate maxVertices _)
 
 enum-told : tie.Need-enum-told Inv-loop μ-loop
 enum-told c = search needs
@@ -54,7 +57,9 @@ loop-refusal-spec =
     (λ c. search needs)
     (λ c κs. search needs)
     loop-holds
-    slice-aggregate-join-picked
+    (λ c. search needs)
+    (λ c. search needs)
+    part-labels-end
     (λ c κs. search needs)
     enum-told
     (λ c. search needs)

@@ -1,11 +1,11 @@
 -- Forests by labels: a set of edges is a forest exactly if none of them closes a loop with edges of lower number. Pruning and the laws of sides use it.
-use Prim.Native.Nat.{ℕ, zero, suc, _+_, _<_, _≤_}
+use Prim.Native.Nat.{ℕ, zero, suc, _+_, _-_, _<_, _≤_}
 use native.Mathlib.Omega.{arith}
 use mathlib.Core.Path.{_≡_, refl, ap, sym, _∙_}
 use mathlib.Core.Logic.{_⊎_, inl, inr, ⊎-elim}
 use mathlib.Core.Bool.{Bool, true, false, _&&_, not, cond, false≢true}
-use mathlib.Core.List.{List, []}
-use lib.ListN.{length, getD}
+use mathlib.Core.List.{List, [], _++_}
+use lib.ListN.{length, getD, take, drop}
 use lib.Dec.{eqb, ltb}
 use borrow.Author.Tests.{eqb-true, eq-eqb, ne-eqb, lt-ltb, ltb-true}
 use Rattle.base_finite.specs.Below.{tabulate}
@@ -40,8 +40,9 @@ use Rattle.survey_core.specs.Survey.{Survey, surveyFrom, groupsAlone, vertexCou
 use Rattle.survey_core.specs.Refusal.{surveyRefusal, groupRefusal}
 use Rattle.survey_core.specs.Sound.{SurveySound}
 use Rattle.survey_core.specs.Laws.Refusal.{fine-survey}
-use Rattle.survey_labels.specs.Labels.{endsJoined}
+use Rattle.survey_labels.specs.Labels.{endsJoined, EndsWithin}
 use Rattle.survey_labels.specs.Laws.Labels.{components-none, components-more, components-stored}
+use Rattle.survey_labels.specs.Laws.Front.{components-outside, table-front, table-front-changed}
 use Rattle.survey_components.specs.Labels.{pickedIn, labelsOf}
 use Rattle.survey_components.specs.Laws.Labels.{refusal-by-labels}
 use Rattle.survey_forest.specs.Forest.{closesLoop, loopRefusal, forestRefusal, EndsBelow}
@@ -114,13 +115,13 @@ module _ (s : Survey) (F : ℕ → Bool) where
 -- ---- labels in a buffer
 
 -- Whether an edge closes a loop, by a buffer of labels.
-pub closes-by-labels : (n N : ℕ) (a b : ℕ → ℕ) (F : ℕ → Bool) (e : ℕ) {labels : List ℕ} → a e < N → b e < N → labels ≡ tabulate N (components N a b F e)
+pub closes-by-labels : (n k N : ℕ) (a b : ℕ → ℕ) (F : ℕ → Bool) (e : ℕ) {labels : List ℕ} → a e < N → b e < N → labels ≡ tabulate N (components k a b F e)
     → (F e && eqb (getD labels (a e) 0) (getD labels (b e) 0)) ≡ closesLoop n a b F e
 unfolding closesLoop
-closes-by-labels n N a b F e {labels} ha hb h = rw (at (a e) ha, at (b e) hb)
+closes-by-labels n k N a b F e {labels} ha hb h = rw (at (a e) ha, at (b e) hb)
   where
     at : (v : ℕ) → v < N → getD labels v 0 ≡ components n a b F e v
-    at v c = ap (λ t. getD t v 0) h ∙ getD-tabulate N _ v 0 c ∙ components-stored N n a b F e v
+    at v c = ap (λ t. getD t v 0) h ∙ getD-tabulate N _ v 0 c ∙ components-stored k n a b F e v
 
 -- ---- edges of which none has closed a loop yet
 
@@ -147,28 +148,41 @@ module _ (groups firsts seconds picked : List ℕ) (ok : EndsBelow groups firsts
   pub joining-start : {labels : List ℕ} → labels ≡ tabulate maxVertices (λ v. v) → Joining groups firsts seconds picked labels 0
   joining-start h = record { scanned = scan-start (length firsts) _; labels-are = h ∙ components-none maxVertices a b F maxVertices }
 
+  -- The ends of the edges below i are vertices.
+  within : (i : ℕ) → i ≤ length firsts → EndsWithin (length groups) i a b
+  within i l = record { first-within = λ e b. ok .first-below e (omega arith); second-within = λ e b. ok .second-below e (omega arith) }
+
   module _ {labels : List ℕ} {e : ℕ} (h : Joining groups firsts seconds picked labels e) where
-    first-labelled : e < length firsts → a e < maxVertices
-    first-labelled l = let few = ok .few in omega (arith, ok .first-below e l)
+    -- The labels of the vertices alone.
+    abbrev part : List ℕ
+    part = take (length groups - 0) labels
 
-    second-labelled : e < length firsts → b e < maxVertices
-    second-labelled l = let few = ok .few in omega (arith, ok .second-below e l)
+    part-is : part ≡ tabulate (length groups) (components maxVertices a b F e)
+    part-is = table-front (length groups) maxVertices (components maxVertices a b F e) (ok .few) (h .labels-are)
 
-    module _ {found : Verdict} (l : e < length firsts) (is : found ≡ refuseIf (F e && eqb (getD labels (a e) 0) (getD labels (b e) 0)) 21 e) where
+    module _ {found : Verdict} (l : e < length firsts) (is : found ≡ refuseIf (F e && eqb (getD part (a e) 0) (getD part (b e) 0)) 21 e) where
       found-is : found ≡ refuseIf (closesLoop (length groups) a b F e) 21 e
       found-is =
-          is ∙ ap (λ t. refuseIf t 21 e) (closes-by-labels (length groups) maxVertices a b F e (first-labelled l) (second-labelled l) (h .labels-are))
+          is
+          ∙ ap (λ t. refuseIf t 21 e)
+          (closes-by-labels (length groups) maxVertices (length groups) a b F e (ok .first-below e l) (ok .second-below e l) part-is)
 
       pub joining-found : {number place : ℕ} → found ≡ Refused number place → found ≡ (loopRefusal s F before groupRefusal s 14 F)
       unfolding loopRefusal problemOf vertexCount edgeCount
       joining-found r = passed-on (scan-found (h .scanned) l found-is r) r _
 
-      pub joining-turn : {after : List ℕ} → found ≡ Fine → after ≡ cond (F e) (endsJoined (a e) (b e) labels) labels
-          → Joining groups firsts seconds picked after (e + 1)
+      -- The edge leaves the places behind the vertices as they are.
+      pub joining-turn : {front : List ℕ} → found ≡ Fine → front ≡ cond (F e) (endsJoined (a e) (b e) part) part
+          → Joining groups firsts seconds picked (front ++ drop (length groups - 0) labels) (e + 1)
       joining-turn f k =
           record {
             scanned = scan-turn (h .scanned) l found-is f;
-            labels-are = components-more maxVertices a b F maxVertices e (first-labelled l) (second-labelled l) (h .labels-are) k;
+            labels-are =
+                table-front-changed (length groups) maxVertices (components maxVertices a b F e) (components maxVertices a b F (e + 1)) (ok .few) (h .labels-are)
+                (λ v c.
+                components-outside maxVertices (length groups) a b F e (within e (omega arith)) v c
+                ∙ sym (components-outside maxVertices (length groups) a b F (e + 1) (within (e + 1) (omega arith)) v c))
+                (components-more maxVertices a b F (length groups) e (ok .first-below e l) (ok .second-below e l) part-is k);
           }
 
     pub joining-end : {w : Verdict} → length firsts ≤ e

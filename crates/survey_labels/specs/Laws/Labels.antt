@@ -51,7 +51,7 @@ unfolding merged
 merged-same x y z f g v h = rw h
 
 module _ (n : ℕ) (a b : ℕ → ℕ) (F : ℕ → Bool) where
-  components-suc : (e v : ℕ) → components n a b F (suc e) v
+  pub components-suc : (e v : ℕ) → components n a b F (suc e) v
       ≡ cond (F e) (merged (components n a b F e (a e)) (components n a b F e (b e)) (components n a b F e (a e)) (components n a b F e) v) (components n a b F e v)
   unfolding components
   components-suc e v = by (either (F e))
