@@ -4,10 +4,10 @@ use native.Mathlib.Omega.{arith}
 use borrow.Author.Needs.{needs}
 use mathlib.Core.Path.{ap, _∙_}
 use lib.ListN.{length, drop, length-append}
 use Rattle.api_why_text.specs.Output.{whyOutput}
 use Rattle.format_print.specs.Laws.Print.{fitting-length, fitting-never, fitting-out}
-use Rattle.api_why_text.proofs.why_whole.Statement.{statement}
-use Rattle.api_why_text.proofs.why_whole.Tie as tie
+use Rattle.api_why_whole.proofs.why_whole.Statement.{statement}
+use Rattle.api_why_whole.proofs.why_whole.Tie as tie
 
 -- 7 cannot come
 returns : tie.Need-returns

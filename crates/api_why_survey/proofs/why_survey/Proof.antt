@@ -7,9 +7,9 @@ use Rattle.survey_core.specs.Survey.{surveyWith}
 use Rattle.survey_core.specs.Sound.{ByteGroups}
 use Rattle.why_rule.specs.Answer.{whyOutcome}
 use Rattle.format_print.specs.Laws.Print.{prints-as}
 use Rattle.api_why_text.specs.Laws.Output.{route-buffer, why-refusal-fits, unasked-lines, ReasonCountsFit, entries-few, given-lines, given-fits}
-use Rattle.api_why_text.proofs.why_survey.Statement.{statement}
-use Rattle.api_why_text.proofs.why_survey.Tie as tie
+use Rattle.api_why_survey.proofs.why_survey.Statement.{statement}
+use Rattle.api_why_survey.proofs.why_survey.Tie as tie
 
 part-print-reason-end : tie.Need-part-print-reason-end
 unfolding whyOutcome

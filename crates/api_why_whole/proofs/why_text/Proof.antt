@@ -8,9 +8,9 @@ use Rattle.base_limits.specs.Limits.{maxVertices, maxEdges, maxPairs, whyRoom}
 use Rattle.format_survey.specs.Answer.{countsOutcome}
 use Rattle.format_print.specs.Laws.Print.{prints-as}
 use Rattle.api_plan_text.specs.Laws.Read.{survey-buffers, refused-read, counts-few, survey-said}
 use Rattle.api_why_text.specs.Laws.Output.{why-refusal-fits, why-refused-output, why-said-output}
-use Rattle.api_why_text.proofs.why_text.Statement.{statement}
-use Rattle.api_why_text.proofs.why_text.Tie as tie
+use Rattle.api_why_whole.proofs.why_text.Statement.{statement}
+use Rattle.api_why_whole.proofs.why_text.Tie as tie
 
 part-why-survey-end : tie.Need-part-why-survey-end
 unfolding countsOutcome

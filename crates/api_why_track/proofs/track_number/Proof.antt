@@ -8,9 +8,9 @@ use Rattle.format_grammar.specs.Laws.Bytes.{end-here, end-later}
 use Rattle.format_number.specs.Laws.Step.{value-goes, refusal-stays}
 use Rattle.format_number.specs.Answer.{numberStep}
 use mathlib.Core.Path.{sym, _∙_}
 use Rattle.api_why_text.specs.Output.{trackAt}
-use Rattle.api_why_text.proofs.track_number.Statement.{statement}
-use Rattle.api_why_text.proofs.track_number.Tie as tie
+use Rattle.api_why_track.proofs.track_number.Statement.{statement}
+use Rattle.api_why_track.proofs.track_number.Tie as tie
 
 -- no number
 returns : tie.Need-returns
