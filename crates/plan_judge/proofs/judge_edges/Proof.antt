@@ -1,7 +1,7 @@
 -- `judge_edges` meets its contract: after e edges their marks are judged, and the index is that of the next picked one.
-use Rattle.plan_drop.specs.Laws.Judge.{marks-more}
+use Rattle.plan_judge.specs.Laws.Judge.{marks-more}
 use Rattle.plan_cuts.specs.Laws.Word.{count-start, next-index}
-use Rattle.plan_drop.specs.Judge.{judged, raised}
+use Rattle.plan_judge.specs.Judge.{judged, raised}
 use Rattle.survey_components.specs.Labels.{pickedIn}
 use Rattle.base_buffer.specs.Store.{remade}
 use Rattle.base_buffer.specs.Laws.Store.{length-remade, remade-end}
@@ -12,8 +12,8 @@ use mathlib.Core.Path.{_≡_, refl, ap, _∙_}
 use Prim.Native.Nat.{_≤_, _-_}
 use borrow.Author.Needs.{needs}
 use native.Mathlib.Omega.{arith}
-use Rattle.plan_drop.proofs.judge.judge_edges.Statement.{statement}
-use Rattle.plan_drop.proofs.judge.judge_edges.Tie as tie
+use Rattle.plan_judge.proofs.judge_edges.Statement.{statement}
+use Rattle.plan_judge.proofs.judge_edges.Tie as tie
 
 abbrev Inv-loop : tie.InvT-loop
 Inv-loop words mates n picked base marks₀ m bits i₀ e₀ marks i e =
@@ -31,7 +31,7 @@ loop-holds c =
 judge-edge-requires : tie.Need-judge-edge-requires Inv-loop μ-loop
 judge-edge-requires c κs =
     let start = c .before .before .before .before .before .before in
-    let few = start .pre in omega (arith, count-le (c .before .before .loop .e) (pickedIn (start .args .picked .now)))
+    omega (arith, count-le (c .before .before .loop .e) (pickedIn (start .args .picked .now)))
 
 loop-again : tie.Need-loop-again Inv-loop μ-loop
 loop-again c =

@@ -1,12 +1,11 @@
 // Judging a batch of picked edges by the words: an edge is needed exactly if some vertex and its mate lie on its two
-// sides.
+// sides. Definitions in specs/.
 ghost use Rattle.base_buffer.specs.Lent.{old, new};
 ghost use mathlib.Core.Path.{_≡_};
-ghost use Prim.Native.Nat.{_≤_};
-ghost use Rattle.base_limits.specs.Limits.{maxEdges};
+ghost use Prim.Native.Nat.{_+_, _^_, _<_};
 ghost use Rattle.base_buffer.specs.Store.{remade};
 ghost use Rattle.survey_components.specs.Labels.{pickedIn};
-ghost use Rattle.plan_drop.specs.Judge.{partedBelow, judged, raised, MarkStep};
+ghost use Rattle.plan_judge.specs.Judge.{partedBelow, judged, raised, MarkStep};
 use base_buffer::at64;
 use base_buffer::put8;
 use base_limits::MAX_VERTICES;
@@ -42,7 +41,7 @@ fn is_needed(bits: u64, base: usize, i: usize) -> bool
 
 // Edge e, which has the index i if it is picked, gets 2 if it is needed; the answer is the next index.
 fn judge_edge(bits: u64, picked: &[u8], base: usize, marks: &mut [u8], e: usize, i: usize) -> usize
-    requires { ⌜ i ≤ maxEdges ⌝ }
+    requires { ⌜ i + 1 < 2 ^ 64 ⌝ }
     ensures { λ r. ⌜ MarkStep (pickedIn (old picked) e) (judged bits base i) e i (old marks) r (new marks) ⌝ }
 {
     if is_picked(picked, e) {
@@ -65,7 +64,6 @@ pub fn judge_edges(
     marks: &mut [u8],
     m: usize,
 )
-    requires { ⌜ m ≤ maxEdges ⌝ }
     ensures { λ r. let judgement = judged (partedBelow (old words) (old mates) n) base in
         ⌜ new marks ≡ remade (raised (pickedIn (old picked)) judgement) m (old marks) ⌝ }
 {

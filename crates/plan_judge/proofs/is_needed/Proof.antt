@@ -1,11 +1,11 @@
 -- `is_needed` meets its contract: each return by the law of its case.
 use Rattle.format_record.specs.Bits.{bitAt}
-use Rattle.plan_drop.specs.Laws.Judge.{judged-before, judged-after, judged-in}
+use Rattle.plan_judge.specs.Laws.Judge.{judged-before, judged-after, judged-in}
 use mathlib.Core.Path.{sym, _∙_}
 use native.Mathlib.Omega.{arith}
 use borrow.Author.Needs.{needs}
-use Rattle.plan_drop.proofs.judge.is_needed.Statement.{statement}
-use Rattle.plan_drop.proofs.judge.is_needed.Tie as tie
+use Rattle.plan_judge.proofs.is_needed.Statement.{statement}
+use Rattle.plan_judge.proofs.is_needed.Tie as tie
 
 -- before the batch
 returns : tie.Need-returns

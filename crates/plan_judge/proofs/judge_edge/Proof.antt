@@ -1,9 +1,9 @@
 -- `judge_edge` meets its contract: each return by the law of its case.
-use Rattle.plan_drop.specs.Laws.Judge.{mark-passed, mark-kept, mark-dropped}
+use Rattle.plan_judge.specs.Laws.Judge.{mark-passed, mark-kept, mark-dropped}
 use mathlib.Core.Path.{sym, _∙_}
 use borrow.Author.Needs.{needs}
-use Rattle.plan_drop.proofs.judge.judge_edge.Statement.{statement}
-use Rattle.plan_drop.proofs.judge.judge_edge.Tie as tie
+use Rattle.plan_judge.proofs.judge_edge.Statement.{statement}
+use Rattle.plan_judge.proofs.judge_edge.Tie as tie
 
 returns : tie.Need-returns
 returns c =
