@@ -17,8 +17,6 @@ use base_buffer::put8;
 use base_limits::MAX_VERTICES;
 use base_limits::Verdict;
 
-mod judge;
-
 // 1 for a picked edge, else 0.
 fn dropped_mark(picked: &[u8], e: usize) -> u8
     ensures { λ r. ⌜ r ≡ markOf (pickedIn (old picked) e) false ⌝ }
@@ -70,7 +68,7 @@ fn prune_batch(
         ⌜ new marks ≡ batchMarks p (pickedIn (old picked)) base (length (old firsts)) (old marks) ⌝ }
 {
     let words = plan_cuts::side_words(firsts, seconds, picked, base);
-    judge::judge_edges(
+    plan_judge::judge_edges(
         &words,
         mates,
         groups.len(),

@@ -4,10 +4,6 @@ use borrow.Author.Needs.{needs}
 use Rattle.plan_drop.proofs.prune_batch.Statement.{statement}
 use Rattle.plan_drop.proofs.prune_batch.Tie as tie
 
-judge-edges-requires : tie.Need-judge-edges-requires
-judge-edges-requires c κs =
-    c .before .before .before .before .before .before .before .before .pre .0 .edges-few
-
 returns : tie.Need-returns
 returns c =
     let start = c .before .before .before .before .before .before .before .before .before .before .before in
@@ -18,6 +14,6 @@ prune-batch-spec =
     tie.close
     (tie.spec
     (λ c κs. search needs)
-    judge-edges-requires
+    (λ c κs. search needs)
     (λ c. search needs)
     returns)
