@@ -16,7 +16,7 @@ ghost use Rattle.plan_growth.specs.Tables.{settledAt, settledValues, Sum
 ghost use Rattle.plan_growth.specs.Tables.{turnedAt, turnedMembers, turnedComponent, turnedTo};
 ghost use Rattle.plan_growth.specs.Represents.{arraysFrom, newArrays, roundsAfter, timeAfter, Represents};
 ghost use Rattle.theory_steiner.specs.Minima.{winnerDelay};
-ghost use Rattle.plan_growth.specs.Grown.{growthFrom, GrownAfter};
+ghost use Rattle.plan_growth.specs.Grown.{GrownAfter};
 ghost use Rattle.survey_core.specs.Sound.{SurveySound};
 use base_buffer::at64;
 use base_buffer::put8;
@@ -259,27 +259,6 @@ fn sum_values(values: &[u64; MAX_DUALS], count: usize) -> u64
     sum
 }
 
-// The answer after this many rounds.
-fn finished(
-    n: usize,
-    rounds: usize,
-    values: [u64; MAX_DUALS],
-    picked: [u8; MAX_EDGES],
-    order: [u32; MAX_VERTICES],
-) -> Growth
-    requires { ⌜ SumFits values (n + rounds) ⌝ }
-    ensures { λ r. ⌜ r ≡ growthFrom rounds (sumBelow (n + rounds) (λ c. getD values c 0)) values picked order ⌝ }
-{
-    let bound = sum_values(&values, n + rounds);
-    Growth {
-        rounds,
-        bound,
-        values,
-        picked,
-        order,
-    }
-}
-
 // Rounds until no candidate is left: at most n - 1.
 fn grow_rounds(groups: &[u8], firsts: &[u32], seconds: &[u32], weights: &[u32]) -> Growth
     requires { ⌜ SurveySound (surveyFrom (now groups) (now firsts) (now seconds) (now weights)) ⌝ }
@@ -327,7 +306,14 @@ fn grow_rounds(groups: &[u8], firsts: &[u32], seconds: &[u32], weights: &[u32]) 
         r += 1;
     }
     settle_all(&mut values, &flags, time);
-    finished(groups.len(), r, values, picked, order)
+    let bound = sum_values(&values, groups.len() + r);
+    Growth {
+        rounds: r,
+        bound,
+        values,
+        picked,
+        order,
+    }
 }
 
 // No round at all.
