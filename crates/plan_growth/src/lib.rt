@@ -9,8 +9,7 @@ ghost use Rattle.theory_steiner.specs.Problem.{Problem};
 ghost use Rattle.survey_core.specs.Refusal.{surveyRefusal};
 ghost use Rattle.theory_steiner.specs.Growth.{winner, stateAt};
 ghost use Rattle.survey_core.specs.Survey.{surveyFrom, lentSurvey, problemOf};
-ghost use Rattle.survey_labels.specs.Labels.{relabelled};
-ghost use Rattle.plan_active.specs.Flags.{MatesListed, joinedActive, mergedFlags};
+ghost use Rattle.plan_active.specs.Flags.{MatesListed, joinedActive, relabelledFirst, mergedFlags};
 ghost use Rattle.plan_delay.specs.Between.{delayIn};
 ghost use Rattle.plan_growth.specs.Tables.{settledAt, settledValues, SumFits};
 ghost use Rattle.plan_growth.specs.Tables.{turnedAt, turnedMembers, turnedComponent, turnedTo};
@@ -145,7 +144,7 @@ fn join(
         let x = getD (old labels) first 0 in
         let y = getD (old labels) second 0 in
         let active = joinedActive (old mates) (old labels) (old members) count first second in
-        ⌜ (new labels ≡ relabelled x y z (old labels))
+        ⌜ (new labels ≡ relabelledFirst n x y z (old labels))
         × (new flags ≡ mergedFlags x y z (counted active 1) (old flags)) ⌝ }
     ensures { λ r.
         let x = getD (old labels) first 0 in
@@ -166,7 +165,7 @@ fn join(
     turn_loads(loads, flag, flags, labels, n, time, y);
     settle(values, flags, x, time);
     settle(values, flags, y, time);
-    plan_active::merge(labels, flags, x, y, z, flag);
+    plan_active::merge(labels, flags, n, x, y, z, flag);
     settle(values, flags, z, time);
 }
 

@@ -4,7 +4,7 @@ use Prim.Native.Nat.{ℕ, suc, _+_, _*_, _-_, _<_, _≤_, _^_}
 use native.Mathlib.Omega.{arith}
 use mathlib.Core.Path.{_≡_, refl, ap, sym, _∙_}
 use mathlib.Core.Logic.{_⊎_, inl, inr}
-use mathlib.Core.Bool.{Bool, true, false}
+use mathlib.Core.Bool.{Bool, true, false, cond}
 use mathlib.Core.List.{[], List}
 use lib.ListN.{length, getD, replicate, List·getD-eq-default}
 use lib.Dec.{eqb, ltb}
@@ -32,7 +32,7 @@ use Rattle.plan_delay.specs.declared.Delay.the-variants.{Never, After}
 use Rattle.plan_delay.specs.Held.{heldValue, settledBy}
 use Rattle.plan_delay.specs.Laws.Held.{held-settled}
 use Rattle.plan_growth.specs.Tables.{settledValues, SumFits}
-use Rattle.plan_growth.specs.Represents.{winnerEdge, pickAt, heldLoad, Arrays, arraysFrom, roundsAfter, timeAfter, Represents}
+use Rattle.plan_growth.specs.Represents.{winnerEdge, pickAt, heldLabel, heldLoad, Arrays, arraysFrom, roundsAfter, timeAfter, Represents}
 use Rattle.theory_steiner.specs.Minima.{winnerDelay}
 use Rattle.plan_growth.specs.Grown.{growthFrom, GrownAfter}
 use Rattle.plan_growth.specs.Laws.Round.{going, weights-light, flag-at}
@@ -48,6 +48,14 @@ held-zero : (t : Bool) → heldValue 0 t 0 ≡ 0
 unfolding heldValue
 held-zero true = refl
 held-zero false = refl
+
+label-start : (p : Problem) (v : ℕ) → v ≡ heldLabel p start v
+unfolding heldLabel start
+label-start p v = by (ltb v (p .vertices))
+  where
+    by : (t : Bool) → v ≡ cond t v v
+    by true = refl
+    by false = refl
 
 held-start : (p : Problem) (v : ℕ) → heldLoad p start 0 v ≡ 0
 unfolding heldLoad start
@@ -75,7 +83,7 @@ represents-start {s} sound plain h f =
       sound = sound;
       plain = plain;
       rounds-are = refl;
-      labels-are = h ∙ remade-table (λ v x. v) maxVertices _ (λ v. v) refl (λ v b. refl);
+      labels-are = h ∙ remade-table (λ v x. v) maxVertices _ (heldLabel (problemOf s) start) refl (λ v b. label-start (problemOf s) v);
       loads-are =
           replicate-table maxVertices 0 ∙ tabulate-cong maxVertices _ _ (λ v _. sym (none (ltb v (problemOf s .vertices)) (held-start (problemOf s) v)));
       loads-timely = λ v _. omega (arith, load-start (problemOf s) v);
