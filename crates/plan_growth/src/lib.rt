@@ -30,12 +30,11 @@ use plan_delay::Delay;
 use plan_delay::Winner;
 use plan_winner::MAX_BLOCKS;
 
-// What growing leaves: how many rounds there were, the sum of all duals, the component numbers of the vertices, the
-// values of the component numbers, 1 for each picked edge, and the edges in the order of the rounds.
+// What growing leaves: how many rounds there were, the sum of all duals, the values of the component numbers, 1 for each
+// picked edge, and the edges in the order of the rounds.
 pub struct Growth {
     pub rounds: usize,
     pub bound: u64,
-    pub labels: [u32; MAX_VERTICES],
     pub values: [u64; MAX_DUALS],
     pub picked: [u8; MAX_EDGES],
     pub order: [u32; MAX_VERTICES],
@@ -51,16 +50,15 @@ fn settle(values: &mut [u64; MAX_DUALS], flags: &[u8; MAX_DUALS], c: u32, time: 
 }
 
 // And for all components.
-fn settled_values(values: &[u64; MAX_DUALS], flags: &[u8; MAX_DUALS], time: u64) -> [u64; MAX_DUALS]
-    ensures { λ r. ⌜ r ≡ settledValues (old flags) time (old values) ⌝ }
+fn settle_all(values: &mut [u64; MAX_DUALS], flags: &[u8; MAX_DUALS], time: u64)
+    ensures { λ r. ⌜ new values ≡ settledValues (old flags) time (old values) ⌝ }
 {
-    let mut all = [0u64; MAX_DUALS];
     let mut c = 0;
     while c < MAX_DUALS {
-        all[c] = plan_delay::settled(at64(values, c), base_buffer::at8(flags, c), time);
+        let x = plan_delay::settled(at64(values, c), base_buffer::at8(flags, c), time);
+        put64(values, c, x);
         c += 1;
     }
-    all
 }
 
 // What is held for the load of vertex v, turned.
@@ -147,7 +145,8 @@ fn join(
         let x = getD (old labels) first 0 in
         let y = getD (old labels) second 0 in
         let active = joinedActive (old mates) (old labels) (old members) count first second in
-        ⌜ (new labels ≡ relabelled x y z (old labels)) × (new flags ≡ mergedFlags x y z (counted active 1) (old flags)) ⌝ }
+        ⌜ (new labels ≡ relabelled x y z (old labels))
+        × (new flags ≡ mergedFlags x y z (counted active 1) (old flags)) ⌝ }
     ensures { λ r.
         let x = getD (old labels) first 0 in
         let y = getD (old labels) second 0 in
@@ -265,19 +264,17 @@ fn sum_values(values: &[u64; MAX_DUALS], count: usize) -> u64
 fn finished(
     n: usize,
     rounds: usize,
-    labels: [u32; MAX_VERTICES],
     values: [u64; MAX_DUALS],
     picked: [u8; MAX_EDGES],
     order: [u32; MAX_VERTICES],
 ) -> Growth
     requires { ⌜ SumFits values (n + rounds) ⌝ }
-    ensures { λ r. ⌜ r ≡ growthFrom rounds (sumBelow (n + rounds) (λ c. getD values c 0)) labels values picked order ⌝ }
+    ensures { λ r. ⌜ r ≡ growthFrom rounds (sumBelow (n + rounds) (λ c. getD values c 0)) values picked order ⌝ }
 {
     let bound = sum_values(&values, n + rounds);
     Growth {
         rounds,
         bound,
-        labels,
         values,
         picked,
         order,
@@ -325,26 +322,22 @@ fn grow_rounds(groups: &[u8], firsts: &[u32], seconds: &[u32], weights: &[u32]) 
             time,
         );
         let Delay::After(d) = wait else {
-            let all = settled_values(&values, &flags, time);
-            return finished(groups.len(), r, labels, all, picked, order);
+            break;
         };
         time += d;
         r += 1;
     }
-    let all = settled_values(&values, &flags, time);
-    finished(groups.len(), r, labels, all, picked, order)
+    settle_all(&mut values, &flags, time);
+    finished(groups.len(), r, values, picked, order)
 }
 
 // No round at all.
 fn no_rounds() -> Growth
     ensures { λ r. ⌜ ((p : Problem) → GrownAfter p 0 r) ⌝ }
 {
-    let mut labels = [0u32; MAX_VERTICES];
-    survey_labels::own_labels(&mut labels);
     Growth {
         rounds: 0,
         bound: 0,
-        labels,
         values: [0u64; MAX_DUALS],
         picked: [0u8; MAX_EDGES],
         order: [0u32; MAX_VERTICES],

@@ -2,9 +2,10 @@
 use Prim.Native.Nat.{_-_}
 use native.Mathlib.Omega.{arith}
 use mathlib.Core.Path.{refl}
+use mathlib.Core.Logic.{⊎-elim}
 use Rattle.survey_core.specs.Survey.{surveyFrom}
 use Rattle.plan_growth.specs.Represents.{arraysFrom, Represents}
-use Rattle.plan_growth.specs.Laws.Rounds.{represents-start, represents-over, represents-won, time-fits, sum-fits, grown-end, grown-full}
+use Rattle.plan_growth.specs.Laws.Rounds.{represents-start, represents-over, represents-won, time-fits, settled-left, sum-fits, grown-end, grown-full}
 use borrow.Author.Needs.{needs}
 use Rattle.plan_growth.proofs.grow_rounds.Statement.{statement}
 use Rattle.plan_growth.proofs.grow_rounds.Tie as tie
@@ -33,17 +34,6 @@ round-requires c κs =
 enum-told : tie.Need-enum-told Inv-loop μ-loop
 enum-told c = search needs
 
-finished-requires : tie.Need-finished-requires Inv-loop μ-loop
-finished-requires c κs =
-    sum-fits (represents-over _ _ (c .before .before .before .before .before .round .ensures .1) (c .before .before .before .enum-told .given .1)) (c .settled-values .ensures)
-
--- a round without a winner
-returns : tie.Need-returns Inv-loop μ-loop
-returns c =
-    let call = c .before .before .before .before .before .before in
-    let told = c .before .before .before .before .enum-told .given .1 in
-    grown-end (represents-over _ _ (call .round .ensures .1) told) (c .before .settled-values .ensures) (call .round .ensures .0) told (c .finished .ensures)
-
 add-time : tie.Need-add-time Inv-loop μ-loop
 add-time c = record { fits = time-fits (represents-won _ _ (c .before .before .before .round .ensures .1) (c .before .wait .given .1)) }
 
@@ -53,13 +43,28 @@ loop-less c = omega arith
 loop-again : tie.Need-loop-again Inv-loop μ-loop
 loop-again c = represents-won _ _ (c .before .before .before .round .ensures .1) (c .before .wait .given .1)
 
-finished-requires-2 : tie.Need-finished-requires-2 Inv-loop μ-loop
-finished-requires-2 c κs = sum-fits (c .before .before .before .before .loop .inv) (c .settled-values2 .ensures)
+finished-requires : tie.Need-finished-requires Inv-loop μ-loop
+finished-requires c κs =
+    let left = c .before .before .before in
+    ⊎-elim
+    (λ w. sum-fits (left .before .loop .inv) (settled-left (left .before .loop .inv) (w .1) (w .4) (c .settle-all .ensures)))
+    (λ w.
+    let over = represents-over _ _ (w .11 .ensures .1) (w .13 .given .1) in
+    sum-fits over (settled-left over (w .14) (w .17) (c .settle-all .ensures)))
+    (left .loop-test .came)
 
--- n - 1 rounds
-returns-2 : tie.Need-returns-2 Inv-loop μ-loop
-returns-2 c =
-    grown-full (c .before .before .before .before .before .loop .inv) (c .before .settled-values2 .ensures) (omega arith) (c .finished2 .ensures)
+-- after n - 1 rounds, or a round without a winner
+returns : tie.Need-returns Inv-loop μ-loop
+returns c =
+    let left = c .before .before .before .before in
+    ⊎-elim
+    (λ w.
+    let full = left .before .loop .inv in
+    grown-full full (settled-left full (w .1) (w .4) (c .before .settle-all .ensures)) (w .2) (w .3) (omega (arith, w .0 .left)) (c .finished .ensures))
+    (λ w.
+    let over = represents-over _ _ (w .11 .ensures .1) (w .13 .given .1) in
+    grown-end over (settled-left over (w .14) (w .17) (c .before .settle-all .ensures)) (w .15) (w .16) (w .11 .ensures .0) (w .13 .given .1) (c .finished .ensures))
+    (left .loop-test .came)
 
 pub grow-rounds-spec : {M : Type 1} → statement M
 grow-rounds-spec =
@@ -77,13 +82,10 @@ grow-rounds-spec =
     round-requires
     (λ c. search needs)
     enum-told
-    (λ c κs. search needs)
-    finished-requires
-    returns
     add-time
     (λ c. search needs)
     loop-less
     loop-again
     (λ c κs. search needs)
-    finished-requires-2
-    returns-2)
+    finished-requires
+    returns)
