@@ -5,7 +5,7 @@ ghost use mathlib.Core.Path.{_≡_};
 ghost use Prim.Native.Nat.{_+_, _-_, _*_, _≤_};
 ghost use lib.ListN.{getD, length};
 ghost use lib.Dec.{eqb};
-ghost use Rattle.base_finite.specs.Below.{counted, countBelow};
+ghost use Rattle.base_finite.specs.Below.{counted, anyBelow};
 ghost use Rattle.plan_winner.specs.Scan.{blockEdges};
 ghost use Rattle.plan_wake.specs.Wake.{endsAt, notesFrom, wokenEdge, wokenOn, wokenAt, wokenBy, wholeBlocks};
 use base_buffer::at32;
@@ -23,18 +23,17 @@ fn same_number(x: u32, c: u32) -> u32
     0
 }
 
-// How many of the ends of a block are c.
-fn hits(ends: &[u32], c: u32) -> u32
-    requires { ⌜ length (now ends) ≤ blockEdges ⌝ }
-    ensures { λ r. ⌜ r ≡ countBelow (length (old ends)) (λ i. eqb (getD (old ends) i 0) c) ⌝ }
+// 1 if some of these ends is c. All are compared, so that many are at once.
+fn has_end(ends: &[u32], c: u32) -> u32
+    ensures { λ r. ⌜ r ≡ counted (anyBelow (length (old ends)) (λ i. eqb (getD (old ends) i 0) c)) 1 ⌝ }
 {
-    let mut count = 0;
+    let mut found = 0;
     let mut i = 0;
     while i < ends.len() {
-        count += same_number(at32(ends, i), c);
+        found = found | same_number(at32(ends, i), c);
         i += 1;
     }
-    count
+    found
 }
 
 // Whether edge e has vertex c as an end.
@@ -96,7 +95,7 @@ fn wake_block(
         ⌜ notesFrom (new keys) (new floors) ≡ s ⌝ }
 {
     let to = from + BLOCK_EDGES;
-    let found = hits(&firsts[from..to], c) + hits(&seconds[from..to], c);
+    let found = has_end(&firsts[from..to], c) | has_end(&seconds[from..to], c);
     if 0 < found {
         wake_edges(firsts, seconds, c, keys, floors, from, to);
     }

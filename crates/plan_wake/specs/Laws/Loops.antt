@@ -10,29 +10,35 @@ use lib.ListN.{length, getD, set, take, drop, length-drop}
 use lib.Seq.{length-take-le, getD-take, getD-drop}
 use lib.Dec.{eqb, ltb}
 use borrow.Author.Tests.{eq-eqb, ne-eqb, lt-ltb, le-ltb, ltb-true, ltb-false}
-use Rattle.base_finite.specs.Below.{counted, countBelow, sumBelow}
-use Rattle.base_finite.specs.Laws.Below.{count-le, counted-le, count-positive}
-use Rattle.base_finite.specs.Laws.Test.{not-true-false, and-both, not-of-false}
+use lib.Bits.{bitOr}
+use Rattle.base_finite.specs.Below.{counted, anyBelow}
+use Rattle.base_finite.specs.Laws.Below.{any-none, counted-true}
+use Rattle.base_finite.specs.Laws.Test.{not-true-false, and-both, not-of-false, or-false-left, or-false-right}
 use Rattle.plan_winner.specs.Scan.{blockEdges}
 use Rattle.plan_wake.specs.Wake.{endsAt, idleVertex, KeyNotes, notesFrom, wokenEdge, wokenOn, wokenAt, wokenBy, wholeBlocks}
 use Rattle.plan_wake.specs.Laws.Wake.{on-length}
 
--- ---- how many ends of a block are c
+-- ---- whether some end is c
 
-module _ (ends : List ℕ) (c i : ℕ) {x one count : ℕ} (x-is : x ≡ getD ends i 0) (one-is : one ≡ counted (eqb x c) 1) (count-is : count ≡ countBelow i (λ k. eqb (getD ends k 0) c)) where
-  pub hits-fit : i < length ends → length ends ≤ blockEdges → count + one < 2 ^ 32
-  hits-fit b l = let k = count-le i (λ k. eqb (getD ends k 0) c) in let h = counted-le (eqb x c) 1 in omega arith
+or-counted : (s t : Bool) → bitOr (counted s 1) (counted t 1) ≡ counted (s || t) 1
+unfolding counted
+or-counted true true = refl
+or-counted true false = refl
+or-counted false true = refl
+or-counted false false = refl
 
-  pub hits-more : count + one ≡ countBelow (i + 1) (λ k. eqb (getD ends k 0) c)
-  unfolding countBelow sumBelow
-  hits-more =
-      ap (λ n. n + one) count-is
-      ∙ ap (λ n. countBelow i (λ k. eqb (getD ends k 0) c) + n) (one-is ∙ ap (λ z. counted (eqb z c) 1) x-is)
-      ∙ ap (λ n. countBelow n (λ k. eqb (getD ends k 0) c)) (sym (add-one i))
+pub found-more : (ends : List ℕ) (c i : ℕ) {x one found : ℕ} → x ≡ getD ends i 0 → one ≡ counted (eqb x c) 1 → found ≡ counted (anyBelow i (λ k. eqb (getD ends k 0) c)) 1
+    → bitOr found one ≡ counted (anyBelow (i + 1) (λ k. eqb (getD ends k 0) c)) 1
+unfolding anyBelow
+found-more ends c i {one = one} x-is one-is found-is =
+    ap (λ n. bitOr n one) found-is
+    ∙ ap (bitOr (counted (anyBelow i (λ k. eqb (getD ends k 0) c)) 1)) (one-is ∙ ap (λ z. counted (eqb z c) 1) x-is)
+    ∙ or-counted (anyBelow i (λ k. eqb (getD ends k 0) c)) (eqb (getD ends i 0) c)
+    ∙ ap (λ n. counted (anyBelow n (λ k. eqb (getD ends k 0) c)) 1) (sym (add-one i))
 
-pub hits-end : (ends : List ℕ) (c i : ℕ) {count : ℕ} → i ≤ length ends → length ends ≤ i → count ≡ countBelow i (λ k. eqb (getD ends k 0) c)
-    → count ≡ countBelow (length ends) (λ k. eqb (getD ends k 0) c)
-hits-end ends c i a b h = let q : i ≡ length ends = omega arith in h ∙ ap (λ n. countBelow n (λ k. eqb (getD ends k 0) c)) q
+pub found-end : (ends : List ℕ) (c i : ℕ) {found : ℕ} → i ≤ length ends → length ends ≤ i → found ≡ counted (anyBelow i (λ k. eqb (getD ends k 0) c)) 1
+    → found ≡ counted (anyBelow (length ends) (λ k. eqb (getD ends k 0) c)) 1
+found-end ends c i a b h = let q : i ≡ length ends = omega arith in h ∙ ap (λ n. counted (anyBelow n (λ k. eqb (getD ends k 0) c)) 1) q
 
 -- ---- one edge
 
@@ -107,55 +113,36 @@ module _ (wakes : ℕ → Bool) where
       ∙ ap (wokenEdge wakes (wokenOn wakes s from (a + b))) q
       ∙ ap (wokenOn wakes s from) (sym (add-suc a b))
 
--- A part of a list of ends.
-part-long : (l : List ℕ) (from : ℕ) → from + blockEdges ≤ length l → length (take (from + blockEdges - from) (drop from l)) ≡ blockEdges
-part-long l from b =
+-- A block of a list of ends, and whether some of it is c.
+abbrev part : List ℕ → (from : ℕ) → List ℕ
+part l from = take (from + blockEdges - from) (drop from l)
+
+abbrev partHas : List ℕ → (from c : ℕ) → Bool
+partHas l from c = anyBelow (length (part l from)) (λ i. eqb (getD (part l from) i 0) c)
+
+part-none : (l : List ℕ) (from c : ℕ) → from + blockEdges ≤ length l → partHas l from c ≡ false → (k : ℕ) → k < blockEdges → eqb (getD l (from + k) 0) c ≡ false
+part-none l from c b h k u =
     let q : from + blockEdges - from ≡ blockEdges = omega arith in
-    rw q (length-take-le blockEdges (drop from l) (omega (arith, length-drop from l)))
+    let long : length (part l from) ≡ blockEdges = rw q (length-take-le blockEdges (drop from l) (omega (arith, length-drop from l))) in
+    let same : getD (part l from) k 0 ≡ getD l (from + k) 0 = getD-take (from + blockEdges - from) (drop from l) k 0 (omega arith) ∙ getD-drop from l k 0 in
+    ap (λ x. eqb x c) (sym same) ∙ any-none (length (part l from)) (λ i. eqb (getD (part l from) i 0) c) h k (omega arith)
 
-pub part-fits : (l : List ℕ) (from : ℕ) → from + blockEdges ≤ length l → length (take (from + blockEdges - from) (drop from l)) ≤ blockEdges
-part-fits l from b = let q = part-long l from b in omega arith
-
-part-none : (l : List ℕ) (from c : ℕ) {count : ℕ} → from + blockEdges ≤ length l
-    → count ≡ countBelow (length (take (from + blockEdges - from) (drop from l))) (λ i. eqb (getD (take (from + blockEdges - from) (drop from l)) i 0) c) → count ≡ 0
-    → (k : ℕ) → k < blockEdges → eqb (getD l (from + k) 0) c ≡ false
-part-none l from c b h z k u =
-    let q : from + blockEdges - from ≡ blockEdges = omega arith in
-    let long = part-long l from b in
-    let same : getD (take (from + blockEdges - from) (drop from l)) k 0 ≡ getD l (from + k) 0 =
-    getD-take (from + blockEdges - from) (drop from l) k 0 (omega arith) ∙ getD-drop from l k 0 in
-    not-true-false
-    (eqb (getD l (from + k) 0) c)
-    (λ t.
-    let some =
-    count-positive (length (take (from + blockEdges - from) (drop from l))) (λ i. eqb (getD (take (from + blockEdges - from) (drop from l)) i 0) c) k (omega arith)
-    (ap (λ x. eqb x c) same ∙ t) in
-    omega arith)
-
-pub hits-sum : (l m : List ℕ) (from c : ℕ) {p q : ℕ} → from + blockEdges ≤ length l → from + blockEdges ≤ length m
-    → p ≡ countBelow (length (take (from + blockEdges - from) (drop from l))) (λ i. eqb (getD (take (from + blockEdges - from) (drop from l)) i 0) c)
-    → q ≡ countBelow (length (take (from + blockEdges - from) (drop from m))) (λ i. eqb (getD (take (from + blockEdges - from) (drop from m)) i 0) c)
-    → p + q < 2 ^ 32
-hits-sum l m from c a b h k =
-    omega (
-      arith,
-      part-long l from a,
-      part-long m from b,
-      count-le (length (take (from + blockEdges - from) (drop from l))) (λ i. eqb (getD (take (from + blockEdges - from) (drop from l)) i 0) c),
-      count-le (length (take (from + blockEdges - from) (drop from m))) (λ i. eqb (getD (take (from + blockEdges - from) (drop from m)) i 0) c),
-    )
+none-counted : (s t : Bool) {p q : ℕ} → p ≡ counted s 1 → q ≡ counted t 1 → bitOr p q ≤ 0 → (s ≡ false) × (t ≡ false)
+none-counted s t {p} {q} h k z =
+    let both : bitOr p q ≡ counted (s || t) 1 = ap (λ n. bitOr n q) h ∙ ap (bitOr (counted s 1)) k ∙ or-counted s t in
+    let none : (s || t) ≡ false = not-true-false (s || t) (λ y. let one = counted-true y 1 in omega arith) in
+    (or-false-left s t none, or-false-right s t none)
 
 -- A block that has c at no end.
 pub block-left : (firsts seconds : List ℕ) (from c : ℕ) (s : KeyNotes) {p q : ℕ} → from + blockEdges ≤ length firsts → from + blockEdges ≤ length seconds
-    → p ≡ countBelow (length (take (from + blockEdges - from) (drop from firsts))) (λ i. eqb (getD (take (from + blockEdges - from) (drop from firsts)) i 0) c)
-    → q ≡ countBelow (length (take (from + blockEdges - from) (drop from seconds))) (λ i. eqb (getD (take (from + blockEdges - from) (drop from seconds)) i 0) c)
-    → p + q ≤ 0 → s ≡ wokenOn (endsAt firsts seconds c) s from blockEdges
+    → p ≡ counted (partHas firsts from c) 1 → q ≡ counted (partHas seconds from c) 1 → bitOr p q ≤ 0 → s ≡ wokenOn (endsAt firsts seconds c) s from blockEdges
 unfolding endsAt
 block-left firsts seconds from c s a b h k z =
+    let none = none-counted (partHas firsts from c) (partHas seconds from c) h k z in
     on-skip (endsAt firsts seconds c) s from blockEdges
     (λ i u.
-    ap (λ t. t || eqb (getD seconds (from + i) 0) c) (part-none firsts from c a h (omega arith) i u)
-    ∙ part-none seconds from c b k (omega arith) i u)
+    ap (λ t. t || eqb (getD seconds (from + i) 0) c) (part-none firsts from c a (none .0) i u)
+    ∙ part-none seconds from c b (none .1) i u)
 
 pub block-woken : (wakes : ℕ → Bool) (s t : KeyNotes) (from : ℕ) → t ≡ wokenOn wakes s from (from + blockEdges - from) → t ≡ wokenOn wakes s from blockEdges
 block-woken wakes s t from h = let q : from + blockEdges - from ≡ blockEdges = omega arith in rw q at h
