@@ -11,11 +11,11 @@ ghost use Rattle.base_limits.specs.Limits.{maxVertices};
 ghost use Rattle.base_limits.specs.Verdict.{written};
 ghost use Rattle.survey_core.specs.Survey.{lentSurvey};
 ghost use Rattle.survey_core.specs.Refusal.{surveyRefusal};
-ghost use Rattle.survey_labels.specs.Labels.{endsJoined};
+ghost use Rattle.survey_labels.specs.Roots.{endsHung};
 ghost use Rattle.survey_components.specs.Labels.{chosenMark, chosen, pickedIn, EndsFit, labelsOf};
 use base_limits::MAX_VERTICES;
 use base_limits::Verdict;
-use survey_labels::join_ends;
+use survey_labels::hang_ends;
 use survey_labels::own_labels;
 
 // A set of edges: all of a survey's, or those that are marked kept.
@@ -56,7 +56,7 @@ pub fn is_picked(marks: &[u8], e: usize) -> bool
     }
 }
 
-// The ends of edge e become linked, if it is in the set.
+// The ends of edge e come into one tree, if it is in the set.
 fn join_edge(
     set: Chosen,
     firsts: &[u32],
@@ -65,14 +65,16 @@ fn join_edge(
     labels: &mut [u32],
     e: usize,
 )
-    ensures { λ r. let joined = endsJoined (getD (old firsts) e 0) (getD (old seconds) e 0) (old labels) in
-        ⌜ new labels ≡ cond (chosen set (old marks) e) joined (old labels) ⌝ }
+    ensures { λ r. let first = getD (old firsts) e 0 in
+        let hung = endsHung (length (old firsts)) first (getD (old seconds) e 0) (old labels) in
+        ⌜ new labels ≡ cond (chosen set (old marks) e) hung (old labels) ⌝ }
 {
     if is_chosen(set, base_buffer::at8(marks, e)) {
-        join_ends(
+        hang_ends(
             labels,
             base_buffer::at32(firsts, e),
             base_buffer::at32(seconds, e),
+            firsts.len(),
         );
     }
 }
@@ -90,6 +92,7 @@ fn label_components(set: Chosen, firsts: &[u32], seconds: &[u32], marks: &[u8], 
         join_edge(set, firsts, seconds, marks, labels, e);
         e += 1;
     }
+    survey_labels::level(labels, firsts.len());
 }
 
 // The labels of the components that the edges of the set make; zeros where one of 1 to 6 comes.

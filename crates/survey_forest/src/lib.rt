@@ -3,20 +3,19 @@ ghost use Rattle.base_buffer.specs.Lent.{old, new};
 ghost use mathlib.Core.Path.{_≡_};
 ghost use mathlib.Core.Bool.{cond, _&&_};
 ghost use mathlib.Core.List.{[]};
-ghost use lib.ListN.{getD};
-ghost use lib.Dec.{eqb};
+ghost use lib.ListN.{getD, length};
 ghost use Rattle.base_limits.specs.Verdict.{refuseIf, _before_};
 ghost use Rattle.survey_core.specs.Survey.{surveyFrom, lentSurvey};
 ghost use Rattle.survey_core.specs.Refusal.{groupRefusal};
-ghost use Rattle.survey_labels.specs.Labels.{endsJoined};
+ghost use Rattle.survey_labels.specs.Roots.{endsHung, oneRoot};
 ghost use Rattle.survey_components.specs.Labels.{pickedIn};
 ghost use Rattle.survey_forest.specs.Forest.{EndsBelow, loopRefusal, forestRefusal};
 use base_limits::MAX_VERTICES;
 use base_limits::Verdict;
 use survey_components::is_picked;
-use survey_labels::join_ends;
+use survey_labels::hang_ends;
 
-// The ends of edge e become linked, if it is picked; 21 where they are linked already.
+// The ends of edge e come into one tree, if it is picked; 21 where they are in one already.
 fn join_picked(
     firsts: &[u32],
     seconds: &[u32],
@@ -26,16 +25,18 @@ fn join_picked(
 ) -> Verdict
     ensures closed { λ r. let first = getD (old firsts) e 0 in
         let second = getD (old seconds) e 0 in
-        let one = eqb (getD (old labels) first 0) (getD (old labels) second 0) in
+        let one = oneRoot (length (old firsts)) first second (old labels) in
         ⌜ r ≡ refuseIf (pickedIn (old picked) e && one) 21 e ⌝ }
-    ensures joined { λ r. let joined = endsJoined (getD (old firsts) e 0) (getD (old seconds) e 0) (old labels) in
-        ⌜ new labels ≡ cond (pickedIn (old picked) e) joined (old labels) ⌝ }
+    ensures joined { λ r. let first = getD (old firsts) e 0 in
+        let hung = endsHung (length (old firsts)) first (getD (old seconds) e 0) (old labels) in
+        ⌜ new labels ≡ cond (pickedIn (old picked) e) hung (old labels) ⌝ }
 {
     if is_picked(picked, e) {
-        let linked = join_ends(
+        let linked = hang_ends(
             labels,
             base_buffer::at32(firsts, e),
             base_buffer::at32(seconds, e),
+            firsts.len(),
         );
         if linked {
             return Verdict::Refused {
@@ -65,6 +66,7 @@ fn loop_refusal(groups: &[u8], firsts: &[u32], seconds: &[u32], picked: &[u8]) -
         };
         e += 1;
     }
+    survey_labels::level(&mut labels[0..groups.len()], firsts.len());
     survey_separating::split_refusal(groups, &labels, 14)
 }
 

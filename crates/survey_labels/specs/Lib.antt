@@ -1,2 +1,3 @@
 pub mod Labels
+pub mod Roots
 pub mod Laws

@@ -1,12 +1,15 @@
-// Component labels in a lent buffer, and what an edge between two components makes of them.
+// Component labels in a lent buffer, and what an edge between two components makes of them; and trees there, by which
+// many edges are joined sooner.
 ghost use Rattle.base_buffer.specs.Lent.{old, new};
 ghost use mathlib.Core.Path.{_≡_};
-ghost use lib.ListN.{getD};
-ghost use lib.Dec.{eqb};
+ghost use lib.ListN.{getD, length};
 ghost use Rattle.theory_graph.specs.Component.{merged};
 ghost use Rattle.base_limits.specs.Limits.{maxVertices};
 ghost use Rattle.base_buffer.specs.Store.{remade};
-ghost use Rattle.survey_labels.specs.Labels.{relabelled, endsJoined};
+ghost use Rattle.survey_labels.specs.Labels.{relabelled};
+ghost use Rattle.survey_labels.specs.Roots.{climbed, endsHung, oneRoot, levelled};
+use base_buffer::at32;
+use base_buffer::index32;
 use base_buffer::put32;
 use base_limits::MAX_VERTICES;
 
@@ -40,7 +43,7 @@ pub fn relabel(labels: &mut [u32], x: u32, y: u32, z: u32)
 {
     let mut v = 0;
     while v < labels.len() {
-        let label = merged_label(base_buffer::at32(labels, v), x, y, z);
+        let label = merged_label(at32(labels, v), x, y, z);
         put32(labels, v, label);
         v += 1;
     }
@@ -50,21 +53,50 @@ pub fn relabel(labels: &mut [u32], x: u32, y: u32, z: u32)
 pub fn merge(labels: &mut [u32], first: u32, second: u32, z: u32)
     ensures { λ r. ⌜ new labels ≡ relabelled (getD (old labels) first 0) (getD (old labels) second 0) z (old labels) ⌝ }
 {
-    let x = base_buffer::at32(labels, base_buffer::index32(first));
-    let y = base_buffer::at32(labels, base_buffer::index32(second));
+    let x = at32(labels, index32(first));
+    let y = at32(labels, index32(second));
     relabel(labels, x, y, z);
 }
 
-// The components of two vertices become that of the first; answers whether they were one already.
-pub fn join_ends(labels: &mut [u32], first: u32, second: u32) -> bool
-    ensures one { λ r. ⌜ r ≡ eqb (getD (old labels) first 0) (getD (old labels) second 0) ⌝ }
-    ensures joined { λ r. ⌜ new labels ≡ endsJoined first second (old labels) ⌝ }
+// The root above v, within a number of steps; a vertex that a step leaves hangs where the step goes.
+fn climb(parents: &mut [u32], v: u32, steps: usize) -> u32
+    ensures root { λ r. ⌜ r ≡ climbed steps (old parents) v .root ⌝ }
+    ensures left { λ r. ⌜ new parents ≡ climbed steps (old parents) v .parents ⌝ }
 {
-    let x = base_buffer::at32(labels, base_buffer::index32(first));
-    let y = base_buffer::at32(labels, base_buffer::index32(second));
-    if x == y {
-        return true;
+    let mut x = v;
+    let mut i = 0;
+    while i < steps {
+        let up = at32(parents, index32(x));
+        if up == x {
+            return x;
+        }
+        let above = at32(parents, index32(up));
+        put32(parents, index32(x), above);
+        x = above;
+        i += 1;
     }
-    relabel(labels, x, y, x);
-    false
+    x
+}
+
+// The components of two vertices become that of the first; answers whether they were one already.
+pub fn hang_ends(parents: &mut [u32], first: u32, second: u32, steps: usize) -> bool
+    ensures one { λ r. ⌜ r ≡ oneRoot steps first second (old parents) ⌝ }
+    ensures hung { λ r. ⌜ new parents ≡ endsHung steps first second (old parents) ⌝ }
+{
+    let x = climb(parents, first, steps);
+    let y = climb(parents, second, steps);
+    put32(parents, index32(y), x);
+    x == y
+}
+
+// Each vertex hangs on its root.
+pub fn level(parents: &mut [u32], steps: usize)
+    ensures { λ r. ⌜ new parents ≡ levelled steps (length (old parents)) (old parents) ⌝ }
+{
+    let mut v = 0;
+    while v < parents.len() {
+        let root = climb(parents, at32(parents, v), steps);
+        put32(parents, v, root);
+        v += 1;
+    }
 }

@@ -32,14 +32,30 @@ fn note_last(last: &mut [u32; GROUP_NUMBERS], group: u8, v: u32)
     put32(last, index8(group), v + 1);
 }
 
+// Each vertex at its place.
+fn own_mates() -> [u32; MAX_VERTICES]
+    ensures { λ r. ⌜ r ≡ tabulate maxVertices (λ v. v) ⌝ }
+{
+    let mut mates = [0u32; MAX_VERTICES];
+    let mut v = 0;
+    while v < MAX_VERTICES {
+        mates[v] = v as u32;
+        v += 1;
+    }
+    mates
+}
+
 // The mates of all vertices; one that is the first of its group, or in none, is its own.
 pub fn mates(groups: &[u8]) -> [u32; MAX_VERTICES]
     ensures { λ r. ⌜ r ≡ tabulate maxVertices (mateOf (old groups)) ⌝ }
 {
     let mut last = [0u32; GROUP_NUMBERS];
-    let mut mates = [0u32; MAX_VERTICES];
+    let mut mates = own_mates();
     let mut v = 0;
     while v < MAX_VERTICES {
+        if groups.len() <= v {
+            return mates;
+        }
         let group = base_buffer::at8(groups, v);
         mates[v] = mate(at32(&last, index8(group)), v as u32);
         note_last(&mut last, group, v as u32);

@@ -43,13 +43,14 @@ joined-groups : (s : Survey) (label : ℕ → ℕ) (g : ℕ) → groupJoined (li
 unfolding groupJoined member vertexCount
 joined-groups s label g = refl
 
--- The refusal by a buffer of labels is the refusal by the components of F.
-pub refusal-by-labels : (s : Survey) (F : ℕ → Bool) (number : ℕ) {labels : List ℕ} → length (s .groups) ≤ maxVertices
-    → labels ≡ labelsOf s F
+-- The refusal by labels of the vertices in a buffer is the refusal by the components of F.
+pub refusal-by-table : (s : Survey) (F : ℕ → Bool) (number : ℕ) (labels : List ℕ)
+    → ((v : ℕ) → v < length (s .groups)
+    → getD labels v 0 ≡ components maxVertices (λ e. getD (s .firsts) e 0) (λ e. getD (s .seconds) e 0) F (length (s .firsts)) v)
     → lowestBelow groupNumbers (λ g. refuseIf (not (groupJoined (listsAlone (s .groups) (s .owners) (s .others)) (λ v. getD labels v 0) g)) number g)
     ≡ groupRefusal s number F
-unfolding groupRefusal componentsOf problemOf vertexCount edgeCount labelsOf
-refusal-by-labels s F number {labels} few h =
+unfolding groupRefusal componentsOf problemOf vertexCount edgeCount
+refusal-by-table s F number labels h =
     lowest-cong
     groupNumbers
     (λ g. refuseIf (not (groupJoined (listsAlone (s .groups) (s .owners) (s .others)) (λ v. getD labels v 0) g)) number g)
@@ -60,10 +61,15 @@ refusal-by-labels s F number {labels} few h =
     label = components (length (s .groups)) (λ e. getD (s .firsts) e 0) (λ e. getD (s .seconds) e 0) F (length (s .firsts))
 
     at : (v : ℕ) → v < length (s .groups) → getD labels v 0 ≡ label v
-    at v b =
-        ap (λ t. getD t v 0) h
-        ∙ getD-tabulate maxVertices _ v 0 (omega arith)
-        ∙ components-stored maxVertices (length (s .groups)) (λ e. getD (s .firsts) e 0) (λ e. getD (s .seconds) e 0) F (length (s .firsts)) v
+    at v b = h v b ∙ components-stored maxVertices (length (s .groups)) (λ e. getD (s .firsts) e 0) (λ e. getD (s .seconds) e 0) F (length (s .firsts)) v
+
+-- The labels of all that a buffer has room for.
+pub refusal-by-labels : (s : Survey) (F : ℕ → Bool) (number : ℕ) {labels : List ℕ} → length (s .groups) ≤ maxVertices
+    → labels ≡ labelsOf s F
+    → lowestBelow groupNumbers (λ g. refuseIf (not (groupJoined (listsAlone (s .groups) (s .owners) (s .others)) (λ v. getD labels v 0) g)) number g)
+    ≡ groupRefusal s number F
+unfolding labelsOf
+refusal-by-labels s F number {labels} few h = refusal-by-table s F number labels (λ v b. ap (λ t. getD t v 0) h ∙ getD-tabulate maxVertices _ v 0 (omega arith))
 
 -- Labels of a survey fill a buffer for every survey, also those of a refused one.
 pub length-labels : (s : Survey) (F : ℕ → Bool) (v : Verdict) {labels : List ℕ} → labels ≡ written v (labelsOf s F) (replicate maxVertices 0) → length labels ≡ maxVertices

@@ -10,9 +10,9 @@ returns : tie.Need-returns
 returns c =
     let call = c .before .before .before in
     let in-set = sym (call .before .before .before .before .before .is-picked .ensures) ∙ call .before .before .before .before .if1 .taken in
-    let linked = sym (call .join-ends .ensures .0) ∙ c .if2 .taken in (
+    let linked = sym (call .hang-ends .ensures .0) ∙ c .if2 .taken in (
       sym (refuse-true (rw (in-set, ← call .before .before .at32 .ensures, ← call .before .at322 .ensures) linked) 21 _),
-      rw (in-set, ← call .before .before .at32 .ensures, ← call .before .at322 .ensures) (call .join-ends .ensures .1),
+      rw (in-set, ← call .before .before .at32 .ensures, ← call .before .at322 .ensures) (call .hang-ends .ensures .1),
     )
 
 -- picked, and no loop
@@ -20,9 +20,9 @@ returns-2 : tie.Need-returns-2
 returns-2 c =
     let call = c .before .before .before in
     let in-set = sym (call .before .before .before .before .before .is-picked .ensures) ∙ call .before .before .before .before .if1 .taken in
-    let apart = sym (call .join-ends .ensures .0) ∙ c .if2 .left in (
+    let apart = sym (call .hang-ends .ensures .0) ∙ c .if2 .left in (
       sym (refuse-false (rw (in-set, ← call .before .before .at32 .ensures, ← call .before .at322 .ensures) apart) 21 _),
-      rw (in-set, ← call .before .before .at32 .ensures, ← call .before .at322 .ensures) (call .join-ends .ensures .1),
+      rw (in-set, ← call .before .before .at32 .ensures, ← call .before .at322 .ensures) (call .hang-ends .ensures .1),
     )
 
 -- not picked

@@ -1,11 +1,10 @@
--- `loop_refusal` meets its contract: a scan of the picked tracks, which leaves the labels that decide about the groups.
+-- `loop_refusal` meets its contract: a scan of the picked tracks, which leaves the trees whose roots decide about the groups.
 use Prim.Native.Nat.{_-_}
-use mathlib.Core.Path.{refl, ap, sym, _∙_}
+use mathlib.Core.Path.{refl, sym, _∙_}
 use lib.ListN.{length}
-use Rattle.base_finite.specs.Laws.Below.{length-tabulate}
 use Rattle.base_limits.specs.Limits.{maxVertices}
 use Rattle.base_buffer.specs.Laws.Store.{remade-table}
-use Rattle.survey_forest.specs.Laws.Forest.{Joining, joining-start, joining-found, joining-turn, joining-end}
+use Rattle.survey_forest.specs.Laws.Forest.{Joining, joining-start, joining-found, joining-turn, joining-long, joining-end}
 use native.Mathlib.Omega.{arith}
 use borrow.Author.Needs.{needs}
 use Rattle.survey_forest.proofs.loop_refusal.Statement.{statement}
@@ -24,7 +23,7 @@ loop-holds c =
 part-labels-end : tie.Need-part-labels-end Inv-loop μ-loop
 part-labels-end c =
     let few = c .before .before .before .before .before .before .before .before .before .pre .few in
-    omega (arith, ap length (c .before .loop .inv .labels-are) ∙ length-tabulate maxVertices _)
+    omega (arith, c .before .loop .inv .long)
 
 enum-told : tie.Need-enum-told Inv-loop μ-loop
 enum-told c = search needs
@@ -41,12 +40,17 @@ loop-again c =
     joining-turn _ _ _ _ (c .before .before .before .before .before .before .before .before .before .before .before .before .before .before .pre) (c .before .before .before .before .before .before .loop .inv) (c .before .before .before .before .before .loop-test .taken) (call .join-picked .ensures .0) (c .enum-told .given .1)
     (call .join-picked .ensures .1)
 
+part-labels-end-2 : tie.Need-part-labels-end-2 Inv-loop μ-loop
+part-labels-end-2 c =
+    let few = c .before .before .before .before .before .before .before .before .before .pre .few in
+    omega (arith, c .before .loop .inv .long)
+
 slice-aggregate-split-refusal : tie.Need-slice-aggregate-split-refusal Inv-loop μ-loop
-slice-aggregate-split-refusal c = sym (ap length (c .before .before .loop .inv .labels-are) ∙ length-tabulate maxVertices _)
+slice-aggregate-split-refusal c = joining-long _ _ _ _ (c .before .before .before .before .before .before .before .before .before .before .before .before .before .pre) (c .before .before .before .before .before .loop .inv) (c .before .before .before .before .loop-test .left) (c .before .before .level .ensures)
 
 -- a group, or nothing
 returns-2 : tie.Need-returns-2 Inv-loop μ-loop
-returns-2 c = joining-end _ _ _ _ (c .before .before .before .before .before .before .before .before .before .before .before .pre) (c .before .before .before .loop .inv) (c .before .before .loop-test .left) (c .split-refusal .ensures)
+returns-2 c = joining-end _ _ _ _ (c .before .before .before .before .before .before .before .before .before .before .before .before .before .before .pre) (c .before .before .before .before .before .before .loop .inv) (c .before .before .before .before .before .loop-test .left) (c .before .before .before .level .ensures) (c .split-refusal .ensures)
 
 pub loop-refusal-spec : {M : Type 1} → statement M
 loop-refusal-spec =
@@ -67,6 +71,10 @@ loop-refusal-spec =
     (λ c. search needs)
     (λ c. search needs)
     loop-again
+    (λ c. search needs)
+    (λ c. search needs)
+    part-labels-end-2
+    (λ c κs. search needs)
     slice-aggregate-split-refusal
     (λ c κs. search needs)
     returns-2)

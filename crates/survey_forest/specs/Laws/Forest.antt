@@ -1,15 +1,17 @@
 -- Forests by labels: a set of edges is a forest exactly if none of them closes a loop with edges of lower number. Pruning and the laws of sides use it.
 use Prim.Native.Nat.{ℕ, zero, suc, _+_, _-_, _<_, _≤_}
 use native.Mathlib.Omega.{arith}
-use mathlib.Core.Path.{_≡_, refl, ap, sym, _∙_}
+use native.Mathlib.Nat.{sub-zero}
+use mathlib.Core.Path.{_≡_, refl, ap, sym, _∙_, subst}
 use mathlib.Core.Logic.{_⊎_, inl, inr, ⊎-elim}
 use mathlib.Core.Bool.{Bool, true, false, _&&_, not, cond, false≢true}
 use mathlib.Core.List.{List, [], _++_}
-use lib.ListN.{length, getD, take, drop}
+use lib.ListN.{length, getD, take, drop, List·getD-append}
+use lib.Seq.{take-at, length-front}
 use lib.Dec.{eqb, ltb}
 use borrow.Author.Tests.{eqb-true, eq-eqb, ne-eqb, lt-ltb, ltb-true}
 use Rattle.base_finite.specs.Below.{tabulate}
-use Rattle.base_finite.specs.Laws.Below.{below-suc, getD-tabulate, lt-or-ge}
+use Rattle.base_finite.specs.Laws.Below.{below-suc, length-tabulate, getD-tabulate, lt-or-ge}
 use Rattle.base_finite.specs.Laws.Test.{either, and-left, and-right, and-both, not-true-false, true-not-false}
 use Rattle.theory_graph.specs.Path.{Linked, Forest}
 use Rattle.theory_graph.specs.Component.{components}
@@ -40,11 +42,12 @@ use Rattle.survey_core.specs.Survey.{Survey, surveyFrom, groupsAlone, vertexCou
 use Rattle.survey_core.specs.Refusal.{surveyRefusal, groupRefusal}
 use Rattle.survey_core.specs.Sound.{SurveySound}
 use Rattle.survey_core.specs.Laws.Refusal.{fine-survey}
-use Rattle.survey_labels.specs.Labels.{endsJoined, EndsWithin}
-use Rattle.survey_labels.specs.Laws.Labels.{components-none, components-more, components-stored}
-use Rattle.survey_labels.specs.Laws.Front.{components-outside, table-front, table-front-changed}
-use Rattle.survey_components.specs.Labels.{pickedIn, labelsOf}
-use Rattle.survey_components.specs.Laws.Labels.{refusal-by-labels}
+use Rattle.survey_labels.specs.Roots.{endsHung, oneRoot, levelled}
+use Rattle.survey_labels.specs.Laws.Labels.{components-stored}
+use Rattle.survey_labels.specs.Laws.Front.{table-front}
+use Rattle.survey_labels.specs.Laws.Roots.{Trees, trees-none, trees-more, trees-one, trees-labels}
+use Rattle.survey_components.specs.Labels.{pickedIn}
+use Rattle.survey_components.specs.Laws.Labels.{refusal-by-table}
 use Rattle.survey_forest.specs.Forest.{closesLoop, loopRefusal, forestRefusal, EndsBelow}
 
 -- ---- forests
@@ -112,25 +115,25 @@ module _ (s : Survey) (F : ℕ → Bool) where
       (open-forest (vertexCount s) (problemOf s .first) (problemOf s .second) F (edgeCount s)
       (λ e b. fine-refuse (closesLoop (vertexCount s) (problemOf s .first) (problemOf s .second) F e) 21 e (none-lowest (edgeCount s) _ h e b)))
 
--- ---- labels in a buffer
+-- ---- trees in a buffer
 
--- Whether an edge closes a loop, by a buffer of labels.
-pub closes-by-labels : (n k N : ℕ) (a b : ℕ → ℕ) (F : ℕ → Bool) (e : ℕ) {labels : List ℕ} → a e < N → b e < N → labels ≡ tabulate N (components k a b F e)
-    → (F e && eqb (getD labels (a e) 0) (getD labels (b e) 0)) ≡ closesLoop n a b F e
+-- Whether an edge closes a loop, by the trees of the edges below it.
+pub closes-by-trees : (n k N m : ℕ) (a b : ℕ → ℕ) (F : ℕ → Bool) (e : ℕ) {parents : List ℕ} → a e < N → b e < N → e ≤ m
+    → Trees N (components k a b F e) e parents → (F e && oneRoot m (a e) (b e) parents) ≡ closesLoop n a b F e
 unfolding closesLoop
-closes-by-labels n k N a b F e {labels} ha hb h = rw (at (a e) ha, at (b e) hb)
-  where
-    at : (v : ℕ) → v < N → getD labels v 0 ≡ components n a b F e v
-    at v c = ap (λ t. getD t v 0) h ∙ getD-tabulate N _ v 0 c ∙ components-stored k n a b F e v
+closes-by-trees n k N m a b F e {parents} ha hb enough t =
+    rw (trees-one N (components k a b F e) e m parents t enough (a e) (b e) ha hb, components-stored k n a b F e (a e), components-stored k n a b F e (b e))
 
 -- ---- edges of which none has closed a loop yet
 
--- Before edge e comes: nothing found below it, and the labels are those of the picked edges below it.
+-- Before edge e comes: nothing found below it, and the vertices are in the trees of the picked edges below it.
 pub record Joining (groups firsts seconds picked labels : List ℕ) (e : ℕ) : Type 0 where
   pub scanned :
       Scanned (length firsts)
       (λ i. refuseIf (closesLoop (length groups) (λ k. getD firsts k 0) (λ k. getD seconds k 0) (pickedIn picked) i) 21 i) e
-  pub labels-are : labels ≡ tabulate maxVertices (components maxVertices (λ k. getD firsts k 0) (λ k. getD seconds k 0) (pickedIn picked) e)
+  pub long : length labels ≡ maxVertices
+  pub trees :
+      Trees (length groups) (components maxVertices (λ k. getD firsts k 0) (λ k. getD seconds k 0) (pickedIn picked) e) e (take (length groups - 0) labels)
 
 module _ (groups firsts seconds picked : List ℕ) (ok : EndsBelow groups firsts seconds) where
   abbrev s : Survey
@@ -146,55 +149,68 @@ module _ (groups firsts seconds picked : List ℕ) (ok : EndsBelow groups firsts
   b k = getD seconds k 0
 
   pub joining-start : {labels : List ℕ} → labels ≡ tabulate maxVertices (λ v. v) → Joining groups firsts seconds picked labels 0
-  joining-start h = record { scanned = scan-start (length firsts) _; labels-are = h ∙ components-none maxVertices a b F maxVertices }
-
-  -- The ends of the edges below i are vertices.
-  within : (i : ℕ) → i ≤ length firsts → EndsWithin (length groups) i a b
-  within i l = record { first-within = λ e b. ok .first-below e (omega arith); second-within = λ e b. ok .second-below e (omega arith) }
+  joining-start h =
+      record {
+        scanned = scan-start (length firsts) _;
+        long = ap length h ∙ length-tabulate maxVertices _;
+        trees = trees-none maxVertices (length groups) a b F (table-front (length groups) maxVertices (λ v. v) (ok .few) h);
+      }
 
   module _ {labels : List ℕ} {e : ℕ} (h : Joining groups firsts seconds picked labels e) where
-    -- The labels of the vertices alone.
+    -- The places of the vertices.
     abbrev part : List ℕ
     part = take (length groups - 0) labels
 
-    part-is : part ≡ tabulate (length groups) (components maxVertices a b F e)
-    part-is = table-front (length groups) maxVertices (components maxVertices a b F e) (ok .few) (h .labels-are)
-
-    module _ {found : Verdict} (l : e < length firsts) (is : found ≡ refuseIf (F e && eqb (getD part (a e) 0) (getD part (b e) 0)) 21 e) where
+    module _ {found : Verdict} (l : e < length firsts) (is : found ≡ refuseIf (F e && oneRoot (length firsts) (a e) (b e) part) 21 e) where
       found-is : found ≡ refuseIf (closesLoop (length groups) a b F e) 21 e
       found-is =
           is
           ∙ ap (λ t. refuseIf t 21 e)
-          (closes-by-labels (length groups) maxVertices (length groups) a b F e (ok .first-below e l) (ok .second-below e l) part-is)
+          (closes-by-trees (length groups) maxVertices (length groups) (length firsts) a b F e (ok .first-below e l) (ok .second-below e l) (omega arith)
+          (h .trees))
 
       pub joining-found : {number place : ℕ} → found ≡ Refused number place → found ≡ (loopRefusal s F before groupRefusal s 14 F)
       unfolding loopRefusal problemOf vertexCount edgeCount
       joining-found r = passed-on (scan-found (h .scanned) l found-is r) r _
 
-      -- The edge leaves the places behind the vertices as they are.
-      pub joining-turn : {front : List ℕ} → found ≡ Fine → front ≡ cond (F e) (endsJoined (a e) (b e) part) part
+      pub joining-turn : {front : List ℕ} → found ≡ Fine → front ≡ cond (F e) (endsHung (length firsts) (a e) (b e) part) part
           → Joining groups firsts seconds picked (front ++ drop (length groups - 0) labels) (e + 1)
-      joining-turn f k =
+      joining-turn {front} f k =
+          let after : Trees (length groups) (components maxVertices a b F (e + 1)) (e + 1) front =
+          trees-more maxVertices (length groups) a b F e (length firsts) (ok .first-below e l) (ok .second-below e l) (omega arith) (h .trees) k in
           record {
             scanned = scan-turn (h .scanned) l found-is f;
-            labels-are =
-                table-front-changed (length groups) maxVertices (components maxVertices a b F e) (components maxVertices a b F (e + 1)) (ok .few) (h .labels-are)
-                (λ v c.
-                components-outside maxVertices (length groups) a b F e (within e (omega arith)) v c
-                ∙ sym (components-outside maxVertices (length groups) a b F (e + 1) (within (e + 1) (omega arith)) v c))
-                (components-more maxVertices a b F (length groups) e (ok .first-below e l) (ok .second-below e l) part-is k);
+            long = length-front labels front (length groups - 0) (after .hung .long ∙ sym (h .trees .hung .long)) ∙ h .long;
+            trees =
+                subst (Trees (length groups) (components maxVertices a b F (e + 1)) (e + 1))
+                (sym (take-at front (drop (length groups - 0) labels) (length groups - 0) (after .hung .long ∙ sym (sub-zero (length groups))))) after;
           }
 
-    pub joining-end : {w : Verdict} → length firsts ≤ e
-        → w ≡ lowestBelow groupNumbers (λ g. refuseIf (not (groupJoined (groupsAlone groups) (λ v. getD labels v 0) g)) 14 g)
-        → w ≡ (loopRefusal s F before groupRefusal s 14 F)
-    unfolding loopRefusal problemOf vertexCount edgeCount labelsOf
-    joining-end c is =
-        let within = h .scanned .within in
-        let all : e ≡ length firsts = omega arith in
-        is
-        ∙ refusal-by-labels s F 14 (ok .few) (h .labels-are ∙ ap (λ i. tabulate maxVertices (components maxVertices a b F i)) all)
-        ∙ sym (before-fine (sym (scan-end (h .scanned) c)) _)
+    -- A call has levelled the trees.
+    module _ {front : List ℕ} (c : length firsts ≤ e) (level : front ≡ levelled (length firsts) (length part) part) where
+      front-is : front ≡ tabulate (length groups) (components maxVertices a b F (length firsts))
+      front-is = trees-labels maxVertices (length groups) a b F e (length firsts) (h .scanned .within) c (h .trees) level
+
+      front-long : length front ≡ length groups
+      front-long = ap length front-is ∙ length-tabulate (length groups) (components maxVertices a b F (length firsts))
+
+      pub joining-long : maxVertices ≡ length (front ++ drop (length groups - 0) labels)
+      joining-long = sym (length-front labels front (length groups - 0) (front-long ∙ sym (h .trees .hung .long)) ∙ h .long)
+
+      at : (v : ℕ) → v < length groups → getD (front ++ drop (length groups - 0) labels) v 0 ≡ components maxVertices a b F (length firsts) v
+      at v l =
+          let n = front-long in
+          List·getD-append front (drop (length groups - 0) labels) 0 v (omega arith)
+          ∙ ap (λ t. getD t v 0) front-is ∙ getD-tabulate (length groups) _ v 0 l
+
+      pub joining-end : {w : Verdict}
+          → w ≡ lowestBelow groupNumbers (λ g. refuseIf (not (groupJoined (groupsAlone groups) (λ v. getD (front ++ drop (length groups - 0) labels) v 0) g)) 14 g)
+          → w ≡ (loopRefusal s F before groupRefusal s 14 F)
+      unfolding loopRefusal problemOf vertexCount edgeCount
+      joining-end is =
+          is
+          ∙ refusal-by-table s F 14 (front ++ drop (length groups - 0) labels) at
+          ∙ sym (before-fine (sym (scan-end (h .scanned) c)) _)
 
 -- ---- the refusals as the code finds them: v is the survey's
 

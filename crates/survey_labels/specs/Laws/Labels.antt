@@ -15,7 +15,7 @@ use Rattle.base_finite.specs.Laws.Below.{memo-is, length-tabulate, getD-tabulat
 use Rattle.base_finite.specs.Laws.Test.{either}
 use Rattle.theory_graph.specs.Component.{merged, components}
 use Rattle.survey_labels.specs.Labels.{relabelled, endsJoined}
-use Rattle.base_buffer.specs.Laws.Store.{remade-still, remade-table, tabulate-cong}
+use Rattle.base_buffer.specs.Laws.Store.{remade-table, tabulate-cong}
 
 -- Relabelling a table of labels.
 pub relabelled-table : (x y z n : ℕ) (label : ℕ → ℕ) {labels : List ℕ} → labels ≡ tabulate n label → relabelled x y z labels ≡ tabulate n (merged x y z label)
@@ -32,19 +32,13 @@ relabelled-table x y z n label {labels} h =
     long
     (λ v b. ap (merged x y z (λ l. l)) (ap (λ t. getD t v 0) h ∙ getD-tabulate n label v 0 b)))
 
-merged-one : (x v : ℕ) → merged x x x (λ l. l) v ≡ v
+pub merged-one : (x v : ℕ) → merged x x x (λ l. l) v ≡ v
 unfolding merged
 merged-one x v = by (eqb v x) refl
   where
     by : (t : Bool) → eqb v x ≡ t → cond (t || t) x v ≡ v
     by true h = sym (eqb-true v x h)
     by false h = refl
-
--- Ends that are in one component stay as they are.
-pub joined-already : (a b : ℕ) (labels : List ℕ) → getD labels a 0 ≡ getD labels b 0 → labels ≡ endsJoined a b labels
-unfolding endsJoined relabelled
-joined-already a b labels h =
-    rw (sym h) (sym (remade-still (λ v. merged (getD labels a 0) (getD labels a 0) (getD labels a 0) (λ l. l)) (length labels) labels (λ k x. merged-one (getD labels a 0) x)))
 
 merged-same : (x y z : ℕ) (f g : ℕ → ℕ) (v : ℕ) → f v ≡ g v → merged x y z f v ≡ merged x y z g v
 unfolding merged

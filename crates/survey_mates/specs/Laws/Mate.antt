@@ -1,18 +1,20 @@
 -- Two members of a group lie on two sides of a cut exactly if some member and its mate do (source 001, f(S) of section 22.1, for groups).
 -- Judging picked edges and finding active components use it.
-use Prim.Native.Nat.{ℕ, zero, suc, _+_, _-_, _<_}
+use Prim.Native.Nat.{ℕ, zero, suc, _+_, _-_, _<_, _≤_}
 use native.Mathlib.Omega.{arith}
 use native.Mathlib.Numerals.{add-one}
 use mathlib.Core.Path.{_≡_, refl, ap, sym, _∙_}
 use mathlib.Core.Logic.{_⊎_, inl, inr, ⊎-elim}
 use mathlib.Core.Bool.{Bool, true, false, xor, cond}
 use mathlib.Core.List.{List}
-use lib.ListN.{length, getD}
+use lib.ListN.{length, getD, List·getD-eq-default}
 use borrow.Author.Tests.{eq-eqb, ne-eqb}
 use Rattle.base_finite.specs.Below.{anyBelow, tabulate}
-use Rattle.base_finite.specs.Laws.Below.{below-suc, any-elim, any-none, getD-tabulate}
+use Rattle.base_finite.specs.Laws.Below.{below-suc, any-elim, any-none, length-tabulate, getD-tabulate}
 use Rattle.base_finite.specs.Laws.Test.{either, true-not-false, same-test}
 use Rattle.base_limits.specs.Limits.{groupNumbers}
+use Rattle.base_buffer.specs.Store.{remade}
+use Rattle.base_buffer.specs.Laws.Store.{remade-part}
 use Rattle.theory_steiner.specs.Problem.{separates}
 use Rattle.theory_steiner.specs.Laws.Joined.{Split, separates-elim, separates-intro}
 use Rattle.survey_core.specs.Survey.{groupsAlone, vertexCount, member, problemOf}
@@ -121,6 +123,14 @@ module _ (groups : List ℕ) where
             before = rw q l;
           })
 
+  -- Past the end there is no group.
+  pub mate-past : (v : ℕ) → length groups ≤ v → mateOf groups v ≡ v
+  mate-past v out =
+      ⊎-elim
+      (λ q. q)
+      (λ k. let m = member-elim (groupsAlone groups) refl (k .group) v (k .own) in absurd (m .some (sym (m .same) ∙ List·getD-eq-default groups 0 out)))
+      (mated v)
+
   -- Whatever the cut.
   pub separates-mates : (S : ℕ → Bool) → separates (problemOf (groupsAlone groups)) S ≡ anyBelow (length groups) (λ v. xor (S v) (S (mateOf groups v)))
   unfolding problemOf vertexCount
@@ -179,3 +189,11 @@ module _ (groups : List ℕ) where
       → getD groups v 0 < groupNumbers → mateBy x v ≡ mateOf groups v
   mate-read v t e f b =
       ap (λ y. mateBy y v) (e ∙ rw (t, f) (getD-tabulate groupNumbers (λ g. lastBelow groups g v) (getD groups v 0) 0 b)) ∙ sym (mate-is v)
+
+  -- The mates of the vertices below i, and of those from i on themselves, where there is no group.
+  pub mates-stored : (n i : ℕ) {own after : List ℕ} → own ≡ tabulate n (λ v. v) → i ≤ n → ((v : ℕ) → i ≤ v → v < n → mateOf groups v ≡ v)
+      → after ≡ remade (λ v x. mateOf groups v) i own → after ≡ tabulate n (mateOf groups)
+  mates-stored n i {own} h fits rest k =
+      k
+      ∙ remade-part (λ v x. mateOf groups v) i n own (mateOf groups) (ap length h ∙ length-tabulate n (λ v. v)) fits (λ v b. refl)
+      (λ v b c. ap (λ t. getD t v 0) h ∙ getD-tabulate n (λ v. v) v 0 c ∙ sym (rest v b c))
