@@ -3,13 +3,12 @@ ghost use Rattle.base_buffer.specs.Lent.{old, new};
 ghost use mathlib.Core.Path.{_≡_};
 ghost use Prim.Native.Nat.{_≤_};
 ghost use lib.ListN.{length};
-ghost use lib.Seq.{sets};
 ghost use Rattle.base_limits.specs.Limits.{maxVertices};
 ghost use Rattle.format_number.specs.Answer.{numberStep};
-ghost use Rattle.format_grammar.specs.Step.{stopped, storedIf};
-ghost use Rattle.format_also.specs.Pair.{ownersOf, othersOf};
+ghost use Rattle.format_grammar.specs.Bytes.{endAt};
+ghost use Rattle.format_grammar.specs.Step.{found, _then_, stopped};
 ghost use Rattle.format_survey_lines.specs.Answer.{countsStep};
-ghost use Rattle.format_survey_lines.specs.Line.{firstsOf, secondsOf, weightsOf, lentLengths};
+ghost use Rattle.format_survey_lines.specs.Line.{lentLengths};
 ghost use Rattle.format_survey.specs.Reading.{bodyOf, stepOutcome, reading, filled};
 ghost use Rattle.format_survey.specs.Answer.{countsOf, countsOutcome};
 use base_limits::MAX_VERTICES;
@@ -21,45 +20,10 @@ use format_survey_counts::counts;
 use format_survey_lines::Head;
 use format_survey_tail::survey_lines;
 
-// The lines after the counts, to the end of the text, and how many pairs there are; the values up to the first refusal
-// go into the buffers, as far as these reach.
-fn body(
-    text: &[u8],
-    cursor: Cursor,
-    vertices: usize,
-    edges: usize,
-    room: usize,
-    groups: &mut [u8],
-    firsts: &mut [u32],
-    seconds: &mut [u32],
-    weights: &mut [u32],
-    owners: &mut [u32],
-    others: &mut [u8],
-) -> Number
-    requires { ⌜ vertices ≤ length (now groups) ⌝ }
-    ensures { λ r.
-        let lines = bodyOf room (old text) vertices edges (cursor .at) in
-        ⌜ (numberStep r ≡ lines .end)
-        × (new groups ≡ sets (old groups) 0 (lines .groups))
-        × (new firsts ≡ sets (old firsts) 0 (firstsOf (lines .edges)))
-        × (new seconds ≡ sets (old seconds) 0 (secondsOf (lines .edges)))
-        × (new weights ≡ sets (old weights) 0 (weightsOf (lines .edges)))
-        × (new owners ≡ sets (old owners) 0 (ownersOf (lines .pairs)))
-        × (new others ≡ sets (old others) 0 (othersOf (lines .pairs))) ⌝ }
+// Refused with 16 where the text goes on behind its last line.
+fn ended(text: &[u8], lines: Number) -> Number
+    ensures { λ r. ⌜ numberStep r ≡ (numberStep lines then λ k p. endAt (old text) p then λ z q. found k q) ⌝ }
 {
-    let lines = survey_lines(
-        text,
-        cursor,
-        vertices,
-        edges,
-        room,
-        groups,
-        firsts,
-        seconds,
-        weights,
-        owners,
-        others,
-    );
     let Number::Value {
         value: pairs,
         next: last,
@@ -80,62 +44,32 @@ fn body(
     }
 }
 
-// The two passes over the lines after the counts: the first decides, into groups of its own and buffers of no length,
-// and the second stores.
-fn read_body(
-    text: &[u8],
-    cursor: Cursor,
-    vertices: usize,
-    edges: usize,
-    room: usize,
-    groups: &mut [u8],
-    firsts: &mut [u32],
-    seconds: &mut [u32],
-    weights: &mut [u32],
-    owners: &mut [u32],
-    others: &mut [u8],
-) -> Number
-    requires { ⌜ (vertices ≤ maxVertices) × (vertices ≤ length (now groups)) ⌝ }
-    ensures { λ r.
-        let lines = bodyOf room (old text) vertices edges (cursor .at) in
-        ⌜ (numberStep r ≡ lines .end)
-        × (new groups ≡ storedIf (lines .end) (sets (old groups) 0 (lines .groups)) (old groups))
-        × (new firsts ≡ storedIf (lines .end) (sets (old firsts) 0 (firstsOf (lines .edges))) (old firsts))
-        × (new seconds ≡ storedIf (lines .end) (sets (old seconds) 0 (secondsOf (lines .edges))) (old seconds))
-        × (new weights ≡ storedIf (lines .end) (sets (old weights) 0 (weightsOf (lines .edges))) (old weights))
-        × (new owners ≡ storedIf (lines .end) (sets (old owners) 0 (ownersOf (lines .pairs))) (old owners))
-        × (new others ≡ storedIf (lines .end) (sets (old others) 0 (othersOf (lines .pairs))) (old others)) ⌝ }
+// How the lines after the counts end, and how many pairs there are: a pass over them that stores into groups of its own
+// and buffers of no length.
+fn decided(text: &[u8], cursor: Cursor, vertices: usize, edges: usize, room: usize) -> Number
+    requires { ⌜ vertices ≤ maxVertices ⌝ }
+    ensures { λ r. ⌜ numberStep r ≡ bodyOf room (old text) vertices edges (cursor .at) .end ⌝ }
 {
-    let mut held = [0u8; MAX_VERTICES];
-    let found = body(
+    let mut groups = [0u8; MAX_VERTICES];
+    let mut firsts = [0u32; 0];
+    let mut seconds = [0u32; 0];
+    let mut weights = [0u32; 0];
+    let mut owners = [0u32; 0];
+    let mut others = [0u8; 0];
+    let lines = survey_lines(
         text,
         cursor,
         vertices,
         edges,
         room,
-        &mut held,
-        &mut firsts[0..0],
-        &mut seconds[0..0],
-        &mut weights[0..0],
-        &mut owners[0..0],
-        &mut others[0..0],
+        &mut groups,
+        &mut firsts,
+        &mut seconds,
+        &mut weights,
+        &mut owners,
+        &mut others,
     );
-    let Number::Value { value: _, next: _ } = found else {
-        return found;
-    };
-    body(
-        text,
-        cursor,
-        vertices,
-        edges,
-        room,
-        groups,
-        firsts,
-        seconds,
-        weights,
-        owners,
-        others,
-    )
+    ended(text, lines)
 }
 
 // Refused counts, as the answer of reading.
@@ -216,7 +150,15 @@ pub fn read(
         return stopped_counts(head);
     };
     let room = pair_room(owners.len(), others.len());
-    let lines = read_body(
+    let found = decided(text, next, vertices, edges, room);
+    let Number::Value {
+        value: pairs,
+        next: _,
+    } = found
+    else {
+        return stopped_lines(found);
+    };
+    survey_lines(
         text,
         next,
         vertices,
@@ -229,13 +171,6 @@ pub fn read(
         owners,
         others,
     );
-    let Number::Value {
-        value: pairs,
-        next: _,
-    } = lines
-    else {
-        return stopped_lines(lines);
-    };
     Reading::Survey {
         vertices,
         edges,
