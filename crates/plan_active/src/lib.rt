@@ -1,16 +1,18 @@
 // Which components are active, as flags by component number.
 ghost use Rattle.base_buffer.specs.Lent.{old, new};
 ghost use mathlib.Core.Path.{_≡_};
-ghost use mathlib.Core.Bool.{xor};
-ghost use lib.ListN.{getD};
-ghost use lib.Dec.{eqb};
-ghost use Rattle.base_finite.specs.Below.{counted};
-ghost use Rattle.survey_labels.specs.Labels.{relabelled};
-ghost use Rattle.plan_active.specs.Flags.{flagged, activeFlags, activeBy, mergedFlags};
+ghost use mathlib.Core.Bool.{cond};
+ghost use Prim.Native.Nat.{_+_, _<_, _^_};
+ghost use lib.ListN.{getD, set};
+ghost use Rattle.base_finite.specs.Below.{counted, countBelow, anyBelow};
+ghost use Rattle.base_limits.specs.Limits.{maxVertices};
+ghost use Rattle.plan_active.specs.Flags.{flagged, activeFlags, hasMate, gathered};
+ghost use Rattle.plan_active.specs.Flags.{ofEither, apartFromMate, joinedActive, relabelledFirst, mergedFlags};
 use base_buffer::at32;
 use base_buffer::at64;
 use base_buffer::index32;
 use base_buffer::put8;
+use base_buffer::put32;
 use base_limits::MAX_DUALS;
 use base_limits::MAX_VERTICES;
 
@@ -38,60 +40,140 @@ pub fn active_flags(groups: &[u8], labels: &[u32; MAX_VERTICES]) -> [u8; MAX_DUA
     flags
 }
 
-// Whether one of two labels is z and the other is not.
-fn is_parted(x: u32, y: u32, z: u32) -> bool
-    ensures { λ r. ⌜ r ≡ xor (eqb x z) (eqb y z) ⌝ }
+// Vertex v is listed behind the others if it has a mate other than itself; answers how many are listed then.
+fn list_vertex(
+    mates: &[u32; MAX_VERTICES],
+    members: &mut [u32; MAX_VERTICES],
+    count: usize,
+    v: u32,
+) -> usize
+    requires { ⌜ count + 1 < 2 ^ 64 ⌝ }
+    ensures { λ r. ⌜ r ≡ count + counted (hasMate (old mates) v) 1 ⌝ }
+    ensures { λ r. ⌜ new members ≡ cond (hasMate (old mates) v) (set (old members) count v) (old members) ⌝ }
 {
-    if x == z {
-        return y != z;
+    if at32(mates, index32(v)) == v {
+        return count;
     }
-    y == z
+    put32(members, count, v);
+    count + 1
 }
 
-// Whether component z has a vertex below n without its mate, or the mate without the vertex.
-fn is_active(mates: &[u32; MAX_VERTICES], labels: &[u32; MAX_VERTICES], n: usize, z: u32) -> bool
-    ensures { λ r. ⌜ r ≡ activeBy (old mates) (old labels) n z ⌝ }
+// The vertices that have a mate other than themselves, rising; answers how many they are.
+pub fn list_members(mates: &[u32; MAX_VERTICES], members: &mut [u32; MAX_VERTICES]) -> usize
+    ensures { λ r. ⌜ r ≡ countBelow maxVertices (hasMate (old mates)) ⌝ }
+    ensures { λ r. ⌜ new members ≡ gathered (hasMate (old mates)) maxVertices (old members) ⌝ }
 {
+    let mut count = 0;
     let mut v = 0;
-    while v < n {
-        let mate = index32(at32(mates, v));
-        if is_parted(at32(labels, v), at32(labels, mate), z) {
+    while v < MAX_VERTICES {
+        count = list_vertex(mates, members, count, v as u32);
+        v += 1;
+    }
+    count
+}
+
+// Whether a label is x or y.
+fn is_either(label: u32, x: u32, y: u32) -> bool
+    ensures { λ r. ⌜ r ≡ ofEither x y label ⌝ }
+{
+    if label == x {
+        return true;
+    }
+    label == y
+}
+
+// Whether of vertex v and its mate one is in component x or y, and the other in neither.
+fn is_parted(
+    mates: &[u32; MAX_VERTICES],
+    labels: &[u32; MAX_VERTICES],
+    x: u32,
+    y: u32,
+    v: u32,
+) -> bool
+    ensures { λ r. ⌜ r ≡ apartFromMate (old mates) (old labels) x y v ⌝ }
+{
+    let i = index32(v);
+    let mate = index32(at32(mates, i));
+    let own = is_either(at32(labels, i), x, y);
+    let other = is_either(at32(labels, mate), x, y);
+    if own {
+        return !other;
+    }
+    other
+}
+
+// Whether one of the first `count` listed vertices is.
+fn is_any_parted(
+    mates: &[u32; MAX_VERTICES],
+    labels: &[u32; MAX_VERTICES],
+    members: &[u32; MAX_VERTICES],
+    count: usize,
+    x: u32,
+    y: u32,
+) -> bool
+    ensures { λ r. ⌜ r ≡ anyBelow count (λ k. apartFromMate (old mates) (old labels) x y (getD (old members) k 0)) ⌝ }
+{
+    let mut k = 0;
+    while k < count {
+        if is_parted(mates, labels, x, y, at32(members, k)) {
             return true;
         }
-        v += 1;
+        k += 1;
     }
     false
 }
 
-// The flag of component z.
-fn flag_of(mates: &[u32; MAX_VERTICES], labels: &[u32; MAX_VERTICES], n: usize, z: u32) -> u8
-    ensures { λ r. ⌜ r ≡ counted (activeBy (old mates) (old labels) n z) 1 ⌝ }
+// The flag of what the components of two vertices become, found before they do: by these two, then by the list.
+pub fn joined_flag(
+    mates: &[u32; MAX_VERTICES],
+    labels: &[u32; MAX_VERTICES],
+    members: &[u32; MAX_VERTICES],
+    count: usize,
+    first: u32,
+    second: u32,
+) -> u8
+    ensures { λ r. ⌜ r ≡ counted (joinedActive (old mates) (old labels) (old members) count first second) 1 ⌝ }
 {
-    if is_active(mates, labels, n, z) {
+    let x = at32(labels, index32(first));
+    let y = at32(labels, index32(second));
+    if is_parted(mates, labels, x, y, first) {
+        return 1;
+    }
+    if is_parted(mates, labels, x, y, second) {
+        return 1;
+    }
+    if is_any_parted(mates, labels, members, count, x, y) {
         return 1;
     }
     0
 }
 
-// The components of two vertices become z, and their flags give way to its flag.
+// The components x and y become z among the first n labels.
+fn relabel_first(labels: &mut [u32], n: usize, x: u32, y: u32, z: u32)
+    ensures { λ r. ⌜ new labels ≡ relabelledFirst n x y z (old labels) ⌝ }
+{
+    if labels.len() < n {
+        survey_labels::relabel(labels, x, y, z);
+        return;
+    }
+    survey_labels::relabel(&mut labels[0..n], x, y, z);
+}
+
+// The components x and y become z among the first n vertices, and their flags give way to its flag.
 pub fn merge(
     labels: &mut [u32; MAX_VERTICES],
     flags: &mut [u8; MAX_DUALS],
-    mates: &[u32; MAX_VERTICES],
     n: usize,
-    first: u32,
-    second: u32,
+    x: u32,
+    y: u32,
     z: u32,
+    flag: u8,
 )
-    ensures { λ r. ⌜ new labels ≡ relabelled (getD (old labels) first 0) (getD (old labels) second 0) z (old labels) ⌝ }
-    ensures { λ r. let x = getD (old labels) first 0 in
-        let y = getD (old labels) second 0 in
-        ⌜ new flags ≡ mergedFlags (old mates) (new labels) n x y z (old flags) ⌝ }
+    ensures { λ r. ⌜ new labels ≡ relabelledFirst n x y z (old labels) ⌝ }
+    ensures { λ r. ⌜ new flags ≡ mergedFlags x y z flag (old flags) ⌝ }
 {
-    let x = at32(labels, index32(first));
-    let y = at32(labels, index32(second));
-    survey_labels::relabel(labels, x, y, z);
+    relabel_first(labels, n, x, y, z);
     put8(flags, index32(x), 0);
     put8(flags, index32(y), 0);
-    put8(flags, index32(z), flag_of(mates, labels, n, z));
+    put8(flags, index32(z), flag);
 }

@@ -1,10 +1,12 @@
--- The delay of an edge between two vertices, by the tables of a round (laws of `plan_growth` say that it is the definition's).
+-- The ends of an edge by the tables of a round, and the delay between them (laws of `plan_growth` say that it is the definition's).
 use Prim.Native.Nat.{ℕ, _+_, _*_, _-_}
 use mathlib.Core.Bool.{cond}
 use mathlib.Core.List.{List}
 use lib.ListN.{getD}
 use lib.Dec.{eqb}
 use Rattle.theory_steiner.specs.Growth.{ActiveEnds, noneActive, oneActive, bothActive, Delay, never, after, delayOf, Winner, nobody, edge}
+use Rattle.plan_delay.specs.Held.{settledBy}
+use Rattle.plan_delay.specs.declared.End.{End}
 use Rattle.plan_delay.specs.declared.ActiveEnds.{ActiveEnds as CodeEnds}
 use Rattle.plan_delay.specs.declared.ActiveEnds.the-variants.{Neither, One, Both}
 use Rattle.plan_delay.specs.declared.Delay.{Delay as CodeDelay}
@@ -26,9 +28,16 @@ unfoldable pub winnerIn : CodeWinner → Winner
 winnerIn Nobody = nobody
 winnerIn (Edge e d) = edge e d
 
--- An edge of weight w between vertices a and b: their component numbers, their loads, and 1 for each active component number.
-unfoldable pub delayBetween : (labels loads flags : List ℕ) → (a b w : ℕ) → Delay
-delayBetween labels loads flags a b w =
-    let x = getD labels a 0 in
-    let y = getD labels b 0 in
-    cond (eqb x y) never (delayOf (eqb (getD flags x 0) 1) (eqb (getD flags y 0) 1) (2 * w - (getD loads a 0 + getD loads b 0)))
+-- The end of an edge at vertex v: by the component numbers, what is held for the loads, and 1 for each active component number.
+unfoldable pub endAt : (labels loads flags : List ℕ) → (time v : ℕ) → End
+endAt labels loads flags time v =
+    let c = getD labels v 0 in
+    record { label = c; flag = getD flags c 0; load = settledBy time (eqb (getD flags c 0) 1) (getD loads v 0) }
+
+-- What remains of an edge of weight w between two ends.
+unfoldable pub slackBetween : (a b : End) → (w : ℕ) → ℕ
+slackBetween a b w = 2 * w - (a .load + b .load)
+
+-- Its delay; inside a component there is none.
+unfoldable pub delayBetween : (a b : End) → (w : ℕ) → Delay
+delayBetween a b w = cond (eqb (a .label) (b .label)) never (delayOf (eqb (a .flag) 1) (eqb (b .flag) 1) (slackBetween a b w))

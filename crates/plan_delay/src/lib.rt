@@ -1,11 +1,11 @@
-// What remains of an edge, its delay, and the better of two. Definitions in specs/.
+// The ends of an edge, what remains of it, its delay, and the better of two. Definitions in specs/.
 ghost use Rattle.base_buffer.specs.Lent.{old};
 ghost use mathlib.Core.Path.{_≡_};
 ghost use Prim.Native.Nat.{_+_, _*_, _-_};
 ghost use lib.Dec.{eqb};
 ghost use Rattle.theory_steiner.specs.Growth.{activeEnds, delayOf, better};
-ghost use Rattle.plan_delay.specs.Between.{endsIn, delayIn, winnerIn, delayBetween};
-use base_buffer::at64;
+ghost use Rattle.plan_delay.specs.Held.{settledBy};
+ghost use Rattle.plan_delay.specs.Between.{endsIn, delayIn, winnerIn, endAt};
 
 // An edge's delay, if it is a candidate.
 pub enum Delay {
@@ -24,6 +24,37 @@ pub enum ActiveEnds {
 pub enum Winner {
     Nobody,
     Edge { e: usize, d: u64 },
+}
+
+// One end of an edge: the number of its component, 1 if that is active, and its load.
+pub struct End {
+    pub label: u32,
+    pub flag: u8,
+    pub load: u64,
+}
+
+// A value in place of what is held for it, or the other way round.
+pub fn settled(held: u64, flag: u8, time: u64) -> u64
+    ensures { λ r. ⌜ r ≡ settledBy time (eqb flag 1) held ⌝ }
+{
+    if flag != 1 {
+        return held;
+    }
+    if held < time {
+        return time - held;
+    }
+    0
+}
+
+// The end at vertex v, whose load is held by time.
+pub fn end_at(labels: &[u32], loads: &[u64], flags: &[u8], time: u64, v: usize) -> End
+    ensures { λ r. ⌜ r ≡ endAt (old labels) (old loads) (old flags) time v ⌝ }
+{
+    let label = base_buffer::at32(labels, v);
+    let c = base_buffer::index32(label);
+    let flag = base_buffer::at8(flags, c);
+    let load = settled(base_buffer::at64(loads, v), flag, time);
+    End { label, flag, load }
 }
 
 // What remains of an edge between two loads.
@@ -58,7 +89,7 @@ fn active_ends(first: u8, second: u8) -> ActiveEnds
 }
 
 // The delay by whether each end is active, and what remains.
-fn delay_of(first: u8, second: u8, slack: u64) -> Delay
+pub fn delay_of(first: u8, second: u8, slack: u64) -> Delay
     ensures { λ r. ⌜ delayIn r ≡ delayOf (eqb first 1) (eqb second 1) slack ⌝ }
 {
     let ends = active_ends(first, second);
@@ -67,30 +98,6 @@ fn delay_of(first: u8, second: u8, slack: u64) -> Delay
         ActiveEnds::One => Delay::After(slack),
         ActiveEnds::Both => Delay::After(slack / 2),
     }
-}
-
-// The delay of an edge between two vertices.
-pub fn delay_between(
-    labels: &[u32],
-    loads: &[u64],
-    flags: &[u8],
-    a: usize,
-    b: usize,
-    weight: u32,
-) -> Delay
-    ensures { λ r. ⌜ delayIn r ≡ delayBetween (old labels) (old loads) (old flags) a b weight ⌝ }
-{
-    let x = base_buffer::at32(labels, a);
-    let y = base_buffer::at32(labels, b);
-    if x == y {
-        return Delay::Never;
-    }
-    let slack = edge_slack(weight, at64(loads, a), at64(loads, b));
-    delay_of(
-        base_buffer::at8(flags, base_buffer::index32(x)),
-        base_buffer::at8(flags, base_buffer::index32(y)),
-        slack,
-    )
 }
 
 // The earlier edge keeps its place unless the later one's delay is smaller.

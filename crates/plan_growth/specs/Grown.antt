@@ -11,15 +11,14 @@ use Rattle.theory_steiner.specs.Pruning.{dualBound}
 use Rattle.plan_growth.specs.declared.Growth.{Growth}
 use Rattle.plan_growth.specs.Represents.{pickAt}
 
-abbrev pub growthFrom : (rounds bound : ℕ) → (labels values picked order : List ℕ) → Growth
-growthFrom rounds bound labels values picked order =
-    record { rounds = rounds; bound = bound; labels = labels; values = values; picked = picked; order = order }
+abbrev pub growthFrom : (rounds bound : ℕ) → (values picked order : List ℕ) → Growth
+growthFrom rounds bound values picked order =
+    record { rounds = rounds; bound = bound; values = values; picked = picked; order = order }
 
 -- The growth that k steps of the definition make; steps without a winner change nothing.
 pub record GrownAfter (p : Problem) (k : ℕ) (g : Growth) : Type 0 where
   pub rounds-are : g .rounds ≡ stateAt p k .rounds
   pub bound-is : g .bound ≡ dualBound p (stateAt p k)
-  pub labels-are : g .labels ≡ tabulate maxVertices (stateAt p k .label)
   pub values-are : g .values ≡ tabulate maxDuals (stateAt p k .value)
   pub picked-are : g .picked ≡ tabulate maxEdges (λ e. counted (stateAt p k .picked e) 1)
   pub order-is : g .order ≡ tabulate maxVertices (λ i. counted (ltb i k) (pickAt p i))

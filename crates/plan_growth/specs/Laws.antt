@@ -1,4 +1,4 @@
-pub mod Raise
+pub mod Loads
 pub mod Clock
 pub mod Round
 pub mod Rounds

@@ -1,34 +1,35 @@
--- What a round does to the loads, and how values are held while time passes.
-use Prim.Native.Nat.{ℕ, _+_, _*_, _-_, _<_, _≤_, _^_}
-use mathlib.Core.Bool.{Bool, cond}
+-- How a round turns what is held for values and loads, where the flag of a component changes.
+use Prim.Native.Nat.{ℕ, _*_, _≤_}
+use mathlib.Core.Bool.{true, cond}
 use mathlib.Core.List.{List}
 use lib.ListN.{getD, set}
-use lib.Dec.{eqb}
-use Rattle.base_finite.specs.Below.{counted, tabulate}
+use lib.Dec.{eqb, ltb}
 use Rattle.base_limits.specs.Limits.{maxVertices, maxValue, maxDuals}
 use Rattle.base_buffer.specs.Store.{remade}
+use Rattle.plan_delay.specs.Held.{settledBy}
 
--- What is held for the value of a component: while it is active, the time at which it was 0, so that no round changes it; else the value.
-unfoldable pub heldValue : (time : ℕ) → (active : Bool) → (value : ℕ) → ℕ
-heldValue time active value = cond active (time - value) value
-
--- One turned into the other, by the flag.
-unfoldable pub settledBy : (time : ℕ) → (active : Bool) → (held : ℕ) → ℕ
-settledBy time active held = cond active (time - held) held
-
+-- The value of component c settled.
 unfoldable pub settledAt : (flags : List ℕ) → (time c : ℕ) → (values : List ℕ) → List ℕ
 settledAt flags time c values = set values c (settledBy time (eqb (getD flags c 0) 1) (getD values c 0))
 
 unfoldable pub settledValues : (flags : List ℕ) → (time : ℕ) → (values : List ℕ) → List ℕ
-settledValues flags time values = tabulate maxDuals (λ c. settledBy time (eqb (getD flags c 0) 1) (getD values c 0))
+settledValues flags time values = remade (λ c x. settledBy time (eqb (getD flags c 0) 1) x) maxDuals values
 
--- Every load of the first n vertices raised by d where the component is active.
-unfoldable pub raisedLoads : (labels flags : List ℕ) → (n d : ℕ) → (loads : List ℕ) → List ℕ
-raisedLoads labels flags n d loads = remade (λ v x. x + counted (eqb (getD flags (getD labels v 0) 0) 1) d) n loads
+-- What is held for the load of vertex v, turned.
+unfoldable pub turnedAt : (time v : ℕ) → (loads : List ℕ) → List ℕ
+turnedAt time v loads = set loads v (settledBy time true (getD loads v 0))
 
--- Raising by d stays within 64 bits.
-pub record RaiseFits (l : List ℕ) (d : ℕ) : Type 0 where
-  pub fits : (i : ℕ) → getD l i 0 + d < 2 ^ 64
+-- The same for those of the first n vertices that are of component c.
+unfoldable pub turnedMembers : (labels : List ℕ) → (n time c : ℕ) → (loads : List ℕ) → List ℕ
+turnedMembers labels n time c loads = remade (λ v x. settledBy time (eqb (getD labels v 0) c) x) n loads
+
+-- The same for component c: a number below n is that of a single vertex (law `label-own`).
+unfoldable pub turnedComponent : (labels : List ℕ) → (n time c : ℕ) → (loads : List ℕ) → List ℕ
+turnedComponent labels n time c loads = cond (ltb c n) (turnedAt time c loads) (turnedMembers labels n time c loads)
+
+-- The same if component c, which becomes part of one with this flag, had another.
+unfoldable pub turnedTo : (flag : ℕ) → (flags labels : List ℕ) → (n time c : ℕ) → (loads : List ℕ) → List ℕ
+turnedTo flag flags labels n time c loads = cond (eqb (getD flags c 0) flag) loads (turnedComponent labels n time c loads)
 
 -- Sums of these values stay within 64 bits: no round raises a value by more than the largest that a dual can have.
 pub record SumFits (values : List ℕ) (count : ℕ) : Type 0 where

@@ -3,22 +3,19 @@ ghost use Rattle.base_buffer.specs.Lent.{old, new};
 ghost use mathlib.Core.Path.{_≡_};
 ghost use Prim.Native.Nat.{_+_, _<_, _^_};
 ghost use lib.ListN.{getD, set, length};
-ghost use lib.Dec.{eqb};
-ghost use Rattle.base_finite.specs.Below.{counted, sumBelow, tabulate};
-ghost use Rattle.base_limits.specs.Limits.{maxVertices};
-ghost use Rattle.survey_mates.specs.Mate.{mateOf};
+ghost use Rattle.base_finite.specs.Below.{counted, sumBelow};
 ghost use Rattle.base_limits.specs.Verdict.{written};
 ghost use Rattle.theory_steiner.specs.Problem.{Problem};
 ghost use Rattle.survey_core.specs.Refusal.{surveyRefusal};
 ghost use Rattle.theory_steiner.specs.Growth.{winner, stateAt};
 ghost use Rattle.survey_core.specs.Survey.{surveyFrom, lentSurvey, problemOf};
-ghost use Rattle.survey_labels.specs.Labels.{relabelled};
-ghost use Rattle.plan_active.specs.Flags.{mergedFlags};
+ghost use Rattle.plan_active.specs.Flags.{MatesListed, joinedActive, relabelledFirst, mergedFlags};
 ghost use Rattle.plan_delay.specs.Between.{delayIn};
-ghost use Rattle.plan_growth.specs.Tables.{settledBy, settledAt, settledValues, raisedLoads, RaiseFits, SumFits};
+ghost use Rattle.plan_growth.specs.Tables.{settledAt, settledValues, SumFits};
+ghost use Rattle.plan_growth.specs.Tables.{turnedAt, turnedMembers, turnedComponent, turnedTo};
 ghost use Rattle.plan_growth.specs.Represents.{arraysFrom, newArrays, roundsAfter, timeAfter, Represents};
 ghost use Rattle.theory_steiner.specs.Minima.{winnerDelay};
-ghost use Rattle.plan_growth.specs.Grown.{growthFrom, GrownAfter};
+ghost use Rattle.plan_growth.specs.Grown.{GrownAfter};
 ghost use Rattle.survey_core.specs.Sound.{SurveySound};
 use base_buffer::at64;
 use base_buffer::put8;
@@ -32,89 +29,111 @@ use plan_delay::Delay;
 use plan_delay::Winner;
 use plan_winner::MAX_BLOCKS;
 
-// What growing leaves: how many rounds there were, the sum of all duals, the component numbers of the vertices, the
-// values of the component numbers, 1 for each picked edge, and the edges in the order of the rounds.
+// What growing leaves: how many rounds there were, the sum of all duals, the values of the component numbers, 1 for each
+// picked edge, and the edges in the order of the rounds.
 pub struct Growth {
     pub rounds: usize,
     pub bound: u64,
-    pub labels: [u32; MAX_VERTICES],
     pub values: [u64; MAX_DUALS],
     pub picked: [u8; MAX_EDGES],
     pub order: [u32; MAX_VERTICES],
 }
 
-// A value raised by d where its flag is set.
-fn raised(x: u64, flag: u8, d: u64) -> u64
-    requires { ⌜ x + d < 2 ^ 64 ⌝ }
-    ensures { λ r. ⌜ r ≡ x + counted (eqb flag 1) d ⌝ }
-{
-    if flag == 1 {
-        return x + d;
-    }
-    x
-}
-
-// A value in place of what is held for it, or the other way round.
-fn settled(held: u64, flag: u8, time: u64) -> u64
-    ensures { λ r. ⌜ r ≡ settledBy time (eqb flag 1) held ⌝ }
-{
-    if flag != 1 {
-        return held;
-    }
-    if held < time {
-        return time - held;
-    }
-    0
-}
-
-// The same for component c.
+// The value of component c in place of what is held for it, or the other way round.
 fn settle(values: &mut [u64; MAX_DUALS], flags: &[u8; MAX_DUALS], c: u32, time: u64)
     ensures { λ r. ⌜ new values ≡ settledAt (old flags) time c (old values) ⌝ }
 {
     let i = base_buffer::index32(c);
-    let x = settled(at64(values, i), base_buffer::at8(flags, i), time);
+    let x = plan_delay::settled(at64(values, i), base_buffer::at8(flags, i), time);
     put64(values, i, x);
 }
 
 // And for all components.
-fn settled_values(values: &[u64; MAX_DUALS], flags: &[u8; MAX_DUALS], time: u64) -> [u64; MAX_DUALS]
-    ensures { λ r. ⌜ r ≡ settledValues (old flags) time (old values) ⌝ }
+fn settle_all(values: &mut [u64; MAX_DUALS], flags: &[u8; MAX_DUALS], time: u64)
+    ensures { λ r. ⌜ new values ≡ settledValues (old flags) time (old values) ⌝ }
 {
-    let mut all = [0u64; MAX_DUALS];
     let mut c = 0;
     while c < MAX_DUALS {
-        all[c] = settled(at64(values, c), base_buffer::at8(flags, c), time);
+        let x = plan_delay::settled(at64(values, c), base_buffer::at8(flags, c), time);
+        put64(values, c, x);
         c += 1;
     }
-    all
 }
 
-// Every vertex of an active component is loaded more.
-fn raise_loads(
+// What is held for the load of vertex v, turned.
+fn turn_load(loads: &mut [u64; MAX_VERTICES], v: usize, time: u64)
+    ensures { λ r. ⌜ new loads ≡ turnedAt time v (old loads) ⌝ }
+{
+    let x = plan_delay::settled(at64(loads, v), 1, time);
+    put64(loads, v, x);
+}
+
+// The same for those of the first n vertices that are of component c.
+fn turn_members(
     loads: &mut [u64; MAX_VERTICES],
     labels: &[u32; MAX_VERTICES],
-    flags: &[u8; MAX_DUALS],
     n: usize,
-    d: u64,
+    time: u64,
+    c: u32,
 )
-    requires { ⌜ RaiseFits (now loads) d ⌝ }
-    ensures { λ r. ⌜ new loads ≡ raisedLoads (old labels) (old flags) n d (old loads) ⌝ }
+    ensures { λ r. ⌜ new loads ≡ turnedMembers (old labels) n time c (old loads) ⌝ }
 {
     let mut v = 0;
     while v < n {
-        let flag = base_buffer::at8(flags, base_buffer::index32(base_buffer::at32(labels, v)));
-        let x = raised(at64(loads, v), flag, d);
-        put64(loads, v, x);
+        if base_buffer::at32(labels, v) == c {
+            turn_load(loads, v, time);
+        }
         v += 1;
     }
 }
 
-// The components of two vertices become z: their values are settled, and z's is held from now on.
+// The same for component c: a number below n is that of a single vertex.
+fn turn_component(
+    loads: &mut [u64; MAX_VERTICES],
+    labels: &[u32; MAX_VERTICES],
+    n: usize,
+    time: u64,
+    c: u32,
+)
+    ensures { λ r. ⌜ new loads ≡ turnedComponent (old labels) n time c (old loads) ⌝ }
+{
+    let v = base_buffer::index32(c);
+    if v < n {
+        turn_load(loads, v, time);
+        return;
+    }
+    turn_members(loads, labels, n, time, c);
+}
+
+// The same if component c, which becomes part of one with this flag, had another.
+fn turn_loads(
+    loads: &mut [u64; MAX_VERTICES],
+    flag: u8,
+    flags: &[u8; MAX_DUALS],
+    labels: &[u32; MAX_VERTICES],
+    n: usize,
+    time: u64,
+    c: u32,
+)
+    ensures { λ r. ⌜ new loads ≡ turnedTo flag (old flags) (old labels) n time c (old loads) ⌝ }
+{
+    let before = base_buffer::at8(flags, base_buffer::index32(c));
+    if before == flag {
+        return;
+    }
+    turn_component(loads, labels, n, time, c);
+}
+
+// The components of two vertices become z: what is held for the loads of their members is turned where z has another
+// flag, their values are settled, and z's is held from now on.
 fn join(
     values: &mut [u64; MAX_DUALS],
+    loads: &mut [u64; MAX_VERTICES],
     labels: &mut [u32; MAX_VERTICES],
     flags: &mut [u8; MAX_DUALS],
     mates: &[u32; MAX_VERTICES],
+    members: &[u32; MAX_VERTICES],
+    count: usize,
     n: usize,
     first: u32,
     second: u32,
@@ -124,19 +143,29 @@ fn join(
     ensures { λ r.
         let x = getD (old labels) first 0 in
         let y = getD (old labels) second 0 in
-        ⌜ (new labels ≡ relabelled x y z (old labels))
-        × (new flags ≡ mergedFlags (old mates) (new labels) n x y z (old flags)) ⌝ }
+        let active = joinedActive (old mates) (old labels) (old members) count first second in
+        ⌜ (new labels ≡ relabelledFirst n x y z (old labels))
+        × (new flags ≡ mergedFlags x y z (counted active 1) (old flags)) ⌝ }
     ensures { λ r.
         let x = getD (old labels) first 0 in
         let y = getD (old labels) second 0 in
         let parts = settledAt (old flags) time y (settledAt (old flags) time x (old values)) in
         ⌜ new values ≡ settledAt (new flags) time z parts ⌝ }
+    ensures { λ r.
+        let x = getD (old labels) first 0 in
+        let y = getD (old labels) second 0 in
+        let flag = counted (joinedActive (old mates) (old labels) (old members) count first second) 1 in
+        let part = turnedTo flag (old flags) (old labels) n time x (old loads) in
+        ⌜ new loads ≡ turnedTo flag (old flags) (old labels) n time y part ⌝ }
 {
     let x = base_buffer::at32(labels, base_buffer::index32(first));
     let y = base_buffer::at32(labels, base_buffer::index32(second));
+    let flag = plan_active::joined_flag(mates, labels, members, count, first, second);
+    turn_loads(loads, flag, flags, labels, n, time, x);
+    turn_loads(loads, flag, flags, labels, n, time, y);
     settle(values, flags, x, time);
     settle(values, flags, y, time);
-    plan_active::merge(labels, flags, mates, n, first, second, z);
+    plan_active::merge(labels, flags, n, x, y, z, flag);
     settle(values, flags, z, time);
 }
 
@@ -165,13 +194,15 @@ fn round(
     floors: &mut [u64; MAX_BLOCKS],
     flags: &mut [u8; MAX_DUALS],
     mates: &[u32; MAX_VERTICES],
+    members: &[u32; MAX_VERTICES],
+    count: usize,
     r: usize,
     time: u64,
 ) -> Delay
     requires { ⌜ Represents (surveyFrom (now groups) (now firsts) (now seconds) (now weights)) r time
         (arraysFrom (now labels) (now loads) (now values) (now picked) (now order) (now keys) (now floors)
         (now flags)) ⌝ }
-    requires { ⌜ now mates ≡ tabulate maxVertices (mateOf (now groups)) ⌝ }
+    requires { ⌜ MatesListed (now groups) (now mates) (now members) count ⌝ }
     ensures { λ x.
         let p = problemOf (lentSurvey groups firsts seconds weights) in
         ⌜ delayIn x ≡ winnerDelay (winner p (stateAt p r)) ⌝ }
@@ -194,13 +225,15 @@ fn round(
     let Winner::Edge { e, d } = found else {
         return Delay::Never;
     };
-    raise_loads(loads, labels, flags, groups.len(), d);
     let z = (groups.len() + r) as u32;
     join(
         values,
+        loads,
         labels,
         flags,
         mates,
+        members,
+        count,
         groups.len(),
         base_buffer::at32(firsts, e),
         base_buffer::at32(seconds, e),
@@ -225,29 +258,6 @@ fn sum_values(values: &[u64; MAX_DUALS], count: usize) -> u64
     sum
 }
 
-// The answer after this many rounds.
-fn finished(
-    n: usize,
-    rounds: usize,
-    labels: [u32; MAX_VERTICES],
-    values: [u64; MAX_DUALS],
-    picked: [u8; MAX_EDGES],
-    order: [u32; MAX_VERTICES],
-) -> Growth
-    requires { ⌜ SumFits values (n + rounds) ⌝ }
-    ensures { λ r. ⌜ r ≡ growthFrom rounds (sumBelow (n + rounds) (λ c. getD values c 0)) labels values picked order ⌝ }
-{
-    let bound = sum_values(&values, n + rounds);
-    Growth {
-        rounds,
-        bound,
-        labels,
-        values,
-        picked,
-        order,
-    }
-}
-
 // Rounds until no candidate is left: at most n - 1.
 fn grow_rounds(groups: &[u8], firsts: &[u32], seconds: &[u32], weights: &[u32]) -> Growth
     requires { ⌜ SurveySound (surveyFrom (now groups) (now firsts) (now seconds) (now weights)) ⌝ }
@@ -262,6 +272,8 @@ fn grow_rounds(groups: &[u8], firsts: &[u32], seconds: &[u32], weights: &[u32]) 
     let mut floors = [0u64; MAX_BLOCKS];
     survey_labels::own_labels(&mut labels);
     let mates = survey_mates::mates(groups);
+    let mut members = [0u32; MAX_VERTICES];
+    let count = plan_active::list_members(&mates, &mut members);
     let mut flags = plan_active::active_flags(groups, &labels);
     let most = groups.len() - 1;
     let mut time = 0;
@@ -281,30 +293,35 @@ fn grow_rounds(groups: &[u8], firsts: &[u32], seconds: &[u32], weights: &[u32]) 
             &mut floors,
             &mut flags,
             &mates,
+            &members,
+            count,
             r,
             time,
         );
         let Delay::After(d) = wait else {
-            let all = settled_values(&values, &flags, time);
-            return finished(groups.len(), r, labels, all, picked, order);
+            break;
         };
         time += d;
         r += 1;
     }
-    let all = settled_values(&values, &flags, time);
-    finished(groups.len(), r, labels, all, picked, order)
+    settle_all(&mut values, &flags, time);
+    let bound = sum_values(&values, groups.len() + r);
+    Growth {
+        rounds: r,
+        bound,
+        values,
+        picked,
+        order,
+    }
 }
 
 // No round at all.
 fn no_rounds() -> Growth
     ensures { λ r. ⌜ ((p : Problem) → GrownAfter p 0 r) ⌝ }
 {
-    let mut labels = [0u32; MAX_VERTICES];
-    survey_labels::own_labels(&mut labels);
     Growth {
         rounds: 0,
         bound: 0,
-        labels,
         values: [0u64; MAX_DUALS],
         picked: [0u8; MAX_EDGES],
         order: [0u32; MAX_VERTICES],

@@ -1,12 +1,13 @@
 -- The search over tables: what it reads from arrays (laws of `plan_growth` say that it is what the definition reads).
-use Prim.Native.Nat.{ℕ, _+_, _*_, _-_}
+use Prim.Native.Nat.{ℕ, _+_, _*_}
 use mathlib.Core.Bool.{cond}
 use mathlib.Core.List.{List}
 use lib.ListN.{getD, length}
 use lib.Dec.{eqb}
 use Rattle.base_buffer.specs.Lent.{Buffer, old}
 use Rattle.theory_steiner.specs.Growth.{Delay, Winner}
-use Rattle.plan_delay.specs.Between.{delayBetween}
+use Rattle.plan_delay.specs.declared.End.{End}
+use Rattle.plan_delay.specs.Between.{endAt, slackBetween, delayBetween}
 use Rattle.plan_winner.specs.Scan.{noKey, Scan, scanOn, Pass, passesBelow}
 
 pub record Tables : Type 0 where
@@ -15,6 +16,7 @@ pub record Tables : Type 0 where
   pub weights : List ℕ
   -- the component number of each vertex
   pub labels : List ℕ
+  -- what is held for the load of each vertex
   pub loads : List ℕ
   -- 1 for each active component number
   pub flags : List ℕ
@@ -28,22 +30,29 @@ abbrev pub tablesIn : (firsts seconds weights labels loads flags : Buffer) → T
 tablesIn firsts seconds weights labels loads flags =
     tablesFrom (old firsts) (old seconds) (old weights) (old labels) (old loads) (old flags)
 
-unfoldable pub delayBy : Tables → ℕ → Delay
-delayBy t e = delayBetween (t .labels) (t .loads) (t .flags) (getD (t .firsts) e 0) (getD (t .seconds) e 0) (getD (t .weights) e 0)
+-- The ends of edge e at this time.
+unfoldable pub firstBy : Tables → (time e : ℕ) → End
+firstBy t time e = endAt (t .labels) (t .loads) (t .flags) time (getD (t .firsts) e 0)
 
--- The key of an edge of weight w between vertices a and b.
-unfoldable pub keyBetween : (labels loads : List ℕ) → (time a b w : ℕ) → ℕ
-keyBetween labels loads time a b w = cond (eqb (getD labels a 0) (getD labels b 0)) noKey (2 * time + (2 * w - (getD loads a 0 + getD loads b 0)))
+unfoldable pub secondBy : Tables → (time e : ℕ) → End
+secondBy t time e = endAt (t .labels) (t .loads) (t .flags) time (getD (t .seconds) e 0)
 
-unfoldable pub keyBy : Tables → (time : ℕ) → ℕ → ℕ
-keyBy t time e = keyBetween (t .labels) (t .loads) time (getD (t .firsts) e 0) (getD (t .seconds) e 0) (getD (t .weights) e 0)
+unfoldable pub delayBy : Tables → (time e : ℕ) → Delay
+delayBy t time e = delayBetween (firstBy t time e) (secondBy t time e) (getD (t .weights) e 0)
+
+-- The key of an edge of weight w between two ends.
+unfoldable pub keyBetween : (time : ℕ) → (a b : End) → (w : ℕ) → ℕ
+keyBetween time a b w = cond (eqb (a .label) (b .label)) noKey (2 * time + slackBetween a b w)
+
+unfoldable pub keyBy : Tables → (time e : ℕ) → ℕ
+keyBy t time e = keyBetween time (firstBy t time e) (secondBy t time e) (getD (t .weights) e 0)
 
 -- So many edges more, and so many blocks, over the tables.
 unfoldable pub onBy : Tables → (time : ℕ) → Scan → (from count : ℕ) → Scan
-onBy t time s from count = scanOn (delayBy t) (keyBy t time) time s from count
+onBy t time s from count = scanOn (delayBy t time) (keyBy t time) time s from count
 
 unfoldable pub passBy : Tables → (time : ℕ) → (keys floors : List ℕ) → ℕ → Pass
-passBy t time keys floors b = passesBelow (delayBy t) (keyBy t time) time (length (t .firsts)) keys floors b
+passBy t time keys floors b = passesBelow (delayBy t time) (keyBy t time) time (length (t .firsts)) keys floors b
 
 -- A best and keys to go on from.
 abbrev pub scanFrom : Winner → (keys : List ℕ) → Scan

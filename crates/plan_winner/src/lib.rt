@@ -8,14 +8,16 @@ ghost use Rattle.theory_steiner.specs.Growth.{better};
 ghost use Rattle.plan_winner.specs.Scan.{timeLimit, limitOf, cappedTime};
 ghost use Rattle.plan_winner.specs.Scan.{blockEdges, blockSize, blocksOf, lowestKey};
 ghost use Rattle.plan_winner.specs.Tables.{tablesIn, delayBy, keyBetween, keyBy, onBy, passBy, scanFrom};
-ghost use Rattle.plan_delay.specs.Between.{winnerIn};
+ghost use Rattle.plan_delay.specs.Between.{winnerIn, delayBetween};
 use base_buffer::at64;
 use base_buffer::put64;
 use base_limits::MAX_EDGES;
+use plan_delay::End;
 use plan_delay::Winner;
 use plan_delay::better_of;
-use plan_delay::delay_between;
+use plan_delay::delay_of;
 use plan_delay::edge_slack;
+use plan_delay::end_at;
 
 // The key of an edge inside a component (`noKey`).
 const NO_KEY: u64 = 18446744073709551615;
@@ -31,20 +33,6 @@ const BLOCK_EDGES: usize = 16;
 // Blocks, at most (`maxBlocks`).
 pub const MAX_BLOCKS: usize = MAX_EDGES / BLOCK_EDGES + 1;
 
-// The key of an edge between two vertices.
-fn key_between(labels: &[u32], loads: &[u64], time: u64, a: usize, b: usize, weight: u32) -> u64
-    requires { ⌜ time < timeLimit ⌝ }
-    ensures { λ r. ⌜ r ≡ keyBetween (old labels) (old loads) time a b weight ⌝ }
-{
-    let x = base_buffer::at32(labels, a);
-    let y = base_buffer::at32(labels, b);
-    if x == y {
-        return NO_KEY;
-    }
-    let left = edge_slack(weight, at64(loads, a), at64(loads, b));
-    2 * time + left
-}
-
 // Twice the time of the best so far.
 fn limit_of(time: u64, best: Winner) -> u64
     requires { ⌜ time < timeLimit ⌝ }
@@ -57,6 +45,29 @@ fn limit_of(time: u64, best: Winner) -> u64
         return 2 * (time + d);
     }
     NO_KEY
+}
+
+// Notes the key of edge e between two ends: the best with it.
+fn note_edge(
+    keys: &mut [u64],
+    e: usize,
+    time: u64,
+    weight: u32,
+    first: End,
+    second: End,
+    best: Winner,
+) -> Winner
+    requires { ⌜ time < timeLimit ⌝ }
+    ensures { λ r. ⌜ winnerIn r ≡ better (winnerIn best) e (delayBetween first second weight) ⌝ }
+    ensures { λ r. ⌜ new keys ≡ set (old keys) e (keyBetween time first second weight) ⌝ }
+{
+    if first.label == second.label {
+        put64(keys, e, NO_KEY);
+        return best;
+    }
+    let slack = edge_slack(weight, first.load, second.load);
+    put64(keys, e, 2 * time + slack);
+    better_of(best, e, delay_of(first.flag, second.flag, slack))
 }
 
 // Looks at edge e: the best with it, and its key noted.
@@ -75,16 +86,16 @@ fn look(
     requires { ⌜ time < timeLimit ⌝ }
     ensures { λ r.
         let t = tablesIn firsts seconds weights labels loads flags in
-        ⌜ winnerIn r ≡ better (winnerIn best) e (delayBy t e) ⌝ }
+        ⌜ winnerIn r ≡ better (winnerIn best) e (delayBy t time e) ⌝ }
     ensures { λ r.
         let t = tablesIn firsts seconds weights labels loads flags in
         ⌜ new keys ≡ set (old keys) e (keyBy t time e) ⌝ }
 {
     let a = base_buffer::index32(base_buffer::at32(firsts, e));
     let b = base_buffer::index32(base_buffer::at32(seconds, e));
-    let weight = base_buffer::at32(weights, e);
-    put64(keys, e, key_between(labels, loads, time, a, b, weight));
-    better_of(best, e, delay_between(labels, loads, flags, a, b, weight))
+    let first = end_at(labels, loads, flags, time, a);
+    let second = end_at(labels, loads, flags, time, b);
+    note_edge(keys, e, time, base_buffer::at32(weights, e), first, second, best)
 }
 
 // Looks at the edges of a block whose noted keys do not say that they come later than the best so far.

@@ -1,16 +1,10 @@
 -- `no_rounds` meets its contract: the arrays of the start.
 use Rattle.plan_growth.specs.Laws.Rounds.{grown-start}
-use borrow.Author.Needs.{needs}
 use Rattle.plan_growth.proofs.no_rounds.Statement.{statement}
 use Rattle.plan_growth.proofs.no_rounds.Tie as tie
 
 returns : tie.Need-returns
-returns c = λ p. grown-start p (c .before .own-labels .ensures)
+returns c = λ p. grown-start p
 
 pub no-rounds-spec : {M : Type 1} → statement M
-no-rounds-spec =
-    tie.close
-    (tie.spec
-    (λ c. search needs)
-    (λ c κs. search needs)
-    returns)
+no-rounds-spec = tie.close (tie.spec returns)

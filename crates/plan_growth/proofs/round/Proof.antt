@@ -1,5 +1,5 @@
 -- `round` meets its contract: the search's winner is the round's, and the arrays after it represent the next state.
-use Rattle.plan_growth.specs.Laws.Round.{merged-small, won-later, won-loads, won-edge, round-over, round-won}
+use Rattle.plan_growth.specs.Laws.Round.{merged-small, won-later, won-edge, round-over, round-won}
 use borrow.Author.Needs.{needs}
 use Rattle.plan_growth.proofs.round.Statement.{statement}
 use Rattle.plan_growth.proofs.round.Tie as tie
@@ -14,34 +14,28 @@ returns c =
     let entry = search .before .before .before .before .before .before .before .before .before .before .before .before .before in
     round-over (entry .pre .0) (search .find-winner .ensures .0) (search .find-winner .ensures .1 .0) (search .find-winner .ensures .1 .1) (c .enum-told .given .1)
 
-raise-loads-requires : tie.Need-raise-loads-requires
-raise-loads-requires c κs =
-    let search = c .before .before .before .before .before .before in
-    let entry = search .before .before .before .before .before .before .before .before .before .before .before .before .before in
-    won-loads (entry .pre .0) (search .find-winner .ensures .0) (c .before .before .before .before .found .given .1)
-
 add-z : tie.Need-add-z
-add-z c = let entry = c .before .before .before .before .before .before .before .before .before .before .before .before .before .before .before .before .before .before .before .before in record { fits = merged-small (entry .pre .0) .0 }
+add-z c = let entry = c .before .before .before .before .before .before .before .before .before .before .before .before .before .before .before .before in record { fits = merged-small (entry .pre .0) .0 }
 
 cast-z : tie.Need-cast-z
-cast-z c = let entry = c .before .before .before .before .before .before .before .before .before .before .before .before .before .before .before .before .before .before .before .before in record { fits = merged-small (entry .pre .0) .1 }
+cast-z c = let entry = c .before .before .before .before .before .before .before .before .before .before .before .before .before .before .before .before in record { fits = merged-small (entry .pre .0) .1 }
 
 add-join : tie.Need-add-join
 add-join c =
-    let search = c .before .before .before .before .before .before .before .before .before .before .before .before in
+    let search = c .before .before .before .before .before .before .before .before .before in
     let entry = search .before .before .before .before .before .before .before .before .before .before .before .before .before in
-    record { fits = won-later (entry .pre .0) (search .find-winner .ensures .0) (c .before .before .before .before .before .before .before .before .before .before .found .given .1) }
+    record { fits = won-later (entry .pre .0) (search .find-winner .ensures .0) (c .before .before .before .before .before .before .before .found .given .1) }
 
 note-pick-requires : tie.Need-note-pick-requires
 note-pick-requires c κs =
-    let search = c .before .before .before .before .before .before .before .before .before .before .before .before .before .before .before in
+    let search = c .before .before .before .before .before .before .before .before .before .before .before .before in
     let entry = search .before .before .before .before .before .before .before .before .before .before .before .before .before in
-    won-edge (entry .pre .0) (search .find-winner .ensures .0) (c .before .before .before .before .before .before .before .before .before .before .before .before .before .found .given .1)
+    won-edge (entry .pre .0) (search .find-winner .ensures .0) (c .before .before .before .before .before .before .before .before .before .before .found .given .1)
 
 -- an edge is picked
 returns-2 : tie.Need-returns-2
 returns-2 c =
-    let search = c .before .before .before .before .before .before .before .before .before .before .before .before .before .before .before .before in
+    let search = c .before .before .before .before .before .before .before .before .before .before .before .before .before in
     let entry = search .before .before .before .before .before .before .before .before .before .before .before .before .before in
     round-won
     (entry .pre .0)
@@ -50,13 +44,13 @@ returns-2 c =
     (search .find-winner .ensures .1 .1)
     _
     _
-    (c .before .before .before .before .before .before .before .before .before .before .before .before .before .before .found .given .1)
-    (c .before .before .before .before .before .before .before .before .before .raise-loads .ensures)
+    (c .before .before .before .before .before .before .before .before .before .before .before .found .given .1)
     (c .before .before .before .before .before .at32 .ensures)
     (c .before .before .before .before .at322 .ensures)
     (entry .pre .1)
     (c .before .before .before .join .ensures .0)
-    (c .before .before .before .join .ensures .1)
+    (c .before .before .before .join .ensures .1 .0)
+    (c .before .before .before .join .ensures .1 .1)
     (c .note-pick .ensures)
 
 pub round-spec : {M : Type 1} → statement M
@@ -67,7 +61,6 @@ round-spec =
     (λ c. search needs)
     enum-told
     returns
-    raise-loads-requires
     add-z
     cast-z
     (λ c κs. search needs)

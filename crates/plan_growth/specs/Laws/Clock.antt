@@ -22,31 +22,9 @@ use Rattle.theory_steiner.specs.Laws.Round.{pick-label, pick-value}
 use Rattle.theory_steiner.specs.Laws.Partition.{active-below}
 use Rattle.theory_steiner.specs.Laws.Weighed.{value-fresh, value-newborn}
 use Rattle.theory_steiner.specs.Laws.Activity.{active-cong, active-other, active-gone}
-use Rattle.plan_growth.specs.Tables.{heldValue, settledBy, settledAt}
-
--- ---- one value
-
-pub held-on : (time value : ℕ) {t : Bool} → t ≡ true → heldValue time t value ≡ time - value
-unfolding heldValue
-held-on time value h = rw h
-
-pub held-off : (time value : ℕ) {t : Bool} → t ≡ false → heldValue time t value ≡ value
-unfolding heldValue
-held-off time value h = rw h
-
-pub settled-on : (time held : ℕ) {t : Bool} → t ≡ true → settledBy time t held ≡ time - held
-unfolding settledBy
-settled-on time held h = rw h
-
-pub settled-off : (time held : ℕ) {t : Bool} → t ≡ false → settledBy time t held ≡ held
-unfolding settledBy
-settled-off time held h = rw h
-
--- What is held gives the value back.
-pub held-settled : (time value : ℕ) (t : Bool) → value ≤ time → settledBy time t (heldValue time t value) ≡ value
-unfolding settledBy heldValue
-held-settled time value true h = omega arith
-held-settled time value false h = refl
+use Rattle.plan_delay.specs.Held.{heldValue, settledBy}
+use Rattle.plan_delay.specs.Laws.Held.{held-on, held-off, settled-on, settled-off}
+use Rattle.plan_growth.specs.Tables.{settledAt}
 
 -- Three of them settled, at places that were read.
 pub settled-three : (flags after values : List ℕ) (time z : ℕ) {one two three : List ℕ} {i j x y : ℕ} → i ≡ x → j ≡ y → one ≡ settledAt flags time i values

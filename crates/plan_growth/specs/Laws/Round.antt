@@ -2,12 +2,14 @@
 -- (001, Algorithm 22.3). `round` cites it.
 use Prim.Native.Nat.{ℕ, suc, _+_, _*_, _<_, _≤_, _^_}
 use native.Mathlib.Omega.{arith}
+use native.Mathlib.Decide.{ℕ-discrete}
 use native.Mathlib.Numerals.{add-one}
 use mathlib.Core.Path.{_≡_, refl, ap, sym, _∙_, subst}
 use mathlib.Core.Logic.{_⊎_, inl, inr}
 use mathlib.Core.Bool.{Bool, true, false, _||_, not, cond, or-false}
 use mathlib.Core.List.{[], List}
-use lib.ListN.{length, getD, set, List·getD-eq-default}
+use lib.ListN.{length, getD, set, length-set}
+use lib.Seq.{ext-getD, getD-set-same}
 use lib.Dec.{eqb, ltb}
 use borrow.Author.Tests.{ne-eqb, lt-ltb, le-ltb}
 use Rattle.base_finite.specs.Below.{counted, anyBelow, tabulate}
@@ -18,30 +20,29 @@ use Rattle.theory_steiner.specs.Problem.{Problem, Sound, separates}
 use Rattle.theory_steiner.specs.Growth.{State, active, numbers, load, slack, delay, nobody, edge, winner, pick, stateAt, Reached}
 use Rattle.theory_steiner.specs.Laws.Activity.{active-cong}
 use Rattle.theory_steiner.specs.Laws.Round.{stateAt-reached, pick-rounds, pick-label, pick-picked, pick-new}
-use Rattle.theory_steiner.specs.Laws.Rounds.{rounds-lt, stateAt-pick, delay-le, load-bounded}
+use Rattle.theory_steiner.specs.Laws.Rounds.{rounds-lt, stateAt-pick, delay-le}
 use Rattle.theory_steiner.specs.Laws.Winner.{Candidate}
 use Rattle.theory_steiner.specs.Laws.Partition.{label-below, winner-below, winner-candidate}
-use Rattle.theory_steiner.specs.Laws.Weighed.{load-pick}
 use Rattle.survey_core.specs.Lists.{isPaired, inList, sameList}
 use Rattle.survey_core.specs.Survey.{Survey, surveyWith, groupsAlone, vertexCount, edgeCount, sameGroup, member, problemOf}
-use Rattle.survey_labels.specs.Labels.{relabelled}
 use Rattle.survey_core.specs.Laws.Refusal.{survey-sound}
-use Rattle.base_buffer.specs.Laws.Store.{tabulate-cong, set-table, remade-table, remade-part}
-use Rattle.survey_labels.specs.Laws.Labels.{relabelled-table}
-use Rattle.plan_delay.specs.Between.{delayIn, winnerIn, delayBetween}
+use Rattle.base_buffer.specs.Laws.Store.{set-table, remade-part}
+use Rattle.plan_delay.specs.Held.{heldValue, settledBy}
+use Rattle.plan_delay.specs.Laws.Held.{held-settled}
+use Rattle.plan_delay.specs.Between.{delayIn, winnerIn, endAt, slackBetween, delayBetween}
 use Rattle.plan_delay.specs.declared.Delay.the-variants.{Never, After}
 use Rattle.plan_delay.specs.declared.Winner.{Winner}
 use Rattle.plan_delay.specs.declared.Winner.the-variants.{Nobody, Edge}
 use Rattle.plan_winner.specs.Scan.{timeLimit, key, cappedTime, Scan, scanOf, Keyed, Pass, blocksOf, passOf, Floored}
-use Rattle.plan_winner.specs.Tables.{Tables, tablesFrom, delayBy, keyBetween, keyBy, passBy}
+use Rattle.plan_winner.specs.Tables.{Tables, tablesFrom, firstBy, secondBy, delayBy, keyBetween, keyBy, passBy}
 use Rattle.plan_winner.specs.Laws.Scan.{capped-is, scan-wins, keyed-next}
 use Rattle.plan_winner.specs.Laws.Blocks.{passes-scan, passes-cong}
-use Rattle.plan_active.specs.Flags.{activeFlags, mergedFlags}
+use Rattle.plan_active.specs.Flags.{activeFlags, MatesListed, joinedActive, relabelledFirst, mergedFlags}
 use Rattle.plan_active.specs.Laws.Merged.{flags-merged}
-use Rattle.survey_mates.specs.Mate.{mateOf}
-use Rattle.plan_growth.specs.Tables.{heldValue, settledAt, raisedLoads, RaiseFits}
+use Rattle.plan_growth.specs.Tables.{settledAt, turnedTo}
+use Rattle.plan_growth.specs.Laws.Loads.{label-own, turned-own, turned-other, length-turned, load-timely, load-joined, load-other}
 use Rattle.plan_growth.specs.Laws.Clock.{settled-next, timely-next}
-use Rattle.plan_growth.specs.Represents.{winnerEdge, pickAt, Arrays, arraysFrom, roundsAfter, timeAfter, Represents}
+use Rattle.plan_growth.specs.Represents.{winnerEdge, pickAt, heldLabel, heldLoad, Arrays, arraysFrom, roundsAfter, timeAfter, Represents}
 use Rattle.theory_steiner.specs.Minima.{winnerDelay}
 
 -- A flag of 1 stands for the test.
@@ -68,15 +69,24 @@ below-more k r d = by (lt-or-ge k r)
     by (inr h) = le-ltb k r h ∙ sym (le-ltb k (r + 1) (omega (arith, d)))
 
 -- Flags by labels in a buffer say which components are active.
-flag-active : (s : Survey) → s .owners ≡ [] → length (s .groups) ≤ maxVertices → (label : ℕ → ℕ) {labels flags : List ℕ} → labels ≡ tabulate maxVertices label
-    → flags ≡ activeFlags (s .groups) labels → (c : ℕ) → c < maxDuals → eqb (getD flags c 0) 1 ≡ active (problemOf s) label c
-unfolding activeFlags problemOf vertexCount
-flag-active s plain few label {labels} l f c b =
-    ap (λ t. eqb (getD t c 0) 1) f
-    ∙ ap (λ x. eqb x 1) (getD-tabulate maxDuals _ c 0 b)
-    ∙ flag-is (active (problemOf (groupsAlone (s .groups))) (λ v. getD labels v 0) c)
-    ∙ active-groups s plain (λ v. getD labels v 0) c
-    ∙ active-cong (problemOf s) (λ v. getD labels v 0) label c (λ v q. ap (λ t. getD t v 0) l ∙ getD-tabulate maxVertices label v 0 (omega arith))
+module _ (s : Survey) (plain : s .owners ≡ []) (few : length (s .groups) ≤ maxVertices) (label : ℕ → ℕ) (labels : List ℕ) {flags : List ℕ}
+    (l : (v : ℕ) → v < length (s .groups) → getD labels v 0 ≡ label v) (f : flags ≡ activeFlags (s .groups) labels) (c : ℕ) (b : c < maxDuals) where
+  flag-counted : getD flags c 0 ≡ counted (active (problemOf s) label c) 1
+  unfolding activeFlags problemOf vertexCount
+  flag-counted =
+      ap (λ t. getD t c 0) f
+      ∙ getD-tabulate maxDuals _ c 0 b
+      ∙ ap (λ t. counted t 1)
+      (active-groups s plain (λ v. getD labels v 0) c
+      ∙ active-cong (problemOf s) (λ v. getD labels v 0) label c l)
+
+  flag-active : eqb (getD flags c 0) 1 ≡ active (problemOf s) label c
+  flag-active = ap (λ x. eqb x 1) flag-counted ∙ flag-is (active (problemOf s) label c)
+
+-- The flag of a component that was just made.
+flag-stored : (x y z flag : ℕ) (flags : List ℕ) → z < length flags → getD (mergedFlags x y z flag flags) z 0 ≡ flag
+unfolding mergedFlags
+flag-stored x y z flag flags b = getD-set-same (set (set flags x 0) y 0) z flag 0 (rw (length-set (set flags x 0) y 0, length-set flags x 0) b)
 
 module _ {s : Survey} {r time : ℕ} {a : Arrays} (h : Represents s r time a) where
   abbrev p : Problem
@@ -107,7 +117,12 @@ module _ {s : Survey} {r time : ℕ} {a : Arrays} (h : Represents s r time a) wh
   going = let some = h .sound .some in let e = vertices-are in let q = h .rounds-are in omega (arith, rounds-lt p ok (omega arith) reached)
 
   label-at : (v : ℕ) → v < n → getD (a .labels) v 0 ≡ S .label v
-  label-at v b = let few = h .sound .few in ap (λ t. getD t v 0) (h .labels-are) ∙ getD-tabulate maxVertices (S .label) v 0 (omega arith)
+  unfolding heldLabel problemOf vertexCount
+  label-at v b =
+      let few = h .sound .few in
+      ap (λ t. getD t v 0) (h .labels-are)
+      ∙ getD-tabulate maxVertices (heldLabel p S) v 0 (omega arith)
+      ∙ ap (λ t. cond t (S .label v) v) (lt-ltb v n b)
 
   label-small : (v : ℕ) → v < n → S .label v < maxDuals
   unfolding numbers
@@ -119,11 +134,23 @@ module _ {s : Survey} {r time : ℕ} {a : Arrays} (h : Represents s r time a) wh
       let g = going in
       omega arith
 
-  load-at : (v : ℕ) → v < n → getD (a .loads) v 0 ≡ load p S v
-  load-at v b =
+  held-at : (v : ℕ) → v < n → getD (a .loads) v 0 ≡ heldLoad p S time v
+  held-at v b =
       let few = h .sound .few in
       let e = vertices-are in
-      ap (λ t. getD t v 0) (h .loads-are) ∙ getD-tabulate maxVertices _ v 0 (omega arith) ∙ counted-true (lt-ltb v (p .vertices) (omega arith)) (load p S v)
+      ap (λ t. getD t v 0) (h .loads-are) ∙ getD-tabulate maxVertices _ v 0 (omega arith) ∙ counted-true (lt-ltb v (p .vertices) (omega arith)) (heldLoad p S time v)
+
+  -- What is held gives the load.
+  load-at : (v : ℕ) → v < n → settledBy time (active p (S .label) (S .label v)) (getD (a .loads) v 0) ≡ load p S v
+  unfolding heldLoad
+  load-at v b =
+      let e = vertices-are in
+      ap (settledBy time (active p (S .label) (S .label v))) (held-at v b)
+      ∙ held-settled time (load p S v) (active p (S .label) (S .label v)) (h .loads-timely v (omega arith))
+
+  flags-long : length (a .flags) ≡ maxDuals
+  unfolding activeFlags
+  flags-long = ap length (h .flags-are) ∙ length-tabulate maxDuals _
 
   pub weights-light : (e : ℕ) → e < p .edges → p .weight e ≤ maxWeight
   unfolding problemOf edgeCount
@@ -159,10 +186,10 @@ module _ {s : Survey} {r time : ℕ} {a : Arrays} (h : Represents s r time a) wh
     tables = tablesFrom (s .firsts) (s .seconds) (s .weights) (a .labels) (a .loads) flags
 
     pub flag-at : (c : ℕ) → c < maxDuals → eqb (getD flags c 0) 1 ≡ active p (S .label) c
-    flag-at c b = flag-active s (h .plain) (h .sound .few) (S .label) (h .labels-are) f c b
+    flag-at c b = flag-active s (h .plain) (h .sound .few) (S .label) (a .labels) label-at f c b
 
-    delay-at : (e : ℕ) → e < length (s .firsts) → delayBy tables e ≡ delay p S e
-    unfolding delayBy delayBetween delay slack problemOf
+    delay-at : (e : ℕ) → e < length (s .firsts) → delayBy tables time e ≡ delay p S e
+    unfolding delayBy firstBy secondBy endAt delayBetween slackBetween delay slack problemOf
     delay-at e b =
         let u = getD (s .firsts) e 0 in
         let v = getD (s .seconds) e 0 in
@@ -179,15 +206,19 @@ module _ {s : Survey} {r time : ℕ} {a : Arrays} (h : Represents s r time a) wh
         (cond-not (eqb (S .label u) (S .label v)) _ _)
 
     key-at : (e : ℕ) → e < length (s .firsts) → keyBy tables time e ≡ key p S time e
-    unfolding keyBy keyBetween key slack problemOf
+    unfolding keyBy firstBy secondBy endAt keyBetween slackBetween key slack problemOf
     key-at e b =
+        let u = getD (s .firsts) e 0 in
+        let v = getD (s .seconds) e 0 in
         let u-below = h .sound .edges e b .first-below in
         let v-below = h .sound .edges e b .second-below in
         rw (
-          label-at (getD (s .firsts) e 0) u-below,
-          label-at (getD (s .seconds) e 0) v-below,
-          load-at (getD (s .firsts) e 0) u-below,
-          load-at (getD (s .seconds) e 0) v-below,
+          label-at u u-below,
+          label-at v v-below,
+          flag-at (S .label u) (label-small u u-below),
+          flag-at (S .label v) (label-small v v-below),
+          load-at u u-below,
+          load-at v v-below,
         )
 
     -- The passes over the tables are those of the definition.
@@ -228,28 +259,6 @@ module _ {s : Survey} {r time : ℕ} {a : Arrays} (h : Represents s r time a) wh
     later-fits : time + d < 2 ^ 64
     later-fits = let t = in-time in let l = delay-small in omega arith
 
-    loads-fit : RaiseFits (a .loads) d
-    loads-fit = record { fits = λ v. by v (lt-or-ge v n) (lt-or-ge v maxVertices) }
-      where
-        by : (v : ℕ) → (v < n) ⊎ (n ≤ v) → (v < maxVertices) ⊎ (maxVertices ≤ v) → getD (a .loads) v 0 + d < 2 ^ 64
-        by v (inl b) x =
-            let k = load-at v b in
-            let q = vertices-are in
-            let m = load-bounded p ok maxWeight weights-light reached v (omega arith) in
-            let few = rounds-few in
-            let l = delay-small in
-            omega arith
-        by v (inr b) (inl x) =
-            let q = vertices-are in
-            let k : getD (a .loads) v 0 ≡ 0 = ap (λ t. getD t v 0) (h .loads-are) ∙ getD-tabulate maxVertices _ v 0 x ∙ counted-false (le-ltb v (p .vertices) (omega arith)) _ in
-            let l = delay-small in
-            omega arith
-        by v (inr b) (inr x) =
-            let long : length (a .loads) ≡ maxVertices = ap length (h .loads-are) ∙ length-tabulate maxVertices _ in
-            let k : getD (a .loads) v 0 ≡ 0 = List·getD-eq-default (a .loads) 0 (omega arith) in
-            let l = delay-small in
-            omega arith
-
     state-next : stateAt p (r + 1) ≡ pick p S e d
     state-next = ap (stateAt p) (add-one r) ∙ stateAt-pick p r e d w
 
@@ -263,8 +272,9 @@ module _ {s : Survey} {r time : ℕ} {a : Arrays} (h : Represents s r time a) wh
         let k : S .label v < numbers p S = let e = vertices-are in label-below p reached v (omega arith) in
         omega (arith, numbers-are, label-at v b)
 
-    labels-next : relabelled (getD (a .labels) (getD (s .firsts) e 0) 0) (getD (a .labels) (getD (s .seconds) e 0) 0) (n + r) (a .labels) ≡ tabulate maxVertices (stateAt p (r + 1) .label)
-    unfolding problemOf
+    labels-next : relabelledFirst n (getD (a .labels) (getD (s .firsts) e 0) 0) (getD (a .labels) (getD (s .seconds) e 0) 0) (n + r) (a .labels)
+        ≡ tabulate maxVertices (heldLabel p (stateAt p (r + 1)))
+    unfolding problemOf vertexCount relabelledFirst heldLabel merged
     labels-next =
         let u = getD (s .firsts) e 0 in
         let v = getD (s .seconds) e 0 in
@@ -272,16 +282,34 @@ module _ {s : Survey} {r time : ℕ} {a : Arrays} (h : Represents s r time a) wh
           label-at u (h .sound .edges e winner-edge .first-below),
           label-at v (h .sound .edges e winner-edge .second-below),
         )
-        (relabelled-table (S .label u) (S .label v) (n + r) maxVertices (S .label) (h .labels-are)
-        ∙ tabulate-cong
+        (remade-part
+        (λ i. merged (S .label u) (S .label v) (n + r) (λ l. l))
+        n
         maxVertices
-        _
-        _
-        (λ x _.
-        sym
-        (ap (λ t. t .label x) state-next
-        ∙ pick-label p S e d x
-        ∙ ap (λ z. merged (S .label u) (S .label v) z (S .label) x) numbers-are)))
+        (a .labels)
+        (heldLabel p (stateAt p (r + 1)))
+        (ap length (h .labels-are) ∙ length-tabulate maxVertices _)
+        (h .sound .few)
+        (λ i b.
+        rw (label-at i b, lt-ltb i n b)
+        (sym
+        (ap (λ t. t .label i) state-next
+        ∙ pick-label p S e d i
+        ∙ ap (λ z. merged (S .label u) (S .label v) z (S .label) i) numbers-are)))
+        (λ i b c.
+        ap (λ t. getD t i 0) (h .labels-are)
+        ∙ getD-tabulate maxVertices (heldLabel p S) i 0 c
+        ∙ ap (λ t. cond t (S .label i) i) (le-ltb i n b)
+        ∙ sym (ap (λ t. cond t (stateAt p (r + 1) .label i) i) (le-ltb i n b))))
+
+    -- The labels after the round, as they are read.
+    label-after : {labels : List ℕ} → labels ≡ tabulate maxVertices (heldLabel p (stateAt p (r + 1))) → (v : ℕ) → v < n → getD labels v 0 ≡ stateAt p (r + 1) .label v
+    unfolding heldLabel problemOf vertexCount
+    label-after l v b =
+        let few = h .sound .few in
+        ap (λ t. getD t v 0) l
+        ∙ getD-tabulate maxVertices (heldLabel p (stateAt p (r + 1))) v 0 (omega arith)
+        ∙ ap (λ t. cond t (stateAt p (r + 1) .label v) v) (lt-ltb v n b)
 
     picked-next : set (a .picked) e 1 ≡ tabulate maxEdges (λ f. counted (stateAt p (r + 1) .picked f) 1)
     picked-next =
@@ -321,9 +349,19 @@ module _ {s : Survey} {r time : ℕ} {a : Arrays} (h : Represents s r time a) wh
         let q = vertices-are in
         omega (arith, rounds-lt p ok (omega arith) (stateAt-reached p (r + 1)), rounds-next)
 
+    -- The new component's flag, by the flags that the round leaves.
+    flag-next : {labels flags : List ℕ} {flag : ℕ} (x y : ℕ) → labels ≡ tabulate maxVertices (heldLabel p (stateAt p (r + 1))) → flags ≡ activeFlags (s .groups) labels
+        → flags ≡ mergedFlags x y (n + r) flag (a .flags) → flag ≡ counted (active p (pick p S e d .label) (numbers p S)) 1
+    flag-next {labels} {flags} {flag} x y l f made =
+        sym (flag-stored x y (n + r) flag (a .flags) (rw flags-long merged-below))
+        ∙ ap (λ l. getD l (n + r) 0) (sym made)
+        ∙ flag-counted s (h .plain) (h .sound .few) (stateAt p (r + 1) .label) labels (label-after l) f (n + r) merged-below
+        ∙ ap (λ (t : State). counted (active p (t .label) (n + r)) 1) state-next
+        ∙ ap (λ c. counted (active p (pick p S e d .label) c) 1) (sym numbers-are)
+
     -- What is held for the values, settled where the round changes it.
     values-next : {labels flags values : List ℕ} (x y : ℕ) → x ≡ S .label (p .first e) → y ≡ S .label (p .second e)
-        → labels ≡ tabulate maxVertices (stateAt p (r + 1) .label) → flags ≡ activeFlags (s .groups) labels
+        → labels ≡ tabulate maxVertices (heldLabel p (stateAt p (r + 1))) → flags ≡ activeFlags (s .groups) labels
         → values ≡ settledAt flags (time + d) (n + r) (settledAt (a .flags) (time + d) y (settledAt (a .flags) (time + d) x (a .values)))
         → values ≡ tabulate maxDuals (λ c. heldValue (time + d) (active p (stateAt p (r + 1) .label) c) (stateAt p (r + 1) .value c))
     unfolding settledAt problemOf
@@ -341,7 +379,7 @@ module _ {s : Survey} {r time : ℕ} {a : Arrays} (h : Represents s r time a) wh
         (sym numbers-are)
         (ap (λ c. eqb (getD (a .flags) c 0) 1) x-is ∙ flag-at (h .flags-are) (S .label (getD (s .firsts) e 0)) small-x)
         (ap (λ c. eqb (getD (a .flags) c 0) 1) y-is ∙ flag-at (h .flags-are) (S .label (getD (s .seconds) e 0)) small-y)
-        (flag-active s (h .plain) (h .sound .few) (stateAt p (r + 1) .label) l f (n + r) merged-below
+        (flag-active s (h .plain) (h .sound .few) (stateAt p (r + 1) .label) labels (label-after l) f (n + r) merged-below
         ∙ ap (λ (t : State). active p (t .label) (n + r)) state-next
         ∙ ap (active p (pick p S e d .label)) (sym numbers-are))
         refl
@@ -352,33 +390,108 @@ module _ {s : Survey} {r time : ℕ} {a : Arrays} (h : Represents s r time a) wh
     timely-after : (c : ℕ) → stateAt p (r + 1) .value c ≤ time + d
     timely-after c = rw state-next (timely-next p reached e d time (h .values-timely) c)
 
-    module _ {flags : List ℕ} (f : flags ≡ activeFlags (s .groups) (a .labels)) where
-      loads-next : raisedLoads (a .labels) flags n d (a .loads) ≡ tabulate maxVertices (λ v. counted (ltb v (p .vertices)) (load p (stateAt p (r + 1)) v))
-      unfolding raisedLoads
-      loads-next =
-          remade-part
-          (λ v x. x + counted (eqb (getD flags (getD (a .labels) v 0) 0) 1) d)
-          n
-          maxVertices
-          (a .loads)
-          (λ v. counted (ltb v (p .vertices)) (load p (stateAt p (r + 1)) v))
-          (ap length (h .loads-are) ∙ length-tabulate maxVertices _)
-          (h .sound .few)
-          (λ v b.
-          let q = vertices-are in
-          rw
-          (load-at v b, label-at v b, flag-at f (S .label v) (label-small v b))
-          (sym
-          (counted-true (lt-ltb v (p .vertices) (omega arith)) (load p (stateAt p (r + 1)) v)
-          ∙ ap (λ t. load p t v) state-next
-          ∙ load-pick p ok reached e d v (omega arith))))
-          (λ v b c.
-          let q = vertices-are in
-          let out : ltb v (p .vertices) ≡ false = le-ltb v (p .vertices) (omega arith) in
-          ap (λ t. getD t v 0) (h .loads-are)
-          ∙ getD-tabulate maxVertices _ v 0 c
-          ∙ counted-false out (load p S v)
-          ∙ sym (counted-false out (load p (stateAt p (r + 1)) v)))
+    loads-timely-after : (v : ℕ) → v < p .vertices → load p (stateAt p (r + 1)) v ≤ time + d
+    loads-timely-after v b = rw state-next (load-timely p ok reached e d time v b (h .loads-timely v b))
+
+    -- What is held for the loads, turned where the round changes it.
+    module _ (flag x y : ℕ) (x-is : x ≡ S .label (p .first e)) (y-is : y ≡ S .label (p .second e)) (flag-is : flag ≡ counted (active p (pick p S e d .label) (numbers p S)) 1) where
+      abbrev one : List ℕ
+      one = turnedTo flag (a .flags) (a .labels) n (time + d) x (a .loads)
+
+      abbrev both : List ℕ
+      both = turnedTo flag (a .flags) (a .labels) n (time + d) y one
+
+      own : (v : ℕ) → v < n → getD (a .labels) v 0 < n → getD (a .labels) v 0 ≡ v
+      own v b c = let k = label-at v b in let q = vertices-are in k ∙ label-own p reached v (omega arith)
+
+      loads-long : length (a .loads) ≡ maxVertices
+      loads-long = ap length (h .loads-are) ∙ length-tabulate maxVertices _
+
+      one-long : length one ≡ maxVertices
+      one-long = length-turned flag (a .flags) (a .labels) n (time + d) x (a .loads) ∙ loads-long
+
+      first-own : (v : ℕ) → v < n → S .label v ≡ x → getD one v 0 ≡ settledBy (time + d) (not (eqb (getD (a .flags) x 0) flag)) (getD (a .loads) v 0)
+      unfolding problemOf
+      first-own v b q =
+          let few = h .sound .few in
+          let long = loads-long in
+          let ends = h .sound .edges e winner-edge in
+          turned-own (a .labels) n (time + d) x (getD (s .firsts) e 0) own (ends .first-below) (label-at (getD (s .firsts) e 0) (ends .first-below) ∙ sym x-is)
+          (a .loads) (omega arith) flag (a .flags) v b (label-at v b ∙ q)
+
+      first-other : (v : ℕ) → (v < n → S .label v ≡ x → ⊥) → getD one v 0 ≡ getD (a .loads) v 0
+      unfolding problemOf
+      first-other v out =
+          let few = h .sound .few in
+          let long = loads-long in
+          let ends = h .sound .edges e winner-edge in
+          turned-other (a .labels) n (time + d) x (getD (s .firsts) e 0) own (ends .first-below) (label-at (getD (s .firsts) e 0) (ends .first-below) ∙ sym x-is)
+          (a .loads) (omega arith) flag (a .flags) v (λ b q. out b (sym (label-at v b) ∙ q))
+
+      second-own : (v : ℕ) → v < n → S .label v ≡ y → getD both v 0 ≡ settledBy (time + d) (not (eqb (getD (a .flags) y 0) flag)) (getD one v 0)
+      unfolding problemOf
+      second-own v b q =
+          let few = h .sound .few in
+          let long = one-long in
+          let ends = h .sound .edges e winner-edge in
+          turned-own (a .labels) n (time + d) y (getD (s .seconds) e 0) own (ends .second-below) (label-at (getD (s .seconds) e 0) (ends .second-below) ∙ sym y-is)
+          one (omega arith) flag (a .flags) v b (label-at v b ∙ q)
+
+      second-other : (v : ℕ) → (v < n → S .label v ≡ y → ⊥) → getD both v 0 ≡ getD one v 0
+      unfolding problemOf
+      second-other v out =
+          let few = h .sound .few in
+          let long = one-long in
+          let ends = h .sound .edges e winner-edge in
+          turned-other (a .labels) n (time + d) y (getD (s .seconds) e 0) own (ends .second-below) (label-at (getD (s .seconds) e 0) (ends .second-below) ∙ sym y-is)
+          one (omega arith) flag (a .flags) v (λ b q. out b (sym (label-at v b) ∙ q))
+
+      -- A member of either component, whose flag is that of its component.
+      load-next : (v c : ℕ) → v < n → S .label v ≡ c → (c ≡ S .label (p .first e)) ⊎ (c ≡ S .label (p .second e))
+          → settledBy (time + d) (not (eqb (getD (a .flags) c 0) flag)) (getD (a .loads) v 0) ≡ heldLoad p (pick p S e d) (time + d) v
+      load-next v c b q old =
+          let k = vertices-are in
+          rw (← q, held-at v b, flag-counted s (h .plain) (h .sound .few) (S .label) (a .labels) label-at (h .flags-are) (S .label v) (label-small v b), flag-is)
+          (load-joined p ok reached e d time v (omega arith) (h .loads-timely v (omega arith)) (rw (← q) at old))
+
+      both-at : (v : ℕ) → v < n → getD both v 0 ≡ heldLoad p (pick p S e d) (time + d) v
+      both-at v b = by (ℕ-discrete (S .label v) x) (ℕ-discrete (S .label v) y)
+        where
+          by : Dec (S .label v ≡ x) → Dec (S .label v ≡ y) → getD both v 0 ≡ heldLoad p (pick p S e d) (time + d) v
+          by (yes q) k =
+              second-other v (λ _ m. winner-candidate p S e d w .apart (sym x-is ∙ sym q ∙ m ∙ y-is)) ∙ first-own v b q ∙ load-next v x b q (inl x-is)
+          by (no k) (yes q) =
+              second-own v b q ∙ ap (settledBy (time + d) (not (eqb (getD (a .flags) y 0) flag))) (first-other v (λ _. k)) ∙ load-next v y b q (inr y-is)
+          by (no k) (no m) =
+              let q = vertices-are in
+              second-other v (λ _. m) ∙ first-other v (λ _. k) ∙ held-at v b
+              ∙ load-other p ok reached e d time v (omega arith) (λ t. k (t ∙ sym x-is)) (λ t. m (t ∙ sym y-is))
+
+      loads-next : {loads : List ℕ} → loads ≡ both → loads ≡ tabulate maxVertices (λ v. counted (ltb v (p .vertices)) (heldLoad p (stateAt p (r + 1)) (time + d) v))
+      loads-next made =
+          made
+          ∙ ext-getD 0 both (tabulate maxVertices (λ v. counted (ltb v (p .vertices)) (heldLoad p (stateAt p (r + 1)) (time + d) v)))
+          (both-long ∙ sym (length-tabulate maxVertices _))
+          (λ v b. let c : v < maxVertices = rw both-long at b in at v (lt-or-ge v n) c ∙ sym (getD-tabulate maxVertices _ v 0 c))
+        where
+          both-long : length both ≡ maxVertices
+          both-long = length-turned flag (a .flags) (a .labels) n (time + d) y one ∙ one-long
+
+          at : (v : ℕ) → (v < n) ⊎ (n ≤ v) → v < maxVertices → getD both v 0 ≡ counted (ltb v (p .vertices)) (heldLoad p (stateAt p (r + 1)) (time + d) v)
+          at v (inl b) c =
+              let q = vertices-are in
+              both-at v b
+              ∙ sym
+              (counted-true (lt-ltb v (p .vertices) (omega arith)) (heldLoad p (stateAt p (r + 1)) (time + d) v) ∙ ap (λ (t : State). heldLoad p t (time + d) v) state-next)
+          at v (inr b) c =
+              let q = vertices-are in
+              let out : ltb v (p .vertices) ≡ false = le-ltb v (p .vertices) (omega arith) in
+              second-other v (λ l m. omega arith)
+              ∙ first-other v (λ l m. omega arith)
+              ∙ ap (λ t. getD t v 0) (h .loads-are)
+              ∙ getD-tabulate maxVertices _ v 0 c
+              ∙ counted-false out (heldLoad p S time v)
+              ∙ sym (counted-false out (heldLoad p (stateAt p (r + 1)) (time + d) v))
 
   -- ---- what `round` cites: the search has found x
 
@@ -395,9 +508,6 @@ module _ {s : Survey} {r time : ℕ} {a : Arrays} (h : Represents s r time a) wh
     module _ {e d : ℕ} (t : x ≡ Edge e d) where
       pub won-later : time + d < 2 ^ 64
       won-later = later-fits (won t)
-
-      pub won-loads : RaiseFits (a .loads) d
-      won-loads = loads-fit (won t)
 
       pub won-edge : e < 2 ^ 32
       won-edge = let few = h .sound .edges-few in let below = winner-edge (won t) in omega arith
@@ -418,6 +528,7 @@ module _ {s : Survey} {r time : ℕ} {a : Arrays} (h : Represents s r time a) wh
           rounds-are = h .rounds-are;
           labels-are = h .labels-are;
           loads-are = h .loads-are;
+          loads-timely = h .loads-timely;
           values-are = h .values-are;
           values-timely = h .values-timely;
           picked-are = h .picked-are;
@@ -429,44 +540,45 @@ module _ {s : Survey} {r time : ℕ} {a : Arrays} (h : Represents s r time a) wh
       )
 
       -- Edge e is picked: the arrays represent the next state.
-      pub round-won : {e d : ℕ} {labels loads values picked order flags mates : List ℕ} (u v : ℕ) → x ≡ Edge e d
-          → loads ≡ raisedLoads (a .labels) (a .flags) n d (a .loads)
+      pub round-won : {e d count : ℕ} {labels loads values picked order flags mates members : List ℕ} (u v : ℕ) → x ≡ Edge e d
           → u ≡ getD (s .firsts) e 0
           → v ≡ getD (s .seconds) e 0
-          → mates ≡ tabulate maxVertices (mateOf (s .groups))
-          → (labels ≡ relabelled (getD (a .labels) u 0) (getD (a .labels) v 0) (n + r) (a .labels))
-          × (flags ≡ mergedFlags mates labels n (getD (a .labels) u 0) (getD (a .labels) v 0) (n + r) (a .flags))
-          → values ≡ settledAt flags (time + d) (n + r)
-          (settledAt (a .flags) (time + d) (getD (a .labels) v 0) (settledAt (a .flags) (time + d) (getD (a .labels) u 0) (a .values)))
+          → MatesListed (s .groups) mates members count
+          → (labels ≡ relabelledFirst n (getD (a .labels) u 0) (getD (a .labels) v 0) (n + r) (a .labels))
+          × (flags ≡ mergedFlags (getD (a .labels) u 0) (getD (a .labels) v 0) (n + r) (counted (joinedActive mates (a .labels) members count u v) 1) (a .flags))
+          → (values ≡ settledAt flags (time + d) (n + r)
+          (settledAt (a .flags) (time + d) (getD (a .labels) v 0) (settledAt (a .flags) (time + d) (getD (a .labels) u 0) (a .values))))
+          → (loads ≡ turnedTo (counted (joinedActive mates (a .labels) members count u v) 1) (a .flags) (a .labels) n (time + d) (getD (a .labels) v 0)
+          (turnedTo (counted (joinedActive mates (a .labels) members count u v) 1) (a .flags) (a .labels) n (time + d) (getD (a .labels) u 0) (a .loads)))
           → (picked ≡ set (a .picked) e 1) × (order ≡ set (a .order) r e)
           → (delayIn (After d) ≡ winnerDelay (winner p S))
           × Represents s (roundsAfter r (delayIn (After d))) (timeAfter time (delayIn (After d))) (arraysFrom labels loads values picked order keys floors flags)
       unfolding delayIn winnerDelay roundsAfter timeAfter problemOf
-      round-won {e} {d} {labels} {flags = flags} u v t loads-made u-is v-is mates-are made values-made noted =
+      round-won {e} {d} {count} {labels} {flags = flags} {mates} {members} u v t u-is v-is mates-are made values-made loads-made noted =
           let w = won t in
           let ends = h .sound .edges e (winner-edge w) in
-          let labels-made : labels ≡ tabulate maxVertices (stateAt p (r + 1) .label) = made .0 ∙ rw (u-is, v-is) (labels-next w) in
+          let labels-made : labels ≡ tabulate maxVertices (heldLabel p (stateAt p (r + 1))) = made .0 ∙ rw (u-is, v-is) (labels-next w) in
           let flags-made : flags ≡ activeFlags (s .groups) labels =
-          flags-merged (s .groups) (a .labels) _ _ (n + r) (h .sound .few) (ap length (h .labels-are) ∙ length-tabulate maxVertices _)
-          (rw u-is (fresh w (getD (s .firsts) e 0) (ends .first-below)))
-          (rw v-is (fresh w (getD (s .seconds) e 0) (ends .second-below)))
-          (h .flags-are)
+          flags-merged (s .groups) (a .labels) (h .sound .few) (ap length (h .labels-are) ∙ length-tabulate maxVertices _)
           mates-are
+          (rw u-is (ends .first-below))
+          (rw v-is (ends .second-below))
+          (fresh w)
+          (h .flags-are)
           (made .0)
-          (made .1) in (
+          (made .1) in
+          let first-is = ap (λ i. getD (a .labels) i 0) u-is ∙ label-at (getD (s .firsts) e 0) (ends .first-below) in
+          let second-is = ap (λ i. getD (a .labels) i 0) v-is ∙ label-at (getD (s .seconds) e 0) (ends .second-below) in
+          let flag-made = flag-next w _ _ labels-made flags-made (made .1) in (
             sym (ap winnerDelay w),
             record {
               sound = h .sound;
               plain = h .plain;
               rounds-are = rounds-next w;
               labels-are = labels-made;
-              loads-are = loads-made ∙ loads-next w (h .flags-are);
-              values-are =
-                  values-next w _ _ (ap (λ i. getD (a .labels) i 0) u-is ∙ label-at (getD (s .firsts) e 0) (ends .first-below))
-                  (ap (λ i. getD (a .labels) i 0) v-is ∙ label-at (getD (s .seconds) e 0) (ends .second-below))
-                  labels-made
-                  flags-made
-                  values-made;
+              loads-are = loads-next w _ _ _ first-is second-is flag-made loads-made;
+              loads-timely = loads-timely-after w;
+              values-are = values-next w _ _ first-is second-is labels-made flags-made values-made;
               values-timely = timely-after w;
               picked-are = noted .0 ∙ picked-next w;
               order-is = noted .1 ∙ order-next w;

@@ -4,7 +4,7 @@ use Prim.Native.Nat.{ℕ, suc, _+_, _*_, _-_, _<_, _≤_, _^_}
 use native.Mathlib.Omega.{arith}
 use mathlib.Core.Path.{_≡_, refl, ap, sym, _∙_}
 use mathlib.Core.Logic.{_⊎_, inl, inr}
-use mathlib.Core.Bool.{Bool, true, false}
+use mathlib.Core.Bool.{Bool, true, false, cond}
 use mathlib.Core.List.{[], List}
 use lib.ListN.{length, getD, replicate, List·getD-eq-default}
 use lib.Dec.{eqb, ltb}
@@ -29,10 +29,10 @@ use Rattle.plan_winner.specs.Laws.Scan.{keyed-start, floored-start}
 use Rattle.plan_delay.specs.Between.{delayIn}
 use Rattle.plan_delay.specs.declared.Delay.{Delay}
 use Rattle.plan_delay.specs.declared.Delay.the-variants.{Never, After}
-use Rattle.plan_growth.specs.declared.Growth.{Growth}
-use Rattle.plan_growth.specs.Tables.{heldValue, settledBy, settledValues, SumFits}
-use Rattle.plan_growth.specs.Laws.Clock.{held-settled}
-use Rattle.plan_growth.specs.Represents.{winnerEdge, pickAt, Arrays, arraysFrom, roundsAfter, timeAfter, Represents}
+use Rattle.plan_delay.specs.Held.{heldValue, settledBy}
+use Rattle.plan_delay.specs.Laws.Held.{held-settled}
+use Rattle.plan_growth.specs.Tables.{settledValues, SumFits}
+use Rattle.plan_growth.specs.Represents.{winnerEdge, pickAt, heldLabel, heldLoad, Arrays, arraysFrom, roundsAfter, timeAfter, Represents}
 use Rattle.theory_steiner.specs.Minima.{winnerDelay}
 use Rattle.plan_growth.specs.Grown.{growthFrom, GrownAfter}
 use Rattle.plan_growth.specs.Laws.Round.{going, weights-light, flag-at}
@@ -49,15 +49,25 @@ unfolding heldValue
 held-zero true = refl
 held-zero false = refl
 
+label-start : (p : Problem) (v : ℕ) → v ≡ heldLabel p start v
+unfolding heldLabel start
+label-start p v = by (ltb v (p .vertices))
+  where
+    by : (t : Bool) → v ≡ cond t v v
+    by true = refl
+    by false = refl
+
+held-start : (p : Problem) (v : ℕ) → heldLoad p start 0 v ≡ 0
+unfolding heldLoad start
+held-start p v = ap (heldValue 0 (active p (λ v. v) v)) (load-start p v) ∙ held-zero (active p (λ v. v) v)
+
 -- No step at all.
-pub grown-start : (p : Problem) {labels : List ℕ} → labels ≡ remade (λ v x. v) maxVertices (replicate maxVertices 0)
-    → GrownAfter p 0 (growthFrom 0 0 labels (replicate maxDuals 0) (replicate maxEdges 0) (replicate maxVertices 0))
+pub grown-start : (p : Problem) → GrownAfter p 0 (growthFrom 0 0 (replicate maxDuals 0) (replicate maxEdges 0) (replicate maxVertices 0))
 unfolding stateAt start counted dualBound
-grown-start p h =
+grown-start p =
     record {
       rounds-are = refl;
       bound-is = sym (sum-zero (numbers p start) (λ c. 0) (λ c b. refl));
-      labels-are = h ∙ remade-table (λ v x. v) maxVertices _ (λ v. v) refl (λ v b. refl);
       values-are = replicate-table maxDuals 0;
       picked-are = replicate-table maxEdges 0;
       order-is = replicate-table maxVertices 0 ∙ tabulate-cong maxVertices _ _ (λ k _. sym (counted-false (le-ltb k 0 (omega arith)) (pickAt p k)));
@@ -68,14 +78,15 @@ pub represents-start : {s : Survey} {labels flags : List ℕ} → SurveySound s 
     → Represents s 0 0 (arraysFrom labels (replicate maxVertices 0) (replicate maxDuals 0) (replicate maxEdges 0) (replicate maxVertices 0) (replicate maxEdges 0) (replicate maxBlocks 0) flags)
 unfolding stateAt start
 represents-start {s} sound plain h f =
-    let g = grown-start (problemOf s) h in
+    let g = grown-start (problemOf s) in
     record {
       sound = sound;
       plain = plain;
       rounds-are = refl;
-      labels-are = g .labels-are;
+      labels-are = h ∙ remade-table (λ v x. v) maxVertices _ (heldLabel (problemOf s) start) refl (λ v b. label-start (problemOf s) v);
       loads-are =
-          replicate-table maxVertices 0 ∙ tabulate-cong maxVertices _ _ (λ v _. sym (none (ltb v (problemOf s .vertices)) (load-start (problemOf s) v)));
+          replicate-table maxVertices 0 ∙ tabulate-cong maxVertices _ _ (λ v _. sym (none (ltb v (problemOf s .vertices)) (held-start (problemOf s) v)));
+      loads-timely = λ v _. omega (arith, load-start (problemOf s) v);
       values-are = replicate-table maxDuals 0 ∙ tabulate-cong maxDuals _ _ (λ c _. sym (held-zero (active (problemOf s) (λ v. v) c)));
       values-timely = λ c. omega arith;
       picked-are = g .picked-are;
@@ -138,15 +149,22 @@ module _ {s : Survey} {r time : ℕ} {a : Arrays} (h : Represents s r time a) wh
 
   -- ---- the values, when all is settled
 
+  -- What the loop leaves of them, settled.
+  pub settled-left : {values flags after : List ℕ} → values ≡ a .values → flags ≡ a .flags → after ≡ settledValues flags time values
+      → after ≡ settledValues (a .flags) time (a .values)
+  settled-left v f made = made ∙ rw (v, f)
+
   module _ {values : List ℕ} (v : values ≡ settledValues (a .flags) time (a .values)) where
     values-settled : values ≡ tabulate maxDuals (stateAt (problemOf s) r .value)
     unfolding settledValues
     values-settled =
         v
-        ∙ tabulate-cong
+        ∙ remade-table
+        (λ c x. settledBy time (eqb (getD (a .flags) c 0) 1) x)
         maxDuals
-        (λ c. settledBy time (eqb (getD (a .flags) c 0) 1) (getD (a .values) c 0))
+        (a .values)
         (stateAt (problemOf s) r .value)
+        (ap length (h .values-are) ∙ length-tabulate maxDuals _)
         (λ c b.
         rw
         (flag-at h (h .flags-are) c b, ap (λ t. getD t c 0) (h .values-are) ∙ getD-tabulate maxDuals _ c 0 b)
@@ -184,31 +202,27 @@ module _ {s : Survey} {r time : ℕ} {a : Arrays} (h : Represents s r time a) wh
         (sum-cong (length (s .groups) + r) (λ c. getD values c 0) (stateAt (problemOf s) r .value) (λ c k. value-at c (omega arith)))
 
     -- With no candidate left this is the growth.
-    grown-still : {g : Growth} → winner (problemOf s) (stateAt (problemOf s) r) ≡ nobody
-        → g ≡ growthFrom r (sumBelow (length (s .groups) + r) (λ c. getD values c 0)) (a .labels) values (a .picked) (a .order)
-        → GrownAfter (problemOf s) (length (s .groups)) g
-    grown-still w e =
+    grown-still : {bound : ℕ} {picked order : List ℕ} → picked ≡ a .picked → order ≡ a .order → winner (problemOf s) (stateAt (problemOf s) r) ≡ nobody
+        → bound ≡ sumBelow (length (s .groups) + r) (λ c. getD values c 0) → GrownAfter (problemOf s) (length (s .groups)) (growthFrom r bound values picked order)
+    grown-still picks in-order w summed =
         let p = problemOf s in
         let still = sym (stateAt-last p r (length (s .groups)) w (omega (arith, going h))) in
-        rw
-        e
-        (record {
+        record {
           rounds-are = sym (h .rounds-are) ∙ ap (λ t. t .rounds) still;
-          bound-is = bound-at ∙ ap (dualBound p) still;
-          labels-are = h .labels-are ∙ ap (λ t. tabulate maxVertices (t .label)) still;
+          bound-is = summed ∙ bound-at ∙ ap (dualBound p) still;
           values-are = values-settled ∙ ap (λ t. tabulate maxDuals (t .value)) still;
-          picked-are = h .picked-are ∙ ap (λ t. tabulate maxEdges (λ i. counted (t .picked i) 1)) still;
-          order-is = h .order-is ∙ tabulate-cong maxVertices _ _ (λ i _. last-picks p r (length (s .groups)) w (omega (arith, going h)) i);
-        })
+          picked-are = picks ∙ h .picked-are ∙ ap (λ t. tabulate maxEdges (λ i. counted (t .picked i) 1)) still;
+          order-is = in-order ∙ h .order-is ∙ tabulate-cong maxVertices _ _ (λ i _. last-picks p r (length (s .groups)) w (omega (arith, going h)) i);
+        }
 
     -- A round without a winner was the last.
-    pub grown-end : {x : Delay} {g : Growth} → delayIn x ≡ winnerDelay (winner (problemOf s) (stateAt (problemOf s) r)) → x ≡ Never
-        → g ≡ growthFrom r (sumBelow (length (s .groups) + r) (λ c. getD values c 0)) (a .labels) values (a .picked) (a .order)
-        → GrownAfter (problemOf s) (length (s .groups)) g
+    pub grown-end : {x : Delay} {bound : ℕ} {picked order : List ℕ} → picked ≡ a .picked → order ≡ a .order
+        → delayIn x ≡ winnerDelay (winner (problemOf s) (stateAt (problemOf s) r)) → x ≡ Never
+        → bound ≡ sumBelow (length (s .groups) + r) (λ c. getD values c 0) → GrownAfter (problemOf s) (length (s .groups)) (growthFrom r bound values picked order)
     unfolding delayIn
-    grown-end delays t = grown-still (no-win (winner (problemOf s) (stateAt (problemOf s) r)) (sym (ap delayIn t) ∙ delays))
+    grown-end picks in-order delays t =
+        grown-still picks in-order (no-win (winner (problemOf s) (stateAt (problemOf s) r)) (sym (ap delayIn t) ∙ delays))
 
-    pub grown-full : {g : Growth} → length (s .groups) - 1 ≤ r
-        → g ≡ growthFrom r (sumBelow (length (s .groups) + r) (λ c. getD values c 0)) (a .labels) values (a .picked) (a .order)
-        → GrownAfter (problemOf s) (length (s .groups)) g
-    grown-full b = grown-still (all-merged b)
+    pub grown-full : {bound : ℕ} {picked order : List ℕ} → picked ≡ a .picked → order ≡ a .order → length (s .groups) - 1 ≤ r
+        → bound ≡ sumBelow (length (s .groups) + r) (λ c. getD values c 0) → GrownAfter (problemOf s) (length (s .groups)) (growthFrom r bound values picked order)
+    grown-full picks in-order b = grown-still picks in-order (all-merged b)

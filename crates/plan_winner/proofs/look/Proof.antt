@@ -1,27 +1,29 @@
--- `look` meets its contract: the key is noted, and the better of the two kept.
-use mathlib.Core.Path.{ap, _∙_}
-use lib.ListN.{set}
-use Rattle.plan_winner.specs.Laws.Tables.{best-read, key-read}
+-- `look` meets its contract: what it reads of the edge is what the tables say of it.
+use mathlib.Core.Path.{_∙_}
+use Rattle.plan_winner.specs.Tables.{tablesFrom}
+use Rattle.plan_winner.specs.Laws.Tables.{best-read, keys-read}
 use borrow.Author.Needs.{needs}
 use Rattle.plan_winner.proofs.look.Statement.{statement}
 use Rattle.plan_winner.proofs.look.Tie as tie
 
 same-length : tie.Need-same-length
-same-length c = c .before .before .before .keys .given
+same-length c = c .before .keys .given
 
 returns : tie.Need-returns
 returns c =
-    let entry = c .before .before .before .before .before .before .before .before .before .before .before .before .before .before .before .before .before .before .before in
-    let a = c .before .before .before .before .before .before .before .before .before .before .index32 .ensures ∙ c .before .before .before .before .before .before .before .before .before .before .before .at32 .ensures in
-    let b = c .before .before .before .before .before .before .before .before .index322 .ensures ∙ c .before .before .before .before .before .before .before .before .before .at322 .ensures in
-    let w = c .before .before .before .before .before .before .before .at323 .ensures in
-    (best-read _ _ _ _ _ _ a b w _ _ (c .better-of .ensures) (c .before .delay-between .ensures), c .before .before .before .before .put64 .ensures ∙ ap (λ k. set (entry .args .keys .now) (entry .args .e) k) (key-read _ _ _ _ _ _ a b w _ _ (c .before .before .before .before .before .key-between .ensures)))
+    let args = c .before .before .before .before .before .before .before .before .before .before .before .before .before .before .before .before .before .before .args in
+    let tables = tablesFrom (args .firsts .now) (args .seconds .now) (args .weights .now) (args .labels .now) (args .loads .now) (args .flags .now) in
+    let u = c .before .before .before .before .before .before .before .before .before .index32 .ensures ∙ c .before .before .before .before .before .before .before .before .before .before .at32 .ensures in
+    let v = c .before .before .before .before .before .before .before .index322 .ensures ∙ c .before .before .before .before .before .before .before .before .at322 .ensures in
+    let a = c .before .before .before .before .before .before .end-at .ensures in
+    let b = c .before .before .before .before .before .end-at2 .ensures in
+    let w = c .before .before .before .at323 .ensures in
+    (best-read tables _ _ u v a b w _ (c .before .before .note-edge .ensures .0), keys-read tables _ _ u v a b w (args .keys .now) (c .before .before .note-edge .ensures .1))
 
 pub look-spec : {M : Type 1} → statement M
 look-spec =
     tie.close
     (tie.spec
-    (λ c κs. search needs)
     (λ c κs. search needs)
     (λ c κs. search needs)
     (λ c κs. search needs)

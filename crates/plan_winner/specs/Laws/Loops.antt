@@ -21,17 +21,17 @@ pub scanning-start : (t : Tables) (time : ℕ) (start : Winner) (keys : List ℕ
     → Scanning t time start keys from to from limit start keys
 unfolding onBy
 scanning-start t time start keys from to h =
-    let z = on-none (delayBy t) (keyBy t time) time (scanFrom start keys) from in
+    let z = on-none (delayBy t time) (keyBy t time) time (scanFrom start keys) from in
     record { from-le = omega arith; upto = omega arith; limit-is = h; best-is = z .0; keys-are = z .1 }
 
 module _ {t : Tables} {time : ℕ} {start : Winner} {keys : List ℕ} {from to e limit : ℕ} {best : Winner} {now : List ℕ}
     (h : Scanning t time start keys from to e limit best now) where
   -- An edge that is looked at.
-  pub scanning-look : {x limit' : ℕ} {found best' : Winner} {left now' : List ℕ} → e < to → x ≡ getD now e 0 → x < limit → found ≡ better best e (delayBy t e)
+  pub scanning-look : {x limit' : ℕ} {found best' : Winner} {left now' : List ℕ} → e < to → x ≡ getD now e 0 → x < limit → found ≡ better best e (delayBy t time e)
       → left ≡ set now e (keyBy t time e) → best' ≡ found → limit' ≡ limitOf time found → now' ≡ left → Scanning t time start keys from to (e + 1) limit' best' now'
   unfolding onBy
   scanning-look {x} b x-is u f l g m n =
-      let k = on-look (delayBy t) (keyBy t time) time (scanFrom start keys) from e x limit (h .from-le) x-is (h .limit-is) (h .best-is) (h .keys-are) u (g ∙ f) (n ∙ l) in
+      let k = on-look (delayBy t time) (keyBy t time) time (scanFrom start keys) from e x limit (h .from-le) x-is (h .limit-is) (h .best-is) (h .keys-are) u (g ∙ f) (n ∙ l) in
       let a = h .from-le in
       record { from-le = omega arith; upto = omega arith; limit-is = m ∙ ap (limitOf time) (sym g); best-is = k .0; keys-are = k .1 }
 
@@ -40,17 +40,17 @@ module _ {t : Tables} {time : ℕ} {start : Winner} {keys : List ℕ} {from to e
       → Scanning t time start keys from to (e + 1) limit' best' now'
   unfolding onBy
   scanning-pass {x} b x-is u g m n =
-      let k = on-pass (delayBy t) (keyBy t time) time (scanFrom start keys) from e x limit (h .from-le) x-is (h .limit-is) (h .best-is) (h .keys-are) u in
+      let k = on-pass (delayBy t time) (keyBy t time) time (scanFrom start keys) from e x limit (h .from-le) x-is (h .limit-is) (h .best-is) (h .keys-are) u in
       let a = h .from-le in
       record { from-le = omega arith; upto = omega arith; limit-is = m ∙ h .limit-is ∙ ap (limitOf time) (sym g); best-is = g ∙ k .0; keys-are = n ∙ k .1 }
 
   pub scanning-long : length now ≡ length keys
   unfolding onBy
-  scanning-long = ap length (h .keys-are) ∙ length-on (delayBy t) (keyBy t time) time (scanFrom start keys) from (e - from)
+  scanning-long = ap length (h .keys-are) ∙ length-on (delayBy t time) (keyBy t time) time (scanFrom start keys) from (e - from)
 
   pub scanning-end : to ≤ e → (best ≡ onBy t time (scanFrom start keys) from (to - from) .best) × (now ≡ onBy t time (scanFrom start keys) from (to - from) .keys)
   unfolding onBy
-  scanning-end b = on-end (delayBy t) (keyBy t time) time (scanFrom start keys) from to e (h .from-le) (h .upto) b (h .best-is) (h .keys-are)
+  scanning-end b = on-end (delayBy t time) (keyBy t time) time (scanFrom start keys) from to e (h .from-le) (h .upto) b (h .best-is) (h .keys-are)
 
 -- Before block b of n.
 pub record PassingBlocks (t : Tables) (time : ℕ) (keys floors : List ℕ) (n b limit : ℕ) (best : Winner) (now low : List ℕ) : Type 0 where
@@ -81,7 +81,7 @@ module _ {t : Tables} {time : ℕ} {keys floors : List ℕ} {n b limit : ℕ} {b
   unfolding passBy onBy
   passing-look {x} c x-is u f l o g m k =
       let z =
-      block-look (delayBy t) (keyBy t time) time (length (t .firsts)) keys floors b x limit x-is (h .limit-is) (h .best-is) (h .keys-are) (h .floors-are) u (g ∙ f) k l o in
+      block-look (delayBy t time) (keyBy t time) time (length (t .firsts)) keys floors b x limit x-is (h .limit-is) (h .best-is) (h .keys-are) (h .floors-are) u (g ∙ f) k l o in
       record { upto = omega arith; limit-is = m ∙ ap (limitOf time) (sym g); best-is = z .0; keys-are = z .1; floors-are = z .2 }
 
   -- A block that is passed over.
@@ -89,16 +89,16 @@ module _ {t : Tables} {time : ℕ} {keys floors : List ℕ} {n b limit : ℕ} {b
       → PassingBlocks t time keys floors n (b + 1) limit' best' now' low'
   unfolding passBy
   passing-over {x} c x-is u g m k o =
-      let z = block-pass (delayBy t) (keyBy t time) time (length (t .firsts)) keys floors b x limit x-is (h .limit-is) (h .best-is) (h .keys-are) (h .floors-are) u in
+      let z = block-pass (delayBy t time) (keyBy t time) time (length (t .firsts)) keys floors b x limit x-is (h .limit-is) (h .best-is) (h .keys-are) (h .floors-are) u in
       record { upto = omega arith; limit-is = m ∙ h .limit-is ∙ ap (limitOf time) (sym g); best-is = g ∙ z .0; keys-are = k ∙ z .1; floors-are = o ∙ z .2 }
 
   pub passing-keys : length now ≡ length keys
   unfolding passBy
-  passing-keys = ap length (h .keys-are) ∙ length-passes (delayBy t) (keyBy t time) time (length (t .firsts)) keys floors b .0
+  passing-keys = ap length (h .keys-are) ∙ length-passes (delayBy t time) (keyBy t time) time (length (t .firsts)) keys floors b .0
 
   pub passing-floors : length low ≡ length floors
   unfolding passBy
-  passing-floors = ap length (h .floors-are) ∙ length-passes (delayBy t) (keyBy t time) time (length (t .firsts)) keys floors b .1
+  passing-floors = ap length (h .floors-are) ∙ length-passes (delayBy t time) (keyBy t time) time (length (t .firsts)) keys floors b .1
 
   -- The end, where the time is another's cap.
   pub passing-end : (whole : ℕ) → time ≡ cappedTime whole → n ≤ b
@@ -106,4 +106,4 @@ module _ {t : Tables} {time : ℕ} {keys floors : List ℕ} {n b limit : ℕ} {b
       × ((now ≡ passBy t (cappedTime whole) keys floors n .scanned .keys) × (low ≡ passBy t (cappedTime whole) keys floors n .floors))
   unfolding passBy
   passing-end whole e c =
-      rw (sym e) (passes-end (delayBy t) (keyBy t time) time (length (t .firsts)) keys floors n b (h .upto) c (h .best-is) (h .keys-are) (h .floors-are))
+      rw (sym e) (passes-end (delayBy t time) (keyBy t time) time (length (t .firsts)) keys floors n b (h .upto) c (h .best-is) (h .keys-are) (h .floors-are))

@@ -1,34 +1,33 @@
 -- What the code reads of an edge, read by read, is what the tables say of it.
-use Prim.Native.Nat.{ℕ, _+_, _*_, _-_}
+use Prim.Native.Nat.{ℕ, _+_, _*_}
 use mathlib.Core.Path.{_≡_, ap, sym}
 use mathlib.Core.List.{List}
-use lib.ListN.{getD}
-use Rattle.theory_steiner.specs.Growth.{Delay, Winner, better}
-use Rattle.plan_delay.specs.Between.{delayBetween}
-use Rattle.plan_delay.specs.Laws.Between.{one-label, two-labels, slack-read}
+use lib.ListN.{getD, set}
+use borrow.Author.Tests.{eq-eqb, ne-eqb}
+use Rattle.theory_steiner.specs.Growth.{Winner, better}
+use Rattle.plan_delay.specs.declared.End.{End}
+use Rattle.plan_delay.specs.Between.{endAt, slackBetween, delayBetween}
 use Rattle.plan_winner.specs.Scan.{noKey}
-use Rattle.plan_winner.specs.Tables.{tablesFrom, delayBy, keyBetween, keyBy}
+use Rattle.plan_winner.specs.Tables.{Tables, firstBy, secondBy, delayBy, keyBetween, keyBy}
 
--- Between vertices a and b with the labels x and y.
-module _ (labels loads : List ℕ) (a b : ℕ) {x y : ℕ} (x-is : x ≡ getD labels a 0) (y-is : y ≡ getD labels b 0) where
-  pub key-inside : (time w : ℕ) → x ≡ y → noKey ≡ keyBetween labels loads time a b w
+-- Between two ends.
+module _ (time : ℕ) (a b : End) (w : ℕ) where
+  pub key-inside : a .label ≡ b .label → noKey ≡ keyBetween time a b w
   unfolding keyBetween
-  key-inside time w h = rw (one-label labels a b x-is y-is h)
+  key-inside h = rw (eq-eqb (a .label) (b .label) h)
 
-  pub key-apart : (w : ℕ) {p q s : ℕ} → (x ≡ y → ⊥) → p ≡ getD loads a 0 → q ≡ getD loads b 0 → s ≡ 2 * w - (p + q) → (time : ℕ)
-      → 2 * time + s ≡ keyBetween labels loads time a b w
+  pub key-apart : {s : ℕ} → (a .label ≡ b .label → ⊥) → s ≡ slackBetween a b w → 2 * time + s ≡ keyBetween time a b w
   unfolding keyBetween
-  key-apart w apart p-is q-is s-is time =
-      rw (two-labels labels a b x-is y-is apart) (ap (λ z. 2 * time + z) (slack-read loads a b w p-is q-is s-is))
+  key-apart apart s-is = rw (ne-eqb (a .label) (b .label) apart) (ap (λ z. 2 * time + z) s-is)
 
--- Edge e, of weight w between a and b.
-module _ (firsts seconds weights labels loads : List ℕ) (e : ℕ) {a b w : ℕ} (a-is : a ≡ getD firsts e 0) (b-is : b ≡ getD seconds e 0) (w-is : w ≡ getD weights e 0)
+-- Edge e of the tables: what is noted of its ends and its weight is noted of it.
+module _ (t : Tables) (time e : ℕ) {u v w : ℕ} {a b : End} (u-is : u ≡ getD (t .firsts) e 0) (v-is : v ≡ getD (t .seconds) e 0)
+    (a-is : a ≡ endAt (t .labels) (t .loads) (t .flags) time u) (b-is : b ≡ endAt (t .labels) (t .loads) (t .flags) time v) (w-is : w ≡ getD (t .weights) e 0)
   where
-    pub best-read : (flags : List ℕ) (best : Winner) {d : Delay} {next : Winner} → next ≡ better best e d → d ≡ delayBetween labels loads flags a b w
-        → next ≡ better best e (delayBy (tablesFrom firsts seconds weights labels loads flags) e)
-    unfolding delayBy
-    best-read flags best h k = rw (sym a-is, sym b-is, sym w-is, sym k) h
+    pub best-read : (best : Winner) {next : Winner} → next ≡ better best e (delayBetween a b w) → next ≡ better best e (delayBy t time e)
+    unfolding delayBy firstBy secondBy
+    best-read best h = rw (sym u-is, sym v-is, sym a-is, sym b-is, sym w-is) h
 
-    pub key-read : (flags : List ℕ) (time : ℕ) {k : ℕ} → k ≡ keyBetween labels loads time a b w → k ≡ keyBy (tablesFrom firsts seconds weights labels loads flags) time e
-    unfolding keyBy
-    key-read flags time h = rw (sym a-is, sym b-is, sym w-is) h
+    pub keys-read : (keys : List ℕ) {after : List ℕ} → after ≡ set keys e (keyBetween time a b w) → after ≡ set keys e (keyBy t time e)
+    unfolding keyBy firstBy secondBy
+    keys-read keys h = rw (sym u-is, sym v-is, sym a-is, sym b-is, sym w-is) h

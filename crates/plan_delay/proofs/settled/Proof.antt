@@ -2,10 +2,10 @@
 use native.Mathlib.Omega.{arith}
 use mathlib.Core.Path.{sym, _∙_}
 use borrow.Author.Tests.{eq-eqb, ne-eqb}
-use Rattle.plan_growth.specs.Laws.Clock.{settled-on, settled-off}
+use Rattle.plan_delay.specs.Laws.Held.{settled-on, settled-off}
 use borrow.Author.Needs.{needs}
-use Rattle.plan_growth.proofs.settled.Statement.{statement}
-use Rattle.plan_growth.proofs.settled.Tie as tie
+use Rattle.plan_delay.proofs.settled.Statement.{statement}
+use Rattle.plan_delay.proofs.settled.Tie as tie
 
 -- not active
 returns : tie.Need-returns
