@@ -1,91 +1,109 @@
 // Drawing: the duals of a finished growth as records, single vertices first, then merged components as they arose.
 ghost use Rattle.base_buffer.specs.Lent.{old, new};
 ghost use mathlib.Core.Path.{_≡_};
-ghost use Prim.Native.Nat.{_+_, _-_, _<_, _^_};
-ghost use mathlib.Core.Bool.{cond};
+ghost use Prim.Native.Nat.{_+_};
 ghost use lib.ListN.{length};
-ghost use lib.Dec.{eqb};
-ghost use Rattle.format_record.specs.Record.{recordOf, withMemberIn};
-ghost use Rattle.plan_duals.specs.Drawing.{recordsOver, recordsFrom, dualIf, withLabel, RecordFits, RecordsFit};
-ghost use Rattle.plan_duals.specs.Trace.{endOf, arisen, traceFrom, lentTrace, traceDuals, Drawable, drawnDuals};
+ghost use Rattle.format_record.specs.Record.{withValue};
+ghost use Rattle.plan_duals.specs.Drawing.{recordsOver, recordPut, dualPut, countPut, RecordsFit};
+ghost use Rattle.plan_duals.specs.Members.{unionOf, setsKept, oldSets, newSets, ArisesWithin};
+ghost use Rattle.plan_duals.specs.Trace.{endOf, partOf, arisen, traceFrom, lentTrace};
+ghost use Rattle.plan_duals.specs.Trace.{traceDuals, Drawable, drawnDuals};
+use base_buffer::at32;
 use base_buffer::at64;
+use base_buffer::index32;
 use base_limits::MAX_VERTICES;
 use base_limits::RECORD_BYTES;
 use plan_drawable::is_drawable;
-use survey_labels::merge;
+use plan_members::put_set;
+use plan_members::union_of;
+use plan_members::write_record;
 use survey_labels::own_labels;
+use survey_labels::relabel;
 
-// Adds member v, if its label is c.
-fn add_labelled(part: &mut [u8], v: usize, label: u32, c: u32)
-    ensures { λ r. ⌜ new part ≡ cond (eqb label c) (withMemberIn (old part) v) (old part) ⌝ }
+// Puts the record of value x with these members in place of record k.
+fn put_record(records: &mut [u8], k: usize, x: u64, set: &[u8; RECORD_BYTES])
+    requires { ⌜ RecordsFit (k + 1) (now records) ⌝ }
+    ensures { λ _. ⌜ new records ≡ recordPut k (withValue (old set) x) (old records) ⌝ }
 {
-    if label == c {
-        format_record::add_member(part, v);
-    }
+    let at = RECORD_BYTES * k;
+    let end = at + RECORD_BYTES;
+    write_record(&mut records[at..end], x, set);
 }
 
-// Writes a record of value x whose members are the vertices with label c.
-fn write_record(part: &mut [u8], x: u64, labels: &[u32; MAX_VERTICES], n: usize, c: u32)
-    requires { ⌜ RecordFits n (now part) ⌝ }
-    ensures { λ r. ⌜ new part ≡ recordOf x (withLabel (old labels) n c) ⌝ }
-{
-    format_record::start_record(part, x);
-    let mut v = 0;
-    while v < n {
-        add_labelled(part, v, base_buffer::at32(labels, v), c);
-        v += 1;
-    }
-}
-
-// Writes the dual of component c after the first `count` records, unless its value x is 0; answers how many records
+// Writes the dual with these members after the first `count` records, unless its value x is 0; answers how many records
 // there are then.
-fn write_dual(
-    records: &mut [u8],
-    count: usize,
-    x: u64,
-    labels: &[u32; MAX_VERTICES],
-    n: usize,
-    c: u32,
-) -> usize
-    requires { ⌜ RecordsFit n (count + 1) (now records) ⌝ }
-    ensures count { λ r. ⌜ r ≡ count + length (dualIf x (withLabel (old labels) n c)) ⌝ }
-    ensures written { λ r. ⌜ new records ≡ recordsFrom count (dualIf x (withLabel (old labels) n c)) (old records) ⌝ }
+fn write_dual(records: &mut [u8], count: usize, x: u64, set: &[u8; RECORD_BYTES]) -> usize
+    requires { ⌜ RecordsFit (count + 1) (now records) ⌝ }
+    ensures count { λ r. ⌜ r ≡ countPut count x ⌝ }
+    ensures written { λ _. ⌜ new records ≡ dualPut count x (old set) (old records) ⌝ }
 {
     if x == 0 {
         return count;
     }
-    let at = RECORD_BYTES * count;
-    let end = at + RECORD_BYTES;
-    write_record(&mut records[at..end], x, labels, n, c);
+    put_record(records, count, x, set);
     count + 1
 }
 
-// Component c arises: a single vertex is one from the start, and component n + r is made of those of the ends of round
-// r's edge.
+// What component c is made of at one end: a single vertex of itself, any other of the component of that end.
+fn part_of(labels: &[u32; MAX_VERTICES], ends: &[u32], order: &[u32], n: usize, c: usize) -> u32
+    requires { ⌜ ArisesWithin n c ⌝ }
+    ensures { λ r. ⌜ r ≡ partOf (endOf (old ends) (old order)) n (old labels) c ⌝ }
+{
+    if c < n {
+        return c as u32;
+    }
+    let e = index32(at32(order, c - n));
+    at32(labels, index32(at32(ends, e)))
+}
+
+// Component c has arisen of x and y: its members have its number, and its record is kept. A single vertex is one from
+// the start.
+fn keep(
+    labels: &mut [u32; MAX_VERTICES],
+    sets: &mut [[u8; RECORD_BYTES]],
+    n: usize,
+    c: usize,
+    x: u32,
+    y: u32,
+    set: &[u8; RECORD_BYTES],
+)
+    requires { ⌜ ArisesWithin n c ⌝ }
+    ensures labels { λ _. ⌜ new labels ≡ arisen x y n c (old labels) ⌝ }
+    ensures sets { λ _. ⌜ newSets sets ≡ setsKept n c (old set) (oldSets sets) ⌝ }
+{
+    if c < n {
+        return;
+    }
+    relabel(labels, x, y, c as u32);
+    put_set(sets, c - n, set);
+}
+
+// Component c arises; answers its members. Component n + r is made of those of the ends of round r's edge.
 fn arise(
     labels: &mut [u32; MAX_VERTICES],
+    sets: &mut [[u8; RECORD_BYTES]],
     firsts: &[u32],
     seconds: &[u32],
     order: &[u32],
     n: usize,
     c: usize,
-)
-    requires { ⌜ c < 2 ^ 32 ⌝ }
-    ensures { λ r.
-        let a = endOf (old firsts) (old order) (c - n) in
-        let b = endOf (old seconds) (old order) (c - n) in
-        ⌜ new labels ≡ arisen a b n c (old labels) ⌝ }
+) -> [u8; RECORD_BYTES]
+    requires { ⌜ ArisesWithin n c ⌝ }
+    ensures set { λ r.
+        let x = partOf (endOf (old firsts) (old order)) n (old labels) c in
+        let y = partOf (endOf (old seconds) (old order)) n (old labels) c in
+        ⌜ r ≡ unionOf (oldSets sets) n x y ⌝ }
+    ensures labels { λ _.
+        let x = partOf (endOf (old firsts) (old order)) n (old labels) c in
+        let y = partOf (endOf (old seconds) (old order)) n (old labels) c in
+        ⌜ new labels ≡ arisen x y n c (old labels) ⌝ }
+    ensures sets { λ r. ⌜ newSets sets ≡ setsKept n c r (oldSets sets) ⌝ }
 {
-    if c < n {
-        return;
-    }
-    let e = base_buffer::index32(base_buffer::at32(order, c - n));
-    merge(
-        labels,
-        base_buffer::at32(firsts, e),
-        base_buffer::at32(seconds, e),
-        c as u32,
-    );
+    let x = part_of(labels, firsts, order, n, c);
+    let y = part_of(labels, seconds, order, n, c);
+    let set = union_of(sets, n, index32(x), index32(y));
+    keep(labels, sets, n, c, x, y, &set);
+    set
 }
 
 // The duals of a trace that can be replayed.
@@ -106,12 +124,14 @@ fn draw_trace(
 {
     let mut labels = [0u32; MAX_VERTICES];
     own_labels(&mut labels);
+    let none = [0u8; RECORD_BYTES];
+    let mut sets = [none; MAX_VERTICES];
     let end = n + rounds;
     let mut count = 0;
     let mut c = 0;
     while c < end {
-        arise(&mut labels, firsts, seconds, order, n, c);
-        count = write_dual(records, count, at64(values, c), &labels, n, c as u32);
+        let set = arise(&mut labels, &mut sets, firsts, seconds, order, n, c);
+        count = write_dual(records, count, at64(values, c), &set);
         c += 1;
     }
     count

@@ -6,31 +6,31 @@ ghost use Rattle.plan_duals.specs.Trace.{endOf, lentTrace, endsFit, isDrawable}
 use base_limits::MAX_VERTICES;
 use base_limits::RECORD_BYTES;
 
-// Whether the ends of the edge of round r have labels.
-fn round_fits(firsts: &[u32], seconds: &[u32], order: &[u32], r: usize) -> bool
+// Whether the ends of the edge of round r are vertices.
+fn round_fits(firsts: &[u32], seconds: &[u32], order: &[u32], n: usize, r: usize) -> bool
     ensures { λ x. let first = endOf (old firsts) (old order) in
         let second = endOf (old seconds) (old order) in
-        ⌜ x ≡ endsFit first second r ⌝ }
+        ⌜ x ≡ endsFit n first second r ⌝ }
 {
     let e = base_buffer::index32(base_buffer::at32(order, r));
-    if MAX_VERTICES <= base_buffer::index32(base_buffer::at32(firsts, e)) {
+    if n <= base_buffer::index32(base_buffer::at32(firsts, e)) {
         return false;
     }
-    if MAX_VERTICES <= base_buffer::index32(base_buffer::at32(seconds, e)) {
+    if n <= base_buffer::index32(base_buffer::at32(seconds, e)) {
         return false;
     }
     true
 }
 
 // The same of all rounds.
-fn rounds_fit(firsts: &[u32], seconds: &[u32], order: &[u32], rounds: usize) -> bool
+fn rounds_fit(firsts: &[u32], seconds: &[u32], order: &[u32], n: usize, rounds: usize) -> bool
     ensures { λ x. let first = endOf (old firsts) (old order) in
         let second = endOf (old seconds) (old order) in
-        ⌜ x ≡ allBelow rounds (endsFit first second) ⌝ }
+        ⌜ x ≡ allBelow rounds (endsFit n first second) ⌝ }
 {
     let mut r = 0;
     while r < rounds {
-        if !round_fits(firsts, seconds, order, r) {
+        if !round_fits(firsts, seconds, order, n, r) {
             return false;
         }
         r += 1;
@@ -59,5 +59,5 @@ pub fn is_drawable(
     if room < RECORD_BYTES * (n + rounds) {
         return false;
     }
-    rounds_fit(firsts, seconds, order, rounds)
+    rounds_fit(firsts, seconds, order, n, rounds)
 }

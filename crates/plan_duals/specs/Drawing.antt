@@ -1,12 +1,12 @@
 -- Duals as records in a buffer (document 01, 'What a plan holds': moat records).
-use Prim.Native.Nat.{ℕ, zero, suc, _*_, _≤_}
+use Prim.Native.Nat.{ℕ, zero, suc, _+_, _*_, _≤_}
 use mathlib.Core.Path.{_≡_}
-use mathlib.Core.Bool.{Bool, _&&_, cond}
+use mathlib.Core.Bool.{Bool, cond}
 use mathlib.Core.List.{List, [], _∷_, _++_}
-use lib.ListN.{length, getD, take, drop}
-use lib.Dec.{eqb, ltb}
-use Rattle.base_limits.specs.Limits.{maxVertices, recordBytes}
-use Rattle.format_record.specs.Record.{recordOf}
+use lib.ListN.{length, take, drop}
+use lib.Dec.{ltb}
+use Rattle.base_limits.specs.Limits.{recordBytes}
+use Rattle.format_record.specs.Record.{recordOf, withValue}
 use Rattle.theory_steiner.specs.Dual.{Dual}
 
 -- Records one after another.
@@ -31,21 +31,22 @@ pub record DualsWritten (ds : List Dual) (old new : List ℕ) (count : ℕ) : Ty
 unfoldable pub dualIf : ℕ → (ℕ → Bool) → List Dual
 dualIf value S = cond (ltb 0 value) (record { value = value; holds = S } ∷ []) []
 
+-- A buffer with these bytes in the place of record k.
+unfoldable pub recordPut : (k : ℕ) → (r old : List ℕ) → List ℕ
+recordPut k r old = take (recordBytes * k) old ++ (r ++ drop (recordBytes * k + recordBytes) old)
+
+-- A buffer with a dual after its first k records, and how many records it has then: the value, and the members of a record of value 0 (law `put-dual`).
+unfoldable pub dualPut : (k value : ℕ) → (members old : List ℕ) → List ℕ
+dualPut k value members old = cond (ltb 0 value) (recordPut k (withValue members value) old) old
+
+unfoldable pub countPut : (k value : ℕ) → ℕ
+countPut k value = cond (ltb 0 value) (k + 1) k
+
 -- The duals of the component numbers below c, rising.
 unfoldable pub dualsBelow : (value : ℕ → ℕ) → (holds : ℕ → ℕ → Bool) → ℕ → List Dual
 dualsBelow value holds zero = []
 dualsBelow value holds (suc c) = dualsBelow value holds c ++ dualIf (value c) (holds c)
 
--- The vertices below n that have label c.
-unfoldable pub withLabel : (labels : List ℕ) → (n c : ℕ) → ℕ → Bool
-withLabel labels n c v = ltb v n && eqb (getD labels v 0) c
-
--- There is room for one record, and for every vertex in it.
-pub record RecordFits (n : ℕ) (part : List ℕ) : Type 0 where
-  pub few : n ≤ maxVertices
-  pub long : length part ≡ recordBytes
-
--- There is room for k records, and for every vertex in each.
-pub record RecordsFit (n k : ℕ) (records : List ℕ) : Type 0 where
-  pub few : n ≤ maxVertices
+-- There is room for k records.
+pub record RecordsFit (k : ℕ) (records : List ℕ) : Type 0 where
   pub room : recordBytes * k ≤ length records

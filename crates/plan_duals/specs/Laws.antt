@@ -1,4 +1,5 @@
 pub mod Drawing
+pub mod Members
 pub mod Trace
 pub mod Drawable
 pub mod Growth

@@ -1,3 +1,4 @@
 pub mod Drawing
 pub mod Trace
+pub mod Members
 pub mod Laws

@@ -47,9 +47,13 @@ unfoldable pub labelAfter : Trace → ℕ → ℕ → ℕ
 labelAfter t zero v = v
 labelAfter t (suc r) v = merged (labelAfter t r (t .first r)) (labelAfter t r (t .second r)) (t .vertices + r) (labelAfter t r) v
 
--- Labels in a buffer when component c has arisen: a single vertex is there from the start, any other is made of the components of vertices a and b.
-unfoldable pub arisen : (a b n c : ℕ) → List ℕ → List ℕ
-arisen a b n c labels = cond (ltb c n) labels (relabelled (getD labels a 0) (getD labels b 0) c labels)
+-- What component c is made of at one of its ends: a single vertex of itself, any other of the component of that end of its round's edge.
+unfoldable pub partOf : (end : ℕ → ℕ) → (n : ℕ) → (labels : List ℕ) → (c : ℕ) → ℕ
+partOf end n labels c = cond (ltb c n) c (getD labels (end (c - n)) 0)
+
+-- Labels in a buffer when component c has arisen: a single vertex is there from the start, any other is made of components x and y.
+unfoldable pub arisen : (x y n c : ℕ) → List ℕ → List ℕ
+arisen x y n c labels = cond (ltb c n) labels (relabelled x y c labels)
 
 -- The members of component c are the vertices in it when it arose: at the start, or after round c - n.
 unfoldable pub memberOf : Trace → (c v : ℕ) → Bool
@@ -59,23 +63,23 @@ memberOf t c v = ltb v (t .vertices) && eqb (labelAfter t (c + 1 - t .vertices) 
 unfoldable pub traceDuals : Trace → List Dual
 traceDuals t = dualsBelow (t .value) (memberOf t) (t .vertices + t .rounds)
 
--- What the replay needs: room for the records, and a label for every end.
+-- What the replay needs: room for the records, and every end a vertex.
 pub record Drawable (t : Trace) (records : List ℕ) : Type 0 where
   pub few : t .vertices ≤ maxVertices
   pub few-rounds : t .rounds ≤ t .vertices
   pub room : recordBytes * (t .vertices + t .rounds) ≤ length records
-  pub first-below : (r : ℕ) → r < t .rounds → t .first r < maxVertices
-  pub second-below : (r : ℕ) → r < t .rounds → t .second r < maxVertices
+  pub first-below : (r : ℕ) → r < t .rounds → t .first r < t .vertices
+  pub second-below : (r : ℕ) → r < t .rounds → t .second r < t .vertices
 
--- The ends of the edge of round r have labels.
-unfoldable pub endsFit : (first second : ℕ → ℕ) → (r : ℕ) → Bool
-endsFit first second r = ltb (first r) maxVertices && ltb (second r) maxVertices
+-- The ends of the edge of round r are vertices.
+unfoldable pub endsFit : (n : ℕ) → (first second : ℕ → ℕ) → (r : ℕ) → Bool
+endsFit n first second r = ltb (first r) n && ltb (second r) n
 
 -- The same as a test, with room for so many bytes (laws `drawable-test`, `test-drawable`).
 unfoldable pub isDrawable : Trace → (room : ℕ) → Bool
 isDrawable t room =
     leb (t .vertices) maxVertices && (leb (t .rounds) (t .vertices)
-    && (leb (recordBytes * (t .vertices + t .rounds)) room && allBelow (t .rounds) (endsFit (t .first) (t .second))))
+    && (leb (recordBytes * (t .vertices + t .rounds)) room && allBelow (t .rounds) (endsFit (t .vertices) (t .first) (t .second))))
 
 -- The duals that are drawn of any trace: none where it cannot be replayed.
 unfoldable pub drawnDuals : Trace → (room : ℕ) → List Dual

@@ -37,17 +37,15 @@ fn grow_poured(
         ⌜ new records ≡ recordsOver (planOf p .duals) (old records) ⌝ }
 {
     let grown = plan_growth::grow(groups, firsts, seconds, weights);
-    let picked = grown.picked;
-    let values = grown.values;
     let order = grown.order;
     let rounds = grown.rounds;
     let bound = grown.bound;
-    copy_picks(&picked, marks, firsts.len());
+    copy_picks(&grown.picked, marks, firsts.len());
     let duals = plan_draw::draw(
         groups.len(),
         firsts,
         seconds,
-        &values,
+        &grown.values,
         &order,
         rounds,
         records,

@@ -1,29 +1,31 @@
--- `arise` meets its contract: nothing for a single vertex, else the labels of the ends are merged.
-use borrow.Author.Tests.{lt-ltb, le-ltb}
-use Rattle.plan_duals.specs.Trace.{endOf, arisen}
+-- `arise` meets its contract: the members of both parts, which are kept.
+use mathlib.Core.Path.{ap₂, _∙_}
+use Rattle.plan_duals.specs.Trace.{arisen}
+use Rattle.plan_duals.specs.Members.{unionOf}
 use borrow.Author.Needs.{needs}
 use Rattle.plan_draw.proofs.arise.Statement.{statement}
 use Rattle.plan_draw.proofs.arise.Tie as tie
 
--- a single vertex
 returns : tie.Need-returns
-unfolding arisen
-returns c = rw (lt-ltb (c .before .before .before .before .args .c) (c .before .before .before .before .args .n) (c .if1 .taken))
-
--- a merged component
-returns-2 : tie.Need-returns-2
-unfolding arisen endOf
-returns-2 c = rw (le-ltb (c .before .before .before .before .before .before .before .before .before .before .args .c) (c .before .before .before .before .before .before .before .before .before .before .args .n) (c .before .before .before .before .before .before .if1 .left), ← c .before .before .before .before .before .at32 .ensures, ← c .before .before .before .before .index32 .ensures, ← c .before .before .at322 .ensures, ← c .before .at323 .ensures) (c .merge .ensures)
+returns c =
+    let a = c .before .before .before .before .before .before .before .before .before .before .before .before .before .before .before .before .args in
+    let first = c .before .before .before .before .before .before .before .before .before .before .before .part-of .ensures in
+    let second = c .before .before .before .before .before .before .before .before .before .part-of2 .ensures in
+    let x = c .before .before .before .before .before .before .before .index32 .ensures ∙ first in
+    let y = c .before .before .before .before .before .before .index322 .ensures ∙ second in
+    let set = c .before .before .before .before .before .union-of .ensures ∙ ap₂ (unionOf (a .sets .now) (a .n)) x y in
+    let labels = c .before .keep .ensures .0 ∙ ap₂ (λ x y. arisen x y (a .n) (a .c) (a .labels .now)) first second in
+    (set, (labels, c .before .keep .ensures .1))
 
 pub arise-spec : {M : Type 1} → statement M
 arise-spec =
     tie.close
     (tie.spec
-    returns
+    (λ c κs. search needs)
+    (λ c κs. search needs)
     (λ c κs. search needs)
     (λ c κs. search needs)
     (λ c κs. search needs)
     (λ c κs. search needs)
     (λ c. search needs)
-    (λ c κs. search needs)
-    returns-2)
+    returns)

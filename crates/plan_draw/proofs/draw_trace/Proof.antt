@@ -1,22 +1,25 @@
--- `draw_trace` meets its contract: up to component number c, the labels are the trace's and the duals stand in the buffer.
+-- `draw_trace` meets its contract: up to component number c, labels and members are the trace's and the duals stand in the buffer.
 use borrow.Author.Needs.{needs}
-use Prim.Native.Nat.{_+_, _≤_, _-_}
-use mathlib.Core.Path.{refl, _∙_}
+use Prim.Native.Nat.{ℕ, _+_, _≤_, _-_}
+use mathlib.Core.Path.{refl, sym, _∙_}
+use mathlib.Core.List.{List}
+use lib.ListN.{length-replicate}
 use Rattle.base_limits.specs.Limits.{maxVertices}
 use Rattle.base_buffer.specs.Laws.Store.{remade-table}
+use Rattle.plan_duals.specs.Members.{noMember}
 use Rattle.plan_duals.specs.Trace.{traceFrom}
-use Rattle.plan_duals.specs.Laws.Drawing.{written-fits, written-length}
+use Rattle.plan_duals.specs.Laws.Drawing.{written-length, written-fits}
 use Rattle.plan_duals.specs.Laws.Trace.{Replayed, replayed-none, replayed-more, replayed-end}
 use native.Mathlib.Omega.{arith}
 use Rattle.plan_draw.proofs.draw_trace.Statement.{statement}
 use Rattle.plan_draw.proofs.draw_trace.Tie as tie
 
 abbrev Inv-loop : tie.InvT-loop
-Inv-loop n firsts seconds values order rounds records₀ labels₀ end count₀ c₀ records labels count c =
-    (c ≤ end) × Replayed (traceFrom n firsts seconds values order rounds) c labels records₀ records count
+Inv-loop n firsts seconds values order rounds records₀ labels₀ sets₀ end count₀ c₀ records labels sets count c =
+    (c ≤ end) × Replayed (traceFrom n firsts seconds values order rounds) c labels sets records₀ records count
 
 abbrev μ-loop : tie.MeasureT-loop
-μ-loop n firsts seconds values order rounds records₀ labels₀ end count₀ c₀ records labels count c =
+μ-loop n firsts seconds values order rounds records₀ labels₀ sets₀ end count₀ c₀ records labels sets count c =
     end - c
 
 add-end : tie.Need-add-end Inv-loop μ-loop
@@ -24,32 +27,39 @@ add-end c = let pre = c .before .before .before .before .before .before .before 
 
 loop-holds : tie.Need-loop-holds Inv-loop μ-loop
 loop-holds c =
-    (omega arith, replayed-none _ _ (c .before .own-labels .ensures ∙ remade-table (λ v x. v) maxVertices _ (λ v. v) refl (λ v b. refl)))
+    let labels = c .before .own-labels .ensures ∙ remade-table (λ v x. v) maxVertices _ (λ v. v) refl (λ v b. refl) in
+    (omega arith, replayed-none _ _ labels (length-replicate {A = List ℕ} maxVertices noMember))
+
+slice-aggregate-arise : tie.Need-slice-aggregate-arise Inv-loop μ-loop
+slice-aggregate-arise c = sym (c .before .before .before .loop .inv .1 .sets-hold .long)
 
 arise-requires : tie.Need-arise-requires Inv-loop μ-loop
-arise-requires c κs = let pre = c .before .before .before .before .before .before .before .before .before .before .before .pre in omega arith
-
-cast-write-dual : tie.Need-cast-write-dual Inv-loop μ-loop
-cast-write-dual c =
-    let entry = c .before .before .before .before .before .before .before .before .before .before .before .before .before .before .before in
-    let pre = entry .pre in omega arith
+arise-requires c κs =
+    let pre = c .before .before .before .before .before .before .before .before .before .before .before .before .pre in
+    record { few = omega arith; below = omega arith }
 
 write-dual-requires : tie.Need-write-dual-requires Inv-loop μ-loop
 write-dual-requires c κs =
-    let entry = c .before .before .before .before .before .before .before .before .before .before .before .before .before .before .before in
+    let entry = c .before .before .before .before .before .before .before .before .before .before .before .before .before .before .before .before .before in
     let a = entry .args in
-    let pre = entry .pre in
-    written-fits _ _ (a .n) (a .n + a .rounds) (c .before .before .before .before .before .before .loop .c) (pre .few) (pre .room) (c .before .before .before .before .before .loop-test .taken) (c .before .before .before .before .before .before .loop .inv .1 .duals-written)
+    written-fits _ _ (a .n + a .rounds) (c .before .before .before .before .before .before .before .before .loop .c) (entry .pre .room) (c .before .before .before .before .before .before .before .loop-test .taken) (c .before .before .before .before .before .before .before .before .loop .inv .1 .duals-written)
 
 loop-again : tie.Need-loop-again Inv-loop μ-loop
 loop-again c =
-    let entry = c .before .before .before .before .before .before .before .before .before .before .before .before .before .before .before .before .before .before in
+    let entry = c .before .before .before .before .before .before .before .before .before .before .before .before .before .before .before .before .before .before .before .before in
+    let turn = c .before .before .before .before .before .before .before .before .before .before .before in
     let a = entry .args in
-    let w = c .before .before .write-dual .ensures in (
-      omega arith,
-      replayed-more (traceFrom (a .n) (a .firsts .now) (a .seconds .now) (a .values .now) (a .order .now) (a .rounds)) (c .before .before .before .before .before .before .before .before .before .loop .c) (entry .pre) (c .before .before .before .before .before .before .before .before .loop-test .taken) (c .before .before .before .before .before .before .before .before .before .loop .inv .1) (c .before .before .before .before .before .before .arise .ensures) (c .before .before .before .before .at64 .ensures)
-          (w .0)
-          (w .1),
+    let made = c .before .before .before .before .before .before .before .arise .ensures in
+    let more = c .before .before .before .before .before .before .before .before .before .before .loop-test .taken in
+    let put = c .before .before .write-dual .ensures in (
+      omega (arith, more),
+      replayed-more (traceFrom (a .n) (a .firsts .now) (a .seconds .now) (a .values .now) (a .order .now) (a .rounds)) (turn .loop .c) (entry .pre) more (turn .loop .inv .1)
+          (made .0)
+          (made .1 .0)
+          (made .1 .1)
+          (c .before .before .before .before .at64 .ensures)
+          (put .0)
+          (put .1),
     )
 
 same-length : tie.Need-same-length Inv-loop μ-loop
@@ -72,9 +82,9 @@ draw-trace-spec =
     (λ c κs. search needs)
     add-end
     loop-holds
+    slice-aggregate-arise
     arise-requires
     (λ c κs. search needs)
-    cast-write-dual
     write-dual-requires
     (λ c. search needs)
     (λ c. search needs)

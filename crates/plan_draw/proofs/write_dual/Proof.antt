@@ -1,7 +1,7 @@
--- `write_dual` meets its contract: no record for value 0, else one in its part of the buffer.
+-- `write_dual` meets its contract: no record for value 0, else one more.
 use mathlib.Core.Path.{refl}
-use Rattle.plan_duals.specs.Drawing.{withLabel}
-use Rattle.plan_duals.specs.Laws.Drawing.{from-none, from-one, dual-none, dual-one}
+use borrow.Author.Tests.{lt-ltb}
+use Rattle.plan_duals.specs.Drawing.{dualPut, countPut}
 use native.Mathlib.Omega.{arith}
 use borrow.Author.Needs.{needs}
 use Rattle.plan_draw.proofs.write_dual.Statement.{statement}
@@ -9,28 +9,22 @@ use Rattle.plan_draw.proofs.write_dual.Tie as tie
 
 -- value 0: no record
 returns : tie.Need-returns
-returns c =
-    let a = c .before .before .args in
-    let none = dual-none (a .x) (withLabel (a .labels .now) (a .n) (a .c)) (c .if1 .taken) in
-    (rw none (omega arith), rw none (from-none (a .count) (a .records .now)))
+unfolding dualPut countPut
+returns c = (rw (c .if1 .taken) refl, rw (c .if1 .taken) refl)
 
 -- one record more
 returns-2 : tie.Need-returns-2
+unfolding dualPut countPut
 returns-2 c =
     let a = c .before .before .before .before .before .before .args in
-    let one = dual-one (a .x) (withLabel (a .labels .now) (a .n) (a .c)) (c .before .before .before .before .if1 .left) in
-    (rw one refl, rw one (from-one (a .count) _ (a .records .now) (c .before .before .write-record .ensures)))
+    let some = lt-ltb 0 (a .x) (omega (arith, c .before .before .before .before .if1 .left)) in
+    (rw some refl, rw some (c .before .before .put-record .ensures))
 
 pub write-dual-spec : {M : Type 1} → statement M
 write-dual-spec =
     tie.close
     (tie.spec
     returns
-    (λ c. search needs)
-    (λ c. search needs)
-    (λ c. search needs)
-    (λ c. search needs)
-    (λ c. search needs)
     (λ c κs. search needs)
     (λ c. search needs)
     (λ c. search needs)

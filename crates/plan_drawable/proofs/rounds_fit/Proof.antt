@@ -12,11 +12,11 @@ use Rattle.plan_drawable.proofs.rounds_fit.Statement.{statement}
 use Rattle.plan_drawable.proofs.rounds_fit.Tie as tie
 
 abbrev Inv-loop : tie.InvT-loop
-Inv-loop firsts seconds order rounds r₀ r =
-    (r ≤ rounds) × (allBelow r (endsFit (endOf firsts order) (endOf seconds order)) ≡ true)
+Inv-loop firsts seconds order n rounds r₀ r =
+    (r ≤ rounds) × (allBelow r (endsFit n (endOf firsts order) (endOf seconds order)) ≡ true)
 
 abbrev μ-loop : tie.MeasureT-loop
-μ-loop firsts seconds order rounds r₀ r = rounds - r
+μ-loop firsts seconds order n rounds r₀ r = rounds - r
 
 loop-holds : tie.Need-loop-holds Inv-loop μ-loop
 loop-holds c = (omega arith, all-none _)

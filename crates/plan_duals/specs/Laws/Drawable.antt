@@ -17,17 +17,17 @@ use Rattle.plan_duals.specs.Trace.{Trace, traceDuals, Drawable, endsFit,
 
 -- ---- the ends of a round
 
-pub fits-both : (first second : ℕ → ℕ) (r : ℕ) → first r < maxVertices → second r < maxVertices → endsFit first second r ≡ true
+pub fits-both : (n : ℕ) (first second : ℕ → ℕ) (r : ℕ) → first r < n → second r < n → endsFit n first second r ≡ true
 unfolding endsFit
-fits-both first second r a b = and-both (ltb (first r) maxVertices) (ltb (second r) maxVertices) (lt-ltb (first r) maxVertices a) (lt-ltb (second r) maxVertices b)
+fits-both n first second r a b = and-both (ltb (first r) n) (ltb (second r) n) (lt-ltb (first r) n a) (lt-ltb (second r) n b)
 
-pub first-out : (first second : ℕ → ℕ) (r : ℕ) → maxVertices ≤ first r → endsFit first second r ≡ false
+pub first-out : (n : ℕ) (first second : ℕ → ℕ) (r : ℕ) → n ≤ first r → endsFit n first second r ≡ false
 unfolding endsFit
-first-out first second r a = rw (le-ltb (first r) maxVertices a)
+first-out n first second r a = rw (le-ltb (first r) n a)
 
-pub second-out : (first second : ℕ → ℕ) (r : ℕ) → first r < maxVertices → maxVertices ≤ second r → endsFit first second r ≡ false
+pub second-out : (n : ℕ) (first second : ℕ → ℕ) (r : ℕ) → first r < n → n ≤ second r → endsFit n first second r ≡ false
 unfolding endsFit
-second-out first second r a b = rw (lt-ltb (first r) maxVertices a, le-ltb (second r) maxVertices b)
+second-out n first second r a b = rw (lt-ltb (first r) n a, le-ltb (second r) n b)
 
 -- ---- a loop that stops at the first number that fails
 
@@ -66,7 +66,7 @@ module _ (t : Trace) (room : ℕ) where
       rw (le-leb (t .vertices) maxVertices a, le-leb (t .rounds) (t .vertices) b, lt-leb (recordBytes * (t .vertices + t .rounds)) room h)
 
   pub ends-decide : t .vertices ≤ maxVertices → t .rounds ≤ t .vertices → recordBytes * (t .vertices + t .rounds) ≤ room
-      → isDrawable t room ≡ allBelow (t .rounds) (endsFit (t .first) (t .second))
+      → isDrawable t room ≡ allBelow (t .rounds) (endsFit (t .vertices) (t .first) (t .second))
   unfolding isDrawable
   ends-decide a b h =
       rw (le-leb (t .vertices) maxVertices a, le-leb (t .rounds) (t .vertices) b, le-leb (recordBytes * (t .vertices + t .rounds)) room h)
@@ -75,7 +75,7 @@ module _ (t : Trace) (records : List ℕ) where
   pub drawable-test : Drawable t records → isDrawable t (length records) ≡ true
   drawable-test h =
       ends-decide t (length records) (h .few) (h .few-rounds) (h .room)
-      ∙ all-intro (t .rounds) _ (λ r b. fits-both (t .first) (t .second) r (h .first-below r b) (h .second-below r b))
+      ∙ all-intro (t .rounds) _ (λ r b. fits-both (t .vertices) (t .first) (t .second) r (h .first-below r b) (h .second-below r b))
 
   pub test-drawable : isDrawable t (length records) ≡ true → Drawable t records
   unfolding isDrawable endsFit
@@ -83,7 +83,7 @@ module _ (t : Trace) (records : List ℕ) where
       let n = t .vertices in
       let k = t .rounds in
       let bytes = recordBytes * (n + k) in
-      let fits = allBelow k (endsFit (t .first) (t .second)) in
+      let fits = allBelow k (endsFit n (t .first) (t .second)) in
       let after = and-right (leb n maxVertices) (leb k n && (leb bytes (length records) && fits)) h in
       let last = and-right (leb k n) (leb bytes (length records) && fits) after in
       let all = and-right (leb bytes (length records)) fits last in
@@ -91,8 +91,8 @@ module _ (t : Trace) (records : List ℕ) where
         few = leb-true n maxVertices (and-left (leb n maxVertices) _ h);
         few-rounds = leb-true k n (and-left (leb k n) _ after);
         room = leb-true bytes (length records) (and-left (leb bytes (length records)) _ last);
-        first-below = λ r b. ltb-true (t .first r) maxVertices (and-left _ (ltb (t .second r) maxVertices) (all-elim k (endsFit (t .first) (t .second)) all r b));
-        second-below = λ r b. ltb-true (t .second r) maxVertices (and-right (ltb (t .first r) maxVertices) _ (all-elim k (endsFit (t .first) (t .second)) all r b));
+        first-below = λ r b. ltb-true (t .first r) n (and-left _ (ltb (t .second r) n) (all-elim k (endsFit n (t .first) (t .second)) all r b));
+        second-below = λ r b. ltb-true (t .second r) n (and-right (ltb (t .first r) n) _ (all-elim k (endsFit n (t .first) (t .second)) all r b));
       }
 
   -- All duals of a trace that can be replayed are drawn.

@@ -4,22 +4,19 @@ use native.Mathlib.Omega.{arith}
 use native.Mathlib.Nat.{add-sub-cancel-left}
 use native.Mathlib.Numerals.{add-one, one-add}
 use native.Mathlib.Decide.{ℕ-discrete}
-use mathlib.Core.Path.{_≡_, refl, ap, ap₂, sym, _∙_, fun-ext}
-use mathlib.Core.Bool.{Bool, true, false, _||_, cond}
-use mathlib.Core.Logic.{⊎-elim}
+use mathlib.Core.Path.{_≡_, refl, ap, ap₂, sym, _∙_}
+use mathlib.Core.Bool.{Bool, false}
 use mathlib.Core.List.{List, [], _∷_, _++_, append-assoc, append-nil}
 use lib.ListN.{length, getD, take, drop, length-append, length-drop, take-append-drop}
 use lib.Seq.{take-at, drop-at, drop-drop}
-use lib.Dec.{eqb, ltb}
-use borrow.Author.Tests.{eq-eqb, ne-eqb, eqb-true, lt-ltb, le-ltb, ltb-true}
-use Rattle.base_finite.specs.Laws.Test.{same-test, and-both, and-left, and-right, or-cases, or-left, or-right}
-use Rattle.base_limits.specs.Limits.{maxVertices, recordBytes}
+use borrow.Author.Tests.{lt-ltb}
+use Rattle.base_limits.specs.Limits.{recordBytes}
 use Rattle.format_record.specs.Bits.{Bytes}
-use Rattle.format_record.specs.Record.{recordOf, recordAt, withMemberIn, startedAs}
+use Rattle.format_record.specs.Record.{recordOf, recordAt}
 use Rattle.format_record.specs.Laws.Bytes.{bytes-append}
-use Rattle.format_record.specs.Laws.Record.{length-record, bytes-record, record-at-first, record-at-right, started-whole, member-added-record}
+use Rattle.format_record.specs.Laws.Record.{length-record, bytes-record, record-at-first, record-at-right}
 use Rattle.theory_steiner.specs.Dual.{Dual}
-use Rattle.plan_duals.specs.Drawing.{recordsOf, recordsOver, recordsFrom, dualIf, dualsBelow, withLabel, DualsWritten, RecordsFit}
+use Rattle.plan_duals.specs.Drawing.{recordsOf, recordsOver, recordsFrom, dualIf, dualsBelow, DualsWritten, RecordsFit}
 
 -- ---- records of a list of duals
 
@@ -142,68 +139,7 @@ written-length value holds c {old} room d =
     ap length (d .records-are) ∙ length-over (dualsBelow value holds c) old (omega (arith, length-duals value holds c))
 
 -- There is room for one dual more.
-pub written-fits : (value : ℕ → ℕ) (holds : ℕ → ℕ → Bool) (n m c : ℕ) {old new : List ℕ} {count : ℕ} → n ≤ maxVertices → recordBytes * m ≤ length old → c < m →
-    DualsWritten (dualsBelow value holds c) old new count → RecordsFit n (count + 1) new
-written-fits value holds n m c {old} few room b d =
-    record {
-      few = few;
-      room = omega (arith, written-length value holds c (omega arith) d, d .count-is, length-duals value holds c);
-    }
-
--- ---- members by label
-
-with-label-none : (labels : List ℕ) (c : ℕ) → withLabel labels 0 c ≡ (λ v. false)
-unfolding withLabel
-with-label-none labels c = fun-ext (λ v. rw (le-ltb v 0 (omega arith)))
-
--- A record with no member yet.
-pub started-none : (part : List ℕ) (x : ℕ) (labels : List ℕ) (c : ℕ) → length part ≡ recordBytes → startedAs part x ≡ recordOf x (withLabel labels 0 c)
-started-none part x labels c h = started-whole part x h ∙ ap (recordOf x) (sym (with-label-none labels c))
-
-labelled-intro : (labels : List ℕ) (n c v : ℕ) → v < n → getD labels v 0 ≡ c → withLabel labels n c v ≡ true
-unfolding withLabel
-labelled-intro labels n c v b h = and-both (ltb v n) (eqb (getD labels v 0) c) (lt-ltb v n b) (eq-eqb (getD labels v 0) c h)
-
-labelled-elim : (labels : List ℕ) (n c v : ℕ) → withLabel labels n c v ≡ true → (v < n) × (getD labels v 0 ≡ c)
-unfolding withLabel
-labelled-elim labels n c v h =
-    (ltb-true v n (and-left (ltb v n) (eqb (getD labels v 0) c) h), eqb-true (getD labels v 0) c (and-right (ltb v n) (eqb (getD labels v 0) c) h))
-
--- Vertex n joins the members.
-with-label-in : (labels : List ℕ) (n c : ℕ) → getD labels n 0 ≡ c → (λ v. withLabel labels n c v || eqb v n) ≡ withLabel labels (n + 1) c
-with-label-in labels n c h = fun-ext (λ v. same-test (withLabel labels n c v || eqb v n) (withLabel labels (n + 1) c v) (to v) (from v (ℕ-discrete v n)))
-  where
-    to : (v : ℕ) → (withLabel labels n c v || eqb v n) ≡ true → withLabel labels (n + 1) c v ≡ true
-    to v k =
-        ⊎-elim
-        (λ old. let f = labelled-elim labels n c v old in labelled-intro labels (n + 1) c v (omega arith) (f .1))
-        (λ new. let e : v ≡ n = eqb-true v n new in labelled-intro labels (n + 1) c v (omega arith) (ap (λ i. getD labels i 0) e ∙ h))
-        (or-cases (withLabel labels n c v) (eqb v n) k)
-
-    from : (v : ℕ) → Dec (v ≡ n) → withLabel labels (n + 1) c v ≡ true → (withLabel labels n c v || eqb v n) ≡ true
-    from v (yes e) k = or-right (withLabel labels n c v) (eqb v n) (eq-eqb v n e)
-    from v (no d) k =
-        let f = labelled-elim labels (n + 1) c v k in
-        or-left (withLabel labels n c v) (eqb v n) (labelled-intro labels n c v (omega arith) (f .1))
-
--- Vertex n does not.
-with-label-out : (labels : List ℕ) (n c : ℕ) → (getD labels n 0 ≡ c → ⊥) → withLabel labels n c ≡ withLabel labels (n + 1) c
-with-label-out labels n c h = fun-ext (λ v. same-test (withLabel labels n c v) (withLabel labels (n + 1) c v) (to v) (from v (ℕ-discrete v n)))
-  where
-    to : (v : ℕ) → withLabel labels n c v ≡ true → withLabel labels (n + 1) c v ≡ true
-    to v k = let f = labelled-elim labels n c v k in labelled-intro labels (n + 1) c v (omega arith) (f .1)
-
-    from : (v : ℕ) → Dec (v ≡ n) → withLabel labels (n + 1) c v ≡ true → withLabel labels n c v ≡ true
-    from v (yes e) k = absurd (h (ap (λ i. getD labels i 0) (sym e) ∙ labelled-elim labels (n + 1) c v k .1))
-    from v (no d) k = let f = labelled-elim labels (n + 1) c v k in labelled-intro labels n c v (omega arith) (f .1)
-
--- One vertex more in a record.
-pub record-more : (x : ℕ) (labels : List ℕ) (n c : ℕ) {part : List ℕ} → n < maxVertices → part ≡ recordOf x (withLabel labels n c) →
-    cond (eqb (getD labels n 0) c) (withMemberIn part n) part ≡ recordOf x (withLabel labels (n + 1) c)
-record-more x labels n c {part} b h = by (ℕ-discrete (getD labels n 0) c)
-  where
-    by : Dec (getD labels n 0 ≡ c) → cond (eqb (getD labels n 0) c) (withMemberIn part n) part ≡ recordOf x (withLabel labels (n + 1) c)
-    by (yes e) =
-        rw (eq-eqb (getD labels n 0) c e, h)
-        (member-added-record x (withLabel labels n c) n (omega arith) ∙ ap (recordOf x) (with-label-in labels n c e))
-    by (no d) = rw (ne-eqb (getD labels n 0) c d) (h ∙ ap (recordOf x) (with-label-out labels n c d))
+pub written-fits : (value : ℕ → ℕ) (holds : ℕ → ℕ → Bool) (m c : ℕ) {old new : List ℕ} {count : ℕ} → recordBytes * m ≤ length old → c < m →
+    DualsWritten (dualsBelow value holds c) old new count → RecordsFit (count + 1) new
+written-fits value holds m c {old} room b d =
+    record { room = omega (arith, written-length value holds c (omega arith) d, d .count-is, length-duals value holds c) }

@@ -195,7 +195,7 @@ module _ (p : Problem) (ok : Sound p) (t : Trace) (is : TraceOf p t) where
       ∙ duals-map (grown p) n
       ∙ ap (λ k. map (dualOf (grown p)) (thoseBelow k (λ c. ltb 0 (grown p .value c)))) all
 
-  -- There is room for its records, and a label for every end.
+  -- There is room for its records, and every end is a vertex.
   pub trace-drawable : (records : List ℕ) → 0 < p .vertices → p .vertices ≤ maxVertices → recordBytes * maxDualsOf (p .vertices) ≤ length records → Drawable t records
   trace-drawable records some few room =
       let rounds : grown p .rounds < p .vertices = rounds-lt p ok some (grown-reached p) in
@@ -207,13 +207,13 @@ module _ (p : Problem) (ok : Sound p) (t : Trace) (is : TraceOf p t) where
         second-below = λ r b. second r b (picks p r (omega (arith, is .rounds-are)));
       }
     where
-      first : (r : ℕ) → r < t .rounds → Picks p r → t .first r < maxVertices
+      first : (r : ℕ) → r < t .rounds → Picks p r → t .first r < t .vertices
       first r b k =
-          omega (arith, is .firsts-are r (k .e) (k .d) b (k .wins), ok .first-below (k .e) (winner-below p (stateAt p r) (k .e) (k .d) (k .wins)))
+          omega (arith, is .vertices-are, is .firsts-are r (k .e) (k .d) b (k .wins), ok .first-below (k .e) (winner-below p (stateAt p r) (k .e) (k .d) (k .wins)))
 
-      second : (r : ℕ) → r < t .rounds → Picks p r → t .second r < maxVertices
+      second : (r : ℕ) → r < t .rounds → Picks p r → t .second r < t .vertices
       second r b k =
-          omega (arith, is .seconds-are r (k .e) (k .d) b (k .wins), ok .second-below (k .e) (winner-below p (stateAt p r) (k .e) (k .d) (k .wins)))
+          omega (arith, is .vertices-are, is .seconds-are r (k .e) (k .d) b (k .wins), ok .second-below (k .e) (winner-below p (stateAt p r) (k .e) (k .d) (k .wins)))
 
 -- The trace that a growth lends: the ends of all edges, the values in a table, and the winner of each round.
 pub traces-from : (p : Problem) (ok : Sound p) (firsts seconds values order : List ℕ) (rounds : ℕ) → 0 < p .vertices → p .vertices ≤ maxVertices →

@@ -2,25 +2,22 @@
 use mathlib.Core.Path.{refl, ap, sym, _∙_}
 use lib.ListN.{length}
 use Rattle.base_finite.specs.Laws.Below.{length-tabulate}
-use Rattle.base_limits.specs.Limits.{maxVertices, maxEdges}
+use Rattle.base_limits.specs.Limits.{maxVertices}
 use Rattle.plan_rule.specs.Laws.Same.{plan-terminals}
 use Rattle.plan_grow.specs.Laws.Finish.{grown-plan}
 use borrow.Author.Needs.{needs}
 use Rattle.plan_grow.proofs.grow_poured.Statement.{statement}
 use Rattle.plan_grow.proofs.grow_poured.Tie as tie
 
-slice-aggregate-copy-picks : tie.Need-slice-aggregate-copy-picks
-slice-aggregate-copy-picks c = sym (ap length (c .before .before .before .before .grow .ensures .picked-are) ∙ length-tabulate maxEdges _)
-
-slice-aggregate-draw-2 : tie.Need-slice-aggregate-draw-2
-slice-aggregate-draw-2 c = sym (ap length (c .before .before .before .before .before .before .before .before .before .before .grow .ensures .order-is) ∙ length-tabulate maxVertices _)
+slice-aggregate-draw : tie.Need-slice-aggregate-draw
+slice-aggregate-draw c = sym (ap length (c .before .before .before .before .before .before .before .before .before .before .before .before .grow .ensures .order-is) ∙ length-tabulate maxVertices _)
 
 -- marks
 -- records
 returns : tie.Need-returns
 returns c =
     let drawn = c .before .before .before .before .before in
-    let copied = drawn .before .before .before .before .before .before in
+    let copied = drawn .before .before .before .before .before .before .before .before in
     let growth = copied .before .before .before .before .before .before in
     let entry = growth .before .before .before .before .before .before .before in
     grown-plan (entry .pre) (growth .grow .ensures) _ _ refl refl (copied .copy-picks .ensures) (drawn .draw .ensures .0) (drawn .draw .ensures .1)
@@ -31,10 +28,8 @@ grow-poured-spec =
     tie.close
     (tie.spec
     (λ c κs. search needs)
-    slice-aggregate-copy-picks
     (λ c κs. search needs)
-    (λ c. search needs)
-    slice-aggregate-draw-2
+    slice-aggregate-draw
     (λ c κs. search needs)
     (λ c κs. search needs)
     (λ c κs. search needs)
