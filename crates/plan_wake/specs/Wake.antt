@@ -5,7 +5,6 @@ use mathlib.Core.Bool.{Bool, _&&_, _||_, not, cond}
 use mathlib.Core.List.{List}
 use lib.ListN.{length, getD, set}
 use lib.Dec.{eqb, ltb}
-use Rattle.base_buffer.specs.Lent.{Buffer, old}
 use Rattle.plan_winner.specs.Scan.{blockEdges}
 
 -- Edge e has vertex c as an end.

@@ -23,7 +23,7 @@ fn same_number(x: u32, c: u32) -> u32
     0
 }
 
-// 1 if some of these ends is c. All are compared, so that many are at once.
+// 1 if some of these ends is c. The loop runs to its end, so that several are compared at once.
 fn has_end(ends: &[u32], c: u32) -> u32
     ensures { λ r. ⌜ r ≡ counted (anyBelow (length (old ends)) (λ i. eqb (getD (old ends) i 0) c)) 1 ⌝ }
 {

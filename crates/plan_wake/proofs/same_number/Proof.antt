@@ -2,7 +2,6 @@
 use mathlib.Core.Path.{sym}
 use borrow.Author.Tests.{eq-eqb, ne-eqb}
 use Rattle.base_finite.specs.Laws.Below.{counted-true, counted-false}
-use borrow.Author.Needs.{needs}
 use Rattle.plan_wake.proofs.same_number.Statement.{statement}
 use Rattle.plan_wake.proofs.same_number.Tie as tie
 

@@ -2,7 +2,6 @@
 use mathlib.Core.Path.{refl}
 use borrow.Author.Tests.{lt-ltb, le-ltb}
 use Rattle.plan_wake.specs.Wake.{wholeBlocks}
-use borrow.Author.Needs.{needs}
 use Rattle.plan_wake.proofs.whole_blocks.Statement.{statement}
 use Rattle.plan_wake.proofs.whole_blocks.Tie as tie
 
