@@ -2,8 +2,8 @@
 use mathlib.Core.Path.{ap, _∙_}
 use lib.ListN.{set}
 use borrow.Author.Needs.{needs}
-use Rattle.api_why.proofs.store_six.Statement.{statement}
-use Rattle.api_why.proofs.store_six.Tie as tie
+use Rattle.api_why_store.proofs.store_six.Statement.{statement}
+use Rattle.api_why_store.proofs.store_six.Tie as tie
 
 returns : tie.Need-returns
 returns c = c .before .before .put64 .ensures ∙ ap (λ l. set l 5 (c .before .before .before .before .before .before .before .before .before .args .round)) (c .before .before .before .before .before .before .store-five .ensures)
