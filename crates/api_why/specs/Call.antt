@@ -1,20 +1,18 @@
 -- Asking why with lent counts (document 02, No. 3): what the call answers and leaves in its buffers, by the library's own definitions.
 use Prim.Native.Nat.{ℕ}
-use mathlib.Core.List.{List, [], _∷_, _++_}
+use mathlib.Core.List.{List, _++_}
 use lib.ListN.{length, drop}
 use Rattle.base_limits.specs.Verdict.{written}
 use Rattle.base_limits.specs.declared.Verdict.{Verdict}
 use Rattle.survey_core.specs.Survey.{Survey}
 use Rattle.why_rule.specs.Reason.{reasonOf}
-use Rattle.why_rule.specs.Why.{WhyCounts, whyCounts, routeIn, whyRefusal}
+use Rattle.why_rule.specs.Why.{whyCounts, routeIn, whyRefusal}
 use Rattle.api_code.specs.Code.{withCounts, countsAfter}
+use Rattle.api_why_store.specs.Stored.{whyFiguresOf}
 
 -- entries of the counts: kind, list, smaller, larger, entries of the route, round
 abbrev pub whyFigures : ℕ
 whyFigures = 6
-
-unfoldable pub whyFiguresOf : WhyCounts → List ℕ
-whyFiguresOf c = c .kind ∷ c .group ∷ c .low ∷ c .high ∷ c .entries ∷ c .round ∷ []
 
 -- 1 to 6, 18, then 7 for counts that do not fit, then 7 for the route, 8, 19.
 unfoldable pub whyCall : Survey → (e : ℕ) → (route counts : List ℕ) → Verdict

@@ -1,32 +1,13 @@
 // Why a track is on the sheet, for a caller that gets one number back and the reason's numbers in a lent buffer.
 // Definitions in specs/.
 ghost use mathlib.Core.Path.{_≡_};
-ghost use mathlib.Core.List.{[], _∷_};
-ghost use lib.Seq.{sets};
 ghost use Rattle.base_buffer.specs.Lent.{old, new};
 ghost use Rattle.survey_core.specs.Survey.{lentWith};
 ghost use Rattle.api_code.specs.Code.{codeOf};
 ghost use Rattle.api_why.specs.Call.{whyCall, whyRoute, whyFigured};
-use why_rule::Why;
 
 // Entries of the counts: kind, list, smaller, larger, entries of the route, round.
 pub const WHY_FIGURES: usize = 6;
-
-// Six counts, at the beginning of a buffer.
-fn store_six(
-    counts: &mut [u64],
-    kind: u64,
-    group: u64,
-    smaller: u64,
-    larger: u64,
-    entries: u64,
-    round: u64,
-)
-    ensures { λ _. ⌜ new counts ≡ sets (old counts) 0 (kind ∷ group ∷ smaller ∷ larger ∷ entries ∷ round ∷ []) ⌝ }
-{
-    api_store::store_five(counts, kind, group, smaller, larger, entries);
-    base_buffer::put64(counts, 5, round);
-}
 
 // Says why a track has its mark. `counts` gets the mark as kind, the list, its two members, the entries of the route
 // and the round; `route` gets the tracks between the two, in walking order from the smaller.
@@ -65,24 +46,5 @@ pub fn why_call(
         asked,
         route,
     );
-    match answer {
-        Why::Kept {
-            group,
-            smaller,
-            larger,
-            entries,
-        } => {
-            store_six(counts, 2, group, smaller, larger, entries, 0);
-            0
-        }
-        Why::Dropped => {
-            store_six(counts, 1, 0, 0, 0, 0, 0);
-            0
-        }
-        Why::Passed { round } => {
-            store_six(counts, 0, 0, 0, 0, 0, round);
-            0
-        }
-        Why::Refused { number, place } => api_code::code(number, place),
-    }
+    api_why_store::store_answer(answer, counts)
 }

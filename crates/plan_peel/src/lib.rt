@@ -1,6 +1,6 @@
 // In which order the vertices of a forest can be hung on one another: a vertex with one picked edge left is taken away
 // with that edge, until none is left. That a forest comes apart so is claimed nowhere: whoever uses the order tries
-// what comes out (`plan_cuts::is_alone`).
+// what comes out (`plan_sides::is_alone`).
 ghost use Rattle.base_buffer.specs.Lent.{old, new};
 ghost use mathlib.Core.Path.{_≡_};
 ghost use Prim.Native.Nat.{ℕ, _+_, _%_, _^_};

@@ -1,6 +1,6 @@
 -- Asking by cases on the length of the lent counts: long enough, it is the library's own; too short, 1 to 6, 18 and then 7.
 use Prim.Native.Nat.{ℕ, _+_, _*_, _<_, _≤_, _^_}
-use mathlib.Core.Path.{_≡_, ap, sym, _∙_}
+use mathlib.Core.Path.{_≡_, refl, ap, sym, _∙_}
 use mathlib.Core.List.{List, _++_}
 use lib.ListN.{length, drop}
 use lib.Seq.{sets}
@@ -16,7 +16,8 @@ use Rattle.api_code.specs.Code.{placeUnit, codeOf, capped, countsAfter}
 use Rattle.api_code.specs.Laws.Encodable.{Encodable, encodable-before, encodable-refuse, at-zero, at-place, survey-encodable, group-encodable}
 use Rattle.api_code.specs.Laws.Ends.{counts-long, counts-short, counts-encodable}
 use Rattle.api_code.specs.Laws.Ends.{short-code, short-kept, finished-code, finished-counts, refused-code, refused-counts}
-use Rattle.api_why.specs.Call.{whyFigures, whyFiguresOf, whyCall, whyRoute, whyFigured}
+use Rattle.api_why_store.specs.Stored.{whyFiguresOf, answerCode, answerStored}
+use Rattle.api_why.specs.Call.{whyFigures, whyCall, whyRoute, whyFigured}
 
 -- The track number has 32 bits, so that 19 can be told with it.
 pub why-encodable : (s : Survey) (routeLength e : ℕ) → e < 2 ^ 32 → Encodable (whyRefusal s routeLength e)
@@ -59,18 +60,29 @@ module _ (s : Survey) (e : ℕ) (route counts : List ℕ) where
 
     -- `o` is what asking answers.
     module _ {o : Outcome WhyCounts} (answered : o ≡ reasoning s (length route) e) where
-      pub why-finished : {c : WhyCounts} → o ≡ answer c → 0 ≡ codeOf (whyCall s e route counts)
+      why-finished : {c : WhyCounts} → o ≡ answer c → 0 ≡ codeOf (whyCall s e route counts)
       unfolding reasoning
       why-finished h = finished-code (why-long long) _ (sym answered ∙ h)
 
-      pub why-stored : {c : WhyCounts} → o ≡ answer c → {l : List ℕ} → l ≡ sets counts 0 (whyFiguresOf c) → l ≡ whyFigured s e route counts
+      why-stored : {c : WhyCounts} → o ≡ answer c → {l : List ℕ} → l ≡ sets counts 0 (whyFiguresOf c) → l ≡ whyFigured s e route counts
       unfolding reasoning whyFigured
       why-stored h k = finished-counts (why-long long) _ (sym answered ∙ h) whyFiguresOf counts k
 
-      pub why-refused : e < 2 ^ 32 → {number place : ℕ} → o ≡ refusal number place → {x : ℕ} → x ≡ capped (number + placeUnit * place) → x ≡ codeOf (whyCall s e route counts)
+      why-refused : e < 2 ^ 32 → {number place : ℕ} → o ≡ refusal number place → {x : ℕ} → x ≡ capped (number + placeUnit * place) → x ≡ codeOf (whyCall s e route counts)
       unfolding reasoning
       why-refused near {number} {place} h = refused-code (why-long long) _ (why-encodable s (length route) e near) number place (sym answered ∙ h)
 
-      pub why-kept : {number place : ℕ} → o ≡ refusal number place → counts ≡ whyFigured s e route counts
+      why-kept : {number place : ℕ} → o ≡ refusal number place → counts ≡ whyFigured s e route counts
       unfolding reasoning whyFigured
       why-kept {number} {place} h = refused-counts (why-long long) _ number place (sym answered ∙ h) _ counts
+
+    -- The code of what asking answers, and the counts after it, are the call's.
+    pub why-coded : (o : Outcome WhyCounts) → o ≡ reasoning s (length route) e → e < 2 ^ 32 → {x : ℕ} → x ≡ answerCode o → x ≡ codeOf (whyCall s e route counts)
+    unfolding answerCode
+    why-coded (refusal number place) answered near h = why-refused answered near refl h
+    why-coded (answer c) answered near h = h ∙ why-finished answered refl
+
+    pub why-counted : (o : Outcome WhyCounts) → o ≡ reasoning s (length route) e → {l : List ℕ} → l ≡ answerStored o counts → l ≡ whyFigured s e route counts
+    unfolding answerStored
+    why-counted (refusal number place) answered h = h ∙ why-kept answered refl
+    why-counted (answer c) answered h = why-stored answered refl h

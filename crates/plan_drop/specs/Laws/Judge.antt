@@ -1,28 +1,25 @@
 -- Judging batch after batch by the words marks exactly the needed edges of a forest.
 use Prim.Native.Nat.{ℕ, zero, suc, _+_, _-_, _<_, _≤_}
 use native.Mathlib.Omega.{arith}
-use native.Mathlib.Numerals.{add-one}
 use mathlib.Core.Path.{_≡_, refl, ap, sym, _∙_}
 use mathlib.Core.Logic.{_⊎_, inl, inr, ⊎-elim}
 use mathlib.Core.Bool.{Bool, true, false, _&&_, xor, not, cond}
 use mathlib.Core.List.{List, [], _∷_}
-use lib.ListN.{length, getD, set}
+use lib.ListN.{length, getD}
 use lib.Dec.{eqb, ltb, leb}
-use lib.Bits.{bitOr, bitXor}
-use borrow.Author.Tests.{eq-eqb, eqb-true, lt-ltb, ltb-true, leb-true, le-leb, lt-leb, le-ltb}
-use Rattle.base_finite.specs.Below.{counted, countBelow, anyBelow, tabulate}
-use Rattle.base_finite.specs.Laws.Below.{any-cong, lt-or-ge, getD-tabulate, counted-true, counted-false}
-use Rattle.base_finite.specs.Laws.Test.{either, and-left, and-right, and-both}
+use borrow.Author.Tests.{eq-eqb, eqb-true, lt-ltb, ltb-true, leb-true, le-ltb}
+use Rattle.base_finite.specs.Below.{counted, countBelow, tabulate}
+use Rattle.base_finite.specs.Laws.Below.{any-cong, lt-or-ge, getD-tabulate}
+use Rattle.base_finite.specs.Laws.Test.{either, and-left, and-right}
 use Rattle.base_limits.specs.Limits.{maxVertices}
 use Rattle.format_record.specs.Bits.{bitAt}
-use Rattle.format_record.specs.Laws.Bits.{bit-of-zero, bit-or}
 use Rattle.theory_steiner.specs.Problem.{Problem, separates}
 use Rattle.theory_steiner.specs.Pruning.{needed, markOf}
 use Rattle.survey_core.specs.Survey.{groupsAlone, problemOf, vertexCount, edgeCount, sameGroup, member}
 use Rattle.survey_mates.specs.Mate.{mateOf}
 use Rattle.survey_mates.specs.Laws.Mate.{separates-mates}
 use Rattle.base_buffer.specs.Store.{remade}
-use Rattle.base_buffer.specs.Laws.Store.{length-remade, remade-more}
+use Rattle.base_buffer.specs.Laws.Store.{length-remade}
 use Rattle.theory_graph.specs.Path.{crosses}
 use Rattle.theory_steiner.specs.Laws.Cut.{needed-by-cut}
 use Rattle.survey_components.specs.Labels.{pickedIn}
@@ -33,7 +30,7 @@ use Rattle.plan_drop.specs.Prunable.{Prunable, unweighted}
 use Rattle.plan_judge.specs.Judge.{sideIn, partedBelow, judged, raised}
 use Rattle.plan_judge.specs.Laws.Judge.{batch-before, batch-after, batch-in, parted-bit}
 use Rattle.plan_drop.specs.Judge.{prunedMarks, droppedMarks, batchMarks}
-use Rattle.plan_cuts.specs.Laws.Word.{bit-xor, count-lt}
+use Rattle.plan_cuts.specs.Laws.Word.{count-lt}
 
 -- ---- stores at rising places
 
