@@ -36,7 +36,7 @@ fn grow_poured(
         let p = problemOf (lentSurvey groups firsts seconds weights) in
         ⌜ new records ≡ recordsOver (planOf p .duals) (old records) ⌝ }
 {
-    let grown = plan_growth::grow(groups, firsts, seconds, weights);
+    let grown = plan_rounds::grow(groups, firsts, seconds, weights);
     let order = grown.order;
     let rounds = grown.rounds;
     let bound = grown.bound;

@@ -106,7 +106,7 @@ fn explain(
         let entries = routeIn (reasonOf s track) in
         ⌜ new route ≡ entries ++ drop (length entries) (old route) ⌝ }
 {
-    let grown = plan_growth::grow(lists, firsts, seconds, weights);
+    let grown = plan_rounds::grow(lists, firsts, seconds, weights);
     let picked = grown.picked;
     let order = grown.order;
     let rounds = grown.rounds;
