@@ -149,7 +149,7 @@ pub fn joined_flag(
 }
 
 // The components x and y become z among the first n labels.
-fn relabel_first(labels: &mut [u32], n: usize, x: u32, y: u32, z: u32)
+pub fn relabel_first(labels: &mut [u32], n: usize, x: u32, y: u32, z: u32)
     ensures { λ r. ⌜ new labels ≡ relabelledFirst n x y z (old labels) ⌝ }
 {
     if labels.len() < n {

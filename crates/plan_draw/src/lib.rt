@@ -13,12 +13,12 @@ use base_buffer::at64;
 use base_buffer::index32;
 use base_limits::MAX_VERTICES;
 use base_limits::RECORD_BYTES;
+use plan_active::relabel_first;
 use plan_drawable::is_drawable;
 use plan_members::put_set;
 use plan_members::union_of;
 use plan_members::write_record;
 use survey_labels::own_labels;
-use survey_labels::relabel;
 
 // Puts the record of value x with these members in place of record k.
 fn put_record(records: &mut [u8], k: usize, x: u64, set: &[u8; RECORD_BYTES])
@@ -74,7 +74,7 @@ fn keep(
     if c < n {
         return;
     }
-    relabel(labels, x, y, c as u32);
+    relabel_first(labels, n, x, y, c as u32);
     put_set(sets, c - n, set);
 }
 

@@ -12,7 +12,7 @@ use Rattle.base_limits.specs.Limits.{maxVertices, recordBytes}
 use Rattle.theory_steiner.specs.Problem.{Problem}
 use Rattle.theory_steiner.specs.Growth.{winner, edge, stateAt, grown}
 use Rattle.theory_steiner.specs.Dual.{Dual}
-use Rattle.survey_labels.specs.Labels.{relabelled}
+use Rattle.plan_active.specs.Flags.{relabelledFirst}
 use Rattle.plan_duals.specs.Drawing.{dualsBelow}
 
 -- Rounds are counted from 0; `first` and `second` are the ends of the edge that a round picked, and `value` is that of a component number.
@@ -47,13 +47,17 @@ unfoldable pub labelAfter : Trace → ℕ → ℕ → ℕ
 labelAfter t zero v = v
 labelAfter t (suc r) v = merged (labelAfter t r (t .first r)) (labelAfter t r (t .second r)) (t .vertices + r) (labelAfter t r) v
 
+-- The same as it is held: places past the vertices keep their own number.
+unfoldable pub labelHeld : Trace → ℕ → ℕ → ℕ
+labelHeld t r v = cond (ltb v (t .vertices)) (labelAfter t r v) v
+
 -- What component c is made of at one of its ends: a single vertex of itself, any other of the component of that end of its round's edge.
 unfoldable pub partOf : (end : ℕ → ℕ) → (n : ℕ) → (labels : List ℕ) → (c : ℕ) → ℕ
 partOf end n labels c = cond (ltb c n) c (getD labels (end (c - n)) 0)
 
 -- Labels in a buffer when component c has arisen: a single vertex is there from the start, any other is made of components x and y.
 unfoldable pub arisen : (x y n c : ℕ) → List ℕ → List ℕ
-arisen x y n c labels = cond (ltb c n) labels (relabelled x y c labels)
+arisen x y n c labels = cond (ltb c n) labels (relabelledFirst n x y c labels)
 
 -- The members of component c are the vertices in it when it arose: at the start, or after round c - n.
 unfoldable pub memberOf : Trace → (c v : ℕ) → Bool

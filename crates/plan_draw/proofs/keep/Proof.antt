@@ -13,8 +13,8 @@ returns : tie.Need-returns
 unfolding arisen setsKept
 returns c = let single = lt-ltb (c .before .args .c) (c .before .args .n) (c .if1 .taken) in (rw single refl, rw single refl)
 
-cast-relabel : tie.Need-cast-relabel
-cast-relabel c = let pre = c .before .before .pre in omega arith
+cast-relabel-first : tie.Need-cast-relabel-first
+cast-relabel-first c = let pre = c .before .before .pre in omega arith
 
 -- a merged component
 returns-2 : tie.Need-returns-2
@@ -22,7 +22,7 @@ unfolding arisen setsKept
 returns-2 c =
     let a = c .before .before .before .before .before .before .args in
     let past = le-ltb (a .c) (a .n) (c .before .before .before .before .before .if1 .left) in
-    (rw past (c .before .before .before .relabel .ensures), rw past (c .before .put-set .ensures))
+    (rw past (c .before .before .before .relabel-first .ensures), rw past (c .before .put-set .ensures))
 
 pub keep-spec : {M : Type 1} → statement M
-keep-spec = tie.close (tie.spec returns cast-relabel (λ c κs. search needs) (λ c κs. search needs) (λ c. search needs) returns-2)
+keep-spec = tie.close (tie.spec returns cast-relabel-first (λ c κs. search needs) (λ c κs. search needs) (λ c. search needs) returns-2)

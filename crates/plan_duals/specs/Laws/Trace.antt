@@ -4,7 +4,7 @@ use Prim.Native.Nat.{ℕ, suc, _+_, _-_, _≤_, _<_}
 use native.Mathlib.Omega.{arith}
 use native.Mathlib.Numerals.{add-one}
 use mathlib.Core.Path.{_≡_, refl, ap, ap₂, sym, _∙_, fun-ext}
-use mathlib.Core.Bool.{Bool, false, _||_, cond, or-self}
+use mathlib.Core.Bool.{Bool, true, false, _||_, cond, or-self}
 use mathlib.Core.Logic.{⊎-elim}
 use mathlib.Core.List.{List}
 use native.Mathlib.Decide.{ℕ-discrete}
@@ -14,32 +14,57 @@ use lib.Seq.{getD-set-same, getD-set-other}
 use lib.Dec.{ltb}
 use borrow.Author.Tests.{lt-ltb, le-ltb}
 use Rattle.base_finite.specs.Below.{tabulate}
-use Rattle.base_finite.specs.Laws.Below.{lt-or-ge, getD-tabulate}
+use Rattle.base_finite.specs.Laws.Below.{lt-or-ge, length-tabulate, getD-tabulate}
 use Rattle.base_limits.specs.Limits.{maxVertices}
 use Rattle.format_record.specs.Record.{recordOf, withMemberIn}
 use Rattle.format_record.specs.Laws.Record.{member-added-record}
-use Rattle.survey_labels.specs.Labels.{relabelled}
-use Rattle.survey_labels.specs.Laws.Labels.{relabelled-table}
+use Rattle.base_buffer.specs.Laws.Store.{tabulate-cong, remade-part}
+use Rattle.theory_graph.specs.Component.{merged}
+use Rattle.plan_active.specs.Flags.{relabelledFirst}
 use Rattle.plan_duals.specs.Drawing.{dualPut, countPut, dualsBelow, DualsWritten}
-use Rattle.plan_duals.specs.Trace.{Trace, labelAfter, partOf, arisen, memberOf, traceDuals, Drawable}
+use Rattle.plan_duals.specs.Trace.{Trace, labelAfter, labelHeld, partOf, arisen, memberOf, traceDuals, Drawable}
 use Rattle.plan_duals.specs.Members.{noMember, ored, withPart, unionOf, setsKept, SetsHold}
 use Rattle.plan_duals.specs.Laws.Drawing.{written-none, written-more, written-end}
 use Rattle.plan_duals.specs.Laws.Members.{ored-records, no-member-record, put-dual, label-below, single-members, union-of-parts}
 
 -- ---- labels in a buffer
 
-label-at : (t : Trace) (r v : ℕ) {labels : List ℕ} → v < maxVertices → labels ≡ tabulate maxVertices (labelAfter t r) → getD labels v 0 ≡ labelAfter t r v
-label-at t r v b h = ap (λ l. getD l v 0) h ∙ getD-tabulate maxVertices (labelAfter t r) v 0 b
+label-at : (t : Trace) (r v : ℕ) {labels : List ℕ} → t .vertices ≤ maxVertices → v < t .vertices → labels ≡ tabulate maxVertices (labelHeld t r) →
+    getD labels v 0 ≡ labelAfter t r v
+unfolding labelHeld
+label-at t r v few b h =
+    ap (λ l. getD l v 0) h
+    ∙ getD-tabulate maxVertices (labelHeld t r) v 0 (omega arith)
+    ∙ ap (λ x. cond x (labelAfter t r v) v) (lt-ltb v (t .vertices) b)
 
-labels-none : (t : Trace) {labels : List ℕ} → labels ≡ tabulate maxVertices (λ v. v) → labels ≡ tabulate maxVertices (labelAfter t 0)
-unfolding labelAfter
-labels-none t h = h
+same-either : (x : Bool) (v : ℕ) → cond x v v ≡ v
+same-either true v = refl
+same-either false v = refl
+
+labels-none : (t : Trace) {labels : List ℕ} → labels ≡ tabulate maxVertices (λ v. v) → labels ≡ tabulate maxVertices (labelHeld t 0)
+unfolding labelHeld labelAfter
+labels-none t h = h ∙ tabulate-cong maxVertices (λ v. v) (labelHeld t 0) (λ v b. sym (same-either (ltb v (t .vertices)) v))
 
 -- One round more.
-labels-more : (t : Trace) (r : ℕ) {x y : ℕ} {labels : List ℕ} → x ≡ labelAfter t r (t .first r) → y ≡ labelAfter t r (t .second r) →
-    labels ≡ tabulate maxVertices (labelAfter t r) → relabelled x y (t .vertices + r) labels ≡ tabulate maxVertices (labelAfter t (r + 1))
-unfolding labelAfter
-labels-more t r a b h = rw (a, b, add-one r) (relabelled-table _ _ (t .vertices + r) maxVertices (labelAfter t r) h)
+labels-more : (t : Trace) (r : ℕ) {x y : ℕ} {labels : List ℕ} → t .vertices ≤ maxVertices → x ≡ labelAfter t r (t .first r) → y ≡ labelAfter t r (t .second r) →
+    labels ≡ tabulate maxVertices (labelHeld t r) → relabelledFirst (t .vertices) x y (t .vertices + r) labels ≡ tabulate maxVertices (labelHeld t (r + 1))
+unfolding labelHeld labelAfter relabelledFirst merged
+labels-more t r {labels = labels} few a b h =
+    rw (a, b, add-one r)
+    (remade-part
+    (λ i. merged (labelAfter t r (t .first r)) (labelAfter t r (t .second r)) (t .vertices + r) (λ l. l))
+    (t .vertices)
+    maxVertices
+    labels
+    (labelHeld t (suc r))
+    (ap length h ∙ length-tabulate maxVertices _)
+    few
+    (λ i k. rw (label-at t r i few k h, lt-ltb i (t .vertices) k) refl)
+    (λ i k c.
+    ap (λ l. getD l i 0) h
+    ∙ getD-tabulate maxVertices (labelHeld t r) i 0 c
+    ∙ ap (λ x. cond x (labelAfter t r i) i) (le-ltb i (t .vertices) k)
+    ∙ sym (ap (λ x. cond x (labelAfter t (suc r) i) i) (le-ltb i (t .vertices) k))))
 
 -- ---- the records of the rounds
 
@@ -74,7 +99,7 @@ module _ (t : Trace) (few : t .vertices ≤ maxVertices) where
   -- The members of component c, when the components before it have arisen.
   set-held : (c : ℕ) {labels : List ℕ} {sets : List (List ℕ)} → c < t .vertices + t .rounds →
       ((r : ℕ) → r < t .rounds → t .first r < t .vertices) → ((r : ℕ) → r < t .rounds → t .second r < t .vertices) →
-      labels ≡ tabulate maxVertices (labelAfter t (c - t .vertices)) → SetsHold t (c - t .vertices) sets →
+      labels ≡ tabulate maxVertices (labelHeld t (c - t .vertices)) → SetsHold t (c - t .vertices) sets →
       unionOf sets (t .vertices) (partOf (t .first) (t .vertices) labels c) (partOf (t .second) (t .vertices) labels c) ≡ recordOf 0 (memberOf t c)
   unfolding partOf
   set-held c {labels} {sets} below a b h k = ⊎-elim single made (lt-or-ge c n)
@@ -95,7 +120,7 @@ module _ (t : Trace) (few : t .vertices ≤ maxVertices) where
           let number : n + r ≡ c = omega arith in
           let first : t .first r < n = a r (omega arith) in
           let second : t .second r < n = b r (omega arith) in
-          rw (le-ltb c n l, label-at t r (t .first r) (omega arith) h, label-at t r (t .second r) (omega arith) h)
+          rw (le-ltb c n l, label-at t r (t .first r) few first h, label-at t r (t .second r) few second h)
           (union-held r (labelAfter t r (t .first r)) (labelAfter t r (t .second r)) (label-below t r (t .first r) first) (label-below t r (t .second r) second) k
           ∙ ap (recordOf 0) (sym (union-of-parts t r first second))
           ∙ ap (λ i. recordOf 0 (memberOf t i)) number)
@@ -133,9 +158,9 @@ module _ (t : Trace) (few : t .vertices ≤ maxVertices) where
 -- Component c has arisen.
 arisen-labels : (t : Trace) (c : ℕ) {labels : List ℕ} → t .vertices ≤ maxVertices → c < t .vertices + t .rounds →
     ((r : ℕ) → r < t .rounds → t .first r < t .vertices) → ((r : ℕ) → r < t .rounds → t .second r < t .vertices) →
-    labels ≡ tabulate maxVertices (labelAfter t (c - t .vertices)) →
+    labels ≡ tabulate maxVertices (labelHeld t (c - t .vertices)) →
     arisen (partOf (t .first) (t .vertices) labels c) (partOf (t .second) (t .vertices) labels c) (t .vertices) c labels
-    ≡ tabulate maxVertices (labelAfter t (c + 1 - t .vertices))
+    ≡ tabulate maxVertices (labelHeld t (c + 1 - t .vertices))
 unfolding arisen partOf
 arisen-labels t c {labels} few below a b h = ⊎-elim single made (lt-or-ge c n)
   where
@@ -146,28 +171,28 @@ arisen-labels t c {labels} few below a b h = ⊎-elim single made (lt-or-ge c n)
     r = c - n
 
     after : List ℕ
-    after = cond (ltb c n) labels (relabelled (cond (ltb c n) c (getD labels (t .first r) 0)) (cond (ltb c n) c (getD labels (t .second r) 0)) c labels)
+    after = cond (ltb c n) labels (relabelledFirst n (cond (ltb c n) c (getD labels (t .first r) 0)) (cond (ltb c n) c (getD labels (t .second r) 0)) c labels)
 
-    single : c < n → after ≡ tabulate maxVertices (labelAfter t (c + 1 - n))
+    single : c < n → after ≡ tabulate maxVertices (labelHeld t (c + 1 - n))
     single l =
         let same : c - n ≡ c + 1 - n = omega arith in
-        rw (lt-ltb c n l) (h ∙ ap (λ k. tabulate maxVertices (labelAfter t k)) same)
+        rw (lt-ltb c n l) (h ∙ ap (λ k. tabulate maxVertices (labelHeld t k)) same)
 
-    made : n ≤ c → after ≡ tabulate maxVertices (labelAfter t (c + 1 - n))
+    made : n ≤ c → after ≡ tabulate maxVertices (labelHeld t (c + 1 - n))
     made l =
         let number : c ≡ n + r = omega arith in
         let next : r + 1 ≡ c + 1 - n = omega arith in
         let first : t .first r < n = a r (omega arith) in
         let second : t .second r < n = b r (omega arith) in
         rw (le-ltb c n l)
-        (ap (λ k. relabelled (getD labels (t .first r) 0) (getD labels (t .second r) 0) k labels) number
-        ∙ labels-more t r (label-at t r (t .first r) (omega arith) h) (label-at t r (t .second r) (omega arith) h) h
-        ∙ ap (λ k. tabulate maxVertices (labelAfter t k)) next)
+        (ap (λ k. relabelledFirst n (getD labels (t .first r) 0) (getD labels (t .second r) 0) k labels) number
+        ∙ labels-more t r few (label-at t r (t .first r) few first h) (label-at t r (t .second r) few second h) h
+        ∙ ap (λ k. tabulate maxVertices (labelHeld t k)) next)
 
 -- ---- the replay, up to component number c
 
 pub record Replayed (t : Trace) (c : ℕ) (labels : List ℕ) (sets : List (List ℕ)) (old new : List ℕ) (count : ℕ) : Type 0 where
-  pub labels-are : labels ≡ tabulate maxVertices (labelAfter t (c - t .vertices))
+  pub labels-are : labels ≡ tabulate maxVertices (labelHeld t (c - t .vertices))
   pub sets-hold : SetsHold t (c - t .vertices) sets
   pub duals-written : DualsWritten (dualsBelow (t .value) (memberOf t) c) old new count
 
