@@ -7,6 +7,8 @@ use lib.ListN.{getD, set, replicate}
 use lib.Dec.{eqb}
 use Rattle.base_finite.specs.Below.{counted, countBelow, anyBelow, tabulate}
 use Rattle.base_limits.specs.Limits.{maxVertices, maxDuals}
+use Rattle.base_buffer.specs.Store.{remade}
+use Rattle.theory_graph.specs.Component.{merged}
 use Rattle.theory_steiner.specs.Growth.{active}
 use Rattle.survey_core.specs.Survey.{groupsAlone, problemOf}
 use Rattle.survey_mates.specs.Mate.{mateOf}
@@ -50,6 +52,10 @@ joinedActive mates labels members count first second =
     let y = getD labels second 0 in
     apartFromMate mates labels x y first
     || (apartFromMate mates labels x y second || anyBelow count (λ k. apartFromMate mates labels x y (getD members k 0)))
+
+-- The first n labels with z in place of x and of y.
+unfoldable pub relabelledFirst : (n x y z : ℕ) → List ℕ → List ℕ
+relabelledFirst n x y z labels = remade (λ v. merged x y z (λ l. l)) n labels
 
 -- The flags after the components x and y have become z, which has this flag: no other changes (law `flags-merged`).
 unfoldable pub mergedFlags : (x y z flag : ℕ) → (flags : List ℕ) → List ℕ

@@ -1,3 +1,4 @@
 pub mod Flags
 pub mod Listed
 pub mod Merged
+pub mod First

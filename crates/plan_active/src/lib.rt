@@ -6,9 +6,8 @@ ghost use Prim.Native.Nat.{_+_, _<_, _^_};
 ghost use lib.ListN.{getD, set};
 ghost use Rattle.base_finite.specs.Below.{counted, countBelow, anyBelow};
 ghost use Rattle.base_limits.specs.Limits.{maxVertices};
-ghost use Rattle.survey_labels.specs.Labels.{relabelled};
 ghost use Rattle.plan_active.specs.Flags.{flagged, activeFlags, hasMate, gathered};
-ghost use Rattle.plan_active.specs.Flags.{ofEither, apartFromMate, joinedActive, mergedFlags};
+ghost use Rattle.plan_active.specs.Flags.{ofEither, apartFromMate, joinedActive, relabelledFirst, mergedFlags};
 use base_buffer::at32;
 use base_buffer::at64;
 use base_buffer::index32;
@@ -149,19 +148,31 @@ pub fn joined_flag(
     0
 }
 
-// The components x and y become z, and their flags give way to its flag.
+// The components x and y become z among the first n labels.
+fn relabel_first(labels: &mut [u32], n: usize, x: u32, y: u32, z: u32)
+    ensures { λ r. ⌜ new labels ≡ relabelledFirst n x y z (old labels) ⌝ }
+{
+    if labels.len() < n {
+        survey_labels::relabel(labels, x, y, z);
+        return;
+    }
+    survey_labels::relabel(&mut labels[0..n], x, y, z);
+}
+
+// The components x and y become z among the first n vertices, and their flags give way to its flag.
 pub fn merge(
     labels: &mut [u32; MAX_VERTICES],
     flags: &mut [u8; MAX_DUALS],
+    n: usize,
     x: u32,
     y: u32,
     z: u32,
     flag: u8,
 )
-    ensures { λ r. ⌜ new labels ≡ relabelled x y z (old labels) ⌝ }
+    ensures { λ r. ⌜ new labels ≡ relabelledFirst n x y z (old labels) ⌝ }
     ensures { λ r. ⌜ new flags ≡ mergedFlags x y z flag (old flags) ⌝ }
 {
-    survey_labels::relabel(labels, x, y, z);
+    relabel_first(labels, n, x, y, z);
     put8(flags, index32(x), 0);
     put8(flags, index32(y), 0);
     put8(flags, index32(z), flag);

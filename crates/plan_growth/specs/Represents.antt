@@ -1,6 +1,7 @@
 -- The arrays of a growth, and the state of the definition that they represent between rounds.
 use Prim.Native.Nat.{ℕ, _+_, _<_, _≤_}
 use mathlib.Core.Path.{_≡_}
+use mathlib.Core.Bool.{cond}
 use mathlib.Core.List.{[], List}
 use lib.ListN.{length}
 use lib.Dec.{ltb}
@@ -22,6 +23,10 @@ winnerEdge (edge e d) = e
 
 unfoldable pub pickAt : Problem → ℕ → ℕ
 pickAt p r = winnerEdge (winner p (stateAt p r))
+
+-- The component number of a vertex; places past the vertices keep their own number.
+unfoldable pub heldLabel : Problem → State → (v : ℕ) → ℕ
+heldLabel p s v = cond (ltb v (p .vertices)) (s .label v) v
 
 -- What is held for the load of a vertex, by its component.
 unfoldable pub heldLoad : Problem → State → (time v : ℕ) → ℕ
@@ -62,7 +67,7 @@ pub record Represents (s : Survey) (r time : ℕ) (a : Arrays) : Type 0 where
   -- growth is of a survey whose lists are its own groups
   pub plain : s .owners ≡ []
   pub rounds-are : stateAt (problemOf s) r .rounds ≡ r
-  pub labels-are : a .labels ≡ tabulate maxVertices (stateAt (problemOf s) r .label)
+  pub labels-are : a .labels ≡ tabulate maxVertices (heldLabel (problemOf s) (stateAt (problemOf s) r))
   pub loads-are : a .loads ≡ tabulate maxVertices (λ v. counted (ltb v (problemOf s .vertices)) (heldLoad (problemOf s) (stateAt (problemOf s) r) time v))
   pub loads-timely : (v : ℕ) → v < problemOf s .vertices → load (problemOf s) (stateAt (problemOf s) r) v ≤ time
   pub values-are : a .values

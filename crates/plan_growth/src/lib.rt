@@ -9,14 +9,13 @@ ghost use Rattle.theory_steiner.specs.Problem.{Problem};
 ghost use Rattle.survey_core.specs.Refusal.{surveyRefusal};
 ghost use Rattle.theory_steiner.specs.Growth.{winner, stateAt};
 ghost use Rattle.survey_core.specs.Survey.{surveyFrom, lentSurvey, problemOf};
-ghost use Rattle.survey_labels.specs.Labels.{relabelled};
-ghost use Rattle.plan_active.specs.Flags.{MatesListed, joinedActive, mergedFlags};
+ghost use Rattle.plan_active.specs.Flags.{MatesListed, joinedActive, relabelledFirst, mergedFlags};
 ghost use Rattle.plan_delay.specs.Between.{delayIn};
 ghost use Rattle.plan_growth.specs.Tables.{settledAt, settledValues, SumFits};
 ghost use Rattle.plan_growth.specs.Tables.{turnedAt, turnedMembers, turnedComponent, turnedTo};
 ghost use Rattle.plan_growth.specs.Represents.{arraysFrom, newArrays, roundsAfter, timeAfter, Represents};
 ghost use Rattle.theory_steiner.specs.Minima.{winnerDelay};
-ghost use Rattle.plan_growth.specs.Grown.{growthFrom, GrownAfter};
+ghost use Rattle.plan_growth.specs.Grown.{GrownAfter};
 ghost use Rattle.survey_core.specs.Sound.{SurveySound};
 use base_buffer::at64;
 use base_buffer::put8;
@@ -145,7 +144,7 @@ fn join(
         let x = getD (old labels) first 0 in
         let y = getD (old labels) second 0 in
         let active = joinedActive (old mates) (old labels) (old members) count first second in
-        ⌜ (new labels ≡ relabelled x y z (old labels))
+        ⌜ (new labels ≡ relabelledFirst n x y z (old labels))
         × (new flags ≡ mergedFlags x y z (counted active 1) (old flags)) ⌝ }
     ensures { λ r.
         let x = getD (old labels) first 0 in
@@ -166,7 +165,7 @@ fn join(
     turn_loads(loads, flag, flags, labels, n, time, y);
     settle(values, flags, x, time);
     settle(values, flags, y, time);
-    plan_active::merge(labels, flags, x, y, z, flag);
+    plan_active::merge(labels, flags, n, x, y, z, flag);
     settle(values, flags, z, time);
 }
 
@@ -260,27 +259,6 @@ fn sum_values(values: &[u64; MAX_DUALS], count: usize) -> u64
     sum
 }
 
-// The answer after this many rounds.
-fn finished(
-    n: usize,
-    rounds: usize,
-    values: [u64; MAX_DUALS],
-    picked: [u8; MAX_EDGES],
-    order: [u32; MAX_VERTICES],
-) -> Growth
-    requires { ⌜ SumFits values (n + rounds) ⌝ }
-    ensures { λ r. ⌜ r ≡ growthFrom rounds (sumBelow (n + rounds) (λ c. getD values c 0)) values picked order ⌝ }
-{
-    let bound = sum_values(&values, n + rounds);
-    Growth {
-        rounds,
-        bound,
-        values,
-        picked,
-        order,
-    }
-}
-
 // Rounds until no candidate is left: at most n - 1.
 fn grow_rounds(groups: &[u8], firsts: &[u32], seconds: &[u32], weights: &[u32]) -> Growth
     requires { ⌜ SurveySound (surveyFrom (now groups) (now firsts) (now seconds) (now weights)) ⌝ }
@@ -328,7 +306,14 @@ fn grow_rounds(groups: &[u8], firsts: &[u32], seconds: &[u32], weights: &[u32]) 
         r += 1;
     }
     settle_all(&mut values, &flags, time);
-    finished(groups.len(), r, values, picked, order)
+    let bound = sum_values(&values, groups.len() + r);
+    Growth {
+        rounds: r,
+        bound,
+        values,
+        picked,
+        order,
+    }
 }
 
 // No round at all.

@@ -10,7 +10,7 @@ returns c =
     let first = second .before .before .before in
     let labels = first .before .before .before in
     let args = labels .before .before .args in (
-      labels .relabel .ensures,
+      labels .relabel-first .ensures,
       flags-by (args .flags .now) (args .x) (args .y) (args .z) (args .flag) (first .put8 .ensures) (second .put82 .ensures) (c .put83 .ensures)
           (first .before .index32 .ensures) (second .before .index322 .ensures) (c .before .index323 .ensures),
     )

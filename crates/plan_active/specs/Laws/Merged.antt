@@ -21,11 +21,10 @@ use Rattle.theory_steiner.specs.Laws.Joined.{separates-cong}
 use Rattle.theory_steiner.specs.Laws.Activity.{active-cong, active-other, active-gone}
 use Rattle.survey_core.specs.Survey.{groupsAlone, vertexCount, problemOf}
 use Rattle.survey_core.specs.Laws.Member.{member-elim}
-use Rattle.survey_labels.specs.Labels.{relabelled}
 use Rattle.survey_mates.specs.Mate.{mateOf}
 use Rattle.survey_mates.specs.Laws.Mate.{Mated, mated, separates-mates}
 use Rattle.base_buffer.specs.Laws.Store.{set-table, remade-passed}
-use Rattle.plan_active.specs.Flags.{activeFlags, hasMate, MatesListed, ofEither, apartFromMate, joinedActive, mergedFlags}
+use Rattle.plan_active.specs.Flags.{activeFlags, hasMate, MatesListed, ofEither, apartFromMate, joinedActive, relabelledFirst, mergedFlags}
 use Rattle.plan_active.specs.Laws.Listed.{any-gathered}
 
 -- ---- apart from a mate
@@ -152,13 +151,13 @@ module _ (groups labels : List ℕ) (x y z : ℕ) (few : length groups ≤ maxVe
   before c = counted (active (problemOf (groupsAlone groups)) (λ v. getD labels v 0) c) 1
 
   abbrev after : ℕ → ℕ
-  after c = counted (active (problemOf (groupsAlone groups)) (λ v. getD (relabelled x y z labels) v 0) c) 1
+  after c = counted (active (problemOf (groupsAlone groups)) (λ v. getD (relabelledFirst (length groups) x y z labels) v 0) c) 1
 
-  label-after : (v : ℕ) → v < length groups → getD (relabelled x y z labels) v 0 ≡ merged x y z (λ v. getD labels v 0) v
-  unfolding relabelled merged
-  label-after v b = remade-passed (λ v. merged x y z (λ l. l)) (length labels) labels v (omega arith) (omega arith)
+  label-after : (v : ℕ) → v < length groups → getD (relabelledFirst (length groups) x y z labels) v 0 ≡ merged x y z (λ v. getD labels v 0) v
+  unfolding relabelledFirst merged
+  label-after v b = remade-passed (λ v. merged x y z (λ l. l)) (length groups) labels v b (omega arith)
 
-  active-after : (c : ℕ) → active (problemOf (groupsAlone groups)) (λ v. getD (relabelled x y z labels) v 0) c
+  active-after : (c : ℕ) → active (problemOf (groupsAlone groups)) (λ v. getD (relabelledFirst (length groups) x y z labels) v 0) c
       ≡ active (problemOf (groupsAlone groups)) (merged x y z (λ v. getD labels v 0)) c
   unfolding problemOf vertexCount
   active-after c = active-cong (problemOf (groupsAlone groups)) _ _ c label-after
@@ -177,7 +176,7 @@ module _ (groups labels : List ℕ) (x y z : ℕ) (few : length groups ≤ maxVe
   -- The flags follow the labels, if z's flag does.
   pub flags-follow : {flag : ℕ} {flags labels-after flags-after : List ℕ} → flags ≡ activeFlags groups labels
       → flag ≡ counted (active (problemOf (groupsAlone groups)) (merged x y z (λ v. getD labels v 0)) z) 1
-      → labels-after ≡ relabelled x y z labels → flags-after ≡ mergedFlags x y z flag flags
+      → labels-after ≡ relabelledFirst (length groups) x y z labels → flags-after ≡ mergedFlags x y z flag flags
       → flags-after ≡ activeFlags groups labels-after
   unfolding mergedFlags activeFlags
   flags-follow {flag} f a l r =
@@ -193,7 +192,7 @@ pub flags-merged : (groups labels : List ℕ) {flags mates members labels-after 
     → length groups ≤ maxVertices → length labels ≡ maxVertices → MatesListed groups mates members count
     → first < length groups → second < length groups → ((v : ℕ) → v < length groups → getD labels v 0 ≡ z → ⊥)
     → flags ≡ activeFlags groups labels
-    → labels-after ≡ relabelled (getD labels first 0) (getD labels second 0) z labels
+    → labels-after ≡ relabelledFirst (length groups) (getD labels first 0) (getD labels second 0) z labels
     → flags-after ≡ mergedFlags (getD labels first 0) (getD labels second 0) z (counted (joinedActive mates labels members count first second) 1) flags
     → flags-after ≡ activeFlags groups labels-after
 flags-merged groups labels {first = first} {second = second} {z = z} few long m bf bs fresh f l r =

@@ -5,6 +5,7 @@ use mathlib.Core.Path.{refl}
 use mathlib.Core.Logic.{⊎-elim}
 use Rattle.survey_core.specs.Survey.{surveyFrom}
 use Rattle.plan_growth.specs.Represents.{arraysFrom, Represents}
+use Rattle.plan_growth.specs.Laws.Round.{merged-small}
 use Rattle.plan_growth.specs.Laws.Rounds.{represents-start, represents-over, represents-won, time-fits, settled-left, sum-fits, grown-end, grown-full}
 use borrow.Author.Needs.{needs}
 use Rattle.plan_growth.proofs.grow_rounds.Statement.{statement}
@@ -43,27 +44,32 @@ loop-less c = omega arith
 loop-again : tie.Need-loop-again Inv-loop μ-loop
 loop-again c = represents-won _ _ (c .before .before .before .round .ensures .1) (c .before .wait .given .1)
 
-finished-requires : tie.Need-finished-requires Inv-loop μ-loop
-finished-requires c κs =
-    let left = c .before .before .before in
+add-sum-values : tie.Need-add-sum-values Inv-loop μ-loop
+add-sum-values c = record { fits = merged-small (c .before .before .before .before .before .loop .inv) .0 }
+
+sum-values-requires : tie.Need-sum-values-requires Inv-loop μ-loop
+sum-values-requires c κs =
+    let left = c .before .before .before .before in
+    let settled = c .before .settle-all .ensures in
     ⊎-elim
-    (λ w. sum-fits (left .before .loop .inv) (settled-left (left .before .loop .inv) (w .1) (w .4) (c .settle-all .ensures)))
+    (λ w. sum-fits (left .before .loop .inv) (settled-left (left .before .loop .inv) (w .1) (w .4) settled))
     (λ w.
     let over = represents-over _ _ (w .11 .ensures .1) (w .13 .given .1) in
-    sum-fits over (settled-left over (w .14) (w .17) (c .settle-all .ensures)))
+    sum-fits over (settled-left over (w .14) (w .17) settled))
     (left .loop-test .came)
 
 -- after n - 1 rounds, or a round without a winner
 returns : tie.Need-returns Inv-loop μ-loop
 returns c =
-    let left = c .before .before .before .before in
+    let left = c .before .before .before .before .before in
+    let settled = c .before .before .settle-all .ensures in
     ⊎-elim
     (λ w.
     let full = left .before .loop .inv in
-    grown-full full (settled-left full (w .1) (w .4) (c .before .settle-all .ensures)) (w .2) (w .3) (omega (arith, w .0 .left)) (c .finished .ensures))
+    grown-full full (settled-left full (w .1) (w .4) settled) (w .2) (w .3) (omega (arith, w .0 .left)) (c .sum-values .ensures))
     (λ w.
     let over = represents-over _ _ (w .11 .ensures .1) (w .13 .given .1) in
-    grown-end over (settled-left over (w .14) (w .17) (c .before .settle-all .ensures)) (w .15) (w .16) (w .11 .ensures .0) (w .13 .given .1) (c .finished .ensures))
+    grown-end over (settled-left over (w .14) (w .17) settled) (w .15) (w .16) (w .11 .ensures .0) (w .13 .given .1) (c .sum-values .ensures))
     (left .loop-test .came)
 
 pub grow-rounds-spec : {M : Type 1} → statement M
@@ -87,5 +93,6 @@ grow-rounds-spec =
     loop-less
     loop-again
     (λ c κs. search needs)
-    finished-requires
+    add-sum-values
+    sum-values-requires
     returns)

@@ -15,7 +15,7 @@ returns c =
     let args = first .before .before .before .before .args in
     let x = first .at32 .ensures ∙ ap (λ i. getD (args .labels .now) i 0) (first .before .index32 .ensures) in
     let y = second .at322 .ensures ∙ ap (λ i. getD (args .labels .now) i 0) (second .before .index322 .ensures) in (
-      merged-both _ _ _ x y (flag .joined-flag .ensures) (c .before .before .before .merge .ensures),
+      merged-both _ _ _ _ x y (flag .joined-flag .ensures) (c .before .before .before .merge .ensures),
       (
         settled-three _ _ _ _ _ x y (c .before .before .before .before .before .before .before .before .before .settle .ensures) (c .before .before .before .before .before .before .settle2 .ensures) (c .settle3 .ensures),
         turned-both _ _ _ _ _ x y (flag .joined-flag .ensures) (c .before .before .before .before .before .before .before .before .before .before .before .before .before .before .before .before .turn-loads .ensures) (c .before .before .before .before .before .before .before .before .before .before .before .before .turn-loads2 .ensures)

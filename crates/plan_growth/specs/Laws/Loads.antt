@@ -23,8 +23,7 @@ use Rattle.theory_steiner.specs.Laws.Round.{pick-label}
 use Rattle.theory_steiner.specs.Laws.Partition.{label-merging, label-below}
 use Rattle.theory_steiner.specs.Laws.Weighed.{load-pick}
 use Rattle.theory_steiner.specs.Laws.Activity.{active-cong, active-other}
-use Rattle.survey_labels.specs.Labels.{relabelled}
-use Rattle.plan_active.specs.Flags.{mergedFlags}
+use Rattle.plan_active.specs.Flags.{relabelledFirst, mergedFlags}
 use Rattle.plan_delay.specs.Held.{heldValue, settledBy}
 use Rattle.plan_delay.specs.Laws.Held.{settled-on, settled-off}
 use Rattle.plan_growth.specs.Tables.{turnedAt, turnedMembers, turnedComponent, turnedTo}
@@ -97,10 +96,10 @@ pub turned-both : (flags labels : List ℕ) (n time : ℕ) (loads : List ℕ) {o
 turned-both flags labels n time loads h k f-is made-one made-two = made-two ∙ rw (made-one, h, k, f-is)
 
 -- The components that become z, by numbers and a flag that were read.
-pub merged-both : (flags labels : List ℕ) (z : ℕ) {flags-after labels-after : List ℕ} {x y a b flag f : ℕ} → x ≡ a → y ≡ b → flag ≡ f
-    → (labels-after ≡ relabelled x y z labels) × (flags-after ≡ mergedFlags x y z flag flags)
-    → (labels-after ≡ relabelled a b z labels) × (flags-after ≡ mergedFlags a b z f flags)
-merged-both flags labels z h k f-is made = (made .0 ∙ rw (h, k), made .1 ∙ rw (h, k, f-is))
+pub merged-both : (flags labels : List ℕ) (n z : ℕ) {flags-after labels-after : List ℕ} {x y a b flag f : ℕ} → x ≡ a → y ≡ b → flag ≡ f
+    → (labels-after ≡ relabelledFirst n x y z labels) × (flags-after ≡ mergedFlags x y z flag flags)
+    → (labels-after ≡ relabelledFirst n a b z labels) × (flags-after ≡ mergedFlags a b z f flags)
+merged-both flags labels n z h k f-is made = (made .0 ∙ rw (h, k), made .1 ∙ rw (h, k, f-is))
 
 -- ---- turned in a table
 

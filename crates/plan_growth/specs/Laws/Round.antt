@@ -26,10 +26,8 @@ use Rattle.theory_steiner.specs.Laws.Winner.{Candidate}
 use Rattle.theory_steiner.specs.Laws.Partition.{label-below, winner-below, winner-candidate}
 use Rattle.survey_core.specs.Lists.{isPaired, inList, sameList}
 use Rattle.survey_core.specs.Survey.{Survey, surveyWith, groupsAlone, vertexCount, edgeCount, sameGroup, member, problemOf}
-use Rattle.survey_labels.specs.Labels.{relabelled}
 use Rattle.survey_core.specs.Laws.Refusal.{survey-sound}
-use Rattle.base_buffer.specs.Laws.Store.{tabulate-cong, set-table}
-use Rattle.survey_labels.specs.Laws.Labels.{relabelled-table}
+use Rattle.base_buffer.specs.Laws.Store.{set-table, remade-part}
 use Rattle.plan_delay.specs.Held.{heldValue, settledBy}
 use Rattle.plan_delay.specs.Laws.Held.{held-settled}
 use Rattle.plan_delay.specs.Between.{delayIn, winnerIn, endAt, slackBetween, delayBetween}
@@ -42,12 +40,12 @@ use Rattle.plan_winner.specs.Laws.Scan.{capped-is, idle-elim, scan-wins, keyed-
 use Rattle.plan_winner.specs.Laws.Blocks.{passes-scan, passes-cong}
 use Rattle.plan_wake.specs.Wake.{idleVertex, KeyNotes, notesFrom, wokenBy}
 use Rattle.plan_wake.specs.Laws.Wake.{woken-keys, woken-floored}
-use Rattle.plan_active.specs.Flags.{activeFlags, MatesListed, joinedActive, mergedFlags}
+use Rattle.plan_active.specs.Flags.{activeFlags, MatesListed, joinedActive, relabelledFirst, mergedFlags}
 use Rattle.plan_active.specs.Laws.Merged.{flags-merged}
 use Rattle.plan_growth.specs.Tables.{settledAt, turnedTo}
 use Rattle.plan_growth.specs.Laws.Loads.{label-own, turned-own, turned-other, length-turned, load-timely, load-joined, load-other}
 use Rattle.plan_growth.specs.Laws.Clock.{settled-next, timely-next}
-use Rattle.plan_growth.specs.Represents.{winnerEdge, pickAt, heldLoad, Arrays, arraysFrom, roundsAfter, timeAfter, Represents}
+use Rattle.plan_growth.specs.Represents.{winnerEdge, pickAt, heldLabel, heldLoad, Arrays, arraysFrom, roundsAfter, timeAfter, Represents}
 use Rattle.theory_steiner.specs.Minima.{winnerDelay}
 
 -- A flag of 1 stands for the test.
@@ -74,8 +72,8 @@ below-more k r d = by (lt-or-ge k r)
     by (inr h) = le-ltb k r h ∙ sym (le-ltb k (r + 1) (omega (arith, d)))
 
 -- Flags by labels in a buffer say which components are active.
-module _ (s : Survey) (plain : s .owners ≡ []) (few : length (s .groups) ≤ maxVertices) (label : ℕ → ℕ) {labels flags : List ℕ} (l : labels ≡ tabulate maxVertices label)
-    (f : flags ≡ activeFlags (s .groups) labels) (c : ℕ) (b : c < maxDuals) where
+module _ (s : Survey) (plain : s .owners ≡ []) (few : length (s .groups) ≤ maxVertices) (label : ℕ → ℕ) (labels : List ℕ) {flags : List ℕ}
+    (l : (v : ℕ) → v < length (s .groups) → getD labels v 0 ≡ label v) (f : flags ≡ activeFlags (s .groups) labels) (c : ℕ) (b : c < maxDuals) where
   flag-counted : getD flags c 0 ≡ counted (active (problemOf s) label c) 1
   unfolding activeFlags problemOf vertexCount
   flag-counted =
@@ -83,7 +81,7 @@ module _ (s : Survey) (plain : s .owners ≡ []) (few : length (s .groups) ≤ m
       ∙ getD-tabulate maxDuals _ c 0 b
       ∙ ap (λ t. counted t 1)
       (active-groups s plain (λ v. getD labels v 0) c
-      ∙ active-cong (problemOf s) (λ v. getD labels v 0) label c (λ v q. ap (λ t. getD t v 0) l ∙ getD-tabulate maxVertices label v 0 (omega arith)))
+      ∙ active-cong (problemOf s) (λ v. getD labels v 0) label c l)
 
   flag-active : eqb (getD flags c 0) 1 ≡ active (problemOf s) label c
   flag-active = ap (λ x. eqb x 1) flag-counted ∙ flag-is (active (problemOf s) label c)
@@ -122,7 +120,12 @@ module _ {s : Survey} {r time : ℕ} {a : Arrays} (h : Represents s r time a) wh
   going = let some = h .sound .some in let e = vertices-are in let q = h .rounds-are in omega (arith, rounds-lt p ok (omega arith) reached)
 
   label-at : (v : ℕ) → v < n → getD (a .labels) v 0 ≡ S .label v
-  label-at v b = let few = h .sound .few in ap (λ t. getD t v 0) (h .labels-are) ∙ getD-tabulate maxVertices (S .label) v 0 (omega arith)
+  unfolding heldLabel problemOf vertexCount
+  label-at v b =
+      let few = h .sound .few in
+      ap (λ t. getD t v 0) (h .labels-are)
+      ∙ getD-tabulate maxVertices (heldLabel p S) v 0 (omega arith)
+      ∙ ap (λ t. cond t (S .label v) v) (lt-ltb v n b)
 
   label-small : (v : ℕ) → v < n → S .label v < maxDuals
   unfolding numbers
@@ -186,7 +189,7 @@ module _ {s : Survey} {r time : ℕ} {a : Arrays} (h : Represents s r time a) wh
     tables = tablesFrom (s .firsts) (s .seconds) (s .weights) (a .labels) (a .loads) flags
 
     pub flag-at : (c : ℕ) → c < maxDuals → eqb (getD flags c 0) 1 ≡ active p (S .label) c
-    flag-at c b = flag-active s (h .plain) (h .sound .few) (S .label) (h .labels-are) f c b
+    flag-at c b = flag-active s (h .plain) (h .sound .few) (S .label) (a .labels) label-at f c b
 
     delay-at : (e : ℕ) → e < length (s .firsts) → delayBy tables time e ≡ delay p S e
     unfolding delayBy firstBy secondBy endAt delayBetween slackBetween delay slack problemOf
@@ -272,8 +275,9 @@ module _ {s : Survey} {r time : ℕ} {a : Arrays} (h : Represents s r time a) wh
         let k : S .label v < numbers p S = let e = vertices-are in label-below p reached v (omega arith) in
         omega (arith, numbers-are, label-at v b)
 
-    labels-next : relabelled (getD (a .labels) (getD (s .firsts) e 0) 0) (getD (a .labels) (getD (s .seconds) e 0) 0) (n + r) (a .labels) ≡ tabulate maxVertices (stateAt p (r + 1) .label)
-    unfolding problemOf
+    labels-next : relabelledFirst n (getD (a .labels) (getD (s .firsts) e 0) 0) (getD (a .labels) (getD (s .seconds) e 0) 0) (n + r) (a .labels)
+        ≡ tabulate maxVertices (heldLabel p (stateAt p (r + 1)))
+    unfolding problemOf vertexCount relabelledFirst heldLabel merged
     labels-next =
         let u = getD (s .firsts) e 0 in
         let v = getD (s .seconds) e 0 in
@@ -281,16 +285,34 @@ module _ {s : Survey} {r time : ℕ} {a : Arrays} (h : Represents s r time a) wh
           label-at u (h .sound .edges e winner-edge .first-below),
           label-at v (h .sound .edges e winner-edge .second-below),
         )
-        (relabelled-table (S .label u) (S .label v) (n + r) maxVertices (S .label) (h .labels-are)
-        ∙ tabulate-cong
+        (remade-part
+        (λ i. merged (S .label u) (S .label v) (n + r) (λ l. l))
+        n
         maxVertices
-        _
-        _
-        (λ x _.
-        sym
-        (ap (λ t. t .label x) state-next
-        ∙ pick-label p S e d x
-        ∙ ap (λ z. merged (S .label u) (S .label v) z (S .label) x) numbers-are)))
+        (a .labels)
+        (heldLabel p (stateAt p (r + 1)))
+        (ap length (h .labels-are) ∙ length-tabulate maxVertices _)
+        (h .sound .few)
+        (λ i b.
+        rw (label-at i b, lt-ltb i n b)
+        (sym
+        (ap (λ t. t .label i) state-next
+        ∙ pick-label p S e d i
+        ∙ ap (λ z. merged (S .label u) (S .label v) z (S .label) i) numbers-are)))
+        (λ i b c.
+        ap (λ t. getD t i 0) (h .labels-are)
+        ∙ getD-tabulate maxVertices (heldLabel p S) i 0 c
+        ∙ ap (λ t. cond t (S .label i) i) (le-ltb i n b)
+        ∙ sym (ap (λ t. cond t (stateAt p (r + 1) .label i) i) (le-ltb i n b))))
+
+    -- The labels after the round, as they are read.
+    label-after : {labels : List ℕ} → labels ≡ tabulate maxVertices (heldLabel p (stateAt p (r + 1))) → (v : ℕ) → v < n → getD labels v 0 ≡ stateAt p (r + 1) .label v
+    unfolding heldLabel problemOf vertexCount
+    label-after l v b =
+        let few = h .sound .few in
+        ap (λ t. getD t v 0) l
+        ∙ getD-tabulate maxVertices (heldLabel p (stateAt p (r + 1))) v 0 (omega arith)
+        ∙ ap (λ t. cond t (stateAt p (r + 1) .label v) v) (lt-ltb v n b)
 
     picked-next : set (a .picked) e 1 ≡ tabulate maxEdges (λ f. counted (stateAt p (r + 1) .picked f) 1)
     picked-next =
@@ -331,18 +353,18 @@ module _ {s : Survey} {r time : ℕ} {a : Arrays} (h : Represents s r time a) wh
         omega (arith, rounds-lt p ok (omega arith) (stateAt-reached p (r + 1)), rounds-next)
 
     -- The new component's flag, by the flags that the round leaves.
-    flag-next : {labels flags : List ℕ} {flag : ℕ} (x y : ℕ) → labels ≡ tabulate maxVertices (stateAt p (r + 1) .label) → flags ≡ activeFlags (s .groups) labels
+    flag-next : {labels flags : List ℕ} {flag : ℕ} (x y : ℕ) → labels ≡ tabulate maxVertices (heldLabel p (stateAt p (r + 1))) → flags ≡ activeFlags (s .groups) labels
         → flags ≡ mergedFlags x y (n + r) flag (a .flags) → flag ≡ counted (active p (pick p S e d .label) (numbers p S)) 1
     flag-next {labels} {flags} {flag} x y l f made =
         sym (flag-stored x y (n + r) flag (a .flags) (rw flags-long merged-below))
         ∙ ap (λ l. getD l (n + r) 0) (sym made)
-        ∙ flag-counted s (h .plain) (h .sound .few) (stateAt p (r + 1) .label) l f (n + r) merged-below
+        ∙ flag-counted s (h .plain) (h .sound .few) (stateAt p (r + 1) .label) labels (label-after l) f (n + r) merged-below
         ∙ ap (λ (t : State). counted (active p (t .label) (n + r)) 1) state-next
         ∙ ap (λ c. counted (active p (pick p S e d .label) c) 1) (sym numbers-are)
 
     -- What is held for the values, settled where the round changes it.
     values-next : {labels flags values : List ℕ} (x y : ℕ) → x ≡ S .label (p .first e) → y ≡ S .label (p .second e)
-        → labels ≡ tabulate maxVertices (stateAt p (r + 1) .label) → flags ≡ activeFlags (s .groups) labels
+        → labels ≡ tabulate maxVertices (heldLabel p (stateAt p (r + 1))) → flags ≡ activeFlags (s .groups) labels
         → values ≡ settledAt flags (time + d) (n + r) (settledAt (a .flags) (time + d) y (settledAt (a .flags) (time + d) x (a .values)))
         → values ≡ tabulate maxDuals (λ c. heldValue (time + d) (active p (stateAt p (r + 1) .label) c) (stateAt p (r + 1) .value c))
     unfolding settledAt problemOf
@@ -360,7 +382,7 @@ module _ {s : Survey} {r time : ℕ} {a : Arrays} (h : Represents s r time a) wh
         (sym numbers-are)
         (ap (λ c. eqb (getD (a .flags) c 0) 1) x-is ∙ flag-at (h .flags-are) (S .label (getD (s .firsts) e 0)) small-x)
         (ap (λ c. eqb (getD (a .flags) c 0) 1) y-is ∙ flag-at (h .flags-are) (S .label (getD (s .seconds) e 0)) small-y)
-        (flag-active s (h .plain) (h .sound .few) (stateAt p (r + 1) .label) l f (n + r) merged-below
+        (flag-active s (h .plain) (h .sound .few) (stateAt p (r + 1) .label) labels (label-after l) f (n + r) merged-below
         ∙ ap (λ (t : State). active p (t .label) (n + r)) state-next
         ∙ ap (active p (pick p S e d .label)) (sym numbers-are))
         refl
@@ -432,7 +454,7 @@ module _ {s : Survey} {r time : ℕ} {a : Arrays} (h : Represents s r time a) wh
           → settledBy (time + d) (not (eqb (getD (a .flags) c 0) flag)) (getD (a .loads) v 0) ≡ heldLoad p (pick p S e d) (time + d) v
       load-next v c b q old =
           let k = vertices-are in
-          rw (← q, held-at v b, flag-counted s (h .plain) (h .sound .few) (S .label) (h .labels-are) (h .flags-are) (S .label v) (label-small v b), flag-is)
+          rw (← q, held-at v b, flag-counted s (h .plain) (h .sound .few) (S .label) (a .labels) label-at (h .flags-are) (S .label v) (label-small v b), flag-is)
           (load-joined p ok reached e d time v (omega arith) (h .loads-timely v (omega arith)) (rw (← q) at old))
 
       both-at : (v : ℕ) → v < n → getD both v 0 ≡ heldLoad p (pick p S e d) (time + d) v
@@ -554,7 +576,7 @@ module _ {s : Survey} {r time : ℕ} {a : Arrays} (h : Represents s r time a) wh
           → u ≡ getD (s .firsts) e 0
           → v ≡ getD (s .seconds) e 0
           → MatesListed (s .groups) mates members count
-          → (labels ≡ relabelled (getD (a .labels) u 0) (getD (a .labels) v 0) (n + r) (a .labels))
+          → (labels ≡ relabelledFirst n (getD (a .labels) u 0) (getD (a .labels) v 0) (n + r) (a .labels))
           × (flags ≡ mergedFlags (getD (a .labels) u 0) (getD (a .labels) v 0) (n + r) (counted (joinedActive mates (a .labels) members count u v) 1) (a .flags))
           → (values ≡ settledAt flags (time + d) (n + r)
           (settledAt (a .flags) (time + d) (getD (a .labels) v 0) (settledAt (a .flags) (time + d) (getD (a .labels) u 0) (a .values))))
@@ -567,7 +589,7 @@ module _ {s : Survey} {r time : ℕ} {a : Arrays} (h : Represents s r time a) wh
       round-won {e} {d} {count} {labels} {flags = flags} {mates} {members} u v t woken u-is v-is mates-are made values-made loads-made noted =
           let w = won t in
           let ends = h .sound .edges e (winner-edge w) in
-          let labels-made : labels ≡ tabulate maxVertices (stateAt p (r + 1) .label) = made .0 ∙ rw (u-is, v-is) (labels-next w) in
+          let labels-made : labels ≡ tabulate maxVertices (heldLabel p (stateAt p (r + 1))) = made .0 ∙ rw (u-is, v-is) (labels-next w) in
           let flags-made : flags ≡ activeFlags (s .groups) labels =
           flags-merged (s .groups) (a .labels) (h .sound .few) (ap length (h .labels-are) ∙ length-tabulate maxVertices _)
           mates-are

@@ -4,7 +4,7 @@ use Prim.Native.Nat.{ℕ, suc, _+_, _*_, _-_, _<_, _≤_, _^_}
 use native.Mathlib.Omega.{arith}
 use mathlib.Core.Path.{_≡_, refl, ap, sym, _∙_}
 use mathlib.Core.Logic.{_⊎_, inl, inr}
-use mathlib.Core.Bool.{Bool, true, false}
+use mathlib.Core.Bool.{Bool, true, false, cond}
 use mathlib.Core.List.{[], List}
 use lib.ListN.{length, getD, replicate, List·getD-eq-default}
 use lib.Dec.{eqb, ltb}
@@ -29,11 +29,10 @@ use Rattle.plan_winner.specs.Laws.Scan.{keyed-start, floored-start}
 use Rattle.plan_delay.specs.Between.{delayIn}
 use Rattle.plan_delay.specs.declared.Delay.{Delay}
 use Rattle.plan_delay.specs.declared.Delay.the-variants.{Never, After}
-use Rattle.plan_growth.specs.declared.Growth.{Growth}
 use Rattle.plan_delay.specs.Held.{heldValue, settledBy}
 use Rattle.plan_delay.specs.Laws.Held.{held-settled}
 use Rattle.plan_growth.specs.Tables.{settledValues, SumFits}
-use Rattle.plan_growth.specs.Represents.{winnerEdge, pickAt, heldLoad, Arrays, arraysFrom, roundsAfter, timeAfter, Represents}
+use Rattle.plan_growth.specs.Represents.{winnerEdge, pickAt, heldLabel, heldLoad, Arrays, arraysFrom, roundsAfter, timeAfter, Represents}
 use Rattle.theory_steiner.specs.Minima.{winnerDelay}
 use Rattle.plan_growth.specs.Grown.{growthFrom, GrownAfter}
 use Rattle.plan_growth.specs.Laws.Round.{going, weights-light, flag-at}
@@ -49,6 +48,14 @@ held-zero : (t : Bool) → heldValue 0 t 0 ≡ 0
 unfolding heldValue
 held-zero true = refl
 held-zero false = refl
+
+label-start : (p : Problem) (v : ℕ) → v ≡ heldLabel p start v
+unfolding heldLabel start
+label-start p v = by (ltb v (p .vertices))
+  where
+    by : (t : Bool) → v ≡ cond t v v
+    by true = refl
+    by false = refl
 
 held-start : (p : Problem) (v : ℕ) → heldLoad p start 0 v ≡ 0
 unfolding heldLoad start
@@ -76,7 +83,7 @@ represents-start {s} sound plain h f =
       sound = sound;
       plain = plain;
       rounds-are = refl;
-      labels-are = h ∙ remade-table (λ v x. v) maxVertices _ (λ v. v) refl (λ v b. refl);
+      labels-are = h ∙ remade-table (λ v x. v) maxVertices _ (heldLabel (problemOf s) start) refl (λ v b. label-start (problemOf s) v);
       loads-are =
           replicate-table maxVertices 0 ∙ tabulate-cong maxVertices _ _ (λ v _. sym (none (ltb v (problemOf s .vertices)) (held-start (problemOf s) v)));
       loads-timely = λ v _. omega (arith, load-start (problemOf s) v);
@@ -195,32 +202,27 @@ module _ {s : Survey} {r time : ℕ} {a : Arrays} (h : Represents s r time a) wh
         (sum-cong (length (s .groups) + r) (λ c. getD values c 0) (stateAt (problemOf s) r .value) (λ c k. value-at c (omega arith)))
 
     -- With no candidate left this is the growth.
-    grown-still : {g : Growth} {picked order : List ℕ} → picked ≡ a .picked → order ≡ a .order → winner (problemOf s) (stateAt (problemOf s) r) ≡ nobody
-        → g ≡ growthFrom r (sumBelow (length (s .groups) + r) (λ c. getD values c 0)) values picked order
-        → GrownAfter (problemOf s) (length (s .groups)) g
-    grown-still picks in-order w e =
+    grown-still : {bound : ℕ} {picked order : List ℕ} → picked ≡ a .picked → order ≡ a .order → winner (problemOf s) (stateAt (problemOf s) r) ≡ nobody
+        → bound ≡ sumBelow (length (s .groups) + r) (λ c. getD values c 0) → GrownAfter (problemOf s) (length (s .groups)) (growthFrom r bound values picked order)
+    grown-still picks in-order w summed =
         let p = problemOf s in
         let still = sym (stateAt-last p r (length (s .groups)) w (omega (arith, going h))) in
-        rw
-        e
-        (record {
+        record {
           rounds-are = sym (h .rounds-are) ∙ ap (λ t. t .rounds) still;
-          bound-is = bound-at ∙ ap (dualBound p) still;
+          bound-is = summed ∙ bound-at ∙ ap (dualBound p) still;
           values-are = values-settled ∙ ap (λ t. tabulate maxDuals (t .value)) still;
           picked-are = picks ∙ h .picked-are ∙ ap (λ t. tabulate maxEdges (λ i. counted (t .picked i) 1)) still;
           order-is = in-order ∙ h .order-is ∙ tabulate-cong maxVertices _ _ (λ i _. last-picks p r (length (s .groups)) w (omega (arith, going h)) i);
-        })
+        }
 
     -- A round without a winner was the last.
-    pub grown-end : {x : Delay} {g : Growth} {picked order : List ℕ} → picked ≡ a .picked → order ≡ a .order
+    pub grown-end : {x : Delay} {bound : ℕ} {picked order : List ℕ} → picked ≡ a .picked → order ≡ a .order
         → delayIn x ≡ winnerDelay (winner (problemOf s) (stateAt (problemOf s) r)) → x ≡ Never
-        → g ≡ growthFrom r (sumBelow (length (s .groups) + r) (λ c. getD values c 0)) values picked order
-        → GrownAfter (problemOf s) (length (s .groups)) g
+        → bound ≡ sumBelow (length (s .groups) + r) (λ c. getD values c 0) → GrownAfter (problemOf s) (length (s .groups)) (growthFrom r bound values picked order)
     unfolding delayIn
     grown-end picks in-order delays t =
         grown-still picks in-order (no-win (winner (problemOf s) (stateAt (problemOf s) r)) (sym (ap delayIn t) ∙ delays))
 
-    pub grown-full : {g : Growth} {picked order : List ℕ} → picked ≡ a .picked → order ≡ a .order → length (s .groups) - 1 ≤ r
-        → g ≡ growthFrom r (sumBelow (length (s .groups) + r) (λ c. getD values c 0)) values picked order
-        → GrownAfter (problemOf s) (length (s .groups)) g
+    pub grown-full : {bound : ℕ} {picked order : List ℕ} → picked ≡ a .picked → order ≡ a .order → length (s .groups) - 1 ≤ r
+        → bound ≡ sumBelow (length (s .groups) + r) (λ c. getD values c 0) → GrownAfter (problemOf s) (length (s .groups)) (growthFrom r bound values picked order)
     grown-full picks in-order b = grown-still picks in-order (all-merged b)
