@@ -225,7 +225,16 @@ fn round(
     let Winner::Edge { e, d } = found else {
         return Delay::Never;
     };
-    plan_wake::wake_joined(firsts, seconds, labels, flags, groups.len(), e, keys, floors);
+    plan_wake::wake_joined(
+        firsts,
+        seconds,
+        labels,
+        flags,
+        groups.len(),
+        e,
+        keys,
+        floors,
+    );
     let z = (groups.len() + r) as u32;
     join(
         values,

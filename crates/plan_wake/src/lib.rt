@@ -47,7 +47,14 @@ fn ends_at(firsts: &[u32], seconds: &[u32], c: u32, e: usize) -> bool
 }
 
 // Edge e is woken if it ends at c.
-fn wake_edge(firsts: &[u32], seconds: &[u32], c: u32, keys: &mut [u64], floors: &mut [u64], e: usize)
+fn wake_edge(
+    firsts: &[u32],
+    seconds: &[u32],
+    c: u32,
+    keys: &mut [u64],
+    floors: &mut [u64],
+    e: usize,
+)
     ensures { λ r.
         let s = wokenEdge (endsAt (old firsts) (old seconds) c) (notesFrom (old keys) (old floors)) e in
         ⌜ notesFrom (new keys) (new floors) ≡ s ⌝ }
@@ -124,7 +131,15 @@ fn wake_ends(firsts: &[u32], seconds: &[u32], c: u32, keys: &mut [u64], floors: 
         wake_block(firsts, seconds, c, keys, floors, BLOCK_EDGES * b);
         b += 1;
     }
-    wake_edges(firsts, seconds, c, keys, floors, BLOCK_EDGES * b, firsts.len());
+    wake_edges(
+        firsts,
+        seconds,
+        c,
+        keys,
+        floors,
+        BLOCK_EDGES * b,
+        firsts.len(),
+    );
 }
 
 // The edges at vertex c, if it is idle.
