@@ -1,2 +1,2 @@
-pub mod Duals
+pub mod Counts
 pub mod Stage

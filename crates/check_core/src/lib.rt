@@ -2,15 +2,12 @@
 ghost use Rattle.base_buffer.specs.Lent.{old};
 ghost use mathlib.Core.Path.{_≡_};
 ghost use mathlib.Core.List.{[]};
-ghost use Prim.Native.Nat.{_≤_, _/_};
-ghost use lib.ListN.{length};
-ghost use Rattle.base_limits.specs.Limits.{maxDuals, recordBytes};
 ghost use Rattle.base_limits.specs.Verdict.{outcome, answer};
-ghost use Rattle.survey_core.specs.Survey.{surveyFrom, lentSurvey, lentWith};
+ghost use Rattle.survey_core.specs.Survey.{surveyFrom, lentWith};
 ghost use Rattle.survey_core.specs.Accuracy.{Accurate};
 ghost use Rattle.check_rule.specs.Passing.{Passing};
 ghost use Rattle.check_rule.specs.Check.{Checked, ruleRefusal, checkedOf, checking};
-ghost use Rattle.check_core.specs.Stage.{inputRefusal, dualsRefusal, PlanFits, checkedOutcome};
+ghost use Rattle.check_core.specs.Stage.{inputRefusal, PlanFits, checkedOutcome};
 use base_limits::Verdict;
 use survey_components::Chosen;
 
@@ -53,28 +50,6 @@ fn input_refusal(
         return unshaped;
     };
     check_marks::marks_refusal(firsts.len(), marks)
-}
-
-// 11, 12 and 13.
-fn duals_refusal(
-    groups: &[u8],
-    firsts: &[u32],
-    seconds: &[u32],
-    weights: &[u32],
-    records: &[u8],
-) -> Verdict
-    requires { ⌜ length (now records) / recordBytes ≤ maxDuals ⌝ }
-    ensures { λ r. ⌜ r ≡ dualsRefusal (lentSurvey groups firsts seconds weights) (old records) ⌝ }
-{
-    let unfit = check_values::values_refusal(groups, records);
-    let Verdict::Fine = unfit else {
-        return unfit;
-    };
-    let whole = check_cuts::cuts_refusal(groups, records);
-    let Verdict::Fine = whole else {
-        return whole;
-    };
-    duals::loads_refusal(firsts, seconds, weights, records)
 }
 
 // The counts, if the accuracy rule's premise holds of them; else 15.
@@ -134,7 +109,7 @@ pub fn check(
     }
     let poured = survey_pour::pour(groups, owners, others);
     let n = groups.len();
-    let unsound = duals_refusal(&poured[0..n], firsts, seconds, weights, records);
+    let unsound = check_duals::duals_refusal(&poured[0..n], firsts, seconds, weights, records);
     if let Verdict::Refused { number, place } = unsound {
         return Checking::Refused { number, place };
     }

@@ -24,9 +24,11 @@ use Rattle.survey_lists.specs.Pouring.{pouredGroups, pouredSurvey}
 use Rattle.survey_lists.specs.Laws.Pouring.{length-poured}
 use Rattle.survey_lists.specs.Laws.Plan.{poured-sound, poured-separates, poured-plan}
 use Rattle.check_rule.specs.Check.{Checked, dualAt, dualsIn, keptBy, shapeRefusal, dualRefusal, ruleRefusal, checkedOf, checkRefusal, checking}
-use Rattle.check_core.specs.Stage.{checkedAs, inputRefusal, dualsRefusal, PlanFits}
+use Rattle.check_duals.specs.Duals.{dualsRefusal}
+use Rattle.check_duals.specs.Laws.Duals.{duals-fit}
+use Rattle.check_core.specs.Stage.{checkedAs, inputRefusal, PlanFits}
 use Rattle.check_rule.specs.Laws.Meaning.{fine-shape}
-use Rattle.check_core.specs.Laws.Duals.{duals-fit, counts-fit}
+use Rattle.check_core.specs.Laws.Counts.{counts-fit}
 
 module _ (s : Survey) (marks records : List ℕ) where
   check-stages : checkRefusal s marks records

@@ -20,9 +20,10 @@ use Rattle.format_survey.specs.Laws.Longest.{longest-read}
 use Rattle.survey_core.specs.Survey.{Survey, edgeCount}
 use Rattle.survey_core.specs.Sound.{ByteGroups}
 use Rattle.check_rule.specs.Check.{Checked, dualAt, checkedOf, checking}
-use Rattle.check_core.specs.Stage.{DualsFit, CountsFit}
+use Rattle.check_duals.specs.Duals.{DualsFit}
+use Rattle.check_core.specs.Stage.{CountsFit}
 use Rattle.check_rule.specs.Laws.Accuracy.{checking-passing}
-use Rattle.check_core.specs.Laws.Duals.{counts-fit}
+use Rattle.check_core.specs.Laws.Counts.{counts-fit}
 use Rattle.format_plan.specs.Plan.{Claims, planAt}
 use Rattle.check_text.specs.Verify.{surveyIn, planVerified, planFrom, verifiedFrom, verifying}
 use Rattle.check_text.specs.Laws.Verify.{claim-fine, room-suffices}

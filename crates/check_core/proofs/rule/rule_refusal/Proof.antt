@@ -3,7 +3,7 @@ use native.Mathlib.Omega.{arith}
 use mathlib.Core.Path.{sym}
 use borrow.Author.Needs.{needs}
 use Rattle.check_rule.specs.Laws.Refusal.{rule-none, rule-cost, rule-exceeded, rule-met}
-use Rattle.check_core.specs.Laws.Duals.{product-fits}
+use Rattle.check_core.specs.Laws.Counts.{product-fits}
 use Rattle.check_core.proofs.rule.rule_refusal.Statement.{statement}
 use Rattle.check_core.proofs.rule.rule_refusal.Tie as tie
 

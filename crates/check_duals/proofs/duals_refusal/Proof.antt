@@ -6,51 +6,55 @@ use Rattle.theory_steiner.specs.Dual.{dualLoad}
 use Rattle.theory_steiner.specs.Problem.{separates}
 use Rattle.survey_core.specs.Survey.{vertexCount, edgeCount, member, sameGroup, problemOf}
 use Rattle.check_rule.specs.Check.{dualRefusal}
-use Rattle.check_core.specs.Stage.{dualsRefusal}
-use Rattle.check_core.specs.Laws.Duals.{duals-fit}
-use Rattle.check_core.proofs.duals_refusal.Statement.{statement}
-use Rattle.check_core.proofs.duals_refusal.Tie as tie
+use Rattle.check_duals.specs.Duals.{dualsRefusal}
+use Rattle.check_duals.specs.Laws.Duals.{duals-fit, few-duals, many-duals}
+use Rattle.check_duals.proofs.duals_refusal.Statement.{statement}
+use Rattle.check_duals.proofs.duals_refusal.Tie as tie
 
-enum-told : tie.Need-enum-told
-enum-told c = search needs
+-- too many
+returns : tie.Need-returns
+returns c = sym (many-duals _ _ (c .if1 .taken))
 
 -- 11
-returns : tie.Need-returns
-unfolding dualsRefusal dualRefusal separates dualLoad problemOf vertexCount edgeCount sameGroup member
-returns c = passed-on (c .before .before .values-refusal .ensures) (c .enum-told2 .given .1) _
-
--- 12
 returns-2 : tie.Need-returns-2
 unfolding dualsRefusal dualRefusal separates dualLoad problemOf vertexCount edgeCount sameGroup member
 returns-2 c =
+    passed-on (c .before .before .values-refusal .ensures) (c .enum-told2 .given .1) _ ∙ sym (few-duals _ _ (c .before .before .before .if1 .left))
+
+-- 12
+returns-3 : tie.Need-returns-3
+unfolding dualsRefusal dualRefusal separates dualLoad problemOf vertexCount edgeCount sameGroup member
+returns-3 c =
     let found = c .before .before .before in
     goes-on (found .before .before .values-refusal .ensures) (found .enum-told .given .1) (passed-on (c .before .before .cuts-refusal .ensures) (c .enum-told4 .given .1) _)
+    ∙ sym (few-duals _ _ (found .before .before .before .if1 .left))
 
 loads-refusal-requires : tie.Need-loads-refusal-requires
 loads-refusal-requires c κs =
     let found = c .before .before .before in
-    let start = found .before .before .before .before .before .before .before .before in
-    duals-fit _ _ (start .pre) (sym (found .before .before .values-refusal .ensures) ∙ found .enum-told .given .1)
+    duals-fit _ _ (found .before .before .before .if1 .left) (sym (found .before .before .values-refusal .ensures) ∙ found .enum-told .given .1)
 
 -- 13 or nothing
-returns-3 : tie.Need-returns-3
+returns-4 : tie.Need-returns-4
 unfolding dualsRefusal dualRefusal separates dualLoad problemOf vertexCount edgeCount sameGroup member
-returns-3 c =
+returns-4 c =
     let found = c .before .before .before .before in
     goes-on (found .before .before .values-refusal .ensures) (found .enum-told .given .1)
     (goes-on (c .before .before .before .cuts-refusal .ensures) (c .before .enum-told3 .given .1) (c .loads-refusal .ensures))
+    ∙ sym (few-duals _ _ (found .before .before .before .if1 .left))
 
 pub duals-refusal-spec : {M : Type 1} → statement M
 duals-refusal-spec =
     tie.close
     (tie.spec
-    (λ c κs. search needs)
-    enum-told
-    (λ c. search needs)
     returns
     (λ c κs. search needs)
     (λ c. search needs)
     (λ c. search needs)
     returns-2
+    (λ c κs. search needs)
+    (λ c. search needs)
+    (λ c. search needs)
+    returns-3
     loads-refusal-requires
-    returns-3)
+    returns-4)

@@ -8,11 +8,11 @@ use Rattle.base_limits.specs.Verdict.{refuseIf}
 use Rattle.theory_steiner.specs.Dual.{dualLoad}
 use Rattle.survey_core.specs.Survey.{surveyFrom, problemOf}
 use Rattle.check_rule.specs.Check.{dualsIn}
-use Rattle.check_core.specs.Laws.Duals.{load-item}
+use Rattle.check_duals.specs.Laws.Duals.{load-item}
 use Rattle.base_limits.specs.Laws.Verdict.{Scanned, scan-start, scan-turn, scan-found, scan-end}
 use borrow.Author.Needs.{needs}
-use Rattle.check_core.proofs.duals.loads_refusal.Statement.{statement}
-use Rattle.check_core.proofs.duals.loads_refusal.Tie as tie
+use Rattle.check_duals.proofs.loads_refusal.Statement.{statement}
+use Rattle.check_duals.proofs.loads_refusal.Tie as tie
 
 abbrev Inv-loop : tie.InvT-loop
 Inv-loop firsts seconds weights records e₀ e = Scanned (length firsts) (λ e. refuseIf (ltb (2 * getD weights e 0) (dualLoad (problemOf (surveyFrom [] firsts seconds weights)) (dualsIn records) e)) 13 e) e

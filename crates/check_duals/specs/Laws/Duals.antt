@@ -1,29 +1,27 @@
 -- Sums over the duals of a buffer of records, as a loop over the records gathers them, and their limits: no sum wraps.
-use Prim.Native.Nat.{ℕ, _+_, _*_, _-_, _/_, _<_, _≤_, _^_}
+use Prim.Native.Nat.{ℕ, _+_, _*_, _/_, _<_, _≤_}
 use native.Mathlib.Omega.{arith}
-use native.Mathlib.Nat.{mul-le-mul}
 use mathlib.Core.Path.{_≡_, ap, ap₂, sym, _∙_}
-use mathlib.Core.Bool.{Bool, true}
+use mathlib.Core.Bool.{Bool}
 use mathlib.Core.List.{List}
 use lib.ListN.{length, getD}
 use lib.Dec.{ltb}
+use borrow.Author.Tests.{le-leb, lt-leb}
 use Rattle.base_finite.specs.Below.{counted, sumBelow}
-use Rattle.base_finite.specs.Laws.Below.{counted-le, count-le, sum-limit}
-use Rattle.base_limits.specs.Limits.{maxVertices, maxWeight, maxValue, recordBytes, maxDuals}
+use Rattle.base_finite.specs.Laws.Below.{counted-le, sum-limit}
+use Rattle.base_limits.specs.Limits.{maxValue, recordBytes, maxDuals}
 use Rattle.theory_graph.specs.Path.{crosses}
 use Rattle.base_limits.specs.Verdict.{refuseIf, lowestBelow}
 use Rattle.base_limits.specs.declared.Verdict.{Verdict}
 use Rattle.base_limits.specs.declared.Verdict.the-variants.{Fine}
 use Rattle.base_limits.specs.Laws.Verdict.{none-lowest}
 use Rattle.format_record.specs.Record.{valueIn, memberIn, recordAt}
-use Rattle.theory_steiner.specs.Problem.{terminal, terminals, cost}
-use Rattle.theory_steiner.specs.Dual.{weigh, total, dualLoad}
+use Rattle.theory_steiner.specs.Dual.{weigh, dualLoad}
 use Rattle.theory_steiner.specs.Laws.Dual.{weigh-tabulate}
-use Rattle.survey_core.specs.Survey.{Survey, vertexCount, edgeCount, problemOf}
+use Rattle.survey_core.specs.Survey.{Survey, problemOf}
 use Rattle.base_finite.specs.Laws.Count.{sum-end}
-use Rattle.survey_core.specs.Sound.{SurveySound}
-use Rattle.check_rule.specs.Check.{dualAt, dualsIn, keptBy, dualRefusal}
-use Rattle.check_core.specs.Stage.{loadBetween, DualsFit, CountsFit}
+use Rattle.check_rule.specs.Check.{dualAt, dualsIn, dualRefusal}
+use Rattle.check_duals.specs.Duals.{loadBetween, DualsFit, dualsRefusal, fewDualsRefusal}
 use Rattle.check_rule.specs.Laws.Meaning.{fine-dual}
 
 -- What record i adds to the duals that pass the test.
@@ -84,28 +82,11 @@ duals-fit s records few h =
       small = λ i b. fine-dual s (dualAt records i) i (none-lowest (length records / recordBytes) (λ i. dualRefusal s (dualAt records i) i) h i b) .small;
     }
 
--- 1 to 11 leave counts whose products fit 64 bits.
-pub counts-fit : (s : Survey) (marks records : List ℕ) → SurveySound s → DualsFit records
-    → CountsFit (terminals (problemOf s)) (cost (problemOf s) (keptBy marks)) (total (dualsIn records))
-unfolding terminals cost total problemOf vertexCount edgeCount
-counts-fit s marks records sound fit =
-    record {
-      terminals-few = omega (arith, count-le (length (s .groups)) (terminal (problemOf s)), sound .few);
-      cost-small =
-          omega (
-            arith,
-            sum-limit
-                (length (s .firsts))
-                maxWeight
-                (λ e. counted (keptBy marks e) (getD (s .weights) e 0))
-                (λ e b. omega (arith, counted-le (keptBy marks e) (getD (s .weights) e 0), sound .edges e b .weight-le)),
-            sound .edges-few,
-          );
-      bound-small = weigh-limit records fit (λ S. true);
-    }
+-- With no more moats than a plan has, 11 to 13 are told; with more, nothing.
+pub few-duals : (s : Survey) (records : List ℕ) → length records / recordBytes ≤ maxDuals → fewDualsRefusal s records ≡ dualsRefusal s records
+unfolding fewDualsRefusal
+few-duals s records h = rw (le-leb (length records / recordBytes) maxDuals h)
 
--- The product of a count of vertices and of a sum within these limits.
-pub product-fits : {a b : ℕ} → a ≤ maxVertices → b < 2 ^ 48 → a * b < 2 ^ 64
-product-fits {a} {b} h k =
-    let l : b ≤ 2 ^ 48 = omega arith in
-    omega (arith, mul-le-mul h l)
+pub many-duals : (s : Survey) (records : List ℕ) → maxDuals < length records / recordBytes → fewDualsRefusal s records ≡ Fine
+unfolding fewDualsRefusal
+many-duals s records h = rw (lt-leb (length records / recordBytes) maxDuals h)

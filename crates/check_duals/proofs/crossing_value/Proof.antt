@@ -3,8 +3,8 @@ use mathlib.Core.Bool.{xor}
 use mathlib.Core.Path.{ap₂, sym, _∙_}
 use borrow.Author.Needs.{needs}
 use Rattle.base_finite.specs.Laws.Below.{counted-true, counted-false}
-use Rattle.check_core.proofs.duals.crossing_value.Statement.{statement}
-use Rattle.check_core.proofs.duals.crossing_value.Tie as tie
+use Rattle.check_duals.proofs.crossing_value.Statement.{statement}
+use Rattle.check_duals.proofs.crossing_value.Tie as tie
 
 returns : tie.Need-returns
 unfolding xor

@@ -5,9 +5,9 @@ use mathlib.Core.Path.{_≡_, ap₂, sym, _∙_}
 use borrow.Author.Tests.{le-ltb, lt-ltb}
 use borrow.Author.Needs.{needs}
 use Rattle.base_limits.specs.Laws.Verdict.{refuse-true, refuse-false}
-use Rattle.check_core.specs.Stage.{loadBetween}
-use Rattle.check_core.proofs.duals.load_refusal.Statement.{statement}
-use Rattle.check_core.proofs.duals.load_refusal.Tie as tie
+use Rattle.check_duals.specs.Duals.{loadBetween}
+use Rattle.check_duals.proofs.load_refusal.Statement.{statement}
+use Rattle.check_duals.proofs.load_refusal.Tie as tie
 
 load-between-requires : tie.Need-load-between-requires
 load-between-requires c κs = c .before .before .before .pre

@@ -9,10 +9,10 @@ use Rattle.base_finite.specs.Below.{counted, sumBelow}
 use Rattle.base_limits.specs.Limits.{recordBytes}
 use Rattle.format_record.specs.Record.{memberIn, valueIn}
 use Rattle.base_finite.specs.Laws.Count.{sum-more}
-use Rattle.check_core.specs.Stage.{loadBetween}
-use Rattle.check_core.specs.Laws.Duals.{weighedAt, weigh-end, weighed-fits}
-use Rattle.check_core.proofs.duals.load_between.Statement.{statement}
-use Rattle.check_core.proofs.duals.load_between.Tie as tie
+use Rattle.check_duals.specs.Duals.{loadBetween}
+use Rattle.check_duals.specs.Laws.Duals.{weighedAt, weigh-end, weighed-fits}
+use Rattle.check_duals.proofs.load_between.Statement.{statement}
+use Rattle.check_duals.proofs.load_between.Tie as tie
 
 abbrev Inv-loop : tie.InvT-loop
 Inv-loop records u v sum₀ i₀ sum i = (i ≤ length records / recordBytes) × (sum ≡ sumBelow i (weighedAt records (λ S. xor (S u) (S v))))
