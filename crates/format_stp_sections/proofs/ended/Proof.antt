@@ -1,4 +1,4 @@
--- `format_stp_terminals::ended` meets its contract: the end is looked for behind the empty lines.
+-- `format_stp_sections::ended` meets its contract: the end is looked for behind the empty lines.
 use borrow.Author.Needs.{needs}
 use Prim.Native.Nat.{ℕ}
 use mathlib.Core.Path.{ap, sym, _∙_}
@@ -6,8 +6,8 @@ use Rattle.format_grammar.specs.Bytes.{endAt}
 use Rattle.format_grammar.specs.Laws.Bytes.{end-here, end-later}
 use Rattle.format_number.specs.Answer.{numberStep}
 use Rattle.format_stp_rule.specs.StpWord.{afterEmpty}
-use Rattle.format_stp_terminals.proofs.ended.Statement.{statement}
-use Rattle.format_stp_terminals.proofs.ended.Tie as tie
+use Rattle.format_stp_sections.proofs.ended.Statement.{statement}
+use Rattle.format_stp_sections.proofs.ended.Tie as tie
 
 -- something stands there
 returns : tie.Need-returns

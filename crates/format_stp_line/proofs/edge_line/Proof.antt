@@ -1,12 +1,12 @@
--- `format_stp_lines::edge_line` meets its contract: a refusal of any part stays, and a value goes on to the next part.
+-- `format_stp_line::edge_line` meets its contract: a refusal of any part stays, and a value goes on to the next part.
 use borrow.Author.Needs.{needs}
 use mathlib.Core.Path.{sym, _∙_}
 use Rattle.format_number.specs.Laws.Step.{stopped-stays, value-goes}
 use Rattle.format_number.specs.Number.{stopOf}
 use Rattle.format_survey_lines.specs.Answer.{edgeStep}
 use Rattle.format_stp_rule.specs.StpReading.{stpEdge}
-use Rattle.format_stp_lines.proofs.edge_line.Statement.{statement}
-use Rattle.format_stp_lines.proofs.edge_line.Tie as tie
+use Rattle.format_stp_line.proofs.edge_line.Statement.{statement}
+use Rattle.format_stp_line.proofs.edge_line.Tie as tie
 
 returns : tie.Need-returns
 unfolding stpEdge stopOf

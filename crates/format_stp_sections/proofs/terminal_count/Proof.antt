@@ -1,12 +1,12 @@
--- `format_stp_terminals::terminal_count` meets its contract: the word, and a number that no group excludes.
+-- `format_stp_sections::terminal_count` meets its contract: the word, and a number that no group excludes.
 use borrow.Author.Needs.{needs}
 use mathlib.Core.Path.{sym, _∙_}
 use Rattle.format_number.specs.Laws.Step.{refusal-stays, value-goes}
 use Rattle.format_stp_rule.specs.StpNumber.{stopByte}
 use Rattle.format_stp_rule.specs.StpReading.{stpLine, terminalCount}
 use Rattle.format_stp_rule.specs.StpWord.{afterEmpty}
-use Rattle.format_stp_terminals.proofs.terminal_count.Statement.{statement}
-use Rattle.format_stp_terminals.proofs.terminal_count.Tie as tie
+use Rattle.format_stp_sections.proofs.terminal_count.Statement.{statement}
+use Rattle.format_stp_sections.proofs.terminal_count.Tie as tie
 
 returns : tie.Need-returns
 unfolding afterEmpty stpLine terminalCount

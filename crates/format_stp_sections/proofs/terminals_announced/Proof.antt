@@ -1,10 +1,10 @@
--- `format_stp_terminals::terminals_announced` meets its contract: a refusal of any line stays, and a value goes on to the next.
+-- `format_stp_sections::terminals_announced` meets its contract: a refusal of any line stays, and a value goes on to the next.
 use borrow.Author.Needs.{needs}
 use mathlib.Core.Path.{sym, _∙_}
 use Rattle.format_number.specs.Laws.Step.{refusal-stays, value-goes}
-use Rattle.format_stp_terminals.specs.Terminals.{terminalsAnnounced}
-use Rattle.format_stp_terminals.proofs.terminals_announced.Statement.{statement}
-use Rattle.format_stp_terminals.proofs.terminals_announced.Tie as tie
+use Rattle.format_stp_sections.specs.Section.{terminalsAnnounced}
+use Rattle.format_stp_sections.proofs.terminals_announced.Statement.{statement}
+use Rattle.format_stp_sections.proofs.terminals_announced.Tie as tie
 
 returns : tie.Need-returns
 unfolding terminalsAnnounced

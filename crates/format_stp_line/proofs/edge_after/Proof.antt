@@ -1,11 +1,11 @@
--- `format_stp_lines::edge_after` meets its contract: a track line behind the empty lines.
+-- `format_stp_line::edge_after` meets its contract: a track line behind the empty lines.
 use borrow.Author.Needs.{needs}
 use Prim.Native.Nat.{ℕ}
 use mathlib.Core.Path.{_∙_, ap}
 use Rattle.format_stp_rule.specs.StpReading.{stpEdge}
 use Rattle.format_stp_rule.specs.StpWord.{afterEmpty}
-use Rattle.format_stp_lines.proofs.edge_after.Statement.{statement}
-use Rattle.format_stp_lines.proofs.edge_after.Tie as tie
+use Rattle.format_stp_line.proofs.edge_after.Statement.{statement}
+use Rattle.format_stp_line.proofs.edge_after.Tie as tie
 
 returns : tie.Need-returns
 unfolding afterEmpty

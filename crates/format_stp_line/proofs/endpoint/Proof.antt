@@ -1,9 +1,9 @@
--- `format_stp_lines::endpoint` meets its contract: a number that no group excludes.
+-- `format_stp_line::endpoint` meets its contract: a number that no group excludes.
 use borrow.Author.Needs.{needs}
 use Rattle.format_stp_rule.specs.StpNumber.{stopByte}
 use Rattle.format_stp_rule.specs.StpReading.{stpEnd}
-use Rattle.format_stp_lines.proofs.endpoint.Statement.{statement}
-use Rattle.format_stp_lines.proofs.endpoint.Tie as tie
+use Rattle.format_stp_line.proofs.endpoint.Statement.{statement}
+use Rattle.format_stp_line.proofs.endpoint.Tie as tie
 
 returns : tie.Need-returns
 unfolding stpEnd stopByte
