@@ -10,8 +10,8 @@ use Rattle.format_key.specs.Key.{comma}
 use Rattle.format_write.specs.Decimal.{decimal}
 use Rattle.format_write.specs.Laws.Text.{item-first, item-later}
 use borrow.Author.Needs.{needs}
-use Rattle.format_put_plan.proofs.put_item.Statement.{statement}
-use Rattle.format_put_plan.proofs.put_item.Tie as tie
+use Rattle.format_put_list.proofs.put_item.Statement.{statement}
+use Rattle.format_put_list.proofs.put_item.Tie as tie
 
 returns : tie.Need-returns
 returns c =

@@ -6,8 +6,8 @@ use borrow.Author.Tests.{not-true, not-false}
 use Rattle.format_record.specs.Record.{memberIn}
 use Rattle.format_write.specs.Laws.Text.{member-here, member-not, and-not-true, and-not-false}
 use borrow.Author.Needs.{needs}
-use Rattle.format_put_plan.proofs.put_member.Statement.{statement}
-use Rattle.format_put_plan.proofs.put_member.Tie as tie
+use Rattle.format_put_dual.proofs.put_member.Statement.{statement}
+use Rattle.format_put_dual.proofs.put_member.Tie as tie
 
 returns : tie.Need-returns
 returns c =

@@ -10,8 +10,8 @@ use Rattle.format_key.specs.Key.{dualKey}
 use Rattle.format_write.specs.Decimal.{decimal}
 use Rattle.format_write.specs.Text.{dualLine}
 use borrow.Author.Needs.{needs}
-use Rattle.format_put_plan.proofs.put_dual.Statement.{statement}
-use Rattle.format_put_plan.proofs.put_dual.Tie as tie
+use Rattle.format_put_dual.proofs.put_dual.Statement.{statement}
+use Rattle.format_put_dual.proofs.put_dual.Tie as tie
 
 returns : tie.Need-returns
 unfolding dualLine dualKey

@@ -4,8 +4,8 @@ use native.Mathlib.Omega.{arith}
 use mathlib.Core.Path.{_≡_}
 use borrow.Author.Needs.{needs}
 use Rattle.format_write.specs.Laws.Members.{inside-no-zero, begins-by-byte}
-use Rattle.format_put_plan.proofs.begins_zero.Statement.{statement}
-use Rattle.format_put_plan.proofs.begins_zero.Tie as tie
+use Rattle.format_put_dual.proofs.begins_zero.Statement.{statement}
+use Rattle.format_put_dual.proofs.begins_zero.Tie as tie
 
 returns : tie.Need-returns
 returns c = let a = c .before .before .args in inside-no-zero (a .part .now) (a .v) (c .if1 .taken)

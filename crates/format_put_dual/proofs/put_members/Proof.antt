@@ -12,8 +12,8 @@ use Rattle.format_write.specs.Laws.Members.{begins-zero-none, those-past}
 use Rattle.format_write.specs.Laws.Text.{members-none, none-none, members-next, none-next}
 use Rattle.format_write.specs.Laws.Wrote.{wrote-none, wrote-length, wrote-then, wrote-as}
 use borrow.Author.Needs.{needs}
-use Rattle.format_put_plan.proofs.put_members.Statement.{statement}
-use Rattle.format_put_plan.proofs.put_members.Tie as tie
+use Rattle.format_put_dual.proofs.put_members.Statement.{statement}
+use Rattle.format_put_dual.proofs.put_members.Tie as tie
 
 abbrev Inv-loop : tie.InvT-loop
 Inv-loop out₀ at part list₀ v₀ out list v =

@@ -9,8 +9,8 @@ use Rattle.format_write.specs.Text.{listed}
 use Rattle.format_write.specs.Wrote.{farthest, Wrote}
 use Rattle.format_write.specs.Laws.Text.{list-none, list-next}
 use Rattle.format_write.specs.Laws.Wrote.{wrote-none, wrote-length, wrote-then, wrote-as}
-use Rattle.format_put_plan.proofs.put_list.Statement.{statement}
-use Rattle.format_put_plan.proofs.put_list.Tie as tie
+use Rattle.format_put_list.proofs.put_list.Statement.{statement}
+use Rattle.format_put_list.proofs.put_list.Tie as tie
 
 abbrev Inv-loop : tie.InvT-loop
 Inv-loop out₀ at numbers next₀ i₀ out next i = Wrote out₀ at (listed (take i numbers)) out next
