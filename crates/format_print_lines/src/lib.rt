@@ -9,7 +9,7 @@ ghost use Rattle.format_write.specs.Wrote.{Wrote};
 use base_limits::DUAL_ROOM;
 use format_print::Printed;
 use format_put::put_line;
-use format_put_plan::put_dual;
+use format_put_dual::put_dual;
 
 // A buffer that holds every dual line (laws in format_print, specs/Laws/Room.antt).
 pub fn dual_buffer() -> [u8; DUAL_ROOM]

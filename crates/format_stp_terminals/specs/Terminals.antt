@@ -7,17 +7,9 @@ use lib.Seq.{sets}
 use Rattle.base_limits.specs.Limits.{maxVertices}
 use Rattle.format_grammar.specs.Bytes.{endAt}
 use Rattle.format_grammar.specs.Step.{Step, found, refused, _then_}
-use Rattle.format_stp_rule.specs.StpKey.{endLine, terminalsLine, eofLine}
-use Rattle.format_stp_rule.specs.StpReading.{stpLine, terminalCount, terminalLines, terminalSection}
+use Rattle.format_stp_rule.specs.StpReading.{terminalLines, terminalSection}
 use Rattle.format_stp_rule.specs.StpWord.{afterEmpty}
-
--- The lines before the terminals: how many these are.
-unfoldable pub terminalsAnnounced : (n : ℕ) → List ℕ → (at : ℕ) → Step ℕ
-terminalsAnnounced n t at = stpLine endLine t at then λ z a. stpLine terminalsLine t a then λ y b. afterEmpty (terminalCount n) t b
-
--- The lines behind them, and the end of the text.
-unfoldable pub terminalsClosed : List ℕ → (at : ℕ) → Step ℕ
-terminalsClosed t at = stpLine endLine t at then λ z a. stpLine eofLine t a then λ y b. afterEmpty endAt t b
+use Rattle.format_stp_sections.specs.Section.{terminalsAnnounced, terminalsClosed}
 
 -- All of it, where the groups are these at the start.
 unfoldable pub terminalsFrom : (n : ℕ) (groups : List ℕ) → List ℕ → (at : ℕ) → Step (List ℕ)

@@ -1,46 +1,26 @@
 // Reads an STP text from the end of its graph on: the terminals, which form group 1, the line EOF and the end.
 ghost use Rattle.base_buffer.specs.Lent.{old, new};
 ghost use mathlib.Core.Path.{_≡_};
-ghost use Rattle.format_grammar.specs.Bytes.{endAt};
 ghost use Rattle.format_grammar.specs.Step.{found, _then_};
 ghost use Rattle.format_number.specs.Answer.{numberStep};
 ghost use Rattle.format_stp_rule.specs.StpWord.{afterEmpty};
-ghost use Rattle.format_stp_rule.specs.StpReading.{terminalCount, terminalLine, terminalLines};
+ghost use Rattle.format_stp_rule.specs.StpReading.{terminalLine, terminalLines};
 ghost use Rattle.format_stp_terminals.specs.Answer.{groupsStep};
-ghost use Rattle.format_stp_terminals.specs.Terminals.{terminalsAnnounced, terminalsClosed, terminalsFrom};
+ghost use Rattle.format_stp_terminals.specs.Terminals.{terminalsFrom};
 ghost use Rattle.format_stp_terminals.specs.Terminals.{terminalsToEnd, groupsAfter};
 use base_buffer::put8;
-use base_limits::COUNT_DIGITS;
 use base_limits::ENDPOINT_DIGITS;
 use base_limits::MAX_VERTICES;
 use format_number::Cursor;
 use format_number::Number;
 use format_put::put_bytes;
 use format_stp_head::line;
-use format_stp_head::skip;
 use format_stp_number::free_number;
 use format_stp_number::less;
-
-const END: [u8; 4] = *b"END\n";
-
-const SECTION_TERMINALS: [u8; 18] = *b"SECTION Terminals\n";
-
-const TERMINALS: [u8; 10] = *b"Terminals ";
+use format_stp_sections::terminals_announced;
+use format_stp_sections::terminals_closed;
 
 const TERMINAL: [u8; 2] = *b"T ";
-
-const EOF: [u8; 4] = *b"EOF\n";
-
-// `Terminals t`, behind empty lines: no more than there are vertices.
-fn terminal_count(text: &[u8], cursor: Cursor, vertices: usize) -> Number
-    ensures { λ r. ⌜ numberStep r ≡ afterEmpty (terminalCount vertices) (old text) (cursor .at) ⌝ }
-{
-    let word = line(text, cursor, &TERMINALS);
-    let Number::Value { value: _, next } = word else {
-        return word;
-    };
-    free_number(text, next, &text[0..0], 0, vertices, COUNT_DIGITS, false)
-}
 
 // `T v`, behind empty lines: a vertex that is in no group yet.
 fn terminal_line(text: &[u8], cursor: Cursor, vertices: usize, groups: &[u8]) -> Number
@@ -76,54 +56,6 @@ fn terminal_lines(
         left -= 1;
     }
     Number::Value { value: 0, next }
-}
-
-// The lines from the end of the graph to the number of terminals.
-fn terminals_announced(text: &[u8], cursor: Cursor, vertices: usize) -> Number
-    ensures { λ r. ⌜ numberStep r ≡ terminalsAnnounced vertices (old text) (cursor .at) ⌝ }
-{
-    let one = line(text, cursor, &END);
-    let Number::Value { value: _, next: a } = one else {
-        return one;
-    };
-    let two = line(text, a, &SECTION_TERMINALS);
-    let Number::Value { value: _, next: b } = two else {
-        return two;
-    };
-    terminal_count(text, b, vertices)
-}
-
-// Only empty lines stand from here on.
-fn ended(text: &[u8], cursor: Cursor) -> Number
-    ensures { λ r. ⌜ numberStep r ≡ afterEmpty endAt (old text) (cursor .at) ⌝ }
-{
-    let last = skip(text, cursor);
-    let at = last.at;
-    if at < text.len() {
-        return Number::Refused {
-            number: 16,
-            place: at,
-        };
-    }
-    Number::Value {
-        value: 0,
-        next: last,
-    }
-}
-
-// The lines behind the terminals, to the end of the text.
-fn terminals_closed(text: &[u8], cursor: Cursor) -> Number
-    ensures { λ r. ⌜ numberStep r ≡ terminalsClosed (old text) (cursor .at) ⌝ }
-{
-    let one = line(text, cursor, &END);
-    let Number::Value { value: _, next: a } = one else {
-        return one;
-    };
-    let two = line(text, a, &EOF);
-    let Number::Value { value: _, next: b } = two else {
-        return two;
-    };
-    ended(text, b)
 }
 
 // From the end of the graph to the end of the text, where the groups are these at the start.

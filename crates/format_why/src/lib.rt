@@ -22,7 +22,7 @@ fn put_route(out: &mut [u8], at: usize, route: &[u32]) -> usize
     ensures { λ r. ⌜ Wrote (old out) at (routeLine (old route)) (new out) r ⌝ }
 {
     let next = format_put::put_bytes(out, at, &format_key::ROUTE);
-    let next = format_put_plan::put_list(out, next, route);
+    let next = format_put_list::put_list(out, next, route);
     format_put::put(out, next, b'\n')
 }
 

@@ -13,7 +13,8 @@ use Rattle.format_survey.specs.Laws.Body.{pass-refused}
 use Rattle.format_stp_rule.specs.StpReading.{StpContent, stpEdges, terminalLine, terminalLines}
 use Rattle.format_stp_rule.specs.StpWord.{afterEmpty}
 use Rattle.format_stp_terminals.specs.Laws.TerminalTurn.{end-within}
-use Rattle.format_stp_terminals.specs.Terminals.{terminalsFrom, terminalsAnnounced, terminalsClosed, terminalsToEnd, groupsAfter}
+use Rattle.format_stp_sections.specs.Section.{terminalsAnnounced, terminalsClosed}
+use Rattle.format_stp_terminals.specs.Terminals.{terminalsFrom, terminalsToEnd, groupsAfter}
 use Rattle.base_limits.specs.Limits.{maxVertices}
 use Rattle.format_stp.specs.Parts.{stpLines, storedBy}
 

@@ -18,7 +18,8 @@ use Rattle.format_stp_rule.specs.StpKey.{endLine, terminalsLine, eofLine}
 use Rattle.format_stp_rule.specs.StpReading.{stpLine, terminalCount, terminalLine, terminalLines, terminalSection}
 use Rattle.format_stp_rule.specs.StpWord.{afterEmpty}
 use Rattle.format_stp_terminals.specs.Answer.{groupsStep}
-use Rattle.format_stp_terminals.specs.Terminals.{terminalsAnnounced, terminalsClosed, terminalsFrom, terminalsToEnd, groupsAfter}
+use Rattle.format_stp_sections.specs.Section.{terminalsAnnounced, terminalsClosed}
+use Rattle.format_stp_terminals.specs.Terminals.{terminalsFrom, terminalsToEnd, groupsAfter}
 
 -- ---- one turn
 
