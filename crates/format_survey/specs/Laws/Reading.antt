@@ -4,16 +4,15 @@ use native.Mathlib.Omega.{arith}
 use mathlib.Core.Path.{_≡_, ap, sym, _∙_}
 use mathlib.Core.List.{List}
 use lib.ListN.{length, length-map}
-use lib.Seq.{sets}
-use Rattle.format_survey_lines.specs.Laws.Body.{sets-filled, lines-sizes, lines-room}
+use Rattle.format_survey_lines.specs.Laws.Body.{lines-sizes, lines-room}
 use Rattle.base_limits.specs.Limits.{maxVertices}
 use Rattle.base_limits.specs.Verdict.{Outcome, refusal, answer}
 use Rattle.format_also.specs.Pair.{ownersOf, othersOf}
-use Rattle.format_grammar.specs.Step.{Step, found, refused, _then_, storedIf}
+use Rattle.format_grammar.specs.Step.{Step, found, refused, _then_}
 use Rattle.format_survey_lines.specs.Line.{Lengths, pairRoom, testsFor, SurveyCounts, countsAt, firstsOf, secondsOf, weightsOf, SurveyLines, linesOf, linesAt}
 use Rattle.format_survey.specs.Reading.{bodyAt, bodyOf, surveyOf, surveyAt, stepOutcome, reading, filled}
 use Rattle.format_grammar.specs.Bytes.{endAt}
-use Rattle.format_grammar.specs.Laws.Step.{then-value, stored-found, stored-refused}
+use Rattle.format_grammar.specs.Laws.Step.{then-value}
 use Rattle.format_survey_lines.specs.Laws.Tests.{counts-passed}
 
 -- A buffer at the end, by the outcome.
@@ -21,13 +20,6 @@ module _ {A : Type 0} {o : Outcome A} (values : A → List ℕ) where
   pub buffer-kept : {n p : ℕ} (old : List ℕ) → o ≡ refusal n p → old ≡ filled o values old
   unfolding filled
   buffer-kept old r = sym (ap (λ x. filled x values old) r)
-
-  pub buffer-refused : {end : Step ℕ} {n p i q : ℕ} (new old : List ℕ) → o ≡ refusal n p → end ≡ refused i q → storedIf end new old ≡ filled o values old
-  buffer-refused new old r e = stored-refused new old e ∙ buffer-kept old r
-
-  pub buffer-found : {end : Step ℕ} {z p : ℕ} (s : A) (old : List ℕ) → o ≡ answer s → end ≡ found z p → length (values s) ≤ length old → storedIf end (sets old 0 (values s)) old ≡ filled o values old
-  unfolding filled
-  buffer-found s old r e h = stored-found (sets old 0 (values s)) old e ∙ sets-filled (values s) old h ∙ sym (ap (λ x. filled x values old) r)
 
 -- Values that lent buffers have room for, and how many pairs there are.
 pub record Fits (b : SurveyLines) (lent : Lengths) (pairs : ℕ) : Type 0 where
