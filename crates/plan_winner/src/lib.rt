@@ -95,7 +95,15 @@ fn look(
     let b = base_buffer::index32(base_buffer::at32(seconds, e));
     let first = end_at(labels, loads, flags, time, a);
     let second = end_at(labels, loads, flags, time, b);
-    note_edge(keys, e, time, base_buffer::at32(weights, e), first, second, best)
+    note_edge(
+        keys,
+        e,
+        time,
+        base_buffer::at32(weights, e),
+        first,
+        second,
+        best,
+    )
 }
 
 // Looks at the edges of a block whose noted keys do not say that they come later than the best so far.

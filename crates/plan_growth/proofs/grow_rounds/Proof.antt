@@ -5,7 +5,7 @@ use mathlib.Core.Path.{refl}
 use mathlib.Core.Logic.{⊎-elim}
 use Rattle.survey_core.specs.Survey.{surveyFrom}
 use Rattle.plan_growth.specs.Represents.{arraysFrom, Represents}
-use Rattle.plan_growth.specs.Laws.Round.{merged-small}
+use Rattle.plan_growth.specs.Laws.Round.{going}
 use Rattle.plan_growth.specs.Laws.Rounds.{represents-start, represents-over, represents-won, time-fits, settled-left, sum-fits, grown-end, grown-full}
 use borrow.Author.Needs.{needs}
 use Rattle.plan_growth.proofs.grow_rounds.Statement.{statement}
@@ -45,7 +45,11 @@ loop-again : tie.Need-loop-again Inv-loop μ-loop
 loop-again c = represents-won _ _ (c .before .before .before .round .ensures .1) (c .before .wait .given .1)
 
 add-sum-values : tie.Need-add-sum-values Inv-loop μ-loop
-add-sum-values c = record { fits = merged-small (c .before .before .before .before .before .loop .inv) .0 }
+add-sum-values c =
+    let turn = c .before .before .before .before .before in
+    let few = turn .loop .inv .sound .few in
+    let left = going (turn .loop .inv) in
+    record { fits = omega arith }
 
 sum-values-requires : tie.Need-sum-values-requires Inv-loop μ-loop
 sum-values-requires c κs =

@@ -18,7 +18,7 @@ returns c =
       merged-both _ _ _ _ x y (flag .joined-flag .ensures) (c .before .before .before .merge .ensures),
       (
         settled-three _ _ _ _ _ x y (c .before .before .before .before .before .before .before .before .before .settle .ensures) (c .before .before .before .before .before .before .settle2 .ensures) (c .settle3 .ensures),
-        turned-both _ _ _ _ _ x y (flag .joined-flag .ensures) (c .before .before .before .before .before .before .before .before .before .before .before .before .before .before .before .before .turn-loads .ensures) (c .before .before .before .before .before .before .before .before .before .before .before .before .turn-loads2 .ensures)
+        turned-both _ _ _ _ _ x y (flag .joined-flag .ensures) (c .before .before .before .before .before .before .before .before .before .before .before .before .before .before .before .before .turn-loads .ensures) (c .before .before .before .before .before .before .before .before .before .before .before .before .turn-loads2 .ensures),
       ),
     )
 

@@ -30,9 +30,9 @@ loop-again c =
     let label = c .before .at32 .ensures in (
       omega arith,
       ⊎-elim
-      (λ w. member-turned _ _ _ _ _ made label (w .0 .taken) (w .3 ∙ w .2 .ensures))
-      (λ w. member-passed _ _ _ _ _ made label (w .0 .left) (w .1))
-      (c .if1 .came),
+          (λ w. member-turned _ _ _ _ _ made label (w .0 .taken) (w .3 ∙ w .2 .ensures))
+          (λ w. member-passed _ _ _ _ _ made label (w .0 .left) (w .1))
+          (c .if1 .came),
     )
 
 returns : tie.Need-returns Inv-loop μ-loop
