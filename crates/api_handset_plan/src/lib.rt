@@ -11,6 +11,7 @@ use api_lengths::pairs_seen;
 use api_words::WORD_BYTES;
 use api_words::edge_words;
 use api_words::pair_words;
+use base_limits::MAX_EDGES;
 use base_limits::Verdict;
 
 // Plans a survey whose lengths are in order.
@@ -40,9 +41,12 @@ fn plan_bytes(
         let b = lentSlices groups firsts seconds weights owners others in
         ⌜ new result ≡ handsetPlanResult b (old marks) (old records) (old result) ⌝ }
 {
-    let first_words = edge_words(firsts);
-    let second_words = edge_words(seconds);
-    let weight_words = edge_words(weights);
+    let mut first_words = [0u32; MAX_EDGES];
+    edge_words(firsts, &mut first_words);
+    let mut second_words = [0u32; MAX_EDGES];
+    edge_words(seconds, &mut second_words);
+    let mut weight_words = [0u32; MAX_EDGES];
+    edge_words(weights, &mut weight_words);
     let owner_words = pair_words(owners);
     let m = firsts.len() / WORD_BYTES;
     let p = pairs_seen(others.len());

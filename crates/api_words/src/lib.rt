@@ -49,12 +49,10 @@ fn spell(bytes: &[u8], words: &mut [u32])
 }
 
 // Ends or prices.
-pub fn edge_words(bytes: &[u8]) -> [u32; MAX_EDGES]
-    ensures { λ r. ⌜ r ≡ tabulate maxEdges (wordAt (old bytes)) ⌝ }
+pub fn edge_words(bytes: &[u8], words: &mut [u32; MAX_EDGES])
+    ensures { λ _. ⌜ new words ≡ tabulate maxEdges (wordAt (old bytes)) ⌝ }
 {
-    let mut words = [0u32; MAX_EDGES];
-    spell(bytes, &mut words);
-    words
+    spell(bytes, words);
 }
 
 // Vertices of pairs.
