@@ -4,7 +4,7 @@ use mathlib.Core.Bool.{true, cond}
 use mathlib.Core.List.{List}
 use lib.ListN.{getD, set}
 use lib.Dec.{eqb, ltb}
-use Rattle.base_limits.specs.Limits.{maxVertices, maxValue, maxDuals}
+use Rattle.base_limits.specs.Limits.{maxVertices, maxValue}
 use Rattle.base_buffer.specs.Store.{remade}
 use Rattle.plan_delay.specs.Held.{settledBy}
 
@@ -12,8 +12,9 @@ use Rattle.plan_delay.specs.Held.{settledBy}
 unfoldable pub settledAt : (flags : List ℕ) → (time c : ℕ) → (values : List ℕ) → List ℕ
 settledAt flags time c values = set values c (settledBy time (eqb (getD flags c 0) 1) (getD values c 0))
 
-unfoldable pub settledValues : (flags : List ℕ) → (time : ℕ) → (values : List ℕ) → List ℕ
-settledValues flags time values = remade (λ c x. settledBy time (eqb (getD flags c 0) 1) x) maxDuals values
+-- The same for the first components.
+unfoldable pub settledValues : (flags : List ℕ) → (count time : ℕ) → (values : List ℕ) → List ℕ
+settledValues flags count time values = remade (λ c x. settledBy time (eqb (getD flags c 0) 1) x) count values
 
 -- What is held for the load of vertex v, turned.
 unfoldable pub turnedAt : (time v : ℕ) → (loads : List ℕ) → List ℕ

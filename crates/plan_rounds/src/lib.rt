@@ -1,4 +1,5 @@
-// How duals grow, over arrays: labels, loads, values, picked marks, and the order of the picks. Definitions in plan_growth.
+// How duals grow, over arrays: labels, loads, values, picked marks, and the order of the picks. Definitions in
+// plan_growth.
 ghost use Rattle.base_buffer.specs.Lent.{old, new};
 ghost use mathlib.Core.Path.{_≡_};
 ghost use Prim.Native.Nat.{_<_, _^_};
@@ -173,8 +174,9 @@ fn grow_rounds(groups: &[u8], firsts: &[u32], seconds: &[u32], weights: &[u32]) 
         time += d;
         r += 1;
     }
-    plan_settle::settle_all(&mut values, &flags, time);
-    let bound = sum_values(&values, groups.len() + r);
+    let arisen = groups.len() + r;
+    plan_settle::settle_all(&mut values, &flags, arisen, time);
+    let bound = sum_values(&values, arisen);
     Growth {
         rounds: r,
         bound,

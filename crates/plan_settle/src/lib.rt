@@ -17,12 +17,12 @@ pub fn settle(values: &mut [u64; MAX_DUALS], flags: &[u8; MAX_DUALS], c: u32, ti
     put64(values, i, x);
 }
 
-// And for all components.
-pub fn settle_all(values: &mut [u64; MAX_DUALS], flags: &[u8; MAX_DUALS], time: u64)
-    ensures { λ r. ⌜ new values ≡ settledValues (old flags) time (old values) ⌝ }
+// And for the first components.
+pub fn settle_all(values: &mut [u64; MAX_DUALS], flags: &[u8; MAX_DUALS], count: usize, time: u64)
+    ensures { λ r. ⌜ new values ≡ settledValues (old flags) count time (old values) ⌝ }
 {
     let mut c = 0;
-    while c < MAX_DUALS {
+    while c < count {
         let x = plan_delay::settled(at64(values, c), base_buffer::at8(flags, c), time);
         put64(values, c, x);
         c += 1;

@@ -11,15 +11,17 @@ use lib.Dec.{eqb, ltb}
 use borrow.Author.Tests.{lt-ltb, le-ltb}
 use Rattle.base_finite.specs.Below.{counted, sumBelow, tabulate}
 use Rattle.base_finite.specs.Laws.Below.{sum-cong, sum-zero, length-tabulate, getD-tabulate, counted-false, lt-or-ge}
+use Rattle.base_finite.specs.Laws.Test.{not-true-false}
 use Rattle.base_limits.specs.Limits.{maxVertices, maxEdges, maxWeight, maxValue, maxDuals}
 use Rattle.theory_steiner.specs.Problem.{Problem}
 use Rattle.theory_steiner.specs.Growth.{Winner, nobody, edge, never, active, winner, numbers, start, stateAt}
 use Rattle.theory_steiner.specs.Pruning.{dualBound}
 use Rattle.theory_steiner.specs.Laws.Round.{stateAt-reached, pick-rounds}
 use Rattle.theory_steiner.specs.Laws.Rounds.{rounds-lt, stateAt-pick, stateAt-last, value-bounded}
+use Rattle.theory_steiner.specs.Laws.Partition.{active-below}
 use Rattle.theory_steiner.specs.Laws.Feasible.{load-start}
 use Rattle.base_buffer.specs.Store.{remade}
-use Rattle.base_buffer.specs.Laws.Store.{tabulate-cong, remade-table, replicate-table}
+use Rattle.base_buffer.specs.Laws.Store.{tabulate-cong, remade-table, remade-part, replicate-table}
 use Rattle.survey_core.specs.Survey.{Survey, vertexCount, problemOf}
 use Rattle.survey_core.specs.Sound.{SurveySound}
 use Rattle.survey_core.specs.Laws.Refusal.{survey-sound}
@@ -30,7 +32,7 @@ use Rattle.plan_delay.specs.Between.{delayIn}
 use Rattle.plan_delay.specs.declared.Delay.{Delay}
 use Rattle.plan_delay.specs.declared.Delay.the-variants.{Never, After}
 use Rattle.plan_delay.specs.Held.{heldValue, settledBy}
-use Rattle.plan_delay.specs.Laws.Held.{held-settled}
+use Rattle.plan_delay.specs.Laws.Held.{held-off, held-settled}
 use Rattle.plan_growth.specs.Tables.{settledValues, SumFits}
 use Rattle.plan_growth.specs.Represents.{winnerEdge, pickAt, heldLabel, heldLoad, Arrays, arraysFrom, roundsAfter, timeAfter, Represents}
 use Rattle.theory_steiner.specs.Minima.{winnerDelay}
@@ -150,25 +152,40 @@ module _ {s : Survey} {r time : ℕ} {a : Arrays} (h : Represents s r time a) wh
   -- ---- the values, when all is settled
 
   -- What the loop leaves of them, settled.
-  pub settled-left : {values flags after : List ℕ} → values ≡ a .values → flags ≡ a .flags → after ≡ settledValues flags time values
-      → after ≡ settledValues (a .flags) time (a .values)
+  pub settled-left : {values flags after : List ℕ} → values ≡ a .values → flags ≡ a .flags → after ≡ settledValues flags (length (s .groups) + r) time values
+      → after ≡ settledValues (a .flags) (length (s .groups) + r) time (a .values)
   settled-left v f made = made ∙ rw (v, f)
 
-  module _ {values : List ℕ} (v : values ≡ settledValues (a .flags) time (a .values)) where
+  module _ {values : List ℕ} (v : values ≡ settledValues (a .flags) (length (s .groups) + r) time (a .values)) where
+    -- What has not arisen has no value.
+    none-yet : (c : ℕ) → length (s .groups) + r ≤ c → c < maxDuals → getD (a .values) c 0 ≡ stateAt (problemOf s) r .value c
+    unfolding numbers problemOf vertexCount
+    none-yet c past b =
+        let reached = stateAt-reached (problemOf s) r in
+        let number = h .rounds-are in
+        let idle = not-true-false (active (problemOf s) (stateAt (problemOf s) r .label) c) (λ x. let l = active-below (problemOf s) reached c x in omega arith) in
+        ap (λ t. getD t c 0) (h .values-are) ∙ getD-tabulate maxDuals _ c 0 b ∙ held-off time (stateAt (problemOf s) r .value c) idle
+
     values-settled : values ≡ tabulate maxDuals (stateAt (problemOf s) r .value)
     unfolding settledValues
     values-settled =
+        let few = h .sound .few in
+        let g = going h in
         v
-        ∙ remade-table
+        ∙ remade-part
         (λ c x. settledBy time (eqb (getD (a .flags) c 0) 1) x)
+        (length (s .groups) + r)
         maxDuals
         (a .values)
         (stateAt (problemOf s) r .value)
         (ap length (h .values-are) ∙ length-tabulate maxDuals _)
-        (λ c b.
+        (omega arith)
+        (λ c l.
+        let b : c < maxDuals = omega arith in
         rw
         (flag-at h (h .flags-are) c b, ap (λ t. getD t c 0) (h .values-are) ∙ getD-tabulate maxDuals _ c 0 b)
         (held-settled time (stateAt (problemOf s) r .value c) (active (problemOf s) (stateAt (problemOf s) r .label) c) (h .values-timely c)))
+        none-yet
 
     value-at : (c : ℕ) → c < maxDuals → getD values c 0 ≡ stateAt (problemOf s) r .value c
     value-at c b = ap (λ t. getD t c 0) values-settled ∙ getD-tabulate maxDuals _ c 0 b

@@ -44,9 +44,9 @@ loop-less c = omega arith
 loop-again : tie.Need-loop-again Inv-loop μ-loop
 loop-again c = represents-won _ _ (c .before .before .before .round .ensures .1) (c .before .wait .given .1)
 
-add-sum-values : tie.Need-add-sum-values Inv-loop μ-loop
-add-sum-values c =
-    let turn = c .before .before .before .before .before in
+add-arisen : tie.Need-add-arisen Inv-loop μ-loop
+add-arisen c =
+    let turn = c .before in
     let few = turn .loop .inv .sound .few in
     let left = going (turn .loop .inv) in
     record { fits = omega arith }
@@ -96,7 +96,7 @@ grow-rounds-spec =
     (λ c. search needs)
     loop-less
     loop-again
+    add-arisen
     (λ c κs. search needs)
-    add-sum-values
     sum-values-requires
     returns)

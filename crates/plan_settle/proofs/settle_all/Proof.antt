@@ -4,7 +4,6 @@ use mathlib.Core.Path.{_≡_, refl, _∙_}
 use lib.ListN.{getD}
 use lib.Dec.{eqb}
 use native.Mathlib.Omega.{arith}
-use Rattle.base_limits.specs.Limits.{maxDuals}
 use Rattle.base_buffer.specs.Store.{remade}
 use Rattle.base_buffer.specs.Laws.Store.{remade-more, remade-end}
 use Rattle.plan_delay.specs.Held.{settledBy}
@@ -14,10 +13,10 @@ use Rattle.plan_settle.proofs.settle_all.Statement.{statement}
 use Rattle.plan_settle.proofs.settle_all.Tie as tie
 
 abbrev Inv-loop : tie.InvT-loop
-Inv-loop values₀ flags time c₀ values c = (c ≤ maxDuals) × (values ≡ remade (λ c x. settledBy time (eqb (getD flags c 0) 1) x) c values₀)
+Inv-loop values₀ flags count time c₀ values c = (c ≤ count) × (values ≡ remade (λ c x. settledBy time (eqb (getD flags c 0) 1) x) c values₀)
 
 abbrev μ-loop : tie.MeasureT-loop
-μ-loop values₀ flags time c₀ values c = maxDuals - c
+μ-loop values₀ flags count time c₀ values c = count - c
 
 loop-holds : tie.Need-loop-holds Inv-loop μ-loop
 unfolding remade
