@@ -100,15 +100,19 @@ pub fn delay_of(first: u8, second: u8, slack: u64) -> Delay
     }
 }
 
-// The earlier edge keeps its place unless the later one's delay is smaller.
+// The earlier edge keeps its place unless the later one's delay is smaller. The answer is made anew and no copy, which
+// takes the compiler several moves through memory.
 pub fn better_of(best: Winner, e: usize, delay: Delay) -> Winner
     ensures { λ r. ⌜ winnerIn r ≡ better (winnerIn best) e (delayIn delay) ⌝ }
 {
-    let Delay::After(d) = delay else {
-        return best;
-    };
     let Winner::Edge { e: f, d: c } = best else {
+        let Delay::After(d) = delay else {
+            return Winner::Nobody;
+        };
         return Winner::Edge { e, d };
+    };
+    let Delay::After(d) = delay else {
+        return Winner::Edge { e: f, d: c };
     };
     if d < c {
         return Winner::Edge { e, d };

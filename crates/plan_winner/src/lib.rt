@@ -13,6 +13,7 @@ ghost use Rattle.plan_delay.specs.Between.{winnerIn, delayBetween};
 use base_buffer::at64;
 use base_buffer::put64;
 use base_limits::MAX_EDGES;
+use plan_delay::Delay;
 use plan_delay::End;
 use plan_delay::Winner;
 use plan_delay::better_of;
@@ -86,11 +87,11 @@ fn note_edge(
 {
     if first.label == second.label {
         put64(keys, e, NO_KEY);
-        return best;
+        return better_of(best, e, Delay::Never);
     }
     if rests_between(u, v, first, second) {
         put64(keys, e, NO_KEY);
-        return best;
+        return better_of(best, e, Delay::Never);
     }
     let slack = edge_slack(weight, first.load, second.load);
     put64(keys, e, 2 * time + slack);

@@ -1,6 +1,6 @@
 -- What the code reads, read by read, is what the definitions say.
 use Prim.Native.Nat.{ℕ}
-use mathlib.Core.Path.{_≡_, ap, sym, _∙_}
+use mathlib.Core.Path.{_≡_, refl, ap, sym, _∙_}
 use mathlib.Core.Bool.{Bool}
 use mathlib.Core.List.{List}
 use lib.ListN.{getD}
@@ -8,14 +8,20 @@ use lib.Dec.{eqb}
 use borrow.Author.Tests.{eq-eqb, ne-eqb}
 use Rattle.theory_steiner.specs.Growth.{Delay, activeEnds, delayFor, delayOf, Winner, better}
 use Rattle.plan_delay.specs.declared.ActiveEnds.{ActiveEnds as CodeEnds}
+use Rattle.plan_delay.specs.declared.Delay.the-variants.{Never}
 use Rattle.plan_delay.specs.declared.End.{End}
 use Rattle.plan_delay.specs.Held.{settledBy}
-use Rattle.plan_delay.specs.Between.{endsIn, endAt, slackBetween, delayBetween}
+use Rattle.plan_delay.specs.Between.{delayIn, endsIn, endAt, slackBetween, delayBetween}
 
 pub end-read : (labels loads flags : List ℕ) (time v : ℕ) {label c flag held load : ℕ} → label ≡ getD labels v 0 → c ≡ label → flag ≡ getD flags c 0
     → held ≡ getD loads v 0 → load ≡ settledBy time (eqb flag 1) held → record { label = label; flag = flag; load = load } ≡ endAt labels loads flags time v
 unfolding endAt
 end-read labels loads flags time v label-is c-is flag-is held-is load-is = rw (load-is, held-is, flag-is, c-is, label-is)
+
+-- What never comes is no better.
+pub better-never : (best : Winner) (e : ℕ) → better best e (delayIn Never) ≡ best
+unfolding better delayIn
+better-never best e = refl
 
 -- Between two ends.
 module _ (a b : End) (w : ℕ) where
