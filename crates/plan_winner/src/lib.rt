@@ -30,7 +30,7 @@ const TIME_LIMIT: u64 = 4611686018427387904;
 const LAST_TIME: u64 = TIME_LIMIT - 1;
 
 // Edges of a whole block (`blockEdges`).
-pub const BLOCK_EDGES: usize = 8;
+pub const BLOCK_EDGES: usize = 16;
 
 // Blocks, at most (`maxBlocks`).
 pub const MAX_BLOCKS: usize = MAX_EDGES / BLOCK_EDGES + 1;
