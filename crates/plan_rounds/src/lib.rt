@@ -141,6 +141,7 @@ fn grow_rounds(groups: &[u8], firsts: &[u32], seconds: &[u32], weights: &[u32]) 
     let mut keys = [0u64; MAX_EDGES];
     let mut floors = [0u64; MAX_BLOCKS];
     survey_labels::own_labels(&mut labels);
+    plan_keys::start_keys(weights, &mut keys);
     let mates = survey_mates::mates(groups);
     let mut members = [0u32; MAX_VERTICES];
     let count = plan_active::list_members(&mates, &mut members);

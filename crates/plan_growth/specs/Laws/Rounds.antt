@@ -6,7 +6,7 @@ use mathlib.Core.Path.{_≡_, refl, ap, sym, _∙_}
 use mathlib.Core.Logic.{_⊎_, inl, inr}
 use mathlib.Core.Bool.{Bool, true, false, cond}
 use mathlib.Core.List.{[], List}
-use lib.ListN.{length, getD, replicate, List·getD-eq-default}
+use lib.ListN.{length, getD, replicate, length-replicate, List·getD-eq-default}
 use lib.Dec.{eqb, ltb}
 use borrow.Author.Tests.{lt-ltb, le-ltb}
 use Rattle.base_finite.specs.Below.{counted, sumBelow, tabulate}
@@ -21,8 +21,8 @@ use Rattle.theory_steiner.specs.Laws.Rounds.{rounds-lt, stateAt-pick, stateAt-l
 use Rattle.theory_steiner.specs.Laws.Partition.{active-below}
 use Rattle.theory_steiner.specs.Laws.Feasible.{load-start}
 use Rattle.base_buffer.specs.Store.{remade}
-use Rattle.base_buffer.specs.Laws.Store.{tabulate-cong, remade-table, remade-part, replicate-table}
-use Rattle.survey_core.specs.Survey.{Survey, vertexCount, problemOf}
+use Rattle.base_buffer.specs.Laws.Store.{tabulate-cong, remade-passed, remade-table, remade-part, replicate-table}
+use Rattle.survey_core.specs.Survey.{Survey, vertexCount, edgeCount, problemOf}
 use Rattle.survey_core.specs.Sound.{SurveySound}
 use Rattle.survey_core.specs.Laws.Refusal.{survey-sound}
 use Rattle.plan_active.specs.Flags.{activeFlags}
@@ -75,11 +75,24 @@ grown-start p =
       order-is = replicate-table maxVertices 0 ∙ tabulate-cong maxVertices _ _ (λ k _. sym (counted-false (le-ltb k 0 (omega arith)) (pickAt p k)));
     }
 
-pub represents-start : {s : Survey} {labels flags : List ℕ} → SurveySound s → s .owners ≡ [] → labels ≡ remade (λ v x. v) maxVertices (replicate maxVertices 0)
+-- Every edge has its weight twice for a key.
+first-keys : {s : Survey} {keys : List ℕ} → SurveySound s → keys ≡ remade (λ e key. 2 * getD (s .weights) e 0) (length (s .weights)) (replicate maxEdges 0)
+    → (e : ℕ) → e < problemOf s .edges → getD keys e 0 ≤ 2 * problemOf s .weight e
+unfolding problemOf edgeCount
+first-keys {s} {keys} sound k e b =
+    let m = sound .weights-long in
+    let n = sound .edges-few in
+    let r = length-replicate {A = ℕ} maxEdges 0 in
+    let q : getD keys e 0 ≡ 2 * getD (s .weights) e 0 =
+    ap (λ l. getD l e 0) k ∙ remade-passed (λ e key. 2 * getD (s .weights) e 0) (length (s .weights)) (replicate maxEdges 0) e (omega arith) (omega arith) in
+    omega arith
+
+pub represents-start : {s : Survey} {labels keys flags : List ℕ} → SurveySound s → s .owners ≡ [] → labels ≡ remade (λ v x. v) maxVertices (replicate maxVertices 0)
+    → keys ≡ remade (λ e key. 2 * getD (s .weights) e 0) (length (s .weights)) (replicate maxEdges 0)
     → flags ≡ activeFlags (s .groups) labels
-    → Represents s 0 0 (arraysFrom labels (replicate maxVertices 0) (replicate maxDuals 0) (replicate maxEdges 0) (replicate maxVertices 0) (replicate maxEdges 0) (replicate maxBlocks 0) flags)
+    → Represents s 0 0 (arraysFrom labels (replicate maxVertices 0) (replicate maxDuals 0) (replicate maxEdges 0) (replicate maxVertices 0) keys (replicate maxBlocks 0) flags)
 unfolding stateAt start
-represents-start {s} sound plain h f =
+represents-start {s} sound plain h k f =
     let g = grown-start (problemOf s) in
     record {
       sound = sound;
@@ -93,7 +106,7 @@ represents-start {s} sound plain h f =
       values-timely = λ c. omega arith;
       picked-are = g .picked-are;
       order-is = g .order-is;
-      keyed = keyed-start (problemOf s) maxEdges (replicate-table maxEdges 0);
+      keyed = keyed-start (problemOf s) (first-keys sound k);
       floored = floored-start (length (s .firsts)) maxBlocks _ (replicate-table maxBlocks 0);
       flags-are = f;
     }

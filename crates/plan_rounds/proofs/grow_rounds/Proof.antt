@@ -21,8 +21,14 @@ abbrev μ-loop : tie.MeasureT-loop
 
 loop-holds : tie.Need-loop-holds Inv-loop μ-loop
 loop-holds c =
-    let labels = c .before .before .before .before .before .before .before in
-    represents-start (labels .before .before .before .before .before .before .pre) refl (labels .own-labels .ensures) (c .active-flags .ensures)
+    let keys = c .before .before .before .before .before .before .before in
+    let labels = keys .before .before .before in
+    represents-start
+    (labels .before .before .before .before .before .before .pre)
+    refl
+    (labels .own-labels .ensures)
+    (keys .start-keys .ensures)
+    (c .active-flags .ensures)
 
 round-requires : tie.Need-round-requires Inv-loop μ-loop
 round-requires c κs =
@@ -82,6 +88,8 @@ grow-rounds-spec =
     (tie.spec
     Inv-loop
     μ-loop
+    (λ c. search needs)
+    (λ c κs. search needs)
     (λ c. search needs)
     (λ c κs. search needs)
     (λ c κs. search needs)

@@ -26,6 +26,7 @@ use Rattle.theory_steiner.specs.Laws.Rounds.{stateAt-pick, delay-le}
 use Rattle.theory_steiner.specs.Laws.Partition.{winner-below}
 use Rattle.theory_steiner.specs.Laws.Weighed.{load-pick}
 use Rattle.theory_steiner.specs.Laws.Degree.{label-later}
+use Rattle.theory_steiner.specs.Laws.Feasible.{load-start}
 use Rattle.plan_winner.specs.Scan.{noKey, timeLimit, idleAlone, resting, key, cappedTime, limitOf, Scan, looked, scan, scanOf, Keyed, Woken, blockEdges, Floored}
 
 -- ---- the time
@@ -169,10 +170,20 @@ zero-at n {l} h i = by (lt-or-ge i n)
     by (inl b) = ap (λ t. getD t i 0) h ∙ getD-tabulate n (λ e. 0) i 0 b
     by (inr b) = let k : length l ≡ n = ap length h ∙ length-tabulate n (λ e. 0) in List·getD-eq-default l 0 (omega arith)
 
--- Keys and floors of 0 bound nothing.
-pub keyed-start : (p : Problem) (n : ℕ) {keys : List ℕ} → keys ≡ tabulate n (λ e. 0) → Keyed p (stateAt p 0) 0 keys
-keyed-start p n h = record { early = omega arith; low = λ e b a q. let z = zero-at n h e in omega arith }
+-- Before the first round all of an edge remains.
+pub keyed-start : (p : Problem) {keys : List ℕ} → ((e : ℕ) → e < p .edges → getD keys e 0 ≤ 2 * p .weight e) → Keyed p (stateAt p 0) 0 keys
+unfolding slack stateAt
+keyed-start p h =
+    record {
+      early = omega arith;
+      low = λ e b a q.
+          let k = h e b in
+          let x = load-start p (p .first e) in
+          let y = load-start p (p .second e) in
+          omega arith;
+    }
 
+-- Floors of 0 bound nothing.
 pub floored-start : (m n : ℕ) (keys : List ℕ) {floors : List ℕ} → floors ≡ tabulate n (λ b. 0) → Floored m keys floors
 floored-start m n keys h = record { low = λ e b. let z = zero-at n h (e / blockEdges) in omega arith }
 
