@@ -29,8 +29,8 @@ winnerIn Nobody = nobody
 winnerIn (Edge e d) = edge e d
 
 -- The end of an edge at vertex v: by the component numbers, what is held for the loads, and 1 for each active component number.
-unfoldable pub endAt : (labels loads flags : List ℕ) → (time v : ℕ) → End
-endAt labels loads flags time v =
+unfoldable pub vertexEnd : (labels loads flags : List ℕ) → (time v : ℕ) → End
+vertexEnd labels loads flags time v =
     let c = getD labels v 0 in
     record { label = c; flag = getD flags c 0; load = settledBy time (eqb (getD flags c 0) 1) (getD loads v 0) }
 

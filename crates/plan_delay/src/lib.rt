@@ -5,7 +5,7 @@ ghost use Prim.Native.Nat.{_+_, _*_, _-_};
 ghost use lib.Dec.{eqb};
 ghost use Rattle.theory_steiner.specs.Growth.{activeEnds, delayOf, better};
 ghost use Rattle.plan_delay.specs.Held.{settledBy};
-ghost use Rattle.plan_delay.specs.Between.{endsIn, delayIn, winnerIn, endAt};
+ghost use Rattle.plan_delay.specs.Between.{endsIn, delayIn, winnerIn, vertexEnd};
 
 // An edge's delay, if it is a candidate.
 pub enum Delay {
@@ -48,7 +48,7 @@ pub fn settled(held: u64, flag: u8, time: u64) -> u64
 
 // The end at vertex v, whose load is held by time.
 pub fn end_at(labels: &[u32], loads: &[u64], flags: &[u8], time: u64, v: usize) -> End
-    ensures { λ r. ⌜ r ≡ endAt (old labels) (old loads) (old flags) time v ⌝ }
+    ensures { λ r. ⌜ r ≡ vertexEnd (old labels) (old loads) (old flags) time v ⌝ }
 {
     let label = base_buffer::at32(labels, v);
     let c = base_buffer::index32(label);

@@ -71,7 +71,7 @@ fn round(
         let a = newArrays labels loads values picked order keys floors flags in
         ⌜ Represents s (roundsAfter r (delayIn x)) (timeAfter time (delayIn x)) a ⌝ }
 {
-    let found = plan_winner::find_winner(
+    let found = plan_search::find_winner(
         firsts,
         seconds,
         weights,

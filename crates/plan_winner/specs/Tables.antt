@@ -7,7 +7,7 @@ use lib.Dec.{eqb}
 use Rattle.base_buffer.specs.Lent.{Buffer, old}
 use Rattle.theory_steiner.specs.Growth.{Delay, Winner}
 use Rattle.plan_delay.specs.declared.End.{End}
-use Rattle.plan_delay.specs.Between.{endAt, slackBetween, delayBetween}
+use Rattle.plan_delay.specs.Between.{vertexEnd, slackBetween, delayBetween}
 use Rattle.plan_winner.specs.Scan.{noKey, Scan, scanOn, Pass, passesBelow}
 
 pub record Tables : Type 0 where
@@ -32,10 +32,10 @@ tablesIn firsts seconds weights labels loads flags =
 
 -- The ends of edge e at this time.
 unfoldable pub firstBy : Tables → (time e : ℕ) → End
-firstBy t time e = endAt (t .labels) (t .loads) (t .flags) time (getD (t .firsts) e 0)
+firstBy t time e = vertexEnd (t .labels) (t .loads) (t .flags) time (getD (t .firsts) e 0)
 
 unfoldable pub secondBy : Tables → (time e : ℕ) → End
-secondBy t time e = endAt (t .labels) (t .loads) (t .flags) time (getD (t .seconds) e 0)
+secondBy t time e = vertexEnd (t .labels) (t .loads) (t .flags) time (getD (t .seconds) e 0)
 
 unfoldable pub delayBy : Tables → (time e : ℕ) → Delay
 delayBy t time e = delayBetween (firstBy t time e) (secondBy t time e) (getD (t .weights) e 0)

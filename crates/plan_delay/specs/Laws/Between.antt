@@ -11,11 +11,11 @@ use Rattle.plan_delay.specs.declared.ActiveEnds.{ActiveEnds as CodeEnds}
 use Rattle.plan_delay.specs.declared.Delay.the-variants.{Never}
 use Rattle.plan_delay.specs.declared.End.{End}
 use Rattle.plan_delay.specs.Held.{settledBy}
-use Rattle.plan_delay.specs.Between.{delayIn, endsIn, endAt, slackBetween, delayBetween}
+use Rattle.plan_delay.specs.Between.{delayIn, endsIn, vertexEnd, slackBetween, delayBetween}
 
 pub end-read : (labels loads flags : List ℕ) (time v : ℕ) {label c flag held load : ℕ} → label ≡ getD labels v 0 → c ≡ label → flag ≡ getD flags c 0
-    → held ≡ getD loads v 0 → load ≡ settledBy time (eqb flag 1) held → record { label = label; flag = flag; load = load } ≡ endAt labels loads flags time v
-unfolding endAt
+    → held ≡ getD loads v 0 → load ≡ settledBy time (eqb flag 1) held → record { label = label; flag = flag; load = load } ≡ vertexEnd labels loads flags time v
+unfolding vertexEnd
 end-read labels loads flags time v label-is c-is flag-is held-is load-is = rw (load-is, held-is, flag-is, c-is, label-is)
 
 -- What never comes is no better.

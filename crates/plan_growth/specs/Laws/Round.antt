@@ -30,7 +30,7 @@ use Rattle.survey_core.specs.Laws.Refusal.{survey-sound}
 use Rattle.base_buffer.specs.Laws.Store.{set-table, remade-part}
 use Rattle.plan_delay.specs.Held.{heldValue, settledBy}
 use Rattle.plan_delay.specs.Laws.Held.{held-settled}
-use Rattle.plan_delay.specs.Between.{delayIn, winnerIn, endAt, slackBetween, delayBetween}
+use Rattle.plan_delay.specs.Between.{delayIn, winnerIn, vertexEnd, slackBetween, delayBetween}
 use Rattle.plan_delay.specs.declared.Delay.the-variants.{Never, After}
 use Rattle.plan_delay.specs.declared.Winner.{Winner}
 use Rattle.plan_delay.specs.declared.Winner.the-variants.{Nobody, Edge}
@@ -192,7 +192,7 @@ module _ {s : Survey} {r time : ℕ} {a : Arrays} (h : Represents s r time a) wh
     flag-at c b = flag-active s (h .plain) (h .sound .few) (S .label) (a .labels) label-at f c b
 
     delay-at : (e : ℕ) → e < length (s .firsts) → delayBy tables time e ≡ delay p S e
-    unfolding delayBy firstBy secondBy endAt delayBetween slackBetween delay slack problemOf
+    unfolding delayBy firstBy secondBy vertexEnd delayBetween slackBetween delay slack problemOf
     delay-at e b =
         let u = getD (s .firsts) e 0 in
         let v = getD (s .seconds) e 0 in
@@ -209,7 +209,7 @@ module _ {s : Survey} {r time : ℕ} {a : Arrays} (h : Represents s r time a) wh
         (cond-not (eqb (S .label u) (S .label v)) _ _)
 
     key-at : (e : ℕ) → e < length (s .firsts) → keyBy tables time e ≡ key p S time e
-    unfolding keyBy firstBy secondBy endAt aloneAt restsBetween keyBetween slackBetween idleAlone resting key slack problemOf
+    unfolding keyBy firstBy secondBy vertexEnd aloneAt restsBetween keyBetween slackBetween idleAlone resting key slack problemOf
     key-at e b =
         let u = getD (s .firsts) e 0 in
         let v = getD (s .seconds) e 0 in

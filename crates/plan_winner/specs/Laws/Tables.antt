@@ -9,8 +9,8 @@ use borrow.Author.Tests.{eq-eqb, ne-eqb, not-true}
 use Rattle.base_finite.specs.Laws.Test.{and-left, and-right, or-right}
 use Rattle.theory_steiner.specs.Growth.{never, activeEnds, delayFor, delayOf, Winner, better}
 use Rattle.plan_delay.specs.declared.End.{End}
-use Rattle.plan_delay.specs.Between.{endAt, slackBetween, delayBetween}
-use Rattle.plan_winner.specs.Scan.{noKey}
+use Rattle.plan_delay.specs.Between.{vertexEnd, slackBetween, delayBetween}
+use Rattle.plan_winner.specs.Scan.{noKey, cappedTime}
 use Rattle.plan_winner.specs.Tables.{Tables, firstBy, secondBy, delayBy, aloneAt, restsBetween, keyBetween, keyBy}
 
 -- One end.
@@ -62,14 +62,14 @@ module _ (u v : ℕ) (a b : End) where
     unfolding keyBetween
     key-apart apart t-is h s-is = rw (ne-eqb (a .label) (b .label) apart, sym t-is ∙ h) (ap (λ z. 2 * time + z) s-is)
 
--- Edge e of the tables: what is noted of its ends and its weight is noted of it.
-module _ (t : Tables) (time e : ℕ) {u v w : ℕ} {a b : End} (u-is : u ≡ getD (t .firsts) e 0) (v-is : v ≡ getD (t .seconds) e 0)
-    (a-is : a ≡ endAt (t .labels) (t .loads) (t .flags) time u) (b-is : b ≡ endAt (t .labels) (t .loads) (t .flags) time v) (w-is : w ≡ getD (t .weights) e 0)
+-- Edge e of the tables at a time that is capped: what is noted of its ends and its weight is noted of it.
+module _ (t : Tables) (time e : ℕ) {capped u v w : ℕ} {a b : End} (capped-is : capped ≡ cappedTime time) (u-is : u ≡ getD (t .firsts) e 0) (v-is : v ≡ getD (t .seconds) e 0)
+    (a-is : a ≡ vertexEnd (t .labels) (t .loads) (t .flags) capped u) (b-is : b ≡ vertexEnd (t .labels) (t .loads) (t .flags) capped v) (w-is : w ≡ getD (t .weights) e 0)
   where
-    pub best-read : (best : Winner) {next : Winner} → next ≡ better best e (delayBetween a b w) → next ≡ better best e (delayBy t time e)
+    pub best-read : (best : Winner) {next : Winner} → next ≡ better best e (delayBetween a b w) → next ≡ better best e (delayBy t (cappedTime time) e)
     unfolding delayBy firstBy secondBy
-    best-read best h = rw (sym u-is, sym v-is, sym a-is, sym b-is, sym w-is) h
+    best-read best h = rw (sym capped-is, sym u-is, sym v-is, sym a-is, sym b-is, sym w-is) h
 
-    pub keys-read : (keys : List ℕ) {after : List ℕ} → after ≡ set keys e (keyBetween time u v a b w) → after ≡ set keys e (keyBy t time e)
+    pub keys-read : (keys : List ℕ) {after : List ℕ} → after ≡ set keys e (keyBetween capped u v a b w) → after ≡ set keys e (keyBy t (cappedTime time) e)
     unfolding keyBy firstBy secondBy
-    keys-read keys h = rw (sym u-is, sym v-is, sym a-is, sym b-is, sym w-is) h
+    keys-read keys h = rw (sym capped-is, sym u-is, sym v-is, sym a-is, sym b-is, sym w-is) h

@@ -1,9 +1,9 @@
 -- `block_size` meets its contract: whole, or what is left.
 use borrow.Author.Tests.{lt-ltb, le-ltb}
 use Rattle.plan_winner.specs.Scan.{blockSize}
 use borrow.Author.Needs.{needs}
-use Rattle.plan_winner.proofs.block_size.Statement.{statement}
-use Rattle.plan_winner.proofs.block_size.Tie as tie
+use Rattle.plan_search.proofs.block_size.Statement.{statement}
+use Rattle.plan_search.proofs.block_size.Tie as tie
 
 -- the last block
 returns : tie.Need-returns

@@ -2,15 +2,15 @@
 use Prim.Native.Nat.{_-_}
 use mathlib.Core.Path.{ap, _∙_}
 use mathlib.Core.Logic.{⊎-elim}
 use Rattle.plan_winner.specs.Scan.{blocksOf}
 use Rattle.plan_winner.specs.Tables.{tablesFrom}
 use Rattle.plan_delay.specs.Between.{winnerIn}
 use Rattle.plan_winner.specs.Laws.Scan.{capped-small}
 use Rattle.plan_winner.specs.Laws.Loops.{PassingBlocks, passing-start, block-starts, passing-look, passing-over, passing-keys, passing-floors, passing-end}
 use borrow.Author.Needs.{needs}
 use native.Mathlib.Omega.{arith}
-use Rattle.plan_winner.proofs.find_winner.Statement.{statement}
-use Rattle.plan_winner.proofs.find_winner.Tie as tie
+use Rattle.plan_search.proofs.find_winner.Statement.{statement}
+use Rattle.plan_search.proofs.find_winner.Tie as tie
 
 abbrev Inv-loop : tie.InvT-loop
 Inv-loop firsts seconds weights labels loads flags time keys₀ floors₀ capped best₀ limit₀ blocks b₀ keys floors best limit b =

@@ -2,13 +2,13 @@
 use Prim.Native.Nat.{_-_}
 use mathlib.Core.Path.{ap, _∙_}
 use mathlib.Core.Logic.{⊎-elim}
 use Rattle.plan_winner.specs.Tables.{tablesFrom}
 use Rattle.plan_delay.specs.Between.{winnerIn}
 use Rattle.plan_winner.specs.Laws.Loops.{Scanning, scanning-start, scanning-look, scanning-pass, scanning-long, scanning-end}
 use borrow.Author.Needs.{needs}
 use native.Mathlib.Omega.{arith}
-use Rattle.plan_winner.proofs.scan_block.Statement.{statement}
-use Rattle.plan_winner.proofs.scan_block.Tie as tie
+use Rattle.plan_search.proofs.scan_block.Statement.{statement}
+use Rattle.plan_search.proofs.scan_block.Tie as tie
 
 abbrev Inv-loop : tie.InvT-loop
 Inv-loop firsts seconds weights labels loads flags time keys₀ from to winner₀ limit₀ e₀ keys winner limit e =
@@ -19,7 +19,7 @@ abbrev μ-loop : tie.MeasureT-loop
     to - e
 
 loop-holds : tie.Need-loop-holds Inv-loop μ-loop
-loop-holds c = scanning-start _ _ _ _ _ _ (c .limit-of .ensures)
+loop-holds c = scanning-start _ _ _ _ _ _ (c .before .before .before .before .before .before .before .before .pre) (c .limit-of .ensures)
 
 loop-less : tie.Need-loop-less Inv-loop μ-loop
 loop-less c = omega arith

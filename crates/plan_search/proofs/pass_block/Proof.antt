@@ -1,12 +1,12 @@
 -- `pass_block` meets its contract: the edges of the block, and then the lowest of their keys.
 use mathlib.Core.Path.{ap, _∙_}
 use lib.ListN.{length, set}
 use Rattle.plan_winner.specs.Tables.{onBy}
 use Rattle.plan_winner.specs.Laws.Blocks.{size-fits, size-is}
 use native.Mathlib.Omega.{arith}
 use borrow.Author.Needs.{needs}
-use Rattle.plan_winner.proofs.pass_block.Statement.{statement}
-use Rattle.plan_winner.proofs.pass_block.Tie as tie
+use Rattle.plan_search.proofs.pass_block.Statement.{statement}
+use Rattle.plan_search.proofs.pass_block.Tie as tie
 
 add-to : tie.Need-add-to
 add-to c =

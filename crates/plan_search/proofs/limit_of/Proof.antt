@@ -1,10 +1,10 @@
 -- `limit_of` meets its contract: each return by the variants and the test that led there.
 use borrow.Author.Tests.{lt-ltb, le-ltb}
 use Rattle.plan_winner.specs.Scan.{limitOf}
 use Rattle.plan_delay.specs.Between.{winnerIn}
 use borrow.Author.Needs.{needs}
-use Rattle.plan_winner.proofs.limit_of.Statement.{statement}
-use Rattle.plan_winner.proofs.limit_of.Tie as tie
+use Rattle.plan_search.proofs.limit_of.Statement.{statement}
+use Rattle.plan_search.proofs.limit_of.Tie as tie
 
 enum-told : tie.Need-enum-told
 enum-told c = search needs

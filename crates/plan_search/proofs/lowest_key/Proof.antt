@@ -2,12 +2,12 @@
 use Prim.Native.Nat.{_≤_, _-_}
 use mathlib.Core.Path.{_≡_, _∙_}
 use mathlib.Core.Logic.{⊎-elim}
 use Rattle.plan_winner.specs.Scan.{lowestKey}
 use Rattle.plan_winner.specs.Laws.Blocks.{lowest-key-none, lowest-key-falls, lowest-key-stays, lowest-key-end}
 use borrow.Author.Needs.{needs}
 use native.Mathlib.Omega.{arith}
-use Rattle.plan_winner.proofs.lowest_key.Statement.{statement}
-use Rattle.plan_winner.proofs.lowest_key.Tie as tie
+use Rattle.plan_search.proofs.lowest_key.Statement.{statement}
+use Rattle.plan_search.proofs.lowest_key.Tie as tie
 
 abbrev Inv-loop : tie.InvT-loop
 Inv-loop keys from to low₀ e₀ low e = (from ≤ e) × (e - from ≤ to - from) × (low ≡ lowestKey keys from (e - from))

@@ -4,10 +4,10 @@ use lib.ListN.{set}
 use Rattle.theory_steiner.specs.Growth.{better}
 use Rattle.plan_delay.specs.Between.{slackBetween, winnerIn}
 use Rattle.plan_delay.specs.Laws.Between.{better-never, better-inside, delay-apart}
 use Rattle.plan_winner.specs.Laws.Tables.{better-resting, key-inside, key-resting, key-apart}
 use borrow.Author.Needs.{needs}
-use Rattle.plan_winner.proofs.note_edge.Statement.{statement}
-use Rattle.plan_winner.proofs.note_edge.Tie as tie
+use Rattle.plan_look.proofs.note_edge.Statement.{statement}
+use Rattle.plan_look.proofs.note_edge.Tie as tie
 
 same-length : tie.Need-same-length
 same-length c = c .before .before .keys .given

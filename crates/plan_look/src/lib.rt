@@ -1,0 +1,118 @@
+// A look at one edge: its delay against the best so far, and its key. Definitions in plan_winner.
+ghost use Rattle.base_buffer.specs.Lent.{old, new};
+ghost use mathlib.Core.Path.{_≡_};
+ghost use Prim.Native.Nat.{_<_};
+ghost use lib.ListN.{set};
+ghost use Rattle.theory_steiner.specs.Growth.{better};
+ghost use Rattle.plan_winner.specs.Scan.{timeLimit, cappedTime};
+ghost use Rattle.plan_winner.specs.Tables.{tablesIn, delayBy, aloneAt, restsBetween, keyBetween, keyBy};
+ghost use Rattle.plan_delay.specs.Between.{winnerIn, delayBetween};
+use base_buffer::put64;
+use plan_delay::Delay;
+use plan_delay::End;
+use plan_delay::Winner;
+use plan_delay::better_of;
+use plan_delay::delay_of;
+use plan_delay::edge_slack;
+use plan_delay::end_at;
+use plan_winner::NO_KEY;
+use plan_winner::TIME_LIMIT;
+
+const LAST_TIME: u64 = TIME_LIMIT - 1;
+
+// The time that the search goes by: a later one is taken for the last whose sums fit.
+pub fn capped_time(time: u64) -> u64
+    ensures { λ r. ⌜ r ≡ cappedTime time ⌝ }
+{
+    if time < TIME_LIMIT {
+        return time;
+    }
+    LAST_TIME
+}
+
+// Whether the end at vertex v is not active, and a component of its own.
+fn alone_at(v: usize, end: End) -> bool
+    ensures { λ r. ⌜ r ≡ aloneAt v end ⌝ }
+{
+    if end.flag == 1 {
+        return false;
+    }
+    base_buffer::index32(end.label) == v
+}
+
+// Whether an edge between vertices u and v rests.
+fn rests_between(u: usize, v: usize, first: End, second: End) -> bool
+    ensures { λ r. ⌜ r ≡ restsBetween u v first second ⌝ }
+{
+    if alone_at(u, first) {
+        return alone_at(v, second);
+    }
+    false
+}
+
+// Notes the key of edge e between the ends at two vertices: the best with it.
+fn note_edge(
+    keys: &mut [u64],
+    e: usize,
+    time: u64,
+    weight: u32,
+    u: usize,
+    v: usize,
+    first: End,
+    second: End,
+    best: Winner,
+) -> Winner
+    requires { ⌜ time < timeLimit ⌝ }
+    ensures { λ r. ⌜ winnerIn r ≡ better (winnerIn best) e (delayBetween first second weight) ⌝ }
+    ensures { λ r. ⌜ new keys ≡ set (old keys) e (keyBetween time u v first second weight) ⌝ }
+{
+    if first.label == second.label {
+        put64(keys, e, NO_KEY);
+        return better_of(best, e, Delay::Never);
+    }
+    if rests_between(u, v, first, second) {
+        put64(keys, e, NO_KEY);
+        return better_of(best, e, Delay::Never);
+    }
+    let slack = edge_slack(weight, first.load, second.load);
+    put64(keys, e, 2 * time + slack);
+    better_of(best, e, delay_of(first.flag, second.flag, slack))
+}
+
+// Looks at edge e: the best with it, and its key noted.
+pub fn look(
+    firsts: &[u32],
+    seconds: &[u32],
+    weights: &[u32],
+    labels: &[u32],
+    loads: &[u64],
+    flags: &[u8],
+    time: u64,
+    keys: &mut [u64],
+    e: usize,
+    best: Winner,
+) -> Winner
+    ensures { λ r.
+        let t = tablesIn firsts seconds weights labels loads flags in
+        ⌜ winnerIn r ≡ better (winnerIn best) e (delayBy t (cappedTime time) e) ⌝ }
+    ensures { λ r.
+        let t = tablesIn firsts seconds weights labels loads flags in
+        ⌜ new keys ≡ set (old keys) e (keyBy t (cappedTime time) e) ⌝ }
+{
+    let capped = capped_time(time);
+    let a = base_buffer::index32(base_buffer::at32(firsts, e));
+    let b = base_buffer::index32(base_buffer::at32(seconds, e));
+    let first = end_at(labels, loads, flags, capped, a);
+    let second = end_at(labels, loads, flags, capped, b);
+    note_edge(
+        keys,
+        e,
+        capped,
+        base_buffer::at32(weights, e),
+        a,
+        b,
+        first,
+        second,
+        best,
+    )
+}

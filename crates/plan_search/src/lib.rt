@@ -1,0 +1,203 @@
+// The search for a round's winner, edge by edge and block by block. Definitions in plan_winner.
+ghost use Rattle.base_buffer.specs.Lent.{old, new};
+ghost use mathlib.Core.Path.{_≡_};
+ghost use Prim.Native.Nat.{_-_, _*_, _<_, _≤_};
+ghost use lib.ListN.{set, length};
+ghost use Rattle.plan_winner.specs.Scan.{timeLimit, limitOf, cappedTime};
+ghost use Rattle.plan_winner.specs.Scan.{blockEdges, blockSize, blocksOf, lowestKey};
+ghost use Rattle.plan_winner.specs.Tables.{tablesIn, onBy, passBy, scanFrom};
+ghost use Rattle.plan_delay.specs.Between.{winnerIn};
+use base_buffer::at64;
+use base_buffer::put64;
+use plan_delay::Winner;
+use plan_winner::BLOCK_EDGES;
+use plan_winner::NO_KEY;
+use plan_winner::TIME_LIMIT;
+
+// Twice the time of the best so far.
+fn limit_of(time: u64, best: Winner) -> u64
+    requires { ⌜ time < timeLimit ⌝ }
+    ensures { λ r. ⌜ r ≡ limitOf time (winnerIn best) ⌝ }
+{
+    let Winner::Edge { e: _, d } = best else {
+        return NO_KEY;
+    };
+    if d < TIME_LIMIT {
+        return 2 * (time + d);
+    }
+    NO_KEY
+}
+
+// Looks at the edges of a block whose noted keys do not say that they come later than the best so far.
+fn scan_block(
+    firsts: &[u32],
+    seconds: &[u32],
+    weights: &[u32],
+    labels: &[u32],
+    loads: &[u64],
+    flags: &[u8],
+    time: u64,
+    keys: &mut [u64],
+    from: usize,
+    to: usize,
+    best: Winner,
+) -> Winner
+    requires { ⌜ time < timeLimit ⌝ }
+    ensures { λ r.
+        let t = tablesIn firsts seconds weights labels loads flags in
+        ⌜ winnerIn r ≡ onBy t time (scanFrom (winnerIn best) (old keys)) from (to - from) .best ⌝ }
+    ensures { λ r.
+        let t = tablesIn firsts seconds weights labels loads flags in
+        ⌜ new keys ≡ onBy t time (scanFrom (winnerIn best) (old keys)) from (to - from) .keys ⌝ }
+{
+    let mut winner = best;
+    let mut limit = limit_of(time, best);
+    let mut e = from;
+    while e < to {
+        if at64(keys, e) < limit {
+            winner = plan_look::look(
+                firsts,
+                seconds,
+                weights,
+                labels,
+                loads,
+                flags,
+                time,
+                keys,
+                e,
+                winner,
+            );
+            limit = limit_of(time, winner);
+        }
+        e += 1;
+    }
+    winner
+}
+
+// The lowest of some keys.
+fn lowest_key(keys: &[u64], from: usize, to: usize) -> u64
+    ensures { λ r. ⌜ r ≡ lowestKey (old keys) from (to - from) ⌝ }
+{
+    let mut low = NO_KEY;
+    let mut e = from;
+    while e < to {
+        let key = at64(keys, e);
+        if key < low {
+            low = key;
+        }
+        e += 1;
+    }
+    low
+}
+
+// How many edges block b has.
+fn block_size(m: usize, b: usize) -> usize
+    requires { ⌜ blockEdges * b ≤ m ⌝ }
+    ensures { λ r. ⌜ r ≡ blockSize m b ⌝ }
+{
+    let left = m - BLOCK_EDGES * b;
+    if left < BLOCK_EDGES {
+        return left;
+    }
+    BLOCK_EDGES
+}
+
+// Looks through block b, and notes its floor.
+fn pass_block(
+    firsts: &[u32],
+    seconds: &[u32],
+    weights: &[u32],
+    labels: &[u32],
+    loads: &[u64],
+    flags: &[u8],
+    time: u64,
+    keys: &mut [u64],
+    floors: &mut [u64],
+    b: usize,
+    best: Winner,
+) -> Winner
+    requires { ⌜ time < timeLimit ⌝ }
+    requires { ⌜ blockEdges * b ≤ length (now firsts) ⌝ }
+    ensures { λ r.
+        let t = tablesIn firsts seconds weights labels loads flags in
+        let size = blockSize (length (old firsts)) b in
+        ⌜ winnerIn r ≡ onBy t time (scanFrom (winnerIn best) (old keys)) (blockEdges * b) size .best ⌝ }
+    ensures { λ r.
+        let t = tablesIn firsts seconds weights labels loads flags in
+        let size = blockSize (length (old firsts)) b in
+        ⌜ new keys ≡ onBy t time (scanFrom (winnerIn best) (old keys)) (blockEdges * b) size .keys ⌝ }
+    ensures { λ r.
+        let size = blockSize (length (old firsts)) b in
+        ⌜ new floors ≡ set (old floors) b (lowestKey (new keys) (blockEdges * b) size) ⌝ }
+{
+    let from = BLOCK_EDGES * b;
+    let to = from + block_size(firsts.len(), b);
+    let winner = scan_block(
+        firsts,
+        seconds,
+        weights,
+        labels,
+        loads,
+        flags,
+        time,
+        keys,
+        from,
+        to,
+        best,
+    );
+    put64(floors, b, lowest_key(keys, from, to));
+    winner
+}
+
+// The smallest delay, and among equals the lowest edge. Blocks whose floors say that all their edges come later are
+// passed over.
+pub fn find_winner(
+    firsts: &[u32],
+    seconds: &[u32],
+    weights: &[u32],
+    labels: &[u32],
+    loads: &[u64],
+    flags: &[u8],
+    time: u64,
+    keys: &mut [u64],
+    floors: &mut [u64],
+) -> Winner
+    ensures { λ r.
+        let t = tablesIn firsts seconds weights labels loads flags in
+        let blocks = blocksOf (length (old firsts)) in
+        ⌜ winnerIn r ≡ passBy t (cappedTime time) (old keys) (old floors) blocks .scanned .best ⌝ }
+    ensures { λ r.
+        let t = tablesIn firsts seconds weights labels loads flags in
+        let blocks = blocksOf (length (old firsts)) in
+        ⌜ new keys ≡ passBy t (cappedTime time) (old keys) (old floors) blocks .scanned .keys ⌝ }
+    ensures { λ r.
+        let t = tablesIn firsts seconds weights labels loads flags in
+        let blocks = blocksOf (length (old firsts)) in
+        ⌜ new floors ≡ passBy t (cappedTime time) (old keys) (old floors) blocks .floors ⌝ }
+{
+    let capped = plan_look::capped_time(time);
+    let mut best = Winner::Nobody;
+    let mut limit = NO_KEY;
+    let blocks = firsts.len() / BLOCK_EDGES + 1;
+    let mut b = 0;
+    while b < blocks {
+        if at64(floors, b) < limit {
+            best = pass_block(
+                firsts,
+                seconds,
+                weights,
+                labels,
+                loads,
+                flags,
+                capped,
+                keys,
+                floors,
+                b,
+                best,
+            );
+            limit = limit_of(capped, best);
+        }
+        b += 1;
+    }
+    best
+}
