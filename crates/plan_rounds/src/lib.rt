@@ -144,8 +144,8 @@ fn grow_rounds(groups: &[u8], firsts: &[u32], seconds: &[u32], weights: &[u32]) 
     plan_keys::start_keys(weights, &mut keys);
     let mates = survey_mates::mates(groups);
     let mut members = [0u32; MAX_VERTICES];
-    let count = plan_active::list_members(&mates, &mut members);
-    let mut flags = plan_active::active_flags(groups, &labels);
+    let count = plan_mated::list_members(&mates, &mut members);
+    let mut flags = plan_flags::active_flags(groups, &labels);
     let most = groups.len() - 1;
     let mut time = 0;
     let mut r = 0;

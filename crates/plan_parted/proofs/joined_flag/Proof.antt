@@ -3,9 +3,9 @@ use mathlib.Core.Path.{ap, sym, _∙_}
 use lib.ListN.{getD}
 use borrow.Author.Needs.{needs}
 use Rattle.base_finite.specs.Laws.Below.{counted-true, counted-false}
 use Rattle.plan_active.specs.Laws.Merged.{flag-first, flag-second, flag-all}
-use Rattle.plan_active.proofs.joined_flag.Statement.{statement}
-use Rattle.plan_active.proofs.joined_flag.Tie as tie
+use Rattle.plan_parted.proofs.joined_flag.Statement.{statement}
+use Rattle.plan_parted.proofs.joined_flag.Tie as tie
 
 -- the first is parted
 returns : tie.Need-returns

@@ -8,10 +8,10 @@ use borrow.Author.Needs.{needs}
 use Rattle.base_finite.specs.Below.{anyBelow}
 use Rattle.base_finite.specs.Laws.Below.{any-intro}
 use Rattle.base_finite.specs.Laws.Count.{any-more, any-end}
 use Rattle.plan_active.specs.Flags.{apartFromMate}
 use Rattle.plan_active.specs.Laws.Merged.{apart-by}
-use Rattle.plan_active.proofs.is_any_parted.Statement.{statement}
-use Rattle.plan_active.proofs.is_any_parted.Tie as tie
+use Rattle.plan_parted.proofs.is_any_parted.Statement.{statement}
+use Rattle.plan_parted.proofs.is_any_parted.Tie as tie
 
 abbrev Inv-loop : tie.InvT-loop
 Inv-loop mates labels members count x y k₀ k = (k ≤ count) × (anyBelow k (λ k. apartFromMate mates labels x y (getD members k 0)) ≡ false)

@@ -2,9 +2,9 @@
 use native.Mathlib.Omega.{arith}
 use borrow.Author.Needs.{needs}
 use Rattle.base_finite.specs.Laws.Below.{counted-true, counted-false}
 use Rattle.plan_active.specs.Laws.Listed.{own-mate, other-mate}
-use Rattle.plan_active.proofs.list_vertex.Statement.{statement}
-use Rattle.plan_active.proofs.list_vertex.Tie as tie
+use Rattle.plan_mated.proofs.list_vertex.Statement.{statement}
+use Rattle.plan_mated.proofs.list_vertex.Tie as tie
 
 -- its own mate
 returns : tie.Need-returns

@@ -1,8 +1,8 @@
 -- `is_either` meets its contract: each return by its test.
 use borrow.Author.Tests.{eq-eqb, ne-eqb}
 use Rattle.plan_active.specs.Flags.{ofEither}
-use Rattle.plan_active.proofs.is_either.Statement.{statement}
-use Rattle.plan_active.proofs.is_either.Tie as tie
+use Rattle.plan_parted.proofs.is_either.Statement.{statement}
+use Rattle.plan_parted.proofs.is_either.Tie as tie
 
 -- it is x
 returns : tie.Need-returns

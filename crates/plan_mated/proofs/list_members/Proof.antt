@@ -7,10 +7,10 @@ use Rattle.base_finite.specs.Below.{sumBelow, countBelow}
 use Rattle.base_finite.specs.Laws.Below.{count-le}
 use Rattle.base_finite.specs.Laws.Count.{count-end}
 use Rattle.base_limits.specs.Limits.{maxVertices}
 use Rattle.plan_active.specs.Flags.{hasMate, gathered}
 use Rattle.plan_active.specs.Laws.Listed.{count-next, gathered-more, gathered-end}
-use Rattle.plan_active.proofs.list_members.Statement.{statement}
-use Rattle.plan_active.proofs.list_members.Tie as tie
+use Rattle.plan_mated.proofs.list_members.Statement.{statement}
+use Rattle.plan_mated.proofs.list_members.Tie as tie
 
 abbrev Inv-loop : tie.InvT-loop
 Inv-loop mates members₀ count₀ v₀ members count v =

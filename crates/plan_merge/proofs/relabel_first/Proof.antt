@@ -1,9 +1,9 @@
 -- `relabel_first` meets its contract: the whole where there are no more labels, else the part that is lent.
 use native.Mathlib.Omega.{arith}
 use borrow.Author.Needs.{needs}
 use Rattle.plan_active.specs.Laws.First.{first-lent, first-all}
-use Rattle.plan_active.proofs.relabel_first.Statement.{statement}
-use Rattle.plan_active.proofs.relabel_first.Tie as tie
+use Rattle.plan_merge.proofs.relabel_first.Statement.{statement}
+use Rattle.plan_merge.proofs.relabel_first.Tie as tie
 
 same-length : tie.Need-same-length
 same-length c = c .before .labels .given

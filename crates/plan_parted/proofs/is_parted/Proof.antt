@@ -1,8 +1,8 @@
 -- `is_parted` meets its contract: each return by where the vertex is.
 use borrow.Author.Needs.{needs}
 use Rattle.plan_active.specs.Laws.Merged.{parted-in, parted-out}
-use Rattle.plan_active.proofs.is_parted.Statement.{statement}
-use Rattle.plan_active.proofs.is_parted.Tie as tie
+use Rattle.plan_parted.proofs.is_parted.Statement.{statement}
+use Rattle.plan_parted.proofs.is_parted.Tie as tie
 
 -- the vertex is in x or y
 returns : tie.Need-returns

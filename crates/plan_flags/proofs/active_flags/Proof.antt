@@ -9,12 +9,12 @@ use Rattle.base_limits.specs.Limits.{maxDuals, groupNumbers}
 use Rattle.survey_core.specs.Survey.{groupsAlone, vertexCount}
 use Rattle.survey_groups.specs.Laws.Spread.{split-read}
 use Rattle.base_buffer.specs.Laws.Store.{replicate-table}
 use Rattle.plan_active.specs.Flags.{activeFlags}
 use Rattle.plan_active.specs.Laws.Flags.{activeBelow, flags-none, flags-step, flags-end, flags-active}
 use native.Mathlib.Omega.{arith}
 use borrow.Author.Needs.{needs}
-use Rattle.plan_active.proofs.active_flags.Statement.{statement}
-use Rattle.plan_active.proofs.active_flags.Tie as tie
+use Rattle.plan_flags.proofs.active_flags.Statement.{statement}
+use Rattle.plan_flags.proofs.active_flags.Tie as tie
 
 abbrev Inv-loop : tie.InvT-loop
 Inv-loop groups labels table flags₀ v₀ flags v =

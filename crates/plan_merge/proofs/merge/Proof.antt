@@ -1,8 +1,8 @@
 -- `merge` meets its contract: the labels, then the three flags.
 use borrow.Author.Needs.{needs}
 use Rattle.plan_active.specs.Laws.Merged.{flags-by}
-use Rattle.plan_active.proofs.merge.Statement.{statement}
-use Rattle.plan_active.proofs.merge.Tie as tie
+use Rattle.plan_merge.proofs.merge.Statement.{statement}
+use Rattle.plan_merge.proofs.merge.Tie as tie
 
 returns : tie.Need-returns
 returns c =

@@ -2,10 +2,10 @@
 use mathlib.Core.Path.{ap, _∙_}
 use lib.ListN.{set}
 use borrow.Author.Tests.{eq-eqb, ne-eqb}
 use Rattle.plan_active.specs.Flags.{flagged}
 use borrow.Author.Needs.{needs}
-use Rattle.plan_active.proofs.flag_label.Statement.{statement}
-use Rattle.plan_active.proofs.flag_label.Tie as tie
+use Rattle.plan_flags.proofs.flag_label.Statement.{statement}
+use Rattle.plan_flags.proofs.flag_label.Tie as tie
 
 -- split
 returns : tie.Need-returns
