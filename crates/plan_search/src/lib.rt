@@ -4,7 +4,7 @@ ghost use mathlib.Core.Path.{_≡_};
 ghost use Prim.Native.Nat.{_-_, _*_, _<_, _≤_};
 ghost use lib.ListN.{set, length};
 ghost use Rattle.plan_winner.specs.Scan.{timeLimit, limitOf, cappedTime};
-ghost use Rattle.plan_winner.specs.Scan.{blockEdges, blockSize, blocksOf, lowestKey};
+ghost use Rattle.plan_winner.specs.Scan.{blockEdges, blockSize, blocksOf, lowestKey, nextBlock};
 ghost use Rattle.plan_winner.specs.Tables.{tablesIn, onBy, passBy, scanFrom};
 ghost use Rattle.plan_delay.specs.Between.{winnerIn};
 use base_buffer::at64;
@@ -149,6 +149,20 @@ fn pass_block(
     winner
 }
 
+// The first block from `from` on whose floor is below the limit.
+fn next_block(floors: &[u64], from: usize, to: usize, limit: u64) -> usize
+    ensures { λ r. ⌜ r ≡ nextBlock (old floors) limit from (to - from) ⌝ }
+{
+    let mut b = from;
+    while b < to {
+        if at64(floors, b) < limit {
+            return b;
+        }
+        b += 1;
+    }
+    b
+}
+
 // The smallest delay, and among equals the lowest edge. Blocks whose floors say that all their edges come later are
 // passed over.
 pub fn find_winner(
@@ -179,25 +193,23 @@ pub fn find_winner(
     let mut best = Winner::Nobody;
     let mut limit = NO_KEY;
     let blocks = firsts.len() / BLOCK_EDGES + 1;
-    let mut b = 0;
+    let mut b = next_block(floors, 0, blocks, limit);
     while b < blocks {
-        if at64(floors, b) < limit {
-            best = pass_block(
-                firsts,
-                seconds,
-                weights,
-                labels,
-                loads,
-                flags,
-                capped,
-                keys,
-                floors,
-                b,
-                best,
-            );
-            limit = limit_of(capped, best);
-        }
-        b += 1;
+        best = pass_block(
+            firsts,
+            seconds,
+            weights,
+            labels,
+            loads,
+            flags,
+            capped,
+            keys,
+            floors,
+            b,
+            best,
+        );
+        limit = limit_of(capped, best);
+        b = next_block(floors, b + 1, blocks, limit);
     }
     best
 }

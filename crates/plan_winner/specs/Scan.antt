@@ -98,6 +98,11 @@ unfoldable pub lowestKey : (keys : List ℕ) (from count : ℕ) → ℕ
 lowestKey keys from zero = noKey
 lowestKey keys from (suc k) = let x = lowestKey keys from k in let y = getD keys (from + k) 0 in cond (ltb y x) y x
 
+-- The first of so many blocks from block b on whose floor is below the limit; where none is, the block behind them.
+unfoldable pub nextBlock : (floors : List ℕ) (limit b count : ℕ) → ℕ
+nextBlock floors limit b zero = b
+nextBlock floors limit b (suc n) = cond (ltb (getD floors b 0) limit) b (nextBlock floors limit (suc b) n)
+
 -- What the blocks so far leave.
 pub record Pass : Type 0 where
   pub scanned : Scan

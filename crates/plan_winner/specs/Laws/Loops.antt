@@ -1,11 +1,15 @@
 -- The loops over edges and over blocks: what holds before each turn, and what a turn and the end make of it.
-use Prim.Native.Nat.{ℕ, _+_, _*_, _-_, _/_, _<_, _≤_}
+use Prim.Native.Nat.{ℕ, zero, suc, _+_, _*_, _-_, _/_, _<_, _≤_}
 use native.Mathlib.Omega.{arith}
-use mathlib.Core.Path.{_≡_, refl, ap, sym, _∙_}
+use native.Mathlib.Numerals.{add-one}
+use mathlib.Core.Path.{_≡_, refl, ap, sym, _∙_, subst}
+use mathlib.Core.Bool.{Bool, true, false, cond}
 use mathlib.Core.List.{List}
 use lib.ListN.{length, getD, set}
+use lib.Dec.{ltb}
+use borrow.Author.Tests.{ltb-true, ltb-false, lt-ltb, le-ltb}
 use Rattle.theory_steiner.specs.Growth.{Winner, nobody, better}
-use Rattle.plan_winner.specs.Scan.{noKey, timeLimit, limitOf, cappedTime, blockEdges, blockSize, lowestKey, passesBelow}
+use Rattle.plan_winner.specs.Scan.{noKey, timeLimit, limitOf, cappedTime, blockEdges, blockSize, lowestKey, nextBlock, passesBelow}
 use Rattle.plan_winner.specs.Tables.{Tables, delayBy, keyBy, onBy, passBy, scanFrom}
 use Rattle.plan_winner.specs.Laws.Scan.{capped-is}
 use Rattle.plan_winner.specs.Laws.Blocks.{on-none, on-look, on-pass, on-end, length-on, block-look, block-pass, passes-end, length-passes}
@@ -55,6 +59,32 @@ module _ {t : Tables} {time : ℕ} {start : Winner} {keys : List ℕ} {from to e
   unfolding onBy
   scanning-end b = on-end (delayBy t time) (keyBy t time) time (scanFrom start keys) from to e (h .from-le) (h .upto) b (h .best-is) (h .keys-are)
 
+-- The next block, as the code goes from b to `to`.
+module _ (floors : List ℕ) (limit b to : ℕ) where
+  pub next-here : b < to → getD floors b 0 < limit → nextBlock floors limit b (to - b) ≡ b
+  unfolding nextBlock
+  next-here h l = let q : to - b ≡ suc (to - (b + 1)) = omega arith in rw (q, lt-ltb _ _ l) refl
+
+  pub next-on : b < to → limit ≤ getD floors b 0 → nextBlock floors limit b (to - b) ≡ nextBlock floors limit (b + 1) (to - (b + 1))
+  unfolding nextBlock
+  next-on h l = let q : to - b ≡ suc (to - (b + 1)) = omega arith in rw (q, le-ltb _ _ l, add-one b) refl
+
+  pub next-end : to ≤ b → nextBlock floors limit b (to - b) ≡ b
+  unfolding nextBlock
+  next-end h = let q : to - b ≡ 0 = omega arith in rw q refl
+
+next-from : (floors : List ℕ) (limit b n : ℕ) → b ≤ nextBlock floors limit b n
+unfolding nextBlock
+next-from floors limit b zero = omega arith
+next-from floors limit b (suc n) = by (ltb (getD floors b 0) limit) (next-from floors limit (suc b) n)
+  where
+    by : (x : Bool) → suc b ≤ nextBlock floors limit (suc b) n → b ≤ cond x b (nextBlock floors limit (suc b) n)
+    by true h = omega arith
+    by false h = omega arith
+
+pub next-less : (floors : List ℕ) (limit b n k : ℕ) {r : ℕ} → b < n → r ≡ nextBlock floors limit (b + 1) k → n - r < n - b
+next-less floors limit b n k h q = let f = next-from floors limit (b + 1) k in omega arith
+
 -- Before block b of n.
 pub record PassingBlocks (t : Tables) (time : ℕ) (keys floors : List ℕ) (n b limit : ℕ) (best : Winner) (now low : List ℕ) : Type 0 where
   pub upto : b ≤ n
@@ -88,12 +118,11 @@ module _ {t : Tables} {time : ℕ} {keys floors : List ℕ} {n b limit : ℕ} {b
       record { upto = omega arith; limit-is = m ∙ ap (limitOf time) (sym g); best-is = z .0; keys-are = z .1; floors-are = z .2 }
 
   -- A block that is passed over.
-  pub passing-over : {x limit' : ℕ} {best' : Winner} {now' low' : List ℕ} → b < n → x ≡ getD low b 0 → limit ≤ x → best' ≡ best → limit' ≡ limit → now' ≡ now → low' ≡ low
-      → PassingBlocks t time keys floors n (b + 1) limit' best' now' low'
+  passing-over : b < n → limit ≤ getD low b 0 → PassingBlocks t time keys floors n (b + 1) limit best now low
   unfolding passBy
-  passing-over {x} c x-is u g m k o =
-      let z = block-pass (delayBy t time) (keyBy t time) time (length (t .firsts)) keys floors b x limit x-is (h .limit-is) (h .best-is) (h .keys-are) (h .floors-are) u in
-      record { upto = omega arith; limit-is = m ∙ h .limit-is ∙ ap (limitOf time) (sym g); best-is = g ∙ z .0; keys-are = k ∙ z .1; floors-are = o ∙ z .2 }
+  passing-over c u =
+      let z = block-pass (delayBy t time) (keyBy t time) time (length (t .firsts)) keys floors b (getD low b 0) limit refl (h .limit-is) (h .best-is) (h .keys-are) (h .floors-are) u in
+      record { upto = omega arith; limit-is = h .limit-is; best-is = z .0; keys-are = z .1; floors-are = z .2 }
 
   pub passing-keys : length now ≡ length keys
   unfolding passBy
@@ -110,3 +139,27 @@ module _ {t : Tables} {time : ℕ} {keys floors : List ℕ} {n b limit : ℕ} {b
   unfolding passBy
   passing-end whole e c =
       rw (sym e) (passes-end (delayBy t time) (keyBy t time) time (length (t .firsts)) keys floors n b (h .upto) c (h .best-is) (h .keys-are) (h .floors-are))
+
+-- Before a block that is not passed over, or behind the last.
+pub record Standing (t : Tables) (time : ℕ) (keys floors : List ℕ) (n b limit : ℕ) (best : Winner) (now low : List ℕ) : Type 0 where
+  pub passing : PassingBlocks t time keys floors n b limit best now low
+  pub below : b < n → getD low b 0 < limit
+
+-- The blocks up to the next whose floor is below the limit are passed over.
+pub passing-to : (k : ℕ) {t : Tables} {time : ℕ} {keys floors : List ℕ} {n b limit : ℕ} {best : Winner} {now low : List ℕ} → n - b ≡ k
+    → PassingBlocks t time keys floors n b limit best now low → Standing t time keys floors n (nextBlock low limit b k) limit best now low
+unfolding nextBlock
+passing-to zero q h = record { passing = h; below = λ l. absurd (omega arith) }
+passing-to (suc k) {t} {time} {keys} {floors} {n} {b} {limit} {best} {now} {low} q h =
+    by (ltb (getD low b 0) limit) refl (λ p. passing-to k (omega arith) p)
+  where
+    by : (x : Bool) → ltb (getD low b 0) limit ≡ x
+        → (PassingBlocks t time keys floors n (suc b) limit best now low → Standing t time keys floors n (nextBlock low limit (suc b) k) limit best now low)
+        → Standing t time keys floors n (cond x b (nextBlock low limit (suc b) k)) limit best now low
+    by true x on = record { passing = h; below = λ l. ltb-true _ _ x }
+    by false x on = on (subst (λ i. PassingBlocks t time keys floors n i limit best now low) (add-one b) (passing-over h (omega arith) (ltb-false _ _ x)))
+
+pub passing-next : {t : Tables} {time : ℕ} {keys floors : List ℕ} {n b limit r : ℕ} {best : Winner} {now low : List ℕ} → r ≡ nextBlock low limit b (n - b)
+    → PassingBlocks t time keys floors n b limit best now low → Standing t time keys floors n r limit best now low
+passing-next {t} {time} {keys} {floors} {n} {b} {limit} {r} {best} {now} {low} q h =
+    subst (λ i. Standing t time keys floors n i limit best now low) (sym q) (passing-to (n - b) refl h)
