@@ -1,18 +1,39 @@
-// The keys that the search for winners begins with.
+// The keys that the search for winners begins with. Definitions in specs/.
 ghost use Rattle.base_buffer.specs.Lent.{old, new};
 ghost use mathlib.Core.Path.{_≡_};
-ghost use Prim.Native.Nat.{_*_};
-ghost use lib.ListN.{getD, length};
+ghost use lib.ListN.{length};
 ghost use Rattle.base_buffer.specs.Store.{remade};
+ghost use Rattle.plan_keys.specs.Keys.{startKey, startKeyOf};
+use base_buffer::at8;
+use base_buffer::at32;
+use base_buffer::index32;
+use plan_winner::NO_KEY;
 
-// Before the first round all of an edge remains, twice its weight: no edge is reached sooner.
-pub fn start_keys(weights: &[u32], keys: &mut [u64])
-    ensures { λ r. ⌜ new keys ≡ remade (λ e key. 2 * getD (old weights) e 0) (length (old weights)) (old keys) ⌝ }
+// The key of an edge by the flags of its ends.
+fn start_key(first: u8, second: u8, weight: u32) -> u64
+    ensures { λ r. ⌜ r ≡ startKey first second weight ⌝ }
+{
+    let whole = 2 * base_buffer::wide32(weight);
+    if first == 1 {
+        return whole;
+    }
+    if second == 1 {
+        return whole;
+    }
+    NO_KEY
+}
+
+// The keys of all edges, where the flags tell which vertices are active.
+pub fn start_keys(firsts: &[u32], seconds: &[u32], weights: &[u32], flags: &[u8], keys: &mut [u64])
+    ensures { λ r. let key = startKeyOf (old firsts) (old seconds) (old weights) (old flags) in
+        ⌜ new keys ≡ remade (λ e x. key e) (length (old firsts)) (old keys) ⌝ }
 {
     let mut e = 0;
-    while e < weights.len() {
-        let whole = 2 * base_buffer::wide32(base_buffer::at32(weights, e));
-        base_buffer::put64(keys, e, whole);
+    while e < firsts.len() {
+        let first = at8(flags, index32(at32(firsts, e)));
+        let second = at8(flags, index32(at32(seconds, e)));
+        let key = start_key(first, second, at32(weights, e));
+        base_buffer::put64(keys, e, key);
         e += 1;
     }
 }

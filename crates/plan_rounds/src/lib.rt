@@ -141,11 +141,11 @@ fn grow_rounds(groups: &[u8], firsts: &[u32], seconds: &[u32], weights: &[u32]) 
     let mut keys = [0u64; MAX_EDGES];
     let mut floors = [0u64; MAX_BLOCKS];
     survey_labels::own_labels(&mut labels);
-    plan_keys::start_keys(weights, &mut keys);
     let mates = survey_mates::mates(groups);
     let mut members = [0u32; MAX_VERTICES];
     let count = plan_mated::list_members(&mates, &mut members);
     let mut flags = plan_flags::active_flags(groups, &labels);
+    plan_keys::start_keys(firsts, seconds, weights, &flags, &mut keys);
     let most = groups.len() - 1;
     let mut time = 0;
     let mut r = 0;

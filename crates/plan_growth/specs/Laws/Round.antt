@@ -83,7 +83,7 @@ module _ (s : Survey) (plain : s .owners ≡ []) (few : length (s .groups) ≤ m
       (active-groups s plain (λ v. getD labels v 0) c
       ∙ active-cong (problemOf s) (λ v. getD labels v 0) label c l)
 
-  flag-active : eqb (getD flags c 0) 1 ≡ active (problemOf s) label c
+  pub flag-active : eqb (getD flags c 0) 1 ≡ active (problemOf s) label c
   flag-active = ap (λ x. eqb x 1) flag-counted ∙ flag-is (active (problemOf s) label c)
 
 -- The flag of a component that was just made.

@@ -4,14 +4,14 @@ use Prim.Native.Nat.{ℕ, suc, _+_, _*_, _-_, _<_, _≤_, _^_}
 use native.Mathlib.Omega.{arith}
 use mathlib.Core.Path.{_≡_, refl, ap, sym, _∙_}
 use mathlib.Core.Logic.{_⊎_, inl, inr}
-use mathlib.Core.Bool.{Bool, true, false, cond}
+use mathlib.Core.Bool.{Bool, true, false, _&&_, _||_, cond}
 use mathlib.Core.List.{[], List}
 use lib.ListN.{length, getD, replicate, length-replicate, List·getD-eq-default}
 use lib.Dec.{eqb, ltb}
-use borrow.Author.Tests.{lt-ltb, le-ltb}
+use borrow.Author.Tests.{eq-eqb, lt-ltb, le-ltb}
 use Rattle.base_finite.specs.Below.{counted, sumBelow, tabulate}
 use Rattle.base_finite.specs.Laws.Below.{sum-cong, sum-zero, length-tabulate, getD-tabulate, counted-false, lt-or-ge}
-use Rattle.base_finite.specs.Laws.Test.{not-true-false}
+use Rattle.base_finite.specs.Laws.Test.{and-both, true-not-false, not-true-false}
 use Rattle.base_limits.specs.Limits.{maxVertices, maxEdges, maxWeight, maxValue, maxDuals}
 use Rattle.theory_steiner.specs.Problem.{Problem}
 use Rattle.theory_steiner.specs.Growth.{Winner, nobody, edge, never, active, winner, numbers, start, stateAt}
@@ -26,8 +26,9 @@ use Rattle.survey_core.specs.Survey.{Survey, vertexCount, edgeCount, problemOf}
 use Rattle.survey_core.specs.Sound.{SurveySound}
 use Rattle.survey_core.specs.Laws.Refusal.{survey-sound}
 use Rattle.plan_active.specs.Flags.{activeFlags}
-use Rattle.plan_winner.specs.Scan.{maxBlocks}
+use Rattle.plan_winner.specs.Scan.{noKey, idleAlone, resting, maxBlocks}
 use Rattle.plan_winner.specs.Laws.Scan.{keyed-start, floored-start}
+use Rattle.plan_keys.specs.Keys.{startKey, startKeyOf}
 use Rattle.plan_delay.specs.Between.{delayIn}
 use Rattle.plan_delay.specs.declared.Delay.{Delay}
 use Rattle.plan_delay.specs.declared.Delay.the-variants.{Never, After}
@@ -37,7 +38,7 @@ use Rattle.plan_growth.specs.Tables.{settledValues, SumFits}
 use Rattle.plan_growth.specs.Represents.{winnerEdge, pickAt, heldLabel, heldLoad, Arrays, arraysFrom, roundsAfter, timeAfter, Represents}
 use Rattle.theory_steiner.specs.Minima.{winnerDelay}
 use Rattle.plan_growth.specs.Grown.{growthFrom, GrownAfter}
-use Rattle.plan_growth.specs.Laws.Round.{going, weights-light, flag-at}
+use Rattle.plan_growth.specs.Laws.Round.{going, weights-light, flag-active, flag-at}
 
 -- ---- before the first round
 
@@ -75,24 +76,53 @@ grown-start p =
       order-is = replicate-table maxVertices 0 ∙ tabulate-cong maxVertices _ _ (λ k _. sym (counted-false (le-ltb k 0 (omega arith)) (pickAt p k)));
     }
 
--- Every edge has its weight twice for a key.
-first-keys : {s : Survey} {keys : List ℕ} → SurveySound s → keys ≡ remade (λ e key. 2 * getD (s .weights) e 0) (length (s .weights)) (replicate maxEdges 0)
-    → (e : ℕ) → e < problemOf s .edges → getD keys e 0 ≤ 2 * problemOf s .weight e
-unfolding problemOf edgeCount
-first-keys {s} {keys} sound k e b =
-    let m = sound .weights-long in
+-- A vertex without a flag is idle, and a component of its own.
+alone-start : {s : Survey} {labels flags : List ℕ} → SurveySound s → s .owners ≡ [] → labels ≡ remade (λ v x. v) maxVertices (replicate maxVertices 0)
+    → flags ≡ activeFlags (s .groups) labels
+    → (v : ℕ) → v < length (s .groups) → eqb (getD flags v 0) 1 ≡ false → idleAlone (problemOf s) start v ≡ true
+unfolding idleAlone start
+alone-start {s} {labels} sound plain h f v b q =
+    let few = sound .few in
+    let own : (u : ℕ) → u < length (s .groups) → getD labels u 0 ≡ u =
+    λ u c. ap (λ l. getD l u 0) h ∙ remade-passed (λ v x. v) maxVertices (replicate maxVertices 0) u (omega arith) (omega (arith, length-replicate {A = ℕ} maxVertices 0)) in
+    let idle : active (problemOf s) (λ v. v) v ≡ false = sym (flag-active s plain (sound .few) (λ v. v) labels own f v (omega arith)) ∙ q in
+    rw (idle, eq-eqb v v refl) refl
+
+-- An edge that does not rest has its weight twice for a key.
+first-keys : {s : Survey} {labels flags keys : List ℕ} → SurveySound s → s .owners ≡ [] → labels ≡ remade (λ v x. v) maxVertices (replicate maxVertices 0)
+    → flags ≡ activeFlags (s .groups) labels
+    → keys ≡ remade (λ e x. startKeyOf (s .firsts) (s .seconds) (s .weights) flags e) (length (s .firsts)) (replicate maxEdges 0)
+    → (e : ℕ) → e < problemOf s .edges → resting (problemOf s) start e ≡ false → getD keys e 0 ≤ 2 * problemOf s .weight e
+unfolding problemOf edgeCount startKeyOf startKey resting
+first-keys {s} {labels} {flags} {keys} sound plain h f k e b awake =
     let n = sound .edges-few in
     let r = length-replicate {A = ℕ} maxEdges 0 in
-    let q : getD keys e 0 ≡ 2 * getD (s .weights) e 0 =
-    ap (λ l. getD l e 0) k ∙ remade-passed (λ e key. 2 * getD (s .weights) e 0) (length (s .weights)) (replicate maxEdges 0) e (omega arith) (omega arith) in
-    omega arith
+    let u = getD (s .firsts) e 0 in
+    let v = getD (s .seconds) e 0 in
+    let q : getD keys e 0 ≡ startKeyOf (s .firsts) (s .seconds) (s .weights) flags e =
+    ap (λ l. getD l e 0) k ∙ remade-passed (λ e x. startKeyOf (s .firsts) (s .seconds) (s .weights) flags e) (length (s .firsts)) (replicate maxEdges 0) e (omega arith) (omega arith) in
+    by (eqb (getD flags u 0) 1) (eqb (getD flags v 0) 1) refl refl q
+  where
+    alone : (v : ℕ) → v < length (s .groups) → eqb (getD flags v 0) 1 ≡ false → idleAlone (problemOf s) start v ≡ true
+    alone = alone-start sound plain h f
+
+    by : (x y : Bool) → eqb (getD flags (getD (s .firsts) e 0) 0) 1 ≡ x → eqb (getD flags (getD (s .seconds) e 0) 0) 1 ≡ y
+        → getD keys e 0 ≡ cond (x || y) (2 * getD (s .weights) e 0) noKey → getD keys e 0 ≤ 2 * getD (s .weights) e 0
+    by true y i j q = omega arith
+    by false true i j q = omega arith
+    by false false i j q =
+        absurd
+        (true-not-false
+        (idleAlone (problemOf s) start (getD (s .firsts) e 0) && idleAlone (problemOf s) start (getD (s .seconds) e 0))
+        (and-both _ _ (alone _ (sound .edges e b .first-below) i) (alone _ (sound .edges e b .second-below) j))
+        awake)
 
 pub represents-start : {s : Survey} {labels keys flags : List ℕ} → SurveySound s → s .owners ≡ [] → labels ≡ remade (λ v x. v) maxVertices (replicate maxVertices 0)
-    → keys ≡ remade (λ e key. 2 * getD (s .weights) e 0) (length (s .weights)) (replicate maxEdges 0)
     → flags ≡ activeFlags (s .groups) labels
+    → keys ≡ remade (λ e x. startKeyOf (s .firsts) (s .seconds) (s .weights) flags e) (length (s .firsts)) (replicate maxEdges 0)
     → Represents s 0 0 (arraysFrom labels (replicate maxVertices 0) (replicate maxDuals 0) (replicate maxEdges 0) (replicate maxVertices 0) keys (replicate maxBlocks 0) flags)
 unfolding stateAt start
-represents-start {s} sound plain h k f =
+represents-start {s} sound plain h f k =
     let g = grown-start (problemOf s) in
     record {
       sound = sound;
@@ -106,7 +136,7 @@ represents-start {s} sound plain h k f =
       values-timely = λ c. omega arith;
       picked-are = g .picked-are;
       order-is = g .order-is;
-      keyed = keyed-start (problemOf s) (first-keys sound k);
+      keyed = keyed-start (problemOf s) (first-keys sound plain h f k);
       floored = floored-start (length (s .firsts)) maxBlocks _ (replicate-table maxBlocks 0);
       flags-are = f;
     }

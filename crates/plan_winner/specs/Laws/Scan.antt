@@ -171,13 +171,14 @@ zero-at n {l} h i = by (lt-or-ge i n)
     by (inr b) = let k : length l ≡ n = ap length h ∙ length-tabulate n (λ e. 0) in List·getD-eq-default l 0 (omega arith)
 
 -- Before the first round all of an edge remains.
-pub keyed-start : (p : Problem) {keys : List ℕ} → ((e : ℕ) → e < p .edges → getD keys e 0 ≤ 2 * p .weight e) → Keyed p (stateAt p 0) 0 keys
+pub keyed-start : (p : Problem) {keys : List ℕ} → ((e : ℕ) → e < p .edges → resting p (stateAt p 0) e ≡ false → getD keys e 0 ≤ 2 * p .weight e)
+    → Keyed p (stateAt p 0) 0 keys
 unfolding slack stateAt
 keyed-start p h =
     record {
       early = omega arith;
       low = λ e b a q.
-          let k = h e b in
+          let k = h e b q in
           let x = load-start p (p .first e) in
           let y = load-start p (p .second e) in
           omega arith;
