@@ -85,11 +85,14 @@ fn round(
     let Winner::Edge { e, d } = found else {
         return Delay::Never;
     };
-    plan_wake::wake_joined(
+    plan_wake_join::wake_joined(
         firsts,
         seconds,
+        weights,
         labels,
+        loads,
         flags,
+        time,
         groups.len(),
         e,
         keys,

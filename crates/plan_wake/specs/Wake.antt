@@ -1,11 +1,12 @@
--- Waking: a round that joins an idle single vertex makes the keys of the edges at it 0, and the floors of their blocks, so that the next search looks at them again
--- (`plan_winner: Scan`; law `woken-keys` says that these are the keys that the next round needs).
-use Prim.Native.Nat.{ℕ, zero, suc, _+_, _/_}
+-- Waking: a round that joins an idle single vertex gives the edges at it keys again, and lowers the floors of their blocks to these, so that the next searches look at
+-- them in time (`plan_winner: Scan`; law `woken-keys` says that these are the keys that the next round needs).
+use Prim.Native.Nat.{ℕ, zero, suc, _+_, _*_, _-_, _/_}
 use mathlib.Core.Bool.{Bool, _&&_, _||_, not, cond}
 use mathlib.Core.List.{List}
 use lib.ListN.{length, getD, set}
 use lib.Dec.{eqb, ltb}
-use Rattle.plan_winner.specs.Scan.{blockEdges}
+use Rattle.plan_winner.specs.Scan.{cappedTime, blockEdges}
+use Rattle.plan_winner.specs.Tables.{Tables}
 
 -- Edge e has vertex c as an end.
 unfoldable pub endsAt : (firsts seconds : List ℕ) → (c e : ℕ) → Bool
@@ -23,24 +24,36 @@ pub record KeyNotes : Type 0 where
 abbrev pub notesFrom : (keys floors : List ℕ) → KeyNotes
 notesFrom keys floors = record { keys = keys; floors = floors }
 
-unfoldable pub wokenEdge : (wakes : ℕ → Bool) → KeyNotes → ℕ → KeyNotes
-wokenEdge wakes s e = cond (wakes e) (notesFrom (set (s .keys) e 0) (set (s .floors) (e / blockEdges) 0)) s
+-- How far the load of idle vertex c, which is held as it is, is behind the time.
+unfoldable pub behindBy : (loads : List ℕ) → (time c : ℕ) → ℕ
+behindBy loads time c = time - getD loads c 0
+
+-- The key of a woken edge at a vertex that is so far behind: no load is above the time, so that twice the time and what remains of the edge is not below this.
+unfoldable pub wokenKey : (weights : List ℕ) → (behind e : ℕ) → ℕ
+wokenKey weights behind e = cappedTime behind + 2 * getD weights e 0
+
+-- Number i of a list is x at most.
+unfoldable pub lowered : List ℕ → (i x : ℕ) → List ℕ
+lowered l i x = cond (ltb x (getD l i 0)) (set l i x) l
+
+unfoldable pub wokenEdge : (wakes : ℕ → Bool) (fresh : ℕ → ℕ) → KeyNotes → ℕ → KeyNotes
+wokenEdge wakes fresh s e = cond (wakes e) (notesFrom (set (s .keys) e (fresh e)) (lowered (s .floors) (e / blockEdges) (fresh e))) s
 
 -- Those of so many edges that are to be woken, from edge `from` on.
-unfoldable pub wokenOn : (wakes : ℕ → Bool) → KeyNotes → (from count : ℕ) → KeyNotes
-wokenOn wakes s from zero = s
-wokenOn wakes s from (suc k) = wokenEdge wakes (wokenOn wakes s from k) (from + k)
+unfoldable pub wokenOn : (wakes : ℕ → Bool) (fresh : ℕ → ℕ) → KeyNotes → (from count : ℕ) → KeyNotes
+wokenOn wakes fresh s from zero = s
+wokenOn wakes fresh s from (suc k) = wokenEdge wakes fresh (wokenOn wakes fresh s from k) (from + k)
 
 -- The edges at vertex c, if it is idle.
-unfoldable pub wokenAt : (firsts seconds flags : List ℕ) → (n c : ℕ) → KeyNotes → KeyNotes
-wokenAt firsts seconds flags n c s = wokenOn (λ e. idleVertex flags n c && endsAt firsts seconds c e) s 0 (length firsts)
+unfoldable pub wokenAt : (firsts seconds weights loads flags : List ℕ) → (time n c : ℕ) → KeyNotes → KeyNotes
+wokenAt firsts seconds weights loads flags time n c s =
+    wokenOn (λ e. idleVertex flags n c && endsAt firsts seconds c e) (wokenKey weights (behindBy loads time c)) s 0 (length firsts)
 
 -- The edges at the two components that edge e joins.
-unfoldable pub wokenBy : (firsts seconds labels flags : List ℕ) → (n e : ℕ) → KeyNotes → KeyNotes
-wokenBy firsts seconds labels flags n e s =
-    let x = getD labels (getD firsts e 0) 0 in
-    let y = getD labels (getD seconds e 0) 0 in
-    wokenAt firsts seconds flags n y (wokenAt firsts seconds flags n x s)
+unfoldable pub wokenBy : Tables → (time n e : ℕ) → KeyNotes → KeyNotes
+wokenBy t time n e s =
+    let at : ℕ → KeyNotes → KeyNotes = wokenAt (t .firsts) (t .seconds) (t .weights) (t .loads) (t .flags) time n in
+    at (getD (t .labels) (getD (t .seconds) e 0) 0) (at (getD (t .labels) (getD (t .firsts) e 0) 0) s)
 
 -- Whole blocks within two lengths.
 unfoldable pub wholeBlocks : (m k : ℕ) → ℕ

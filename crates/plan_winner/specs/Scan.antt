@@ -69,11 +69,11 @@ pub record Keyed (p : Problem) (s : State) (time : ℕ) (keys : List ℕ) : Type
   pub early : time ≤ s .rounds * (2 * maxWeight)
   pub low : (e : ℕ) → e < p .edges → (s .label (p .first e) ≡ s .label (p .second e) → ⊥) → resting p s e ≡ false → getD keys e 0 ≤ 2 * time + slack p s e
 
--- Keys after a round that joins components x and y: none is higher, and those of the edges that rested and have x or y as an end are 0.
-pub record Woken (p : Problem) (s : State) (x y : ℕ) (keys woken : List ℕ) : Type 0 where
-  pub lower : (e : ℕ) → getD woken e 0 ≤ getD keys e 0
-  pub first-up : (e : ℕ) → e < p .edges → idleAlone p s (p .first e) ≡ true → (p .first e ≡ x) ⊎ (p .first e ≡ y) → getD woken e 0 ≡ 0
-  pub second-up : (e : ℕ) → e < p .edges → idleAlone p s (p .second e) ≡ true → (p .second e ≡ x) ⊎ (p .second e ≡ y) → getD woken e 0 ≡ 0
+-- Keys once the edges at components x and y, which a round joins, are woken: they bound from below where an edge does not rest, or rests and has x or y as an end.
+pub record Woken (p : Problem) (s : State) (time x y : ℕ) (woken : List ℕ) : Type 0 where
+  pub awake : (e : ℕ) → e < p .edges → (s .label (p .first e) ≡ s .label (p .second e) → ⊥) → resting p s e ≡ false → getD woken e 0 ≤ 2 * time + slack p s e
+  pub first-up : (e : ℕ) → e < p .edges → idleAlone p s (p .first e) ≡ true → (p .first e ≡ x) ⊎ (p .first e ≡ y) → getD woken e 0 ≤ 2 * time + slack p s e
+  pub second-up : (e : ℕ) → e < p .edges → idleAlone p s (p .second e) ≡ true → (p .second e ≡ x) ⊎ (p .second e ≡ y) → getD woken e 0 ≤ 2 * time + slack p s e
 
 -- ---- blocks
 

@@ -1,19 +1,19 @@
 -- A round over the arrays is a round of the definition: the flags are the active components, the winner is the winner, and the arrays after it represent the next state
 -- (001, Algorithm 22.3). `round` cites it.
-use Prim.Native.Nat.{ℕ, suc, _+_, _*_, _<_, _≤_, _^_}
+use Prim.Native.Nat.{ℕ, suc, _+_, _*_, _-_, _<_, _≤_, _^_}
 use native.Mathlib.Omega.{arith}
 use native.Mathlib.Decide.{ℕ-discrete}
 use native.Mathlib.Numerals.{add-one}
 use mathlib.Core.Path.{_≡_, refl, ap, sym, _∙_, subst}
-use mathlib.Core.Logic.{_⊎_, inl, inr}
+use mathlib.Core.Logic.{_⊎_, inl, inr, ⊎-elim}
 use mathlib.Core.Bool.{Bool, true, false, _||_, not, cond, or-false}
 use mathlib.Core.List.{[], List}
 use lib.ListN.{length, getD, set, length-set}
 use lib.Seq.{ext-getD, getD-set-same}
 use lib.Dec.{eqb, ltb}
-use borrow.Author.Tests.{ne-eqb, lt-ltb, le-ltb}
+use borrow.Author.Tests.{eqb-true, ne-eqb, not-true, lt-ltb, le-ltb, ltb-true}
 use Rattle.base_finite.specs.Below.{counted, anyBelow, tabulate}
-use Rattle.base_finite.specs.Laws.Test.{and-both, not-of-false}
+use Rattle.base_finite.specs.Laws.Test.{and-both, and-left, and-right, not-of-false, or-cases}
 use Rattle.base_finite.specs.Laws.Below.{length-tabulate, getD-tabulate, counted-true, counted-false, lt-or-ge}
 use Rattle.theory_graph.specs.Component.{merged}
 use Rattle.base_limits.specs.Limits.{maxVertices, maxEdges, maxWeight, maxDuals}
@@ -29,7 +29,7 @@ use Rattle.survey_core.specs.Survey.{Survey, surveyWith, groupsAlone, vertexCou
 use Rattle.survey_core.specs.Laws.Refusal.{survey-sound}
 use Rattle.base_buffer.specs.Laws.Store.{set-table, remade-part}
 use Rattle.plan_delay.specs.Held.{heldValue, settledBy}
-use Rattle.plan_delay.specs.Laws.Held.{held-settled}
+use Rattle.plan_delay.specs.Laws.Held.{settled-off, held-settled}
 use Rattle.plan_delay.specs.Between.{delayIn, winnerIn, vertexEnd, slackBetween, delayBetween}
 use Rattle.plan_delay.specs.declared.Delay.the-variants.{Never, After}
 use Rattle.plan_delay.specs.declared.Winner.{Winner}
@@ -38,7 +38,7 @@ use Rattle.plan_winner.specs.Scan.{timeLimit, idleAlone, resting, key, cappedTi
 use Rattle.plan_winner.specs.Tables.{Tables, tablesFrom, firstBy, secondBy, delayBy, aloneAt, restsBetween, keyBetween, keyBy, passBy}
 use Rattle.plan_winner.specs.Laws.Scan.{capped-is, idle-elim, scan-wins, keyed-next}
 use Rattle.plan_winner.specs.Laws.Blocks.{passes-scan, passes-cong}
-use Rattle.plan_wake.specs.Wake.{idleVertex, KeyNotes, notesFrom, wokenBy}
+use Rattle.plan_wake.specs.Wake.{endsAt, idleVertex, KeyNotes, notesFrom, behindBy, wokenKey, wokenBy}
 use Rattle.plan_wake.specs.Laws.Wake.{woken-keys, woken-floored}
 use Rattle.plan_active.specs.Flags.{activeFlags, MatesListed, joinedActive, relabelledFirst, mergedFlags}
 use Rattle.plan_active.specs.Laws.Merged.{flags-merged}
@@ -506,23 +506,76 @@ module _ {s : Survey} {r time : ℕ} {a : Arrays} (h : Represents s r time a) wh
         and-both (ltb v n) (not (eqb (getD (a .flags) v 0) 1)) (lt-ltb v n b)
         (not-of-false _ (flag-at (h .flags-are) v (omega arith) ∙ ap (active p (S .label)) (sym own) ∙ alone .idle))
 
+    -- A component with a vertex's number is that vertex.
+    label-self : (c v : ℕ) → v < n → c ≡ getD (a .labels) v 0 → c < n → S .label c ≡ c
+    label-self c v b q l =
+        let k : c ≡ S .label v = q ∙ label-at v b in
+        let all = vertices-are in
+        let own : S .label v ≡ v = label-own p reached v (omega arith) in
+        ap (S .label) (k ∙ own) ∙ sym k
+
+    -- The load of an idle one is held as it is.
+    load-idle : (c : ℕ) → c < n → S .label c ≡ c → eqb (getD (a .flags) c 0) 1 ≡ false → getD (a .loads) c 0 ≡ load p S c
+    load-idle c b own flag =
+        let small = label-small c b in
+        sym (settled-off time (getD (a .loads) c 0) (ap (active p (S .label)) own ∙ sym (flag-at (h .flags-are) c (omega arith)) ∙ flag)) ∙ load-at c b
+
+    -- A woken key bounds its edge from below, since no load is above the time.
+    woken-bounds : (c f : ℕ) → (c ≡ getD (a .labels) (getD (s .firsts) e 0) 0) ⊎ (c ≡ getD (a .labels) (getD (s .seconds) e 0) 0) → f < p .edges
+        → idleVertex (a .flags) n c ≡ true → endsAt (s .firsts) (s .seconds) c f ≡ true → wokenKey (s .weights) (behindBy (a .loads) time c) f ≤ 2 * time + slack p S f
+    unfolding idleVertex endsAt wokenKey behindBy slack problemOf vertexCount edgeCount
+    woken-bounds c f joined b i g = by (or-cases (eqb (getD (s .firsts) f 0) c) (eqb (getD (s .seconds) f 0) c) g)
+      where
+        below : c < n
+        below = ltb-true c n (and-left (ltb c n) (not (eqb (getD (a .flags) c 0) 1)) i)
+
+        own : S .label c ≡ c
+        own =
+            let ends = h .sound .edges e winner-edge in
+            ⊎-elim (λ q. label-self c (getD (s .firsts) e 0) (ends .first-below) q below) (λ q. label-self c (getD (s .seconds) e 0) (ends .second-below) q below) joined
+
+        held : getD (a .loads) c 0 ≡ load p S c
+        held = load-idle c below own (not-true (eqb (getD (a .flags) c 0) 1) (and-right (ltb c n) (not (eqb (getD (a .flags) c 0) 1)) i))
+
+        in-limit : cappedTime (time - getD (a .loads) c 0) ≡ time - getD (a .loads) c 0
+        in-limit = let t = in-time in capped-is (time - getD (a .loads) c 0) (omega arith)
+
+        by : (eqb (getD (s .firsts) f 0) c ≡ true) ⊎ (eqb (getD (s .seconds) f 0) c ≡ true)
+            → cappedTime (time - getD (a .loads) c 0) + 2 * getD (s .weights) f 0
+            ≤ 2 * time + (2 * getD (s .weights) f 0 - (load p S (getD (s .firsts) f 0) + load p S (getD (s .seconds) f 0)))
+        by (inl q) =
+            let at = ap (load p S) (eqb-true (getD (s .firsts) f 0) c q) in
+            let k = held in
+            let capped = in-limit in
+            let one = h .loads-timely c below in
+            let other = h .loads-timely (getD (s .seconds) f 0) (h .sound .edges f b .second-below) in
+            omega arith
+        by (inr q) =
+            let at = ap (load p S) (eqb-true (getD (s .seconds) f 0) c q) in
+            let k = held in
+            let capped = in-limit in
+            let one = h .loads-timely c below in
+            let other = h .loads-timely (getD (s .firsts) f 0) (h .sound .edges f b .first-below) in
+            omega arith
+
     -- The keys and floors that waking leaves.
-    module _ (keys floors : List ℕ) {after below : List ℕ} (made : notesFrom after below ≡ wokenBy (s .firsts) (s .seconds) (a .labels) (a .flags) n e (notesFrom keys floors)) where
+    module _ (keys floors : List ℕ) {after below : List ℕ} (made : notesFrom after below ≡ wokenBy (tables (h .flags-are)) time n e (notesFrom keys floors)) where
       woken-keyed : Keyed p S time keys → Keyed p (stateAt p (r + 1)) (time + d) after
       unfolding problemOf edgeCount
       woken-keyed k =
           let ends = h .sound .edges e winner-edge in
           let woken =
-          woken-keys (s .firsts) (s .seconds) (a .labels) (a .flags) n e (notesFrom keys floors) p S refl (λ f. (refl, refl))
+          woken-keys (tables (h .flags-are)) time n e (notesFrom keys floors) p S refl (λ f. (refl, refl)) woken-bounds
           (λ f b i. idle-at (getD (s .firsts) f 0) (h .sound .edges f b .first-below) i)
-          (λ f b i. idle-at (getD (s .seconds) f 0) (h .sound .edges f b .second-below) i) in
+          (λ f b i. idle-at (getD (s .seconds) f 0) (h .sound .edges f b .second-below) i)
+          k in
           keyed-next p ok weights-light r time e d w k
           (rw (ap (λ (t : KeyNotes). t .keys) made, ← label-at (getD (s .firsts) e 0) (ends .first-below), ← label-at (getD (s .seconds) e 0) (ends .second-below)) woken)
 
       woken-low : Floored (length (s .firsts)) keys floors → Floored (length (s .firsts)) after below
       woken-low f =
           rw (ap (λ (t : KeyNotes). t .keys) made, ap (λ (t : KeyNotes). t .floors) made)
-          (woken-floored (s .firsts) (s .seconds) (a .labels) (a .flags) n e (notesFrom keys floors) (length (s .firsts)) f)
+          (woken-floored (tables (h .flags-are)) time n e (notesFrom keys floors) (length (s .firsts)) f)
 
   -- ---- what `round` cites: the search has found x
 
@@ -572,7 +625,7 @@ module _ {s : Survey} {r time : ℕ} {a : Arrays} (h : Represents s r time a) wh
 
       -- Edge e is picked: the arrays represent the next state.
       pub round-won : {e d count : ℕ} {labels loads values picked order flags mates members after below : List ℕ} (u v : ℕ) → x ≡ Edge e d
-          → notesFrom after below ≡ wokenBy (s .firsts) (s .seconds) (a .labels) (a .flags) n e (notesFrom keys floors)
+          → notesFrom after below ≡ wokenBy (tables (h .flags-are)) time n e (notesFrom keys floors)
           → u ≡ getD (s .firsts) e 0
           → v ≡ getD (s .seconds) e 0
           → MatesListed (s .groups) mates members count

@@ -15,27 +15,27 @@ returns c =
     round-over (entry .pre .0) (search .find-winner .ensures .0) (search .find-winner .ensures .1 .0) (search .find-winner .ensures .1 .1) (c .enum-told .given .1)
 
 add-z : tie.Need-add-z
-add-z c = let entry = c .before .before .before .before .before .before .before .before .before .before .before .before .before .before .before .before .before .before .before .before .before .before .before in record { fits = merged-small (entry .pre .0) .0 }
+add-z c = let entry = c .before .before .before .before .before .before .before .before .before .before .before .before .before .before .before .before .before .before .before .before .before .before .before .before .before in record { fits = merged-small (entry .pre .0) .0 }
 
 cast-z : tie.Need-cast-z
-cast-z c = let entry = c .before .before .before .before .before .before .before .before .before .before .before .before .before .before .before .before .before .before .before .before .before .before .before in record { fits = merged-small (entry .pre .0) .1 }
+cast-z c = let entry = c .before .before .before .before .before .before .before .before .before .before .before .before .before .before .before .before .before .before .before .before .before .before .before .before .before in record { fits = merged-small (entry .pre .0) .1 }
 
 add-join : tie.Need-add-join
 add-join c =
-    let search = c .before .before .before .before .before .before .before .before .before .before .before .before .before .before .before .before in
+    let search = c .before .before .before .before .before .before .before .before .before .before .before .before .before .before .before .before .before .before in
     let entry = search .before .before .before .before .before .before .before .before .before .before .before .before .before in
-    record { fits = won-later (entry .pre .0) (search .find-winner .ensures .0) (c .before .before .before .before .before .before .before .before .before .before .before .before .before .before .found .given .1) }
+    record { fits = won-later (entry .pre .0) (search .find-winner .ensures .0) (c .before .before .before .before .before .before .before .before .before .before .before .before .before .before .before .before .found .given .1) }
 
 note-pick-requires : tie.Need-note-pick-requires
 note-pick-requires c κs =
-    let search = c .before .before .before .before .before .before .before .before .before .before .before .before .before .before .before .before .before .before .before in
+    let search = c .before .before .before .before .before .before .before .before .before .before .before .before .before .before .before .before .before .before .before .before .before in
     let entry = search .before .before .before .before .before .before .before .before .before .before .before .before .before in
-    won-edge (entry .pre .0) (search .find-winner .ensures .0) (c .before .before .before .before .before .before .before .before .before .before .before .before .before .before .before .before .before .found .given .1)
+    won-edge (entry .pre .0) (search .find-winner .ensures .0) (c .before .before .before .before .before .before .before .before .before .before .before .before .before .before .before .before .before .before .before .found .given .1)
 
 -- an edge is picked
 returns-2 : tie.Need-returns-2
 returns-2 c =
-    let search = c .before .before .before .before .before .before .before .before .before .before .before .before .before .before .before .before .before .before .before .before in
+    let search = c .before .before .before .before .before .before .before .before .before .before .before .before .before .before .before .before .before .before .before .before .before .before in
     let entry = search .before .before .before .before .before .before .before .before .before .before .before .before .before in
     round-won
     (entry .pre .0)
@@ -44,7 +44,7 @@ returns-2 c =
     (search .find-winner .ensures .1 .1)
     _
     _
-    (c .before .before .before .before .before .before .before .before .before .before .before .before .before .before .before .before .before .before .found .given .1)
+    (c .before .before .before .before .before .before .before .before .before .before .before .before .before .before .before .before .before .before .before .before .found .given .1)
     (c .before .before .before .before .before .before .before .before .before .before .wake-joined .ensures)
     (c .before .before .before .before .before .at32 .ensures)
     (c .before .before .before .before .at322 .ensures)

@@ -15,7 +15,8 @@ use Rattle.base_finite.specs.Below.{counted, anyBelow}
 use Rattle.base_finite.specs.Laws.Below.{any-none, counted-true}
 use Rattle.base_finite.specs.Laws.Test.{not-true-false, and-both, not-of-false, or-false-left, or-false-right}
 use Rattle.plan_winner.specs.Scan.{blockEdges}
-use Rattle.plan_wake.specs.Wake.{endsAt, idleVertex, KeyNotes, notesFrom, wokenEdge, wokenOn, wokenAt, wokenBy, wholeBlocks}
+use Rattle.plan_winner.specs.Tables.{Tables}
+use Rattle.plan_wake.specs.Wake.{endsAt, idleVertex, KeyNotes, notesFrom, behindBy, wokenKey, lowered, wokenEdge, wokenOn, wokenAt, wokenBy, wholeBlocks}
 use Rattle.plan_wake.specs.Laws.Wake.{on-length}
 
 -- ---- whether some end is c
@@ -51,30 +52,30 @@ unfolding endsAt
 ends-second firsts seconds c e u-is v-is h =
     ap (λ z. eqb z c) v-is ∙ sym (ap (λ t. t || eqb (getD seconds e 0) c) (ne-eqb (getD firsts e 0) c (λ q. h (u-is ∙ q))))
 
-module _ (wakes : ℕ → Bool) (s : KeyNotes) (e : ℕ) {t : Bool} (t-is : t ≡ wakes e) where
-  pub edge-woken : {keys floors : List ℕ} → t ≡ true → keys ≡ set (s .keys) e 0 → floors ≡ set (s .floors) (e / blockEdges) 0
-      → notesFrom keys floors ≡ wokenEdge wakes s e
+module _ (wakes : ℕ → Bool) (fresh : ℕ → ℕ) (s : KeyNotes) (e : ℕ) {t : Bool} (t-is : t ≡ wakes e) where
+  pub edge-woken : {key : ℕ} {keys floors : List ℕ} → t ≡ true → key ≡ fresh e → keys ≡ set (s .keys) e key → floors ≡ lowered (s .floors) (e / blockEdges) key
+      → notesFrom keys floors ≡ wokenEdge wakes fresh s e
   unfolding wokenEdge
-  edge-woken h k f = rw (sym t-is ∙ h, k, f) refl
+  edge-woken h key-is k f = rw (sym t-is ∙ h, k, f, key-is) refl
 
-  pub edge-left : t ≡ false → s ≡ wokenEdge wakes s e
+  pub edge-left : t ≡ false → s ≡ wokenEdge wakes fresh s e
   unfolding wokenEdge
   edge-left h = rw (sym t-is ∙ h) refl
 
 -- ---- some edges
 
 -- Before edge e.
-pub record Waking (wakes : ℕ → Bool) (s : KeyNotes) (from to e : ℕ) (keys floors : List ℕ) : Type 0 where
+pub record Waking (wakes : ℕ → Bool) (fresh : ℕ → ℕ) (s : KeyNotes) (from to e : ℕ) (keys floors : List ℕ) : Type 0 where
   pub from-le : from ≤ e
   pub upto : e - from ≤ to - from
-  pub made : notesFrom keys floors ≡ wokenOn wakes s from (e - from)
+  pub made : notesFrom keys floors ≡ wokenOn wakes fresh s from (e - from)
 
-pub waking-start : (wakes : ℕ → Bool) (s : KeyNotes) (from to : ℕ) → Waking wakes s from to from (s .keys) (s .floors)
+pub waking-start : (wakes : ℕ → Bool) (fresh : ℕ → ℕ) (s : KeyNotes) (from to : ℕ) → Waking wakes fresh s from to from (s .keys) (s .floors)
 unfolding wokenOn
-waking-start wakes s from to = let z : from - from ≡ 0 = omega arith in record { from-le = omega arith; upto = omega arith; made = rw z refl }
+waking-start wakes fresh s from to = let z : from - from ≡ 0 = omega arith in record { from-le = omega arith; upto = omega arith; made = rw z refl }
 
-module _ {wakes : ℕ → Bool} {s : KeyNotes} {from to e : ℕ} {keys floors : List ℕ} (h : Waking wakes s from to e keys floors) where
-  pub waking-more : {keys' floors' : List ℕ} → e < to → notesFrom keys' floors' ≡ wokenEdge wakes (notesFrom keys floors) e → Waking wakes s from to (e + 1) keys' floors'
+module _ {wakes : ℕ → Bool} {fresh : ℕ → ℕ} {s : KeyNotes} {from to e : ℕ} {keys floors : List ℕ} (h : Waking wakes fresh s from to e keys floors) where
+  pub waking-more : {keys' floors' : List ℕ} → e < to → notesFrom keys' floors' ≡ wokenEdge wakes fresh (notesFrom keys floors) e → Waking wakes fresh s from to (e + 1) keys' floors'
   unfolding wokenOn
   waking-more b k =
       let a = h .from-le in
@@ -83,35 +84,35 @@ module _ {wakes : ℕ → Bool} {s : KeyNotes} {from to e : ℕ} {keys floors : 
       record {
         from-le = omega arith;
         upto = omega arith;
-        made = rw (next-is, here) (k ∙ ap (λ t. wokenEdge wakes t e) (h .made));
+        made = rw (next-is, here) (k ∙ ap (λ t. wokenEdge wakes fresh t e) (h .made));
       }
 
   pub waking-long : (length keys ≡ length (s .keys)) × (length floors ≡ length (s .floors))
   waking-long =
-      let l = on-length wakes s from (e - from) in
+      let l = on-length wakes fresh s from (e - from) in
       (ap (λ (t : KeyNotes). length (t .keys)) (h .made) ∙ l .0, ap (λ (t : KeyNotes). length (t .floors)) (h .made) ∙ l .1)
 
-  pub waking-end : to ≤ e → notesFrom keys floors ≡ wokenOn wakes s from (to - from)
+  pub waking-end : to ≤ e → notesFrom keys floors ≡ wokenOn wakes fresh s from (to - from)
   waking-end b = let a = h .from-le in let u = h .upto in let z : to - from ≡ e - from = omega arith in rw z (h .made)
 
 -- ---- blocks
 
-module _ (wakes : ℕ → Bool) where
+module _ (wakes : ℕ → Bool) (fresh : ℕ → ℕ) where
   -- Edges none of which is to be woken.
-  on-skip : (s : KeyNotes) (from n : ℕ) → ((k : ℕ) → k < n → wakes (from + k) ≡ false) → s ≡ wokenOn wakes s from n
+  on-skip : (s : KeyNotes) (from n : ℕ) → ((k : ℕ) → k < n → wakes (from + k) ≡ false) → s ≡ wokenOn wakes fresh s from n
   unfolding wokenOn
   on-skip s from zero h = refl
   on-skip s from (suc n) h =
-      edge-left wakes s (from + n) refl (h n (omega arith)) ∙ ap (λ t. wokenEdge wakes t (from + n)) (on-skip s from n (λ k b. h k (omega arith)))
+      edge-left wakes fresh s (from + n) refl (h n (omega arith)) ∙ ap (λ t. wokenEdge wakes fresh t (from + n)) (on-skip s from n (λ k b. h k (omega arith)))
 
-  on-join : (s : KeyNotes) (from a b : ℕ) → wokenOn wakes (wokenOn wakes s from a) (from + a) b ≡ wokenOn wakes s from (a + b)
+  on-join : (s : KeyNotes) (from a b : ℕ) → wokenOn wakes fresh (wokenOn wakes fresh s from a) (from + a) b ≡ wokenOn wakes fresh s from (a + b)
   unfolding wokenOn
-  on-join s from a zero = ap (wokenOn wakes s from) (sym (add-zero a))
+  on-join s from a zero = ap (wokenOn wakes fresh s from) (sym (add-zero a))
   on-join s from a (suc b) =
       let q : from + a + b ≡ from + (a + b) = omega arith in
-      ap (λ t. wokenEdge wakes t (from + a + b)) (on-join s from a b)
-      ∙ ap (wokenEdge wakes (wokenOn wakes s from (a + b))) q
-      ∙ ap (wokenOn wakes s from) (sym (add-suc a b))
+      ap (λ t. wokenEdge wakes fresh t (from + a + b)) (on-join s from a b)
+      ∙ ap (wokenEdge wakes fresh (wokenOn wakes fresh s from (a + b))) q
+      ∙ ap (wokenOn wakes fresh s from) (sym (add-suc a b))
 
 -- A block of a list of ends, and whether some of it is c.
 abbrev part : List ℕ → (from : ℕ) → List ℕ
@@ -134,18 +135,18 @@ none-counted s t {p} {q} h k z =
     (or-false-left s t none, or-false-right s t none)
 
 -- A block that has c at no end.
-pub block-left : (firsts seconds : List ℕ) (from c : ℕ) (s : KeyNotes) {p q : ℕ} → from + blockEdges ≤ length firsts → from + blockEdges ≤ length seconds
-    → p ≡ counted (partHas firsts from c) 1 → q ≡ counted (partHas seconds from c) 1 → bitOr p q ≤ 0 → s ≡ wokenOn (endsAt firsts seconds c) s from blockEdges
+pub block-left : (firsts seconds : List ℕ) (fresh : ℕ → ℕ) (from c : ℕ) (s : KeyNotes) {p q : ℕ} → from + blockEdges ≤ length firsts → from + blockEdges ≤ length seconds
+    → p ≡ counted (partHas firsts from c) 1 → q ≡ counted (partHas seconds from c) 1 → bitOr p q ≤ 0 → s ≡ wokenOn (endsAt firsts seconds c) fresh s from blockEdges
 unfolding endsAt
-block-left firsts seconds from c s a b h k z =
+block-left firsts seconds fresh from c s a b h k z =
     let none = none-counted (partHas firsts from c) (partHas seconds from c) h k z in
-    on-skip (endsAt firsts seconds c) s from blockEdges
+    on-skip (endsAt firsts seconds c) fresh s from blockEdges
     (λ i u.
     ap (λ t. t || eqb (getD seconds (from + i) 0) c) (part-none firsts from c a (none .0) i u)
     ∙ part-none seconds from c b (none .1) i u)
 
-pub block-woken : (wakes : ℕ → Bool) (s t : KeyNotes) (from : ℕ) → t ≡ wokenOn wakes s from (from + blockEdges - from) → t ≡ wokenOn wakes s from blockEdges
-block-woken wakes s t from h = let q : from + blockEdges - from ≡ blockEdges = omega arith in rw q at h
+pub block-woken : (wakes : ℕ → Bool) (fresh : ℕ → ℕ) (s t : KeyNotes) (from : ℕ) → t ≡ wokenOn wakes fresh s from (from + blockEdges - from) → t ≡ wokenOn wakes fresh s from blockEdges
+block-woken wakes fresh s t from h = let q : from + blockEdges - from ≡ blockEdges = omega arith in rw q at h
 
 pub whole-fits : (m k b : ℕ) {n : ℕ} → n ≡ wholeBlocks m k → b < n → (blockEdges * b + blockEdges ≤ m) × (blockEdges * b + blockEdges ≤ k)
 unfolding wholeBlocks
@@ -164,17 +165,17 @@ whole-le m k b {n} h l = by (ltb k m) refl h
     by false g q = omega arith
 
 -- Before block b.
-pub record WakingBlocks (wakes : ℕ → Bool) (s : KeyNotes) (n b : ℕ) (keys floors : List ℕ) : Type 0 where
+pub record WakingBlocks (wakes : ℕ → Bool) (fresh : ℕ → ℕ) (s : KeyNotes) (n b : ℕ) (keys floors : List ℕ) : Type 0 where
   pub upto : b ≤ n
-  pub made : notesFrom keys floors ≡ wokenOn wakes s 0 (blockEdges * b)
+  pub made : notesFrom keys floors ≡ wokenOn wakes fresh s 0 (blockEdges * b)
 
-pub blocks-start : (wakes : ℕ → Bool) (s : KeyNotes) (n : ℕ) → WakingBlocks wakes s n 0 (s .keys) (s .floors)
+pub blocks-start : (wakes : ℕ → Bool) (fresh : ℕ → ℕ) (s : KeyNotes) (n : ℕ) → WakingBlocks wakes fresh s n 0 (s .keys) (s .floors)
 unfolding wokenOn
-blocks-start wakes s n = record { upto = omega arith; made = refl }
+blocks-start wakes fresh s n = record { upto = omega arith; made = refl }
 
-module _ {wakes : ℕ → Bool} {s : KeyNotes} {n b : ℕ} {keys floors : List ℕ} (h : WakingBlocks wakes s n b keys floors) where
-  pub blocks-more : {keys' floors' : List ℕ} → b < n → notesFrom keys' floors' ≡ wokenOn wakes (notesFrom keys floors) (blockEdges * b) blockEdges
-      → WakingBlocks wakes s n (b + 1) keys' floors'
+module _ {wakes : ℕ → Bool} {fresh : ℕ → ℕ} {s : KeyNotes} {n b : ℕ} {keys floors : List ℕ} (h : WakingBlocks wakes fresh s n b keys floors) where
+  pub blocks-more : {keys' floors' : List ℕ} → b < n → notesFrom keys' floors' ≡ wokenOn wakes fresh (notesFrom keys floors) (blockEdges * b) blockEdges
+      → WakingBlocks wakes fresh s n (b + 1) keys' floors'
   blocks-more l k =
       let q : blockEdges * b + blockEdges ≡ blockEdges * (b + 1) = omega arith in
       let z : 0 + blockEdges * b ≡ blockEdges * b = omega arith in
@@ -182,43 +183,43 @@ module _ {wakes : ℕ → Bool} {s : KeyNotes} {n b : ℕ} {keys floors : List �
         upto = omega arith;
         made =
             k
-            ∙ ap (λ t. wokenOn wakes t (blockEdges * b) blockEdges) (h .made)
-            ∙ ap (λ i. wokenOn wakes (wokenOn wakes s 0 (blockEdges * b)) i blockEdges) (sym z)
-            ∙ on-join wakes s 0 (blockEdges * b) blockEdges
-            ∙ ap (wokenOn wakes s 0) q;
+            ∙ ap (λ t. wokenOn wakes fresh t (blockEdges * b) blockEdges) (h .made)
+            ∙ ap (λ i. wokenOn wakes fresh (wokenOn wakes fresh s 0 (blockEdges * b)) i blockEdges) (sym z)
+            ∙ on-join wakes fresh s 0 (blockEdges * b) blockEdges
+            ∙ ap (wokenOn wakes fresh s 0) q;
       }
 
   -- And the edges that are left.
-  pub blocks-end : (m k : ℕ) {keys' floors' : List ℕ} → n ≡ wholeBlocks m k → notesFrom keys' floors' ≡ wokenOn wakes (notesFrom keys floors) (blockEdges * b) (m - blockEdges * b)
-      → notesFrom keys' floors' ≡ wokenOn wakes s 0 m
+  pub blocks-end : (m k : ℕ) {keys' floors' : List ℕ} → n ≡ wholeBlocks m k → notesFrom keys' floors' ≡ wokenOn wakes fresh (notesFrom keys floors) (blockEdges * b) (m - blockEdges * b)
+      → notesFrom keys' floors' ≡ wokenOn wakes fresh s 0 m
   blocks-end m k whole g =
       let z : 0 + blockEdges * b ≡ blockEdges * b = omega arith in
       let l = whole-le m k b whole (h .upto) in
       let q : blockEdges * b + (m - blockEdges * b) ≡ m = omega arith in
       g
-      ∙ ap (λ t. wokenOn wakes t (blockEdges * b) (m - blockEdges * b)) (h .made)
-      ∙ ap (λ i. wokenOn wakes (wokenOn wakes s 0 (blockEdges * b)) i (m - blockEdges * b)) (sym z)
-      ∙ on-join wakes s 0 (blockEdges * b) (m - blockEdges * b)
-      ∙ ap (wokenOn wakes s 0) q
+      ∙ ap (λ t. wokenOn wakes fresh t (blockEdges * b) (m - blockEdges * b)) (h .made)
+      ∙ ap (λ i. wokenOn wakes fresh (wokenOn wakes fresh s 0 (blockEdges * b)) i (m - blockEdges * b)) (sym z)
+      ∙ on-join wakes fresh s 0 (blockEdges * b) (m - blockEdges * b)
+      ∙ ap (wokenOn wakes fresh s 0) q
 
   pub blocks-long : (length keys ≡ length (s .keys)) × (length floors ≡ length (s .floors))
   blocks-long =
-      let l = on-length wakes s 0 (blockEdges * b) in
+      let l = on-length wakes fresh s 0 (blockEdges * b) in
       (ap (λ (t : KeyNotes). length (t .keys)) (h .made) ∙ l .0, ap (λ (t : KeyNotes). length (t .floors)) (h .made) ∙ l .1)
 
 -- ---- a vertex
 
-module _ (firsts seconds flags : List ℕ) (n c : ℕ) (s : KeyNotes) where
+module _ (firsts seconds weights loads flags : List ℕ) (time n c : ℕ) (s : KeyNotes) where
   -- Not a vertex's number.
-  pub vertex-past : {i : ℕ} → i ≡ c → n ≤ i → s ≡ wokenAt firsts seconds flags n c s
+  pub vertex-past : {i : ℕ} → i ≡ c → n ≤ i → s ≡ wokenAt firsts seconds weights loads flags time n c s
   unfolding wokenAt idleVertex
   vertex-past i-is h =
-      on-skip _ s 0 (length firsts) (λ k u. ap (λ t. t && not (eqb (getD flags c 0) 1) && endsAt firsts seconds c (0 + k)) (le-ltb c n (omega arith)))
+      on-skip _ _ s 0 (length firsts) (λ k u. ap (λ t. t && not (eqb (getD flags c 0) 1) && endsAt firsts seconds c (0 + k)) (le-ltb c n (omega arith)))
 
   -- An active one.
-  pub vertex-active : {i f : ℕ} → i ≡ c → f ≡ getD flags i 0 → f ≡ 1 → s ≡ wokenAt firsts seconds flags n c s
+  pub vertex-active : {i f : ℕ} → i ≡ c → f ≡ getD flags i 0 → f ≡ 1 → s ≡ wokenAt firsts seconds weights loads flags time n c s
   unfolding wokenAt idleVertex
-  vertex-active {i} i-is f-is h = on-skip _ s 0 (length firsts) (λ k u. by (ltb c n) (endsAt firsts seconds c (0 + k)))
+  vertex-active {i} i-is f-is h = on-skip _ _ s 0 (length firsts) (λ k u. by (ltb c n) (endsAt firsts seconds c (0 + k)))
     where
       flag : eqb (getD flags c 0) 1 ≡ true
       flag = eq-eqb (getD flags c 0) 1 (ap (λ j. getD flags j 0) (sym i-is) ∙ sym f-is ∙ h)
@@ -227,18 +228,21 @@ module _ (firsts seconds flags : List ℕ) (n c : ℕ) (s : KeyNotes) where
       by true w = ap (λ b. not b && w) flag
       by false w = refl
 
-  pub vertex-idle : {t : KeyNotes} {i f : ℕ} → i ≡ c → i < n → f ≡ getD flags i 0 → (f ≡ 1 → ⊥)
-      → t ≡ wokenOn (endsAt firsts seconds c) s 0 (length firsts) → t ≡ wokenAt firsts seconds flags n c s
+  pub vertex-idle : {t : KeyNotes} {i f behind : ℕ} → i ≡ c → i < n → f ≡ getD flags i 0 → (f ≡ 1 → ⊥) → behind ≡ behindBy loads time i
+      → t ≡ wokenOn (endsAt firsts seconds c) (wokenKey weights behind) s 0 (length firsts) → t ≡ wokenAt firsts seconds weights loads flags time n c s
   unfolding wokenAt idleVertex
-  vertex-idle i-is below f-is h k =
+  vertex-idle i-is below f-is h behind-is k =
       let flag : eqb (getD flags c 0) 1 ≡ false = ne-eqb (getD flags c 0) 1 (λ q. h (f-is ∙ ap (λ j. getD flags j 0) i-is ∙ q)) in
       let idle : (ltb c n && not (eqb (getD flags c 0) 1)) ≡ true = and-both (ltb c n) (not (eqb (getD flags c 0) 1)) (lt-ltb c n (omega arith)) (not-of-false _ flag) in
-      k ∙ ap (λ b. wokenOn (λ e. b && endsAt firsts seconds c e) s 0 (length firsts)) (sym idle)
+      k
+      ∙ ap (λ z. wokenOn (endsAt firsts seconds c) (wokenKey weights z) s 0 (length firsts)) (behind-is ∙ ap (behindBy loads time) i-is)
+      ∙ ap (λ b. wokenOn (λ e. b && endsAt firsts seconds c e) (wokenKey weights (behindBy loads time c)) s 0 (length firsts)) (sym idle)
 
 -- The two components that edge e joins, as they are read.
-pub joined-woken : (firsts seconds labels flags : List ℕ) (n e : ℕ) (s : KeyNotes) {t u : KeyNotes} {a b i j x y : ℕ} → a ≡ getD firsts e 0 → i ≡ a → x ≡ getD labels i 0
-    → b ≡ getD seconds e 0 → j ≡ b → y ≡ getD labels j 0
-    → t ≡ wokenAt firsts seconds flags n x s → u ≡ wokenAt firsts seconds flags n y t → u ≡ wokenBy firsts seconds labels flags n e s
+pub joined-woken : (t : Tables) (time n e : ℕ) (s : KeyNotes) {s' s'' : KeyNotes} {a b i j x y : ℕ} → a ≡ getD (t .firsts) e 0 → i ≡ a → x ≡ getD (t .labels) i 0
+    → b ≡ getD (t .seconds) e 0 → j ≡ b → y ≡ getD (t .labels) j 0
+    → s' ≡ wokenAt (t .firsts) (t .seconds) (t .weights) (t .loads) (t .flags) time n x s
+    → s'' ≡ wokenAt (t .firsts) (t .seconds) (t .weights) (t .loads) (t .flags) time n y s'
+    → s'' ≡ wokenBy t time n e s
 unfolding wokenBy
-joined-woken firsts seconds labels flags n e s a-is i-is x-is b-is j-is y-is t-is u-is =
-    u-is ∙ rw (t-is, x-is, y-is, i-is, j-is, a-is, b-is) refl
+joined-woken t time n e s a-is i-is x-is b-is j-is y-is one both = both ∙ rw (one, x-is, y-is, i-is, j-is, a-is, b-is) refl

@@ -238,10 +238,11 @@ module _ (p : Problem) (ok : Sound p) (light : (e : ℕ) → e < p .edges → p 
         let c = counted-le (active p (s .label) (s .label v)) d in
         omega arith
 
-    -- An edge that rests no more has an end that was joined, so that its key is 0.
-    rested : {keys woken : List ℕ} → Woken p s x y keys woken → (f : ℕ) → f < p .edges → resting p s f ≡ true → resting p (stateAt p (r + 1)) f ≡ false → getD woken f 0 ≡ 0
+    -- An edge that rests no more has an end that was joined, so that its key bounds it.
+    rested : {woken : List ℕ} → Woken p s time x y woken → (f : ℕ) → f < p .edges → resting p s f ≡ true → resting p (stateAt p (r + 1)) f ≡ false
+        → getD woken f 0 ≤ 2 * time + slack p s f
     unfolding resting
-    rested {woken = woken} k f b h n = by (ℕ-discrete (p .first f) x) (ℕ-discrete (p .first f) y) (ℕ-discrete (p .second f) x) (ℕ-discrete (p .second f) y)
+    rested {woken} k f b h n = by (ℕ-discrete (p .first f) x) (ℕ-discrete (p .first f) y) (ℕ-discrete (p .second f) x) (ℕ-discrete (p .second f) y)
       where
         i : idleAlone p s (p .first f) ≡ true
         i = and-left (idleAlone p s (p .first f)) (idleAlone p s (p .second f)) h
@@ -249,7 +250,7 @@ module _ (p : Problem) (ok : Sound p) (light : (e : ℕ) → e < p .edges → p 
         j : idleAlone p s (p .second f) ≡ true
         j = and-right (idleAlone p s (p .first f)) (idleAlone p s (p .second f)) h
 
-        by : Dec (p .first f ≡ x) → Dec (p .first f ≡ y) → Dec (p .second f ≡ x) → Dec (p .second f ≡ y) → getD woken f 0 ≡ 0
+        by : Dec (p .first f ≡ x) → Dec (p .first f ≡ y) → Dec (p .second f ≡ x) → Dec (p .second f ≡ y) → getD woken f 0 ≤ 2 * time + slack p s f
         by (yes q) _ _ _ = k .first-up f b i (inl q)
         by (no _) (yes q) _ _ = k .first-up f b i (inr q)
         by (no _) (no _) (yes q) _ = k .second-up f b j (inl q)
@@ -262,9 +263,9 @@ module _ (p : Problem) (ok : Sound p) (light : (e : ℕ) → e < p .edges → p 
 
     -- Good keys are good after the round, once the edges are woken that rested at a vertex that was joined: no edge comes nearer than by the delay at each end, and
     -- components never part.
-    pub keyed-next : {keys woken : List ℕ} → Keyed p s time keys → Woken p s x y keys woken → Keyed p (stateAt p (r + 1)) (time + d) woken
+    pub keyed-next : {keys woken : List ℕ} → Keyed p s time keys → Woken p s time x y woken → Keyed p (stateAt p (r + 1)) (time + d) woken
     unfolding slack
-    keyed-next {keys} {woken} h k =
+    keyed-next {woken = woken} h k =
         record {
           early =
               let l = delay-le p s e d w in
@@ -272,15 +273,14 @@ module _ (p : Problem) (ok : Sound p) (light : (e : ℕ) → e < p .edges → p 
               let t = h .early in
               let q : stateAt p (r + 1) .rounds ≡ suc (s .rounds) = ap (λ x. x .rounds) next ∙ pick-rounds p s e d in
               omega arith;
-          low = λ f b a n. by f b a n (either (resting p s f));
+          low = λ f b a n.
+              let q = by f b a n (either (resting p s f)) in
+              let x = load-next (p .first f) (ok .first-below f b) in
+              let y = load-next (p .second f) (ok .second-below f b) in
+              omega arith;
         }
       where
         by : (f : ℕ) → f < p .edges → (stateAt p (r + 1) .label (p .first f) ≡ stateAt p (r + 1) .label (p .second f) → ⊥) → resting p (stateAt p (r + 1)) f ≡ false
-            → (resting p s f ≡ true) ⊎ (resting p s f ≡ false) → getD woken f 0 ≤ 2 * (time + d) + slack p (stateAt p (r + 1)) f
-        by f b a n (inl t) = let z = rested k f b t n in omega arith
-        by f b a n (inr t) =
-            let l = k .lower f in
-            let q = h .low f b (λ q. a (label-later p r 1 (p .first f) (p .second f) q)) t in
-            let x = load-next (p .first f) (ok .first-below f b) in
-            let y = load-next (p .second f) (ok .second-below f b) in
-            omega arith
+            → (resting p s f ≡ true) ⊎ (resting p s f ≡ false) → getD woken f 0 ≤ 2 * time + slack p s f
+        by f b a n (inl t) = rested k f b t n
+        by f b a n (inr t) = k .awake f b (λ q. a (label-later p r 1 (p .first f) (p .second f) q)) t

@@ -5,10 +5,10 @@ use mathlib.Core.Path.{_≡_, refl}
 use lib.ListN.{length, getD}
 use lib.Dec.{eqb}
 use Rattle.base_finite.specs.Below.{counted, anyBelow}
 use Rattle.plan_wake.specs.Laws.Loops.{found-more, found-end}
 use borrow.Author.Needs.{needs}
-use Rattle.plan_wake.proofs.has_end.Statement.{statement}
-use Rattle.plan_wake.proofs.has_end.Tie as tie
+use Rattle.plan_wake_ends.proofs.has_end.Statement.{statement}
+use Rattle.plan_wake_ends.proofs.has_end.Tie as tie
 
 abbrev Inv-loop : tie.InvT-loop
 Inv-loop ends c found₀ i₀ found i = (i ≤ length ends) × (found ≡ counted (anyBelow i (λ k. eqb (getD ends k 0) c)) 1)

@@ -1,9 +1,9 @@
 -- `whole_blocks` meets its contract: the shorter list decides.
 use mathlib.Core.Path.{refl}
 use borrow.Author.Tests.{lt-ltb, le-ltb}
 use Rattle.plan_wake.specs.Wake.{wholeBlocks}
-use Rattle.plan_wake.proofs.whole_blocks.Statement.{statement}
-use Rattle.plan_wake.proofs.whole_blocks.Tie as tie
+use Rattle.plan_wake_ends.proofs.whole_blocks.Statement.{statement}
+use Rattle.plan_wake_ends.proofs.whole_blocks.Tie as tie
 
 returns : tie.Need-returns
 unfolding wholeBlocks

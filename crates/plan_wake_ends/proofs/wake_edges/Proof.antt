@@ -1,20 +1,20 @@
 -- `wake_edges` meets its contract: one edge more at each turn.
 use Prim.Native.Nat.{_-_}
 use native.Mathlib.Omega.{arith}
-use Rattle.plan_wake.specs.Wake.{endsAt, notesFrom}
+use Rattle.plan_wake.specs.Wake.{endsAt, notesFrom, wokenKey}
 use Rattle.plan_wake.specs.Laws.Loops.{Waking, waking-start, waking-more, waking-long, waking-end}
 use borrow.Author.Needs.{needs}
-use Rattle.plan_wake.proofs.wake_edges.Statement.{statement}
-use Rattle.plan_wake.proofs.wake_edges.Tie as tie
+use Rattle.plan_wake_ends.proofs.wake_edges.Statement.{statement}
+use Rattle.plan_wake_ends.proofs.wake_edges.Tie as tie
 
 abbrev Inv-loop : tie.InvT-loop
-Inv-loop firsts seconds c keys₀ floors₀ from to e₀ keys floors e = Waking (endsAt firsts seconds c) (notesFrom keys₀ floors₀) from to e keys floors
+Inv-loop firsts seconds weights c behind keys₀ floors₀ from to e₀ keys floors e = Waking (endsAt firsts seconds c) (wokenKey weights behind) (notesFrom keys₀ floors₀) from to e keys floors
 
 abbrev μ-loop : tie.MeasureT-loop
-μ-loop firsts seconds c keys₀ floors₀ from to e₀ keys floors e = to - e
+μ-loop firsts seconds weights c behind keys₀ floors₀ from to e₀ keys floors e = to - e
 
 loop-holds : tie.Need-loop-holds Inv-loop μ-loop
-loop-holds c = waking-start _ _ _ _
+loop-holds c = waking-start _ _ _ _ _
 
 loop-less : tie.Need-loop-less Inv-loop μ-loop
 loop-less c = omega arith

@@ -2,8 +2,8 @@
 use mathlib.Core.Path.{sym}
 use borrow.Author.Tests.{eq-eqb, ne-eqb}
 use Rattle.base_finite.specs.Laws.Below.{counted-true, counted-false}
-use Rattle.plan_wake.proofs.same_number.Statement.{statement}
-use Rattle.plan_wake.proofs.same_number.Tie as tie
+use Rattle.plan_wake_ends.proofs.same_number.Statement.{statement}
+use Rattle.plan_wake_ends.proofs.same_number.Tie as tie
 
 returns : tie.Need-returns
 returns c = sym (counted-true (eq-eqb (c .before .args .x) (c .before .args .c) (c .if1 .taken)) 1)

@@ -2,20 +2,20 @@
 use Prim.Native.Nat.{_-_}
 use native.Mathlib.Omega.{arith}
 use mathlib.Core.Path.{_∙_}
-use Rattle.plan_wake.specs.Wake.{endsAt, notesFrom}
+use Rattle.plan_wake.specs.Wake.{endsAt, notesFrom, wokenKey}
 use Rattle.plan_wake.specs.Laws.Loops.{WakingBlocks, blocks-start, blocks-more, blocks-end, whole-fits, whole-le, blocks-long}
 use borrow.Author.Needs.{needs}
-use Rattle.plan_wake.proofs.wake_ends.Statement.{statement}
-use Rattle.plan_wake.proofs.wake_ends.Tie as tie
+use Rattle.plan_wake_ends.proofs.wake_ends.Statement.{statement}
+use Rattle.plan_wake_ends.proofs.wake_ends.Tie as tie
 
 abbrev Inv-loop : tie.InvT-loop
-Inv-loop firsts seconds c keys₀ floors₀ blocks b₀ keys floors b = WakingBlocks (endsAt firsts seconds c) (notesFrom keys₀ floors₀) blocks b keys floors
+Inv-loop firsts seconds weights c behind keys₀ floors₀ blocks b₀ keys floors b = WakingBlocks (endsAt firsts seconds c) (wokenKey weights behind) (notesFrom keys₀ floors₀) blocks b keys floors
 
 abbrev μ-loop : tie.MeasureT-loop
-μ-loop firsts seconds c keys₀ floors₀ blocks b₀ keys floors b = blocks - b
+μ-loop firsts seconds weights c behind keys₀ floors₀ blocks b₀ keys floors b = blocks - b
 
 loop-holds : tie.Need-loop-holds Inv-loop μ-loop
-loop-holds c = blocks-start _ _ _
+loop-holds c = blocks-start _ _ _ _
 
 mul-wake-block : tie.Need-mul-wake-block Inv-loop μ-loop
 mul-wake-block c = record { fits = omega (arith, whole-le _ _ _ (c .before .before .before .before .whole-blocks .ensures) (c .before .before .before .loop .inv .upto)) }

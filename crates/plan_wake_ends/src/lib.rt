@@ -1,0 +1,188 @@
+// Waking the edges that end at a vertex, block by block. Definitions in plan_wake.
+ghost use Rattle.base_buffer.specs.Lent.{old, new};
+ghost use mathlib.Core.Path.{_≡_};
+ghost use Prim.Native.Nat.{_+_, _-_, _≤_};
+ghost use lib.ListN.{getD, length};
+ghost use lib.Dec.{eqb};
+ghost use Rattle.base_finite.specs.Below.{counted, anyBelow};
+ghost use Rattle.plan_winner.specs.Scan.{blockEdges};
+ghost use Rattle.plan_wake.specs.Wake.{endsAt, notesFrom, wokenKey, lowered, wokenEdge, wokenOn, wholeBlocks};
+use base_buffer::at32;
+use base_buffer::at64;
+use base_buffer::put64;
+use plan_winner::BLOCK_EDGES;
+
+// 1 if two numbers are the same.
+fn same_number(x: u32, c: u32) -> u32
+    ensures { λ r. ⌜ r ≡ counted (eqb x c) 1 ⌝ }
+{
+    if x == c {
+        return 1;
+    }
+    0
+}
+
+// 1 if some of these ends is c. The loop runs to its end, so that several are compared at once.
+fn has_end(ends: &[u32], c: u32) -> u32
+    ensures { λ r. ⌜ r ≡ counted (anyBelow (length (old ends)) (λ i. eqb (getD (old ends) i 0) c)) 1 ⌝ }
+{
+    let mut found = 0;
+    let mut i = 0;
+    while i < ends.len() {
+        found = found | same_number(at32(ends, i), c);
+        i += 1;
+    }
+    found
+}
+
+// Whether edge e has vertex c as an end.
+fn ends_at(firsts: &[u32], seconds: &[u32], c: u32, e: usize) -> bool
+    ensures { λ r. ⌜ r ≡ endsAt (old firsts) (old seconds) c e ⌝ }
+{
+    if at32(firsts, e) == c {
+        return true;
+    }
+    at32(seconds, e) == c
+}
+
+// The key of edge e, woken at a vertex that is so far behind.
+fn woken_key(weights: &[u32], behind: u64, e: usize) -> u64
+    ensures { λ r. ⌜ r ≡ wokenKey (old weights) behind e ⌝ }
+{
+    plan_look::capped_time(behind) + 2 * base_buffer::wide32(at32(weights, e))
+}
+
+// The floor of block b becomes the key if it is above it.
+fn lower_floor(floors: &mut [u64], b: usize, key: u64)
+    ensures { λ r. ⌜ new floors ≡ lowered (old floors) b key ⌝ }
+{
+    if key < at64(floors, b) {
+        put64(floors, b, key);
+    }
+}
+
+// Edge e is woken if it ends at c.
+fn wake_edge(
+    firsts: &[u32],
+    seconds: &[u32],
+    weights: &[u32],
+    c: u32,
+    behind: u64,
+    keys: &mut [u64],
+    floors: &mut [u64],
+    e: usize,
+)
+    ensures { λ r.
+        let s = notesFrom (old keys) (old floors) in
+        let woken = wokenEdge (endsAt (old firsts) (old seconds) c) (wokenKey (old weights) behind) s e in
+        ⌜ notesFrom (new keys) (new floors) ≡ woken ⌝ }
+{
+    if ends_at(firsts, seconds, c, e) {
+        let key = woken_key(weights, behind, e);
+        put64(keys, e, key);
+        lower_floor(floors, e / BLOCK_EDGES, key);
+    }
+}
+
+// Those of some edges that end at c.
+fn wake_edges(
+    firsts: &[u32],
+    seconds: &[u32],
+    weights: &[u32],
+    c: u32,
+    behind: u64,
+    keys: &mut [u64],
+    floors: &mut [u64],
+    from: usize,
+    to: usize,
+)
+    ensures { λ r.
+        let s = notesFrom (old keys) (old floors) in
+        let woken = wokenOn (endsAt (old firsts) (old seconds) c) (wokenKey (old weights) behind) s from (to - from) in
+        ⌜ notesFrom (new keys) (new floors) ≡ woken ⌝ }
+{
+    let mut e = from;
+    while e < to {
+        wake_edge(firsts, seconds, weights, c, behind, keys, floors, e);
+        e += 1;
+    }
+}
+
+// Those of a block, which is passed over if none of them ends at c.
+fn wake_block(
+    firsts: &[u32],
+    seconds: &[u32],
+    weights: &[u32],
+    c: u32,
+    behind: u64,
+    keys: &mut [u64],
+    floors: &mut [u64],
+    from: usize,
+)
+    requires { ⌜ from + blockEdges ≤ length (now firsts) ⌝ }
+    requires { ⌜ from + blockEdges ≤ length (now seconds) ⌝ }
+    ensures { λ r.
+        let s = notesFrom (old keys) (old floors) in
+        let woken = wokenOn (endsAt (old firsts) (old seconds) c) (wokenKey (old weights) behind) s from blockEdges in
+        ⌜ notesFrom (new keys) (new floors) ≡ woken ⌝ }
+{
+    let to = from + BLOCK_EDGES;
+    let found = has_end(&firsts[from..to], c) | has_end(&seconds[from..to], c);
+    if 0 < found {
+        wake_edges(firsts, seconds, weights, c, behind, keys, floors, from, to);
+    }
+}
+
+// Blocks that two lists fill.
+fn whole_blocks(m: usize, k: usize) -> usize
+    ensures { λ r. ⌜ r ≡ wholeBlocks m k ⌝ }
+{
+    if k < m {
+        return k / BLOCK_EDGES;
+    }
+    m / BLOCK_EDGES
+}
+
+// All edges that end at c.
+pub fn wake_ends(
+    firsts: &[u32],
+    seconds: &[u32],
+    weights: &[u32],
+    c: u32,
+    behind: u64,
+    keys: &mut [u64],
+    floors: &mut [u64],
+)
+    ensures { λ r.
+        let m = length (old firsts) in
+        let s = notesFrom (old keys) (old floors) in
+        let woken = wokenOn (endsAt (old firsts) (old seconds) c) (wokenKey (old weights) behind) s 0 m in
+        ⌜ notesFrom (new keys) (new floors) ≡ woken ⌝ }
+{
+    let blocks = whole_blocks(firsts.len(), seconds.len());
+    let mut b = 0;
+    while b < blocks {
+        wake_block(
+            firsts,
+            seconds,
+            weights,
+            c,
+            behind,
+            keys,
+            floors,
+            BLOCK_EDGES * b,
+        );
+        b += 1;
+    }
+    wake_edges(
+        firsts,
+        seconds,
+        weights,
+        c,
+        behind,
+        keys,
+        floors,
+        BLOCK_EDGES * b,
+        firsts.len(),
+    );
+}
