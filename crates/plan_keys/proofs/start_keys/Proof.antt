@@ -26,8 +26,7 @@ loop-again : tie.Need-loop-again Inv-loop μ-loop
 loop-again c =
     let made = c .before .before .before .before in
     let second = made .before .before in
-    let first = second .before .before .before in
-    (
+    let first = second .before .before .before in (
       omega arith,
       c .before .before .put64 .ensures
           ∙ remade-more _ _ _ _ _ (first .before .before .before .before .loop .inv .1)

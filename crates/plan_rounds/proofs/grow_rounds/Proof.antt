@@ -21,19 +21,19 @@ abbrev μ-loop : tie.MeasureT-loop
 
 loop-holds : tie.Need-loop-holds Inv-loop μ-loop
 loop-holds c =
-    let keys = c .before .before .before .before .before .before .before in
-    let labels = keys .before .before .before in
+    let flags = c .before .before .before .before in
+    let labels = flags .before .before .before .before .before .before .before in
     represents-start
     (labels .before .before .before .before .before .before .pre)
     refl
     (labels .own-labels .ensures)
-    (keys .start-keys .ensures)
-    (c .active-flags .ensures)
+    (flags .active-flags .ensures)
+    (c .before .start-keys .ensures)
 
 round-requires : tie.Need-round-requires Inv-loop μ-loop
 round-requires c κs =
     let turn = c .before .before .before .before .before .before .before .before .before .before .before in
-    let listed = turn .before .before .before in (
+    let listed = turn .before .before .before .before .before .before .before in (
       turn .loop .inv,
       record { mates-are = listed .before .before .before .mates .ensures; members-are = listed .list-members .ensures .1; count-is = listed .list-members .ensures .0 },
     )
@@ -90,10 +90,11 @@ grow-rounds-spec =
     μ-loop
     (λ c. search needs)
     (λ c κs. search needs)
+    (λ c κs. search needs)
+    (λ c κs. search needs)
+    (λ c κs. search needs)
     (λ c. search needs)
-    (λ c κs. search needs)
-    (λ c κs. search needs)
-    (λ c κs. search needs)
+    (λ c. search needs)
     (λ c κs. search needs)
     (λ c. search needs)
     loop-holds
