@@ -15,10 +15,13 @@ fn start_key(first: u8, second: u8, weight: u32) -> u64
 {
     let whole = 2 * base_buffer::wide32(weight);
     if first == 1 {
-        return whole;
+        if second == 1 {
+            return whole;
+        }
+        return 2 * whole;
     }
     if second == 1 {
-        return whole;
+        return 2 * whole;
     }
     NO_KEY
 }

@@ -5,7 +5,8 @@ ghost use Prim.Native.Nat.{_<_};
 ghost use lib.ListN.{set};
 ghost use Rattle.theory_steiner.specs.Growth.{better};
 ghost use Rattle.plan_winner.specs.Scan.{timeLimit, cappedTime};
-ghost use Rattle.plan_winner.specs.Tables.{tablesIn, delayBy, aloneAt, restsBetween, keyBetween, keyBy};
+ghost use Rattle.plan_winner.specs.Tables.{tablesIn, delayBy, aloneAt, restsBetween};
+ghost use Rattle.plan_winner.specs.Tables.{reachBetween, keyBetween, keyBy};
 ghost use Rattle.plan_delay.specs.Between.{winnerIn, delayBetween};
 use base_buffer::put64;
 use plan_delay::Delay;
@@ -50,6 +51,20 @@ fn rests_between(u: usize, v: usize, first: End, second: End) -> bool
     false
 }
 
+// What has to be grown over of an edge of which so much remains: twice that where an end is idle and alone.
+fn reach_between(u: usize, v: usize, first: End, second: End, slack: u64) -> u64
+    requires { ⌜ slack < timeLimit ⌝ }
+    ensures { λ r. ⌜ r ≡ reachBetween u v first second slack ⌝ }
+{
+    if alone_at(u, first) {
+        return 2 * slack;
+    }
+    if alone_at(v, second) {
+        return 2 * slack;
+    }
+    slack
+}
+
 // Notes the key of edge e between the ends at two vertices: the best with it.
 fn note_edge(
     keys: &mut [u64],
@@ -75,7 +90,11 @@ fn note_edge(
         return better_of(best, e, Delay::Never);
     }
     let slack = edge_slack(weight, first.load, second.load);
-    put64(keys, e, 2 * time + slack);
+    put64(
+        keys,
+        e,
+        2 * time + reach_between(u, v, first, second, slack),
+    );
     better_of(best, e, delay_of(first.flag, second.flag, slack))
 }
 

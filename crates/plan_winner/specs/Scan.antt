@@ -1,5 +1,5 @@
 -- A scan for the winner that passes over edges which cannot win yet. An edge's key is twice the time at which it is reached if both its ends are active from now
--- on; time is the sum of the delays so far. Keys that were noted in earlier rounds still bound that time from below (law `keyed-next`), so that an edge whose key is
+-- on, or one of them where the other is alone and idle; time is the sum of the delays so far. Keys that were noted in earlier rounds still bound that time from below (law `keyed-next`), so that an edge whose key is
 -- not below twice the time of the best so far needs no look, and the winner is the winner among all edges (law `scan-wins`). This is how the code looks for it; what
 -- `grow` answers is said without it, by the rounds of `theory_steiner: Growth`.
 use Prim.Native.Nat.{ℕ, zero, suc, _+_, _*_, _-_, _/_, _<_, _≤_, _^_}
@@ -29,8 +29,13 @@ idleAlone p s v = not (active p (s .label) (s .label v)) && eqb (s .label v) v
 unfoldable pub resting : Problem → State → ℕ → Bool
 resting p s e = idleAlone p s (p .first e) && idleAlone p s (p .second e)
 
+-- What has to be grown over of an edge until it is reached, if both ends grow from now on. An end that is idle and alone does not grow before it is joined, so that the
+-- other end has to come twice as far.
+unfoldable pub reach : Problem → State → (e : ℕ) → ℕ
+reach p s e = cond (idleAlone p s (p .first e) || idleAlone p s (p .second e)) (2 * slack p s e) (slack p s e)
+
 unfoldable pub key : Problem → State → (time e : ℕ) → ℕ
-key p s time e = cond (eqb (s .label (p .first e)) (s .label (p .second e)) || resting p s e) noKey (2 * time + slack p s e)
+key p s time e = cond (eqb (s .label (p .first e)) (s .label (p .second e)) || resting p s e) noKey (2 * time + reach p s e)
 
 -- The time that the search goes by: no growth comes to the limit (law `capped-is`), and a later time is taken for the last before it.
 unfoldable pub cappedTime : (time : ℕ) → ℕ
@@ -67,11 +72,12 @@ scanOf p s time keys = scan (delay p s) (key p s time) time keys (p .edges)
 -- Keys that bound from below where an edge does not rest, and a time within what so many rounds can take.
 pub record Keyed (p : Problem) (s : State) (time : ℕ) (keys : List ℕ) : Type 0 where
   pub early : time ≤ s .rounds * (2 * maxWeight)
-  pub low : (e : ℕ) → e < p .edges → (s .label (p .first e) ≡ s .label (p .second e) → ⊥) → resting p s e ≡ false → getD keys e 0 ≤ 2 * time + slack p s e
+  pub low : (e : ℕ) → e < p .edges → (s .label (p .first e) ≡ s .label (p .second e) → ⊥) → resting p s e ≡ false → getD keys e 0 ≤ 2 * time + reach p s e
 
--- Keys once the edges at components x and y, which a round joins, are woken: they bound from below where an edge does not rest, or rests and has x or y as an end.
+-- Keys once the edges at components x and y, which a round joins, are woken: they bound from below where an edge does not rest, and those of edges that have x or y as an end bound also
+-- where both ends grow from now on.
 pub record Woken (p : Problem) (s : State) (time x y : ℕ) (woken : List ℕ) : Type 0 where
-  pub awake : (e : ℕ) → e < p .edges → (s .label (p .first e) ≡ s .label (p .second e) → ⊥) → resting p s e ≡ false → getD woken e 0 ≤ 2 * time + slack p s e
+  pub awake : (e : ℕ) → e < p .edges → (s .label (p .first e) ≡ s .label (p .second e) → ⊥) → resting p s e ≡ false → getD woken e 0 ≤ 2 * time + reach p s e
   pub first-up : (e : ℕ) → e < p .edges → idleAlone p s (p .first e) ≡ true → (p .first e ≡ x) ⊎ (p .first e ≡ y) → getD woken e 0 ≤ 2 * time + slack p s e
   pub second-up : (e : ℕ) → e < p .edges → idleAlone p s (p .second e) ≡ true → (p .second e ≡ x) ⊎ (p .second e ≡ y) → getD woken e 0 ≤ 2 * time + slack p s e
 

@@ -48,9 +48,13 @@ aloneAt v x = not (eqb (x .flag) 1) && eqb (x .label) v
 unfoldable pub restsBetween : (u v : ℕ) → (a b : End) → Bool
 restsBetween u v a b = aloneAt u a && aloneAt v b
 
+-- What has to be grown over of an edge of which so much remains.
+unfoldable pub reachBetween : (u v : ℕ) → (a b : End) → (slack : ℕ) → ℕ
+reachBetween u v a b slack = cond (aloneAt u a || aloneAt v b) (2 * slack) slack
+
 -- The key of an edge of weight w between the ends at two vertices.
 unfoldable pub keyBetween : (time u v : ℕ) → (a b : End) → (w : ℕ) → ℕ
-keyBetween time u v a b w = cond (eqb (a .label) (b .label) || restsBetween u v a b) noKey (2 * time + slackBetween a b w)
+keyBetween time u v a b w = cond (eqb (a .label) (b .label) || restsBetween u v a b) noKey (2 * time + reachBetween u v a b (slackBetween a b w))
 
 unfoldable pub keyBy : Tables → (time e : ℕ) → ℕ
 keyBy t time e = keyBetween time (getD (t .firsts) e 0) (getD (t .seconds) e 0) (firstBy t time e) (secondBy t time e) (getD (t .weights) e 0)

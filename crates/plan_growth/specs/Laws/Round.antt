@@ -34,8 +34,8 @@ use Rattle.plan_delay.specs.Between.{delayIn, winnerIn, vertexEnd, slackBetween
 use Rattle.plan_delay.specs.declared.Delay.the-variants.{Never, After}
 use Rattle.plan_delay.specs.declared.Winner.{Winner}
 use Rattle.plan_delay.specs.declared.Winner.the-variants.{Nobody, Edge}
-use Rattle.plan_winner.specs.Scan.{timeLimit, idleAlone, resting, key, cappedTime, Scan, scanOf, Keyed, Pass, blocksOf, passOf, Floored}
-use Rattle.plan_winner.specs.Tables.{Tables, tablesFrom, firstBy, secondBy, delayBy, aloneAt, restsBetween, keyBetween, keyBy, passBy}
+use Rattle.plan_winner.specs.Scan.{timeLimit, idleAlone, resting, reach, key, cappedTime, Scan, scanOf, Keyed, Pass, blocksOf, passOf, Floored}
+use Rattle.plan_winner.specs.Tables.{Tables, tablesFrom, firstBy, secondBy, delayBy, aloneAt, restsBetween, reachBetween, keyBetween, keyBy, passBy}
 use Rattle.plan_winner.specs.Laws.Scan.{capped-is, idle-elim, scan-wins, keyed-next}
 use Rattle.plan_winner.specs.Laws.Blocks.{passes-scan, passes-cong}
 use Rattle.plan_wake.specs.Wake.{endsAt, idleVertex, KeyNotes, notesFrom, behindBy, wokenKey, wokenBy}
@@ -209,7 +209,7 @@ module _ {s : Survey} {r time : ℕ} {a : Arrays} (h : Represents s r time a) wh
         (cond-not (eqb (S .label u) (S .label v)) _ _)
 
     key-at : (e : ℕ) → e < length (s .firsts) → keyBy tables time e ≡ key p S time e
-    unfolding keyBy firstBy secondBy vertexEnd aloneAt restsBetween keyBetween slackBetween idleAlone resting key slack problemOf
+    unfolding keyBy firstBy secondBy vertexEnd aloneAt restsBetween reachBetween keyBetween slackBetween idleAlone resting reach key slack problemOf
     key-at e b =
         let u = getD (s .firsts) e 0 in
         let v = getD (s .seconds) e 0 in

@@ -11,10 +11,10 @@ use lib.Dec.{eqb, ltb}
 use borrow.Author.Tests.{eq-eqb, lt-ltb, le-ltb}
 use Rattle.base_finite.specs.Below.{counted, sumBelow, tabulate}
 use Rattle.base_finite.specs.Laws.Below.{sum-cong, sum-zero, length-tabulate, getD-tabulate, counted-false, lt-or-ge}
-use Rattle.base_finite.specs.Laws.Test.{and-both, true-not-false, not-true-false}
+use Rattle.base_finite.specs.Laws.Test.{and-both, or-left, or-right, true-not-false, not-true-false}
 use Rattle.base_limits.specs.Limits.{maxVertices, maxEdges, maxWeight, maxValue, maxDuals}
 use Rattle.theory_steiner.specs.Problem.{Problem}
-use Rattle.theory_steiner.specs.Growth.{Winner, nobody, edge, never, active, winner, numbers, start, stateAt}
+use Rattle.theory_steiner.specs.Growth.{Winner, nobody, edge, never, active, slack, winner, numbers, start, stateAt}
 use Rattle.theory_steiner.specs.Pruning.{dualBound}
 use Rattle.theory_steiner.specs.Laws.Round.{stateAt-reached, pick-rounds}
 use Rattle.theory_steiner.specs.Laws.Rounds.{rounds-lt, stateAt-pick, stateAt-last, value-bounded}
@@ -26,8 +26,8 @@ use Rattle.survey_core.specs.Survey.{Survey, vertexCount, edgeCount, problemOf}
 use Rattle.survey_core.specs.Sound.{SurveySound}
 use Rattle.survey_core.specs.Laws.Refusal.{survey-sound}
 use Rattle.plan_active.specs.Flags.{activeFlags}
-use Rattle.plan_winner.specs.Scan.{noKey, idleAlone, resting, maxBlocks}
-use Rattle.plan_winner.specs.Laws.Scan.{keyed-start, floored-start}
+use Rattle.plan_winner.specs.Scan.{noKey, idleAlone, resting, reach, maxBlocks}
+use Rattle.plan_winner.specs.Laws.Scan.{slack-reach, reach-lone, slack-start, keyed-start, floored-start}
 use Rattle.plan_keys.specs.Keys.{startKey, startKeyOf}
 use Rattle.plan_delay.specs.Between.{delayIn}
 use Rattle.plan_delay.specs.declared.Delay.{Delay}
@@ -88,28 +88,37 @@ alone-start {s} {labels} sound plain h f v b q =
     let idle : active (problemOf s) (λ v. v) v ≡ false = sym (flag-active s plain (sound .few) (λ v. v) labels own f v (omega arith)) ∙ q in
     rw (idle, eq-eqb v v refl) refl
 
--- An edge that does not rest has its weight twice for a key.
+-- An edge that does not rest has a key that bounds it.
 first-keys : {s : Survey} {labels flags keys : List ℕ} → SurveySound s → s .owners ≡ [] → labels ≡ remade (λ v x. v) maxVertices (replicate maxVertices 0)
     → flags ≡ activeFlags (s .groups) labels
     → keys ≡ remade (λ e x. startKeyOf (s .firsts) (s .seconds) (s .weights) flags e) (length (s .firsts)) (replicate maxEdges 0)
-    → (e : ℕ) → e < problemOf s .edges → resting (problemOf s) start e ≡ false → getD keys e 0 ≤ 2 * problemOf s .weight e
-unfolding problemOf edgeCount startKeyOf startKey resting
+    → (e : ℕ) → e < problemOf s .edges → resting (problemOf s) (stateAt (problemOf s) 0) e ≡ false → getD keys e 0 ≤ reach (problemOf s) (stateAt (problemOf s) 0) e
+unfolding problemOf edgeCount startKeyOf startKey resting stateAt
 first-keys {s} {labels} {flags} {keys} sound plain h f k e b awake =
     let n = sound .edges-few in
     let r = length-replicate {A = ℕ} maxEdges 0 in
-    let u = getD (s .firsts) e 0 in
-    let v = getD (s .seconds) e 0 in
     let q : getD keys e 0 ≡ startKeyOf (s .firsts) (s .seconds) (s .weights) flags e =
     ap (λ l. getD l e 0) k ∙ remade-passed (λ e x. startKeyOf (s .firsts) (s .seconds) (s .weights) flags e) (length (s .firsts)) (replicate maxEdges 0) e (omega arith) (omega arith) in
-    by (eqb (getD flags u 0) 1) (eqb (getD flags v 0) 1) refl refl q
+    by (eqb (getD flags (getD (s .firsts) e 0) 0) 1) (eqb (getD flags (getD (s .seconds) e 0) 0) 1) refl refl q
   where
     alone : (v : ℕ) → v < length (s .groups) → eqb (getD flags v 0) 1 ≡ false → idleAlone (problemOf s) start v ≡ true
     alone = alone-start sound plain h f
 
+    all : slack (problemOf s) start e ≡ 2 * getD (s .weights) e 0
+    all = slack-start (problemOf s) e
+
+    twice : (idleAlone (problemOf s) start (getD (s .firsts) e 0) || idleAlone (problemOf s) start (getD (s .seconds) e 0)) ≡ true
+        → reach (problemOf s) start e ≡ 2 * slack (problemOf s) start e
+    twice = reach-lone (problemOf s) start e
+
     by : (x y : Bool) → eqb (getD flags (getD (s .firsts) e 0) 0) 1 ≡ x → eqb (getD flags (getD (s .seconds) e 0) 0) 1 ≡ y
-        → getD keys e 0 ≡ cond (x || y) (2 * getD (s .weights) e 0) noKey → getD keys e 0 ≤ 2 * getD (s .weights) e 0
-    by true y i j q = omega arith
-    by false true i j q = omega arith
+        → getD keys e 0 ≡ cond (x || y) (cond (x && y) (2 * getD (s .weights) e 0) (2 * (2 * getD (s .weights) e 0))) noKey
+        → getD keys e 0 ≤ reach (problemOf s) start e
+    by true true i j q = omega (arith, slack-reach (problemOf s) start e, all, q)
+    by true false i j q =
+        omega (arith, twice (or-right (idleAlone (problemOf s) start (getD (s .firsts) e 0)) _ (alone _ (sound .edges e b .second-below) j)), all, q)
+    by false true i j q =
+        omega (arith, twice (or-left _ (idleAlone (problemOf s) start (getD (s .seconds) e 0)) (alone _ (sound .edges e b .first-below) i)), all, q)
     by false false i j q =
         absurd
         (true-not-false

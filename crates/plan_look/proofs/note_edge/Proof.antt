@@ -4,7 +4,8 @@ use lib.ListN.{set}
 use Rattle.theory_steiner.specs.Growth.{better}
 use Rattle.plan_delay.specs.Between.{slackBetween, winnerIn}
 use Rattle.plan_delay.specs.Laws.Between.{better-never, better-inside, delay-apart}
-use Rattle.plan_winner.specs.Laws.Tables.{better-resting, key-inside, key-resting, key-apart}
+use Rattle.plan_winner.specs.Laws.Tables.{better-resting, key-inside, key-resting, key-apart, reach-le}
+use native.Mathlib.Omega.{arith}
 use borrow.Author.Needs.{needs}
 use Rattle.plan_look.proofs.note_edge.Statement.{statement}
 use Rattle.plan_look.proofs.note_edge.Tie as tie
@@ -34,6 +35,16 @@ returns-2 c =
       c .before .before .before .put642 .ensures ∙ ap (λ k. set (args .keys .now) (args .e) k) (key-resting (args .u) (args .v) (args .first) (args .second) (args .time) (args .weight) rests yes),
     )
 
+reach-requires : tie.Need-reach-between-requires
+reach-requires c κs = let slack = c .before .edge-slack .ensures in omega arith
+
+add-put64 : tie.Need-add-put64
+add-put64 c =
+    let small = c .before .before .before .before .before .before .before .before .before .pre in
+    let slack = c .before .before .edge-slack .ensures in
+    let le = reach-le _ _ _ _ _ (c .reach-between .ensures) in
+    record { fits = omega arith }
+
 same-length-3 : tie.Need-same-length-3
 same-length-3 c = c .before .before .before .keys3 .given
 
@@ -41,11 +52,11 @@ same-length-3 c = c .before .before .before .keys3 .given
 returns-3 : tie.Need-returns-3
 unfolding slackBetween
 returns-3 c =
-    let args = c .before .before .before .before .before .before .before .before .before .before .before .before .before .args in
-    let apart = c .before .before .before .before .before .before .before .before .before .if1 .left in
-    let slack = c .before .before .before .before .before .before .edge-slack .ensures in (
+    let args = c .before .before .before .before .before .before .before .before .before .before .before .before .before .before .args in
+    let apart = c .before .before .before .before .before .before .before .before .before .before .if1 .left in
+    let slack = c .before .before .before .before .before .before .before .edge-slack .ensures in (
       c .better-of3 .ensures ∙ ap (better (winnerIn (args .best)) (args .e)) (delay-apart (args .first) (args .second) (args .weight) apart slack (c .before .delay-of .ensures)),
-      c .before .before .before .before .put643 .ensures ∙ ap (λ k. set (args .keys .now) (args .e) k) (key-apart (args .u) (args .v) (args .first) (args .second) (args .time) (args .weight) apart (c .before .before .before .before .before .before .before .before .rests-between .ensures) (c .before .before .before .before .before .before .before .if2 .left) slack),
+      c .before .before .before .before .put643 .ensures ∙ ap (λ k. set (args .keys .now) (args .e) k) (key-apart (args .u) (args .v) (args .first) (args .second) (args .time) (args .weight) apart (c .before .before .before .before .before .before .before .before .before .rests-between .ensures) (c .before .before .before .before .before .before .before .before .if2 .left) slack (c .before .before .before .before .before .reach-between .ensures)),
     )
 
 pub note-edge-spec : {M : Type 1} → statement M
@@ -63,7 +74,8 @@ note-edge-spec =
     returns-2
     (λ c κs. search needs)
     (λ c. search needs)
-    (λ c. search needs)
+    reach-requires
+    add-put64
     (λ c κs. search needs)
     (λ c κs. search needs)
     (λ c κs. search needs)

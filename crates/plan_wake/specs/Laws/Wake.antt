@@ -13,9 +13,9 @@ use Rattle.base_finite.specs.Laws.Below.{lt-or-ge}
 use Rattle.base_finite.specs.Laws.Test.{and-both, and-left, and-right, or-left, or-right}
 use Rattle.theory_steiner.specs.Problem.{Problem}
 use Rattle.theory_steiner.specs.Growth.{State, slack}
-use Rattle.plan_winner.specs.Scan.{idleAlone, Keyed, Woken, blockEdges, Floored}
+use Rattle.plan_winner.specs.Scan.{idleAlone, reach, Keyed, Woken, blockEdges, Floored}
 use Rattle.plan_winner.specs.Tables.{Tables}
-use Rattle.plan_winner.specs.Laws.Scan.{set-low}
+use Rattle.plan_winner.specs.Laws.Scan.{slack-reach, set-low}
 use Rattle.plan_wake.specs.Wake.{endsAt, idleVertex, KeyNotes, notesFrom, behindBy, wokenKey, lowered, wokenEdge, wokenOn, wokenAt, wokenBy}
 
 -- ---- a number lowered
@@ -207,13 +207,16 @@ module _ (tables : Tables) (time n e : ℕ) (t : KeyNotes) where
         or-right (eqb (getD (tables .firsts) f 0) (p .second f)) (eqb (getD (tables .seconds) f 0) (p .second f))
         (eq-eqb (getD (tables .seconds) f 0) (p .second f) (sym (of f .1)))
 
+    reaching : (c f : ℕ) → (c ≡ x) ⊎ (c ≡ y) → f < p .edges → idle c ≡ true → ends c f ≡ true → keyed c f ≤ 2 * time + reach p s f
+    reaching c f q b i h = let l = low c f q b i h in let r = slack-reach p s f in omega arith
+
     pub woken-keys : ((f : ℕ) → f < p .edges → idleAlone p s (p .first f) ≡ true → idle (p .first f) ≡ true)
         → ((f : ℕ) → f < p .edges → idleAlone p s (p .second f) ≡ true → idle (p .second f) ≡ true)
         → Keyed p s time (t .keys) → Woken p s time x y (wokenBy tables time n e t .keys)
     unfolding wokenBy
     woken-keys idle-first idle-second k =
         record {
-          awake = λ f b a r. at-low y f (2 * time + slack p s f) (at x t) (at-low x f (2 * time + slack p s f) t (k .low f b a r) (low x f (inl refl) b)) (low y f (inr refl) b);
+          awake = λ f b a r. at-low y f (2 * time + reach p s f) (at x t) (at-low x f (2 * time + reach p s f) t (k .low f b a r) (reaching x f (inl refl) b)) (reaching y f (inr refl) b);
           first-up = λ f b i. woken-up (p .first f) f b (idle-first f b i) (first-end f);
           second-up = λ f b i. woken-up (p .second f) f b (idle-second f b i) (second-end f);
         }

@@ -4,15 +4,15 @@ use native.Mathlib.Omega.{arith}
 use native.Mathlib.Numerals.{add-one}
 use native.Mathlib.Decide.{ℕ-discrete}
 use mathlib.Core.Path.{_≡_, refl, ap, sym, _∙_, subst}
-use mathlib.Core.Bool.{Bool, true, false, _&&_, not, cond}
+use mathlib.Core.Bool.{Bool, true, false, _&&_, _||_, not, cond}
 use mathlib.Core.List.{List}
 use lib.ListN.{length, getD, set, length-set, List·getD-eq-default}
 use lib.Seq.{getD-set-same, getD-set-other}
 use lib.Dec.{eqb, ltb}
 use borrow.Author.Tests.{eq-eqb, eqb-true, eqb-false, ne-eqb, not-true, ltb-true, ltb-false, lt-ltb, le-ltb}
 use Rattle.base_finite.specs.Below.{counted, tabulate}
-use Rattle.base_finite.specs.Laws.Below.{counted-le, lt-or-ge, length-tabulate, getD-tabulate}
-use Rattle.base_finite.specs.Laws.Test.{either, and-left, and-right, and-both, true-not-false, not-true-false, not-of-false}
+use Rattle.base_finite.specs.Laws.Below.{counted-le, counted-false, lt-or-ge, length-tabulate, getD-tabulate}
+use Rattle.base_finite.specs.Laws.Test.{either, and-left, and-right, and-both, or-left, or-right, true-not-false, not-true-false, not-of-false}
 use Rattle.base_limits.specs.Limits.{maxVertices, maxWeight}
 use mathlib.Core.Logic.{_⊎_, inl, inr, ⊎-elim}
 use Rattle.theory_graph.specs.Component.{merged}
@@ -27,7 +27,7 @@ use Rattle.theory_steiner.specs.Laws.Partition.{winner-below}
 use Rattle.theory_steiner.specs.Laws.Weighed.{load-pick}
 use Rattle.theory_steiner.specs.Laws.Degree.{label-later}
 use Rattle.theory_steiner.specs.Laws.Feasible.{load-start}
-use Rattle.plan_winner.specs.Scan.{noKey, timeLimit, idleAlone, resting, key, cappedTime, limitOf, Scan, looked, scan, scanOf, Keyed, Woken, blockEdges, Floored}
+use Rattle.plan_winner.specs.Scan.{noKey, timeLimit, idleAlone, resting, reach, key, cappedTime, limitOf, Scan, looked, scan, scanOf, Keyed, Woken, blockEdges, Floored}
 
 -- ---- the time
 
@@ -56,12 +56,6 @@ set-low l e x i B h k = by (eqb i e) refl (lt-or-ge e (length l))
         let z : getD (set l e x) i 0 ≡ 0 = List·getD-eq-default (set l e x) 0 (omega arith) in
         omega arith
     by false t b = let d = eqb-false i e t in let s = getD-set-other l e i x 0 d in let y = k d in omega arith
-
--- A delay is at least half of what remains.
-waits-half : {x y : Bool} {r d : ℕ} (c : ℕ) → Waits x y r d → 2 * c ≤ r → c ≤ d
-waits-half c (one-first a b e) h = omega arith
-waits-half c (one-second a b e) h = omega arith
-waits-half c (both a b e) h = omega arith
 
 -- ---- edges at rest
 
@@ -98,6 +92,47 @@ waits-awake p s e d q =
     by {x} {y} f g (one-second a b c) = true-not-false y b g
     by {x} {y} f g (both a b c) = true-not-false x a f
 
+-- The reach is what remains, or twice that.
+module _ (p : Problem) (s : State) (e : ℕ) where
+  pub slack-reach : slack p s e ≤ reach p s e
+  unfolding reach
+  slack-reach = by (idleAlone p s (p .first e) || idleAlone p s (p .second e))
+    where
+      by : (t : Bool) → slack p s e ≤ cond t (2 * slack p s e) (slack p s e)
+      by true = omega arith
+      by false = omega arith
+
+  reach-twice : reach p s e ≤ 2 * slack p s e
+  unfolding reach
+  reach-twice = by (idleAlone p s (p .first e) || idleAlone p s (p .second e))
+    where
+      by : (t : Bool) → cond t (2 * slack p s e) (slack p s e) ≤ 2 * slack p s e
+      by true = omega arith
+      by false = omega arith
+
+  reach-plain : idleAlone p s (p .first e) ≡ false → idleAlone p s (p .second e) ≡ false → reach p s e ≡ slack p s e
+  unfolding reach
+  reach-plain h k = rw (h, k) refl
+
+  pub reach-lone : (idleAlone p s (p .first e) || idleAlone p s (p .second e)) ≡ true → reach p s e ≡ 2 * slack p s e
+  unfolding reach
+  reach-lone h = rw h refl
+
+  -- A delay is at least half of the reach.
+  waits-reach : (c d : ℕ) → delay p s e ≡ after d → 2 * c ≤ reach p s e → c ≤ d
+  waits-reach c d q h = by (delay-elim p s e d q .waits)
+    where
+      lone : active p (s .label) (s .label (p .first e)) ≡ true → active p (s .label) (s .label (p .second e)) ≡ true → reach p s e ≡ slack p s e
+      lone a b =
+          reach-plain
+          (not-true-false (idleAlone p s (p .first e)) (λ i. true-not-false _ a (idle-elim p s (p .first e) i .idle)))
+          (not-true-false (idleAlone p s (p .second e)) (λ i. true-not-false _ b (idle-elim p s (p .second e) i .idle)))
+
+      by : Waits (active p (s .label) (s .label (p .first e))) (active p (s .label) (s .label (p .second e))) (slack p s e) d → c ≤ d
+      by (one-first a b i) = let t = reach-twice in omega arith
+      by (one-second a b i) = let t = reach-twice in omega arith
+      by (both a b i) = let t = lone a b in omega arith
+
 module _ (p : Problem) (s : State) (light : (e : ℕ) → e < p .edges → p .weight e ≤ maxWeight) (few : s .rounds < maxVertices) (time : ℕ) where
   -- An edge whose key is not below the limit changes nothing.
   pass-keeps : {keys : List ℕ} (k : ℕ) (best : Winner) → Keyed p s time keys → k < p .edges → limitOf time best ≤ getD keys k 0 → better best k (delay p s k) ≡ best
@@ -113,6 +148,7 @@ module _ (p : Problem) (s : State) (light : (e : ℕ) → e < p .edges → p .we
           let low = h .low k b (delay-elim p s k d q .apart) (waits-awake p s k d q) in
           let w = light k b in
           let t = early in
+          let u = reach-twice p s k in
           absurd (omega arith)
       by-delay (after d) q (edge f c) l = by-size (ltb c timeLimit) refl
         where
@@ -120,16 +156,17 @@ module _ (p : Problem) (s : State) (light : (e : ℕ) → e < p .edges → p .we
           by-size true x =
               let low = h .low k b (delay-elim p s k d q .apart) (waits-awake p s k d q) in
               let m : 2 * (time + c) ≤ getD keys k 0 = rw x at l in
-              let g = waits-half c (delay-elim p s k d q .waits) (omega arith) in
+              let g = waits-reach p s k c d q (omega arith) in
               rw (le-ltb d c g)
           by-size false x =
               let low = h .low k b (delay-elim p s k d q .apart) (waits-awake p s k d q) in
               let m : noKey ≤ getD keys k 0 = rw x at l in
               let w = light k b in
               let t = early in
+              let u = reach-twice p s k in
               absurd (omega arith)
 
-  key-low : (e : ℕ) → (s .label (p .first e) ≡ s .label (p .second e) → ⊥) → resting p s e ≡ false → key p s time e ≤ 2 * time + slack p s e
+  key-low : (e : ℕ) → (s .label (p .first e) ≡ s .label (p .second e) → ⊥) → resting p s e ≡ false → key p s time e ≤ 2 * time + reach p s e
   unfolding key
   key-low e h k = rw (ne-eqb (s .label (p .first e)) (s .label (p .second e)) h, k) (omega arith)
 
@@ -150,7 +187,7 @@ module _ (p : Problem) (s : State) (light : (e : ℕ) → e < p .edges → p .we
         record {
           early = ik .early;
           low = λ e c a n.
-              set-low (S .keys) k (key p s time k) e (2 * time + slack p s e) (λ q. subst (λ i. key p s time i ≤ 2 * time + slack p s e) q (key-low e a n)) (λ d. ik .low e c a n);
+              set-low (S .keys) k (key p s time k) e (2 * time + reach p s e) (λ q. subst (λ i. key p s time i ≤ 2 * time + reach p s e) q (key-low e a n)) (λ d. ik .low e c a n);
         },
       )
       by-limit false x (ih, ik) =
@@ -171,18 +208,16 @@ zero-at n {l} h i = by (lt-or-ge i n)
     by (inr b) = let k : length l ≡ n = ap length h ∙ length-tabulate n (λ e. 0) in List·getD-eq-default l 0 (omega arith)
 
 -- Before the first round all of an edge remains.
-pub keyed-start : (p : Problem) {keys : List ℕ} → ((e : ℕ) → e < p .edges → resting p (stateAt p 0) e ≡ false → getD keys e 0 ≤ 2 * p .weight e)
-    → Keyed p (stateAt p 0) 0 keys
+pub slack-start : (p : Problem) (e : ℕ) → slack p (stateAt p 0) e ≡ 2 * p .weight e
 unfolding slack stateAt
-keyed-start p h =
-    record {
-      early = omega arith;
-      low = λ e b a q.
-          let k = h e b q in
-          let x = load-start p (p .first e) in
-          let y = load-start p (p .second e) in
-          omega arith;
-    }
+slack-start p e =
+    let x = load-start p (p .first e) in
+    let y = load-start p (p .second e) in
+    omega arith
+
+pub keyed-start : (p : Problem) {keys : List ℕ} → ((e : ℕ) → e < p .edges → resting p (stateAt p 0) e ≡ false → getD keys e 0 ≤ reach p (stateAt p 0) e)
+    → Keyed p (stateAt p 0) 0 keys
+keyed-start p h = record { early = omega arith; low = λ e b a q. let k = h e b q in omega arith }
 
 -- Floors of 0 bound nothing.
 pub floored-start : (m n : ℕ) (keys : List ℕ) {floors : List ℕ} → floors ≡ tabulate n (λ b. 0) → Floored m keys floors
@@ -231,41 +266,114 @@ module _ (p : Problem) (ok : Sound p) (light : (e : ℕ) → e < p .edges → p 
             ∙ ap (active p (s .label)) (sym (was .own))
             ∙ was .idle
 
+    -- A vertex that is alone and idle after the round was so before.
+    idle-before : (v : ℕ) → v < p .vertices → idleAlone p (stateAt p (r + 1)) v ≡ true → idleAlone p s v ≡ true
+    unfolding numbers
+    idle-before v b h = by (merging x y (numbers p s) (s .label) v)
+      where
+        now : IdleAlone p (stateAt p (r + 1)) v
+        now = idle-elim p (stateAt p (r + 1)) v h
+
+        own : merged x y (numbers p s) (s .label) v ≡ v
+        own = sym (label-next v) ∙ now .own
+
+        by : Merging x y (numbers p s) (s .label) v → idleAlone p s v ≡ true
+        by (inside k i) = let q : numbers p s ≡ v = sym i ∙ own in absurd (omega arith)
+        by (outside j k i) =
+            let o : s .label v ≡ v = sym i ∙ own in
+            let idle : active p (s .label) v ≡ false =
+            sym (active-other p (s .label) x y (numbers p s) v (λ q. j (o ∙ q)) (λ q. k (o ∙ q)) (λ q. omega arith))
+            ∙ sym (active-cong p (stateAt p (r + 1) .label) (merged x y (numbers p s) (s .label)) v (λ u c. label-next u))
+            ∙ ap (active p (stateAt p (r + 1) .label)) (sym (now .own))
+            ∙ now .idle in
+            idle-intro p s v (record { own = o; idle = ap (active p (s .label)) o ∙ idle })
+
+    -- One that is no longer so was joined.
+    joined : (v : ℕ) → v < p .vertices → idleAlone p s v ≡ true → idleAlone p (stateAt p (r + 1)) v ≡ false → (v ≡ x) ⊎ (v ≡ y)
+    joined v b h n = by (ℕ-discrete v x) (ℕ-discrete v y)
+      where
+        by : Dec (v ≡ x) → Dec (v ≡ y) → (v ≡ x) ⊎ (v ≡ y)
+        by (yes q) _ = inl q
+        by (no _) (yes q) = inr q
+        by (no j) (no k) = absurd (true-not-false (idleAlone p (stateAt p (r + 1)) v) (idle-next v b h j k) n)
+
+    load-grows : (v : ℕ) → v < p .vertices → load p (stateAt p (r + 1)) v ≡ load p s v + counted (active p (s .label) (s .label v)) d
+    load-grows v b = ap (λ t. load p t v) next ∙ load-pick p ok (stateAt-reached p r) e d v b
+
     load-next : (v : ℕ) → v < p .vertices → load p (stateAt p (r + 1)) v ≤ load p s v + d
     load-next v b =
-        let a : load p (stateAt p (r + 1)) v ≡ load p s v + counted (active p (s .label) (s .label v)) d =
-        ap (λ t. load p t v) next ∙ load-pick p ok (stateAt-reached p r) e d v b in
+        let a = load-grows v b in
         let c = counted-le (active p (s .label) (s .label v)) d in
         omega arith
 
-    -- An edge that rests no more has an end that was joined, so that its key bounds it.
-    rested : {woken : List ℕ} → Woken p s time x y woken → (f : ℕ) → f < p .edges → resting p s f ≡ true → resting p (stateAt p (r + 1)) f ≡ false
-        → getD woken f 0 ≤ 2 * time + slack p s f
-    unfolding resting
-    rested {woken} k f b h n = by (ℕ-discrete (p .first f) x) (ℕ-discrete (p .first f) y) (ℕ-discrete (p .second f) x) (ℕ-discrete (p .second f) y)
-      where
-        i : idleAlone p s (p .first f) ≡ true
-        i = and-left (idleAlone p s (p .first f)) (idleAlone p s (p .second f)) h
+    load-still : (v : ℕ) → v < p .vertices → idleAlone p s v ≡ true → load p (stateAt p (r + 1)) v ≡ load p s v
+    load-still v b h =
+        let a = load-grows v b in
+        let c = counted-false (idle-elim p s v h .idle) d in
+        omega arith
 
-        j : idleAlone p s (p .second f) ≡ true
-        j = and-right (idleAlone p s (p .first f)) (idleAlone p s (p .second f)) h
+    module _ {woken : List ℕ} (k : Woken p s time x y woken) (f : ℕ) (b : f < p .edges) (apart : s .label (p .first f) ≡ s .label (p .second f) → ⊥) where
+      -- What the key bounds before the round, where an end stays alone and idle.
+      twice : idleAlone p s (p .first f) ≡ true → idleAlone p (stateAt p (r + 1)) (p .second f) ≡ false → getD woken f 0 ≤ 2 * time + 2 * slack p s f
+      unfolding resting
+      twice h n = by (either (idleAlone p s (p .second f)))
+        where
+          by : (idleAlone p s (p .second f) ≡ true) ⊎ (idleAlone p s (p .second f) ≡ false) → getD woken f 0 ≤ 2 * time + 2 * slack p s f
+          by (inl t) = let q = k .second-up f b t (joined (p .second f) (ok .second-below f b) t n) in omega arith
+          by (inr t) = let q = k .awake f b apart (rw (h, t) refl) in let u = reach-twice p s f in omega arith
 
-        by : Dec (p .first f ≡ x) → Dec (p .first f ≡ y) → Dec (p .second f ≡ x) → Dec (p .second f ≡ y) → getD woken f 0 ≤ 2 * time + slack p s f
-        by (yes q) _ _ _ = k .first-up f b i (inl q)
-        by (no _) (yes q) _ _ = k .first-up f b i (inr q)
-        by (no _) (no _) (yes q) _ = k .second-up f b j (inl q)
-        by (no _) (no _) (no _) (yes q) = k .second-up f b j (inr q)
-        by (no t) (no u) (no v) (no z) =
-            true-not-false
-            (idleAlone p (stateAt p (r + 1)) (p .first f) && idleAlone p (stateAt p (r + 1)) (p .second f))
-            (and-both _ _ (idle-next (p .first f) (ok .first-below f b) i t u) (idle-next (p .second f) (ok .second-below f b) j v z))
-            n
+      twice-second : idleAlone p s (p .second f) ≡ true → idleAlone p (stateAt p (r + 1)) (p .first f) ≡ false → getD woken f 0 ≤ 2 * time + 2 * slack p s f
+      unfolding resting
+      twice-second h n = by (either (idleAlone p s (p .first f)))
+        where
+          by : (idleAlone p s (p .first f) ≡ true) ⊎ (idleAlone p s (p .first f) ≡ false) → getD woken f 0 ≤ 2 * time + 2 * slack p s f
+          by (inl t) = let q = k .first-up f b t (joined (p .first f) (ok .first-below f b) t n) in omega arith
+          by (inr t) = let q = k .awake f b apart (rw t refl) in let u = reach-twice p s f in omega arith
 
-    -- Good keys are good after the round, once the edges are woken that rested at a vertex that was joined: no edge comes nearer than by the delay at each end, and
-    -- components never part.
+      -- And where neither is.
+      once : idleAlone p (stateAt p (r + 1)) (p .first f) ≡ false → idleAlone p (stateAt p (r + 1)) (p .second f) ≡ false → getD woken f 0 ≤ 2 * time + slack p s f
+      unfolding resting
+      once m n = by (either (idleAlone p s (p .first f))) (either (idleAlone p s (p .second f)))
+        where
+          by : (idleAlone p s (p .first f) ≡ true) ⊎ (idleAlone p s (p .first f) ≡ false) → (idleAlone p s (p .second f) ≡ true) ⊎ (idleAlone p s (p .second f) ≡ false)
+              → getD woken f 0 ≤ 2 * time + slack p s f
+          by (inl t) _ = k .first-up f b t (joined (p .first f) (ok .first-below f b) t m)
+          by (inr _) (inl t) = k .second-up f b t (joined (p .second f) (ok .second-below f b) t n)
+          by (inr t) (inr u) = let q = k .awake f b apart (rw t refl) in let z = reach-plain p s f t u in omega arith
+
+      -- The bound after the round: no edge comes nearer than by the delay at each end, and not at an end that is alone and idle.
+      bound-next : resting p (stateAt p (r + 1)) f ≡ false → getD woken f 0 ≤ 2 * (time + d) + reach p (stateAt p (r + 1)) f
+      unfolding slack resting
+      bound-next n = by (either (idleAlone p (stateAt p (r + 1)) (p .first f))) (either (idleAlone p (stateAt p (r + 1)) (p .second f)))
+        where
+          by : (idleAlone p (stateAt p (r + 1)) (p .first f) ≡ true) ⊎ (idleAlone p (stateAt p (r + 1)) (p .first f) ≡ false)
+              → (idleAlone p (stateAt p (r + 1)) (p .second f) ≡ true) ⊎ (idleAlone p (stateAt p (r + 1)) (p .second f) ≡ false)
+              → getD woken f 0 ≤ 2 * (time + d) + reach p (stateAt p (r + 1)) f
+          by (inl t) (inl u) = absurd (true-not-false _ (and-both _ _ t u) n)
+          by (inl t) (inr u) =
+              let i = idle-before (p .first f) (ok .first-below f b) t in
+              let q = twice i u in
+              let a = load-still (p .first f) (ok .first-below f b) i in
+              let c = load-next (p .second f) (ok .second-below f b) in
+              let z = reach-lone p (stateAt p (r + 1)) f (or-left (idleAlone p (stateAt p (r + 1)) (p .first f)) (idleAlone p (stateAt p (r + 1)) (p .second f)) t) in
+              omega arith
+          by (inr t) (inl u) =
+              let i = idle-before (p .second f) (ok .second-below f b) u in
+              let q = twice-second i t in
+              let a = load-still (p .second f) (ok .second-below f b) i in
+              let c = load-next (p .first f) (ok .first-below f b) in
+              let z = reach-lone p (stateAt p (r + 1)) f (or-right (idleAlone p (stateAt p (r + 1)) (p .first f)) (idleAlone p (stateAt p (r + 1)) (p .second f)) u) in
+              omega arith
+          by (inr t) (inr u) =
+              let q = once t u in
+              let a = load-next (p .first f) (ok .first-below f b) in
+              let c = load-next (p .second f) (ok .second-below f b) in
+              let z = reach-plain p (stateAt p (r + 1)) f t u in
+              omega arith
+
+    -- Good keys are good after the round, once the edges are woken at the vertices that were joined; components never part.
     pub keyed-next : {keys woken : List ℕ} → Keyed p s time keys → Woken p s time x y woken → Keyed p (stateAt p (r + 1)) (time + d) woken
-    unfolding slack
-    keyed-next {woken = woken} h k =
+    keyed-next h k =
         record {
           early =
               let l = delay-le p s e d w in
@@ -273,14 +381,5 @@ module _ (p : Problem) (ok : Sound p) (light : (e : ℕ) → e < p .edges → p 
               let t = h .early in
               let q : stateAt p (r + 1) .rounds ≡ suc (s .rounds) = ap (λ x. x .rounds) next ∙ pick-rounds p s e d in
               omega arith;
-          low = λ f b a n.
-              let q = by f b a n (either (resting p s f)) in
-              let x = load-next (p .first f) (ok .first-below f b) in
-              let y = load-next (p .second f) (ok .second-below f b) in
-              omega arith;
+          low = λ f b a n. bound-next k f b (λ q. a (label-later p r 1 (p .first f) (p .second f) q)) n;
         }
-      where
-        by : (f : ℕ) → f < p .edges → (stateAt p (r + 1) .label (p .first f) ≡ stateAt p (r + 1) .label (p .second f) → ⊥) → resting p (stateAt p (r + 1)) f ≡ false
-            → (resting p s f ≡ true) ⊎ (resting p s f ≡ false) → getD woken f 0 ≤ 2 * time + slack p s f
-        by f b a n (inl t) = rested k f b t n
-        by f b a n (inr t) = k .awake f b (λ q. a (label-later p r 1 (p .first f) (p .second f) q)) t

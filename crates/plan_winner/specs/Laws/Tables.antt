@@ -1,7 +1,8 @@
 -- What the code reads of an edge, read by read, is what the tables say of it.
-use Prim.Native.Nat.{ℕ, _+_, _*_}
+use Prim.Native.Nat.{ℕ, _+_, _*_, _≤_}
+use native.Mathlib.Omega.{arith}
 use mathlib.Core.Path.{_≡_, refl, ap, sym, _∙_}
-use mathlib.Core.Bool.{Bool, true, false, _&&_, not, cond}
+use mathlib.Core.Bool.{Bool, true, false, _&&_, _||_, not, cond}
 use mathlib.Core.List.{List}
 use lib.ListN.{getD, set}
 use lib.Dec.{eqb}
@@ -11,7 +12,7 @@ use Rattle.theory_steiner.specs.Growth.{never, activeEnds, delayFor, delayOf, W
 use Rattle.plan_delay.specs.declared.End.{End}
 use Rattle.plan_delay.specs.Between.{vertexEnd, slackBetween, delayBetween}
 use Rattle.plan_winner.specs.Scan.{noKey, cappedTime}
-use Rattle.plan_winner.specs.Tables.{Tables, firstBy, secondBy, delayBy, aloneAt, restsBetween, keyBetween, keyBy}
+use Rattle.plan_winner.specs.Tables.{Tables, firstBy, secondBy, delayBy, aloneAt, restsBetween, reachBetween, keyBetween, keyBy}
 
 -- One end.
 module _ (v : ℕ) (x : End) where
@@ -57,10 +58,34 @@ module _ (u v : ℕ) (a b : End) where
     unfolding keyBetween
     key-resting t-is h = rw (or-right (eqb (a .label) (b .label)) (restsBetween u v a b) (sym t-is ∙ h))
 
-    pub key-apart : {s : ℕ} {t : Bool} → (a .label ≡ b .label → ⊥) → t ≡ restsBetween u v a b → t ≡ false → s ≡ slackBetween a b w
-        → 2 * time + s ≡ keyBetween time u v a b w
+    pub key-apart : {s x : ℕ} {t : Bool} → (a .label ≡ b .label → ⊥) → t ≡ restsBetween u v a b → t ≡ false → s ≡ slackBetween a b w → x ≡ reachBetween u v a b s
+        → 2 * time + x ≡ keyBetween time u v a b w
     unfolding keyBetween
-    key-apart apart t-is h s-is = rw (ne-eqb (a .label) (b .label) apart, sym t-is ∙ h) (ap (λ z. 2 * time + z) s-is)
+    key-apart apart t-is h s-is x-is =
+        rw (ne-eqb (a .label) (b .label) apart, sym t-is ∙ h) (ap (λ z. 2 * time + z) (x-is ∙ ap (reachBetween u v a b) s-is))
+
+  -- The reach, by which end is alone.
+  module _ (slack : ℕ) where
+    -- Twice the rest at most.
+    pub reach-le : {x : ℕ} → x ≡ reachBetween u v a b slack → x ≤ 2 * slack
+    unfolding reachBetween
+    reach-le {x} = by (aloneAt u a || aloneAt v b)
+      where
+        by : (t : Bool) → x ≡ cond t (2 * slack) slack → x ≤ 2 * slack
+        by true h = omega arith
+        by false h = omega arith
+
+    pub reach-first : {t : Bool} → t ≡ aloneAt u a → t ≡ true → 2 * slack ≡ reachBetween u v a b slack
+    unfolding reachBetween
+    reach-first t-is h = rw (sym t-is ∙ h) refl
+
+    pub reach-second : {t : Bool} → t ≡ aloneAt v b → t ≡ true → 2 * slack ≡ reachBetween u v a b slack
+    unfolding reachBetween
+    reach-second t-is h = rw (or-right (aloneAt u a) (aloneAt v b) (sym t-is ∙ h)) refl
+
+    pub reach-neither : {s t : Bool} → s ≡ aloneAt u a → s ≡ false → t ≡ aloneAt v b → t ≡ false → slack ≡ reachBetween u v a b slack
+    unfolding reachBetween
+    reach-neither s-is h t-is k = rw (sym s-is ∙ h, sym t-is ∙ k) refl
 
 -- Edge e of the tables at a time that is capped: what is noted of its ends and its weight is noted of it.
 module _ (t : Tables) (time e : ℕ) {capped u v w : ℕ} {a b : End} (capped-is : capped ≡ cappedTime time) (u-is : u ≡ getD (t .firsts) e 0) (v-is : v ≡ getD (t .seconds) e 0)
