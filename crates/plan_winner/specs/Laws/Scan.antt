@@ -94,6 +94,10 @@ waits-awake p s e d q =
 
 -- The reach is what remains, or twice that.
 module _ (p : Problem) (s : State) (e : ℕ) where
+  reach-plain : idleAlone p s (p .first e) ≡ false → idleAlone p s (p .second e) ≡ false → reach p s e ≡ slack p s e
+  unfolding reach
+  reach-plain h k = rw (h, k) refl
+
   pub slack-reach : slack p s e ≤ reach p s e
   unfolding reach
   slack-reach = by (idleAlone p s (p .first e) || idleAlone p s (p .second e))
@@ -109,10 +113,6 @@ module _ (p : Problem) (s : State) (e : ℕ) where
       by : (t : Bool) → cond t (2 * slack p s e) (slack p s e) ≤ 2 * slack p s e
       by true = omega arith
       by false = omega arith
-
-  reach-plain : idleAlone p s (p .first e) ≡ false → idleAlone p s (p .second e) ≡ false → reach p s e ≡ slack p s e
-  unfolding reach
-  reach-plain h k = rw (h, k) refl
 
   pub reach-lone : (idleAlone p s (p .first e) || idleAlone p s (p .second e)) ≡ true → reach p s e ≡ 2 * slack p s e
   unfolding reach
