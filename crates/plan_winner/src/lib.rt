@@ -13,11 +13,11 @@ ghost use Rattle.plan_delay.specs.Between.{winnerIn, delayBetween};
 use base_buffer::at64;
 use base_buffer::put64;
 use base_limits::MAX_EDGES;
+use plan_better::better_of;
+use plan_better::delay_of;
 use plan_delay::Delay;
 use plan_delay::End;
 use plan_delay::Winner;
-use plan_delay::better_of;
-use plan_delay::delay_of;
 use plan_delay::edge_slack;
 use plan_delay::end_at;
 
