@@ -1,11 +1,10 @@
-// The ends of an edge, what remains of it, its delay, and the better of two. Definitions in specs/.
+// The ends of an edge, and what remains of it; types of its delay and of a winner. Definitions in specs/.
 ghost use Rattle.base_buffer.specs.Lent.{old};
 ghost use mathlib.Core.Path.{_≡_};
 ghost use Prim.Native.Nat.{_+_, _*_, _-_};
 ghost use lib.Dec.{eqb};
-ghost use Rattle.theory_steiner.specs.Growth.{activeEnds, delayOf, better};
 ghost use Rattle.plan_delay.specs.Held.{settledBy};
-ghost use Rattle.plan_delay.specs.Between.{endsIn, delayIn, winnerIn, vertexEnd};
+ghost use Rattle.plan_delay.specs.Between.{vertexEnd};
 
 // An edge's delay, if it is a candidate.
 pub enum Delay {
@@ -70,52 +69,4 @@ pub fn edge_slack(weight: u32, first_load: u64, second_load: u64) -> u64
         return 0;
     }
     rest - second_load
-}
-
-// How many ends of an edge between two components are active.
-fn active_ends(first: u8, second: u8) -> ActiveEnds
-    ensures { λ r. ⌜ endsIn r ≡ activeEnds (eqb first 1) (eqb second 1) ⌝ }
-{
-    if first == 1 {
-        if second == 1 {
-            return ActiveEnds::Both;
-        }
-        return ActiveEnds::One;
-    }
-    if second == 1 {
-        return ActiveEnds::One;
-    }
-    ActiveEnds::Neither
-}
-
-// The delay by whether each end is active, and what remains.
-pub fn delay_of(first: u8, second: u8, slack: u64) -> Delay
-    ensures { λ r. ⌜ delayIn r ≡ delayOf (eqb first 1) (eqb second 1) slack ⌝ }
-{
-    let ends = active_ends(first, second);
-    match ends {
-        ActiveEnds::Neither => Delay::Never,
-        ActiveEnds::One => Delay::After(slack),
-        ActiveEnds::Both => Delay::After(slack / 2),
-    }
-}
-
-// The earlier edge keeps its place unless the later one's delay is smaller. The answer is made anew and no copy, which
-// takes the compiler several moves through memory.
-pub fn better_of(best: Winner, e: usize, delay: Delay) -> Winner
-    ensures { λ r. ⌜ winnerIn r ≡ better (winnerIn best) e (delayIn delay) ⌝ }
-{
-    let Winner::Edge { e: f, d: c } = best else {
-        let Delay::After(d) = delay else {
-            return Winner::Nobody;
-        };
-        return Winner::Edge { e, d };
-    };
-    let Delay::After(d) = delay else {
-        return Winner::Edge { e: f, d: c };
-    };
-    if d < c {
-        return Winner::Edge { e, d };
-    }
-    Winner::Edge { e: f, d: c }
 }

@@ -17,7 +17,7 @@ use plan_drawable::is_drawable;
 use plan_members::put_set;
 use plan_members::union_of;
 use plan_members::write_record;
-use plan_merge::relabel_first;
+use plan_relabel::relabel_first;
 use survey_labels::own_labels;
 
 // Puts the record of value x with these members in place of record k.

@@ -46,10 +46,8 @@ pub fn join(
     let x = base_buffer::at32(labels, base_buffer::index32(first));
     let y = base_buffer::at32(labels, base_buffer::index32(second));
     let flag = plan_parted::joined_flag(mates, labels, members, count, first, second);
-    plan_settle::turn_loads(loads, flag, flags, labels, n, time, x);
-    plan_settle::turn_loads(loads, flag, flags, labels, n, time, y);
-    plan_settle::settle(values, flags, x, time);
-    plan_settle::settle(values, flags, y, time);
+    plan_both::turn_both(loads, flag, flags, labels, n, time, x, y);
+    plan_both::settle_both(values, flags, x, y, time);
     plan_merge::merge(labels, flags, n, x, y, z, flag);
     plan_settle::settle(values, flags, z, time);
 }

@@ -9,11 +9,11 @@ ghost use Rattle.plan_winner.specs.Tables.{tablesIn, delayBy, aloneAt, restsBet
 ghost use Rattle.plan_winner.specs.Tables.{reachBetween, keyBetween, keyBy};
 ghost use Rattle.plan_delay.specs.Between.{winnerIn, delayBetween};
 use base_buffer::put64;
+use plan_better::better_of;
+use plan_better::delay_of;
 use plan_delay::Delay;
 use plan_delay::End;
 use plan_delay::Winner;
-use plan_delay::better_of;
-use plan_delay::delay_of;
 use plan_delay::edge_slack;
 use plan_delay::end_at;
 use plan_winner::NO_KEY;

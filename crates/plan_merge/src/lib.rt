@@ -6,17 +6,7 @@ use base_buffer::index32;
 use base_buffer::put8;
 use base_limits::MAX_DUALS;
 use base_limits::MAX_VERTICES;
-
-// The components x and y become z among the first n labels.
-pub fn relabel_first(labels: &mut [u32], n: usize, x: u32, y: u32, z: u32)
-    ensures { λ r. ⌜ new labels ≡ relabelledFirst n x y z (old labels) ⌝ }
-{
-    if labels.len() < n {
-        survey_labels::relabel(labels, x, y, z);
-        return;
-    }
-    survey_labels::relabel(&mut labels[0..n], x, y, z);
-}
+use plan_relabel::relabel_first;
 
 // The components x and y become z among the first n vertices, and their flags give way to its flag.
 pub fn merge(

@@ -2,11 +2,12 @@
 ghost use Rattle.base_buffer.specs.Lent.{old, new};
 ghost use mathlib.Core.Path.{_≡_};
 ghost use Rattle.plan_growth.specs.Tables.{settledAt, settledValues};
-ghost use Rattle.plan_growth.specs.Tables.{turnedAt, turnedMembers, turnedComponent, turnedTo};
+ghost use Rattle.plan_growth.specs.Tables.{turnedMembers, turnedComponent, turnedTo};
 use base_buffer::at64;
 use base_buffer::put64;
 use base_limits::MAX_DUALS;
 use base_limits::MAX_VERTICES;
+use plan_turn::turn_load;
 
 // The value of component c in place of what is held for it, or the other way round.
 pub fn settle(values: &mut [u64; MAX_DUALS], flags: &[u8; MAX_DUALS], c: u32, time: u64)
@@ -29,15 +30,7 @@ pub fn settle_all(values: &mut [u64; MAX_DUALS], flags: &[u8; MAX_DUALS], count:
     }
 }
 
-// What is held for the load of vertex v, turned.
-fn turn_load(loads: &mut [u64; MAX_VERTICES], v: usize, time: u64)
-    ensures { λ r. ⌜ new loads ≡ turnedAt time v (old loads) ⌝ }
-{
-    let x = plan_delay::settled(at64(loads, v), 1, time);
-    put64(loads, v, x);
-}
-
-// The same for those of the first n vertices that are of component c.
+// What is held for the loads of those of the first n vertices that are of component c, turned.
 fn turn_members(
     loads: &mut [u64; MAX_VERTICES],
     labels: &[u32; MAX_VERTICES],

@@ -15,7 +15,7 @@ ghost use Rattle.survey_labels.specs.Roots.{endsHung};
 ghost use Rattle.survey_components.specs.Labels.{chosenMark, chosen, pickedIn, EndsFit, labelsOf};
 use base_limits::MAX_VERTICES;
 use base_limits::Verdict;
-use survey_labels::hang_ends;
+use survey_hang::hang_ends;
 use survey_labels::own_labels;
 
 // A set of edges: all of a survey's, or those that are marked kept.
@@ -92,7 +92,7 @@ fn label_components(set: Chosen, firsts: &[u32], seconds: &[u32], marks: &[u8], 
         join_edge(set, firsts, seconds, marks, labels, e);
         e += 1;
     }
-    survey_labels::level(labels, firsts.len());
+    survey_level::level(labels, firsts.len());
 }
 
 // The labels of the components that the edges of the set make; zeros where one of 1 to 6 comes.

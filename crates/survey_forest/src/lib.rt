@@ -13,7 +13,7 @@ ghost use Rattle.survey_forest.specs.Forest.{EndsBelow, loopRefusal, for
 use base_limits::MAX_VERTICES;
 use base_limits::Verdict;
 use survey_components::is_picked;
-use survey_labels::hang_ends;
+use survey_hang::hang_ends;
 
 // The ends of edge e come into one tree, if it is picked; 21 where they are in one already.
 fn join_picked(
@@ -66,7 +66,7 @@ fn loop_refusal(groups: &[u8], firsts: &[u32], seconds: &[u32], picked: &[u8]) -
         };
         e += 1;
     }
-    survey_labels::level(&mut labels[0..groups.len()], firsts.len());
+    survey_level::level(&mut labels[0..groups.len()], firsts.len());
     survey_separating::split_refusal(groups, &labels, 14)
 }
 

@@ -1,13 +1,13 @@
-// Component labels in a lent buffer, and what an edge between two components makes of them; and trees there, by which
-// many edges are joined sooner.
+// Component labels in a lent buffer, and what an edge between two components makes of them; and the climb in trees
+// there, by which many edges are joined sooner.
 ghost use Rattle.base_buffer.specs.Lent.{old, new};
 ghost use mathlib.Core.Path.{_≡_};
-ghost use lib.ListN.{getD, length};
+ghost use lib.ListN.{getD};
 ghost use Rattle.theory_graph.specs.Component.{merged};
 ghost use Rattle.base_limits.specs.Limits.{maxVertices};
 ghost use Rattle.base_buffer.specs.Store.{remade};
 ghost use Rattle.survey_labels.specs.Labels.{relabelled};
-ghost use Rattle.survey_labels.specs.Roots.{climbed, endsHung, oneRoot, levelled};
+ghost use Rattle.survey_labels.specs.Roots.{climbed};
 use base_buffer::at32;
 use base_buffer::index32;
 use base_buffer::put32;
@@ -59,7 +59,7 @@ pub fn merge(labels: &mut [u32], first: u32, second: u32, z: u32)
 }
 
 // The root above v, within a number of steps; a vertex that a step leaves hangs where the step goes.
-fn climb(parents: &mut [u32], v: u32, steps: usize) -> u32
+pub fn climb(parents: &mut [u32], v: u32, steps: usize) -> u32
     ensures root { λ r. ⌜ r ≡ climbed steps (old parents) v .root ⌝ }
     ensures left { λ r. ⌜ new parents ≡ climbed steps (old parents) v .parents ⌝ }
 {
@@ -76,27 +76,4 @@ fn climb(parents: &mut [u32], v: u32, steps: usize) -> u32
         i += 1;
     }
     x
-}
-
-// The components of two vertices become that of the first; answers whether they were one already.
-pub fn hang_ends(parents: &mut [u32], first: u32, second: u32, steps: usize) -> bool
-    ensures one { λ r. ⌜ r ≡ oneRoot steps first second (old parents) ⌝ }
-    ensures hung { λ r. ⌜ new parents ≡ endsHung steps first second (old parents) ⌝ }
-{
-    let x = climb(parents, first, steps);
-    let y = climb(parents, second, steps);
-    put32(parents, index32(y), x);
-    x == y
-}
-
-// Each vertex hangs on its root.
-pub fn level(parents: &mut [u32], steps: usize)
-    ensures { λ r. ⌜ new parents ≡ levelled steps (length (old parents)) (old parents) ⌝ }
-{
-    let mut v = 0;
-    while v < parents.len() {
-        let root = climb(parents, at32(parents, v), steps);
-        put32(parents, v, root);
-        v += 1;
-    }
 }

@@ -4,10 +4,10 @@ use mathlib.Core.Path.{_≡_, refl, ap, _∙_}
 use lib.ListN.{length}
 use native.Mathlib.Omega.{arith}
 use borrow.Author.Needs.{needs}
 use Rattle.survey_labels.specs.Roots.{levelled}
 use Rattle.survey_labels.specs.Laws.Roots.{level-turn, level-end}
-use Rattle.survey_labels.proofs.level.Statement.{statement}
-use Rattle.survey_labels.proofs.level.Tie as tie
+use Rattle.survey_level.proofs.level.Statement.{statement}
+use Rattle.survey_level.proofs.level.Tie as tie
 
 abbrev Inv-loop : tie.InvT-loop
 Inv-loop parents₀ steps v₀ parents v = (v ≤ length parents₀) × (length parents ≡ length parents₀) × (parents ≡ levelled steps v parents₀)

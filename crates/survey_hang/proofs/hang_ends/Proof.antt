@@ -1,9 +1,9 @@
 -- `hang_ends` meets its contract: two climbs, then one root hangs on the other.
 use mathlib.Core.Path.{sym, _∙_}
 use borrow.Author.Needs.{needs}
 use Rattle.survey_labels.specs.Roots.{climbedTwice, endsHung, oneRoot}
-use Rattle.survey_labels.proofs.hang_ends.Statement.{statement}
-use Rattle.survey_labels.proofs.hang_ends.Tie as tie
+use Rattle.survey_hang.proofs.hang_ends.Statement.{statement}
+use Rattle.survey_hang.proofs.hang_ends.Tie as tie
 
 returns : tie.Need-returns
 unfolding climbedTwice endsHung oneRoot

@@ -1,9 +1,9 @@
 -- `active_ends` meets its contract: each return by the tests that led there.
 use borrow.Author.Tests.{eq-eqb, ne-eqb}
 use Rattle.theory_steiner.specs.Growth.{activeEnds}
 use Rattle.plan_delay.specs.Between.{endsIn}
-use Rattle.plan_delay.proofs.active_ends.Statement.{statement}
-use Rattle.plan_delay.proofs.active_ends.Tie as tie
+use Rattle.plan_better.proofs.active_ends.Statement.{statement}
+use Rattle.plan_better.proofs.active_ends.Tie as tie
 
 -- both ends active
 returns : tie.Need-returns

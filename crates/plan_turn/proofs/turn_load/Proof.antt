@@ -1,8 +1,8 @@
 -- `turn_load` meets its contract: one store.
 use Rattle.plan_growth.specs.Tables.{turnedAt}
 use borrow.Author.Needs.{needs}
-use Rattle.plan_settle.proofs.turn_load.Statement.{statement}
-use Rattle.plan_settle.proofs.turn_load.Tie as tie
+use Rattle.plan_turn.proofs.turn_load.Statement.{statement}
+use Rattle.plan_turn.proofs.turn_load.Tie as tie
 
 returns : tie.Need-returns
 unfolding turnedAt

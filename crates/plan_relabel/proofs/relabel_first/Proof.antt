@@ -2,8 +2,8 @@
 use native.Mathlib.Omega.{arith}
 use borrow.Author.Needs.{needs}
 use Rattle.plan_active.specs.Laws.First.{first-lent, first-all}
-use Rattle.plan_merge.proofs.relabel_first.Statement.{statement}
-use Rattle.plan_merge.proofs.relabel_first.Tie as tie
+use Rattle.plan_relabel.proofs.relabel_first.Statement.{statement}
+use Rattle.plan_relabel.proofs.relabel_first.Tie as tie
 
 same-length : tie.Need-same-length
 same-length c = c .before .labels .given

@@ -2,10 +2,10 @@
 use mathlib.Core.Path.{sym}
 use borrow.Author.Needs.{needs}
 use Rattle.theory_steiner.specs.Growth.{delayFor}
 use Rattle.plan_delay.specs.Between.{endsIn, delayIn}
 use Rattle.plan_delay.specs.Laws.Between.{delay-case}
-use Rattle.plan_delay.proofs.delay_of.Statement.{statement}
-use Rattle.plan_delay.proofs.delay_of.Tie as tie
+use Rattle.plan_better.proofs.delay_of.Statement.{statement}
+use Rattle.plan_better.proofs.delay_of.Tie as tie
 
 -- neither end active
 returns : tie.Need-returns

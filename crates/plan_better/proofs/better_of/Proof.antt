@@ -1,10 +1,10 @@
 -- `better_of` meets its contract: each return by the variants and the test that led there.
 use borrow.Author.Tests.{lt-ltb, le-ltb}
 use Rattle.theory_steiner.specs.Growth.{better}
 use Rattle.plan_delay.specs.Between.{delayIn, winnerIn}
 use borrow.Author.Needs.{needs}
-use Rattle.plan_delay.proofs.better_of.Statement.{statement}
-use Rattle.plan_delay.proofs.better_of.Tie as tie
+use Rattle.plan_better.proofs.better_of.Statement.{statement}
+use Rattle.plan_better.proofs.better_of.Tie as tie
 
 enum-told : tie.Need-enum-told
 enum-told c = search needs
