@@ -1,4 +1,4 @@
--- What explaining asks, and the numbers of a kept track.
+-- What explaining asks.
 use Prim.Native.Nat.{ℕ, _<_}
 use mathlib.Core.Path.{_≡_}
 use mathlib.Core.Bool.{true}
@@ -8,9 +8,7 @@ use Rattle.theory_steiner.specs.Pruning.{kept, mark}
 use Rattle.survey_core.specs.Survey.{Survey, listsOf, problemOf}
 use Rattle.survey_core.specs.Sound.{ByteGroups}
 use Rattle.survey_lists.specs.Pouring.{pouredGroups}
-use Rattle.why_rule.specs.Why.{WhyCounts}
 use Rattle.why_rule.specs.Promise.{Explainable}
-use Rattle.why_parted.specs.declared.Pair.{Pair}
 
 -- None of the refusals applies, and the lists are those that the survey's are poured into.
 pub record Asked (s : Survey) (lists : List ℕ) (routeLength e : ℕ) : Type 0 where
@@ -23,7 +21,3 @@ pub record KeptAsked (s : Survey) (lists marks : List ℕ) (routeLength e : ℕ)
   pub asked : Asked s lists routeLength e
   pub marks-are : (f : ℕ) → f < length (s .firsts) → getD marks f 0 ≡ mark (problemOf s) f
   pub is-kept : kept (problemOf s) e ≡ true
-
--- The numbers of a kept track.
-unfoldable pub keptCounts : Pair → (entries : ℕ) → WhyCounts
-keptCounts p entries = record { kind = 2; group = p .group; low = p .smaller; high = p .larger; entries = entries; round = 0 }

@@ -11,64 +11,12 @@ ghost use Rattle.why_rule.specs.Reason.{reasonOf};
 ghost use Rattle.why_rule.specs.Why.{whyCounts, routeIn, reasoning, routeAfter};
 ghost use Rattle.why_rule.specs.Answer.{whyOutcome};
 ghost use Rattle.why_rule.specs.Promise.{WhyPromises};
-ghost use Rattle.why_core.specs.Asked.{Asked, KeptAsked, keptCounts};
+ghost use Rattle.why_core.specs.Asked.{Asked};
 use base_buffer::wide;
 use base_limits::MAX_EDGES;
 use base_limits::Verdict;
-use why_parted::Pair;
+use why_kept::explain_kept;
 use why_rule::Why;
-
-// The answer for a kept track.
-fn kept_answer(pair: Pair, entries: usize) -> Why
-    ensures { λ r. ⌜ whyOutcome r ≡ answer (keptCounts pair entries) ⌝ }
-{
-    Why::Kept {
-        group: wide(pair.group),
-        smaller: wide(pair.smaller),
-        larger: wide(pair.larger),
-        entries: wide(entries),
-    }
-}
-
-// Why a kept track is kept: what the other picked tracks leave apart, and the route over the kept ones.
-fn explain_kept(
-    groups: &[u8],
-    firsts: &[u32],
-    seconds: &[u32],
-    weights: &[u32],
-    owners: &[u32],
-    others: &[u8],
-    lists: &[u8],
-    marks: &[u8],
-    track: usize,
-    route: &mut [u32],
-) -> Why
-    requires { ⌜ KeptAsked (surveyWith (now groups) (now firsts) (now seconds) (now weights) (now owners) (now others))
-        (now lists) (now marks) (length (now route)) track ⌝ }
-    ensures { λ r. let s = lentWith groups firsts seconds weights owners others in
-        ⌜ whyOutcome r ≡ answer (whyCounts (reasonOf s track)) ⌝ }
-    ensures { λ _. let s = lentWith groups firsts seconds weights owners others in
-        let entries = routeIn (reasonOf s track) in
-        ⌜ new route ≡ entries ++ drop (length entries) (old route) ⌝ }
-{
-    let m = firsts.len();
-    let rest = why_parted::marks_but(marks, 1, track, m);
-    let pair = why_parted::parted_pair(groups, firsts, seconds, weights, owners, others, &rest);
-    let kept = why_parted::marks_but(marks, 2, m, m);
-    let from = pair.smaller;
-    let to = pair.larger;
-    let entries = why_route::find_route(
-        lists,
-        firsts,
-        seconds,
-        weights,
-        &kept[0..m],
-        from,
-        to,
-        route,
-    );
-    kept_answer(pair, entries)
-}
 
 // The marks of a plan, from what growing picked.
 fn plan_marks(

@@ -2,12 +2,8 @@
 -- finished (`growing-finished`).
 use mathlib.Core.Path.{sym, _∙_}
 use native.Mathlib.Omega.{arith}
-use Rattle.survey_core.specs.Survey.{edgeCount}
-use Rattle.survey_lists.specs.Laws.Room.{part-poured}
 use Rattle.plan_rule.specs.Answer.{plannedOutcome}
-use Rattle.plan_rule.specs.Laws.Ready.{fine-ready}
-use Rattle.plan_rule.specs.Laws.Same.{ready-poured, poured-counts, poured-marks, poured-records}
-use Rattle.plan_grow.specs.Laws.Call.{growing-refused, growing-finished}
+use Rattle.plan_grow.specs.Laws.Call.{few-by, growing-refused, growing-finished}
 use borrow.Author.Needs.{needs}
 use Rattle.plan_grow.proofs.grow_plan.Statement.{statement}
 use Rattle.plan_grow.proofs.grow_plan.Tie as tie
@@ -21,26 +17,17 @@ returns c =
 
 part-grow-poured-end : tie.Need-part-grow-poured-end
 part-grow-poured-end c =
-    let few = fine-ready _ (record { own-byte = λ v. omega (arith, c .before .before .before .before .before .before .before .before .before .before .before .before .shared-slice-known .given v); other-byte = λ i. omega (arith, c .before .before .before .before .before .before .before .shared-slice-known6 .given i) }) _ _ (sym (c .before .before .before .before .plan-refusal .ensures) ∙ c .before .before .enum-told .given .1) .survey .few in
+    let few = few-by _ (record { own-byte = λ v. omega (arith, c .before .before .before .before .before .before .before .before .before .before .before .before .shared-slice-known .given v); other-byte = λ i. omega (arith, c .before .before .before .before .before .before .before .shared-slice-known6 .given i) }) _ _ (sym (c .before .before .before .before .plan-refusal .ensures) ∙ c .before .before .enum-told .given .1) in
     search (needs, few)
-
-grow-poured-requires : tie.Need-grow-poured-requires
-grow-poured-requires c κs =
-    let ready = fine-ready _ (record { own-byte = λ v. omega (arith, c .before .before .before .before .before .before .before .before .before .before .before .before .before .before .before .shared-slice-known .given v); other-byte = λ i. omega (arith, c .before .before .before .before .before .before .before .before .before .before .shared-slice-known6 .given i) }) _ _ (sym (c .before .before .before .before .before .before .before .plan-refusal .ensures) ∙ c .before .before .before .before .before .enum-told .given .1) in
-    ready-poured _ ready (part-poured _ (ready .survey .few) (c .before .before .before .before .pour .ensures))
 
 -- marks
 -- records
 -- finished
 returns-2 : tie.Need-returns-2
-unfolding edgeCount
 returns-2 c =
-    let fine = sym (c .before .before .before .before .before .before .before .before .before .before .before .before .plan-refusal .ensures) ∙ c .before .before .before .before .before .before .before .before .before .before .enum-told .given .1 in
-    let ready = fine-ready _ (record { own-byte = λ v. omega (arith, c .before .before .before .before .before .before .before .before .before .before .before .before .before .before .before .before .before .before .before .before .shared-slice-known .given v); other-byte = λ i. omega (arith, c .before .before .before .before .before .before .before .before .before .before .before .before .before .before .before .shared-slice-known6 .given i) }) _ _ fine in
-    let part = part-poured _ (ready .survey .few) (c .before .before .before .before .before .before .before .before .before .pour .ensures) in
-    growing-finished _ _ _ fine
-    (poured-counts _ (ready .survey) part (c .before .before .before .before .grow-poured .ensures .0)) (poured-marks _ (ready .survey) part _ (c .before .before .before .before .grow-poured .ensures .1 .0))
-    (poured-records _ (ready .survey) part _ (c .before .before .before .before .grow-poured .ensures .1 .1))
+    growing-finished _ _ _ (record { own-byte = λ v. omega (arith, c .before .before .before .before .before .before .before .before .before .before .before .before .before .before .before .before .before .before .before .before .shared-slice-known .given v); other-byte = λ i. omega (arith, c .before .before .before .before .before .before .before .before .before .before .before .before .before .before .before .shared-slice-known6 .given i) })
+    (sym (c .before .before .before .before .before .before .before .before .before .before .before .before .plan-refusal .ensures) ∙ c .before .before .before .before .before .before .before .before .before .before .enum-told .given .1)
+    (c .before .before .before .before .before .before .before .before .before .pour .ensures) (c .before .before .before .before .grow-poured .ensures)
 
 pub grow-plan-spec : {M : Type 1} → statement M
 grow-plan-spec =
@@ -54,7 +41,7 @@ grow-plan-spec =
     (λ c. search needs)
     (λ c. search needs)
     part-grow-poured-end
-    grow-poured-requires
+    (λ c κs. search needs)
     (λ c. search needs)
     (λ c. search needs)
     returns-2)

@@ -1,4 +1,4 @@
--- From what the rounds and drawing leave to what growing answers: the picked edges are its marks, and the trace's duals the plan's duals. `grow_poured` cites it.
+-- From what growing leaves for any survey to what it answers where nothing stops it: the picked edges are its marks, and the trace's duals the plan's duals. `Laws/Call` cites it.
 use Prim.Native.Nat.{ℕ, _+_, _*_, _-_, _≤_, _<_}
 use mathlib.Core.Path.{_≡_, refl, ap, sym, _∙_, subst}
 use mathlib.Core.Logic.{⊎-elim}
@@ -11,12 +11,12 @@ use borrow.Author.Tests.{lt-ltb}
 use Rattle.base_finite.specs.Below.{counted, tabulate}
 use Rattle.base_finite.specs.Laws.Below.{length-tabulate, getD-tabulate, lt-or-ge, counted-true}
 use Rattle.base_limits.specs.Limits.{maxVertices, maxEdges, recordBytes, dualsFor}
-use Rattle.base_limits.specs.Verdict.{answer, written}
+use Rattle.base_limits.specs.Verdict.{Outcome, answer, written}
 use Rattle.theory_steiner.specs.Problem.{Problem, Sound}
 use Rattle.theory_steiner.specs.Growth.{edge, winner, stateAt, grown}
 use Rattle.theory_steiner.specs.Pruning.{picked}
 use Rattle.theory_steiner.specs.Laws.Rounds.{rounds-lt, grown-reached}
-use Rattle.survey_core.specs.Survey.{Survey, vertexCount, edgeCount, problemOf}
+use Rattle.survey_core.specs.Survey.{Survey, surveyFrom, vertexCount, edgeCount, problemOf}
 use Rattle.survey_core.specs.Refusal.{surveyRefusal}
 use Rattle.survey_core.specs.Laws.Refusal.{survey-fine, survey-sound}
 use Rattle.base_buffer.specs.Store.{remade}
@@ -29,10 +29,10 @@ use Rattle.plan_duals.specs.Laws.Drawable.{drawn-all}
 use Rattle.plan_duals.specs.Laws.Growth.{trace-duals, trace-drawable, traces-from}
 use Rattle.plan_duals.specs.Drawing.{recordsOver}
 use Rattle.plan_rule.specs.Promise.{Ready}
-use Rattle.plan_rule.specs.declared.Planned.the-variants.{Finished}
-use Rattle.plan_rule.specs.Answer.{plannedOutcome}
-use Rattle.plan_rule.specs.Plan.{planOf}
+use Rattle.plan_rule.specs.Plan.{planOf, PlanCounts}
 use Rattle.plan_rule.specs.Growing.{grownCountsOf, pickedMarks}
+use Rattle.plan_rule.specs.Laws.Same.{plan-terminals}
+use Rattle.plan_poured.specs.Grown.{GrownInto}
 
 -- A buffer whose first m places were made anew.
 pub remade-front : (f : ℕ → ℕ → ℕ) (m : ℕ) (l : List ℕ) → m ≤ length l → remade f m l ≡ tabulate m (λ k. f k (getD l k 0)) ++ drop m l
@@ -133,15 +133,16 @@ module _ {s : Survey} {marksLength recordsLength : ℕ} (ready : Ready s marksLe
       remade-front (λ e mark. getD (g .picked) e 0) (length (s .firsts)) marks (subst (λ x. length (s .firsts) ≤ x) (sym long) (ready .marks-fit))
       ∙ ap (λ l. l ++ drop (length (s .firsts)) marks) (tabulate-cong (length (s .firsts)) _ _ (λ e b. pick-at e b))
 
-  -- All together: what the calls leave is what growing answers.
-  pub grown-plan : (marks records : List ℕ) {marked drawn : List ℕ} {count k rounds duals : ℕ} → length marks ≡ marksLength → length records ≡ recordsLength
-      → marked ≡ remade (λ e mark. getD (g .picked) e 0) (length (s .firsts)) marks
-      → count ≡ length (drawnDuals trace (length records)) → drawn ≡ recordsOver (drawnDuals trace (length records)) records
-      → k ≡ planOf P .terminals → rounds ≡ g .rounds → duals ≡ count
-      → (plannedOutcome (Finished k 0 (g .bound) rounds duals) ≡ answer (grownCountsOf (planOf P)))
-      × ((marked ≡ pickedMarks P ++ drop (length (s .firsts)) marks) × (drawn ≡ recordsOver (planOf P .duals) records))
-  unfolding plannedOutcome grownCountsOf
-  grown-plan marks records {marked} {k = k} {rounds = rounds} {duals = duals} long room h-marks h-count h-drawn h-k h-rounds h-duals = (
-    rw (h-k, bound-plan, h-rounds ∙ rounds-plan, h-duals ∙ h-count ∙ ap length (duals-plan records room)),
-    (h-marks ∙ marks-plan marks long, h-drawn ∙ ap (λ d. recordsOver d records) (duals-plan records room)),
-  )
+-- All together: what growing leaves is the plan.
+pub grown-plan : (groups firsts seconds weights : List ℕ) {marks records marked drawn : List ℕ} {o : Outcome PlanCounts}
+    → Ready (surveyFrom groups firsts seconds weights) (length marks) (length records)
+    → GrownInto (surveyFrom groups firsts seconds weights) marks records o marked drawn
+    → (o ≡ answer (grownCountsOf (planOf (problemOf (surveyFrom groups firsts seconds weights)))))
+    × ((marked ≡ pickedMarks (problemOf (surveyFrom groups firsts seconds weights)) ++ drop (length firsts) marks)
+    × (drawn ≡ recordsOver (planOf (problemOf (surveyFrom groups firsts seconds weights)) .duals) records))
+unfolding grownCountsOf
+grown-plan groups firsts seconds weights {marks} {records} ready left =
+    let drawn-is = duals-plan ready (left .grew) records refl in (
+      left .counts-are ∙ rw (drawn-is, plan-terminals groups firsts seconds weights, bound-plan ready (left .grew), rounds-plan ready (left .grew)),
+      (left .marks-are ∙ marks-plan ready (left .grew) marks refl, left .records-are ∙ ap (λ d. recordsOver d records) drawn-is),
+    )

@@ -1,6 +1,7 @@
 -- `explain` meets its contract: the marks are those of the plan (`mark-at`), and each is explained.
 use mathlib.Core.Path.{sym, _∙_}
 use Rattle.why_core.specs.Laws.Grown.{into-sound, picked-long, order-long, rounds-few, marks-long, kept-asked, no-other-mark, dropped-answer, passed-answer}
+use Rattle.why_core.specs.Laws.Kept.{kept-answered}
 use borrow.Author.Needs.{needs}
 use Rattle.why_core.proofs.explain.Statement.{statement}
 use Rattle.why_core.proofs.explain.Tie as tie
@@ -24,9 +25,6 @@ part-picks-end c =
 slice-aggregate-explain-kept : tie.Need-slice-aggregate-explain-kept
 slice-aggregate-explain-kept c = sym (marks-long _ (c .before .before .before .before .before .before .before .before .before .before .before .before .before .before .before .before .before .before .pre) (c .before .before .before .before .before .before .before .before .before .grow .ensures) (c .before .before .before .before .plan-marks .ensures))
 
-explain-kept-requires : tie.Need-explain-kept-requires
-explain-kept-requires c κs = kept-asked _ (c .before .before .before .before .before .before .before .before .before .before .before .before .before .before .before .before .before .before .before .pre) (c .before .before .before .before .before .before .before .before .before .before .grow .ensures) (c .before .before .before .before .before .plan-marks .ensures) (sym (c .before .before .before .at8 .ensures) ∙ c .before .before .match .keys3)
-
 -- not picked
 returns : tie.Need-returns
 returns c =
@@ -39,7 +37,9 @@ returns-2 c = dropped-answer _ (c .before .before .before .before .before .befor
 
 -- kept
 returns-3 : tie.Need-returns-3
-returns-3 c = c .before .before .explain-kept .ensures
+returns-3 c =
+    kept-answered _ _ (kept-asked _ (c .before .before .before .before .before .before .before .before .before .before .before .before .before .before .before .before .before .before .before .before .before .before .pre) (c .before .before .before .before .before .before .before .before .before .before .before .before .before .grow .ensures) (c .before .before .before .before .before .before .before .before .plan-marks .ensures) (sym (c .before .before .before .before .before .before .at8 .ensures) ∙ c .before .before .before .before .before .match .keys3))
+    (c .before .before .explain-kept .ensures)
 
 -- no other mark
 returns-4 : tie.Need-returns-4
@@ -65,7 +65,7 @@ explain-spec =
     (λ c κs. search needs)
     (λ c κs. search needs)
     slice-aggregate-explain-kept
-    explain-kept-requires
+    (λ c κs. search needs)
     returns
     returns-2
     (λ c. search needs)

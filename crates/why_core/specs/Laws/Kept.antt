@@ -1,4 +1,4 @@
--- A kept track: the marks that are lent are the other picked tracks and the kept ones, the pair that is found is the definition's, and the route that is found is the kept one. `explain_kept` cites it.
+-- A kept track: the marks that are lent are the other picked tracks and the kept ones, the pair that is found is the definition's, and the route that is found is the kept one. `explain` cites it.
 use Prim.Native.Nat.{ℕ, _-_, _<_, _≤_}
 use native.Mathlib.Omega.{arith}
 use mathlib.Core.Path.{_≡_, refl, ap, sym, _∙_, subst}
@@ -12,7 +12,7 @@ use Rattle.base_finite.specs.Laws.Below.{getD-tabulate}
 use Rattle.base_finite.specs.Laws.Test.{not-true-false, and-left}
 use Rattle.base_buffer.specs.Store.{remade}
 use Rattle.base_limits.specs.Limits.{maxVertices, maxEdges}
-use Rattle.base_limits.specs.Verdict.{answer, written}
+use Rattle.base_limits.specs.Verdict.{Outcome, answer, written}
 use Rattle.base_limits.specs.declared.Verdict.the-variants.{Fine}
 use Rattle.base_limits.specs.Laws.Verdict.{before-fine, refuse-false}
 use Rattle.theory_graph.specs.Path.{without}
@@ -33,14 +33,16 @@ use Rattle.survey_components.specs.Labels.{chosen, pickedIn, labelsOf}
 use Rattle.survey_components.specs.declared.Chosen.the-variants.{Kept}
 use Rattle.survey_forest.specs.Forest.{forestRefusal}
 use Rattle.why_rule.specs.Reason.{others, placeOf, partedList, lowMember, highMember, keptReason, reasonOf}
-use Rattle.why_rule.specs.Why.{whyCounts, routeIn}
+use Rattle.why_rule.specs.Why.{WhyCounts, whyCounts, routeIn}
 use Rattle.why_rule.specs.Laws.Pair.{low-is, high-is}
 use Rattle.why_rule.specs.Laws.Reason.{picked-bounded, list-apart, kept-bounded, forest, ends-below, low-vertex, needs-holds}
 use Rattle.why_route.specs.Walk.{routeRefusal}
 use Rattle.why_parted.specs.declared.Pair.{Pair}
 use Rattle.why_parted.specs.Parted.{markedBut, labelIn, PairOf}
 use Rattle.why_parted.specs.Laws.Found.{twos-chosen, part-long, part-picked}
-use Rattle.why_core.specs.Asked.{KeptAsked, keptCounts}
+use Rattle.why_kept.specs.Kept.{keptCounts, marksBut, entriesFor, routeLeft, KeptAnswer}
+use Rattle.why_kept.specs.Laws.Held.{held-few}
+use Rattle.why_core.specs.Asked.{KeptAsked}
 use Rattle.why_core.specs.Laws.Grown.{lists-long, forest-accepted}
 
 -- ---- the marks of a plan
@@ -204,8 +206,7 @@ module _ (s : Survey) {lists marks : List ℕ} {routeLength e : ℕ} (h : KeptAs
         unfolding reasonOf
         reason-is = rw (h .is-kept)
 
-        -- What is answered, and what is left in the buffer.
-        pub kept-answered : (route : List ℕ) {r : ℕ} {after : List ℕ} → length route ≡ routeLength
+        found-answered : (route : List ℕ) {r : ℕ} {after : List ℕ} → length route ≡ routeLength
             → r ≡ written (routeRefusal (surveyFrom lists (s .firsts) (s .seconds) (s .weights)) (take (length (s .firsts) - 0) all) (length route))
             (length (routeOf (problemOf (surveyFrom lists (s .firsts) (s .seconds) (s .weights))) (pickedIn (take (length (s .firsts) - 0) all)) (p .smaller) (p .larger))) 0
             → after ≡ written (routeRefusal (surveyFrom lists (s .firsts) (s .seconds) (s .weights)) (take (length (s .firsts) - 0) all) (length route))
@@ -214,7 +215,7 @@ module _ (s : Survey) {lists marks : List ℕ} {routeLength e : ℕ} (h : KeptAs
             route
             → (answer (keptCounts p r) ≡ answer (whyCounts (reasonOf s e))) × (after ≡ routeIn (reasonOf s e) ++ drop (length (routeIn (reasonOf s e))) route)
         unfolding written keptCounts whyCounts routeIn keptReason
-        kept-answered route {r} {after} fits r-is after-is = (
+        found-answered route {r} {after} fits r-is after-is = (
           rw (reason-is, group-named, smaller-named, larger-named, entries-are),
           after-are ∙ rw reason-is,
         )
@@ -230,3 +231,18 @@ module _ (s : Survey) {lists marks : List ℕ} {routeLength e : ℕ} (h : KeptAs
 
             after-are : after ≡ entries ++ drop (length entries) route
             after-are = after-is ∙ rw (fine, route-found)
+
+-- What is answered, and what is left in the buffer.
+pub kept-answered : (s : Survey) {lists marks : List ℕ} {e : ℕ} (route : List ℕ) {o : Outcome WhyCounts} {after : List ℕ} → KeptAsked s lists marks (length route) e
+    → KeptAnswer s lists marks e route o after
+    → (o ≡ answer (whyCounts (reasonOf s e))) × (after ≡ routeIn (reasonOf s e) ++ drop (length (routeIn (reasonOf s e))) route)
+kept-answered s {lists} {marks} {e} route h left =
+    let m = length (s .firsts) in
+    let q = surveyFrom lists (s .firsts) (s .seconds) (s .weights) in
+    let all = marksBut marks 2 m m in
+    let whole = held-few m (h .asked .ok .joinable .askable .survey .edges-few) in
+    let told =
+    found-answered s h refl (left .pair-is) {all = all} refl route refl
+    (ap (λ (k : ℕ). entriesFor q (take (k - 0) all) (left .pair) route) whole)
+    (left .route-is ∙ ap (λ (k : ℕ). routeLeft q (take (k - 0) all) (left .pair) route) whole) in
+    (left .counts-are ∙ told .0, told .1)

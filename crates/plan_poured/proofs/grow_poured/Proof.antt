@@ -1,13 +1,11 @@
--- `grow_poured` meets its contract: what the rounds and drawing leave is what growing answers (`grown-plan`).
-use mathlib.Core.Path.{refl, ap, sym, _∙_}
+-- `grow_poured` meets its contract: each call leaves its part of what growing leaves.
+use mathlib.Core.Path.{ap, sym, _∙_}
 use lib.ListN.{length}
 use Rattle.base_finite.specs.Laws.Below.{length-tabulate}
 use Rattle.base_limits.specs.Limits.{maxVertices}
-use Rattle.plan_rule.specs.Laws.Same.{plan-terminals}
-use Rattle.plan_grow.specs.Laws.Finish.{grown-plan}
 use borrow.Author.Needs.{needs}
-use Rattle.plan_grow.proofs.grow_poured.Statement.{statement}
-use Rattle.plan_grow.proofs.grow_poured.Tie as tie
+use Rattle.plan_poured.proofs.grow_poured.Statement.{statement}
+use Rattle.plan_poured.proofs.grow_poured.Tie as tie
 
 slice-aggregate-draw : tie.Need-slice-aggregate-draw
 slice-aggregate-draw c = sym (ap length (c .before .before .before .before .before .before .before .before .before .before .before .before .grow .ensures .order-is) ∙ length-tabulate maxVertices _)
@@ -16,12 +14,16 @@ slice-aggregate-draw c = sym (ap length (c .before .before .before .before .befo
 -- records
 returns : tie.Need-returns
 returns c =
-    let drawn = c .before .before .before .before .before in
+    let drawn = c .before .before .before .before in
     let copied = drawn .before .before .before .before .before .before .before .before in
     let growth = copied .before .before .before .before .before .before in
-    let entry = growth .before .before .before .before .before .before .before in
-    grown-plan (entry .pre) (growth .grow .ensures) _ _ refl refl (copied .copy-picks .ensures) (drawn .draw .ensures .0) (drawn .draw .ensures .1)
-    (c .before .before .terminals .ensures ∙ plan-terminals _ _ _ _) (c .before .wide .ensures) (c .wide2 .ensures)
+    record {
+      growth = _;
+      grew = growth .grow .ensures;
+      marks-are = copied .copy-picks .ensures;
+      records-are = drawn .draw .ensures .1;
+      counts-are = rw (← c .before .terminals .ensures, ← drawn .draw .ensures .0) (c .grown-counts .ensures);
+    }
 
 pub grow-poured-spec : {M : Type 1} → statement M
 grow-poured-spec =
@@ -30,7 +32,6 @@ grow-poured-spec =
     (λ c κs. search needs)
     (λ c κs. search needs)
     slice-aggregate-draw
-    (λ c κs. search needs)
     (λ c κs. search needs)
     (λ c κs. search needs)
     (λ c κs. search needs)

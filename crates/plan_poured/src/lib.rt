@@ -1,0 +1,39 @@
+// Growing over poured lists: the rounds, the picked tracks as marks, the moats as records. For a survey that is refused
+// there are no rounds.
+ghost use Rattle.base_buffer.specs.Lent.{old, new};
+ghost use Rattle.survey_core.specs.Survey.{lentSurvey};
+ghost use Rattle.plan_rule.specs.Answer.{plannedOutcome};
+ghost use Rattle.plan_poured.specs.Grown.{GrownInto};
+use plan_picks::copy_picks;
+use plan_rule::Planned;
+
+// Rounds, picked tracks, moats, and the counts.
+pub fn grow_poured(
+    groups: &[u8],
+    firsts: &[u32],
+    seconds: &[u32],
+    weights: &[u32],
+    marks: &mut [u8],
+    records: &mut [u8],
+) -> Planned
+    ensures { λ r.
+        let s = lentSurvey groups firsts seconds weights in
+        ⌜ GrownInto s (old marks) (old records) (plannedOutcome r) (new marks) (new records) ⌝ }
+{
+    let grown = plan_rounds::grow(groups, firsts, seconds, weights);
+    let order = grown.order;
+    let rounds = grown.rounds;
+    let bound = grown.bound;
+    copy_picks(&grown.picked, marks, firsts.len());
+    let duals = plan_draw::draw(
+        groups.len(),
+        firsts,
+        seconds,
+        &grown.values,
+        &order,
+        rounds,
+        records,
+    );
+    let terminals = survey_terminals::terminals(groups);
+    plan_counts::grown_counts(terminals, bound, rounds, duals)
+}
