@@ -5,20 +5,20 @@ ghost use Prim.Native.Nat.{_+_};
 ghost use lib.ListN.{length};
 ghost use Rattle.format_record.specs.Record.{withValue};
 ghost use Rattle.plan_duals.specs.Drawing.{recordsOver, recordPut, dualPut, countPut, RecordsFit};
-ghost use Rattle.plan_duals.specs.Members.{unionOf, setsKept, oldSets, newSets, ArisesWithin};
-ghost use Rattle.plan_duals.specs.Trace.{endOf, partOf, arisen, traceFrom, lentTrace};
+ghost use Rattle.plan_duals.specs.Members.{unionOf, setsKept, oldSets, newSets};
+ghost use Rattle.plan_duals.specs.Trace.{endOf, partOf, hungOn, traceFrom, lentTrace};
 ghost use Rattle.plan_duals.specs.Trace.{traceDuals, Drawable, drawnDuals};
 use base_buffer::at32;
 use base_buffer::at64;
 use base_buffer::index32;
+use base_buffer::put32;
 use base_limits::MAX_VERTICES;
 use base_limits::RECORD_BYTES;
-use plan_active::relabel_first;
 use plan_drawable::is_drawable;
 use plan_members::put_set;
 use plan_members::union_of;
 use plan_members::write_record;
-use survey_labels::own_labels;
+use survey_labels::climb;
 
 // Puts the record of value x with these members in place of record k.
 fn put_record(records: &mut [u8], k: usize, x: u64, set: &[u8; RECORD_BYTES])
@@ -44,65 +44,67 @@ fn write_dual(records: &mut [u8], count: usize, x: u64, set: &[u8; RECORD_BYTES]
     count + 1
 }
 
+// Component numbers, at most: a vertex each, and one for each round.
+const NUMBERS: usize = 2 * MAX_VERTICES;
+
 // What component c is made of at one end: a single vertex of itself, any other of the component of that end.
-fn part_of(labels: &[u32; MAX_VERTICES], ends: &[u32], order: &[u32], n: usize, c: usize) -> u32
-    requires { ⌜ ArisesWithin n c ⌝ }
-    ensures { λ r. ⌜ r ≡ partOf (endOf (old ends) (old order)) n (old labels) c ⌝ }
+fn part_of(ups: &mut [u32; NUMBERS], ends: &[u32], order: &[u32], n: usize, c: u32) -> u32
+    ensures part { λ r. ⌜ r ≡ partOf (endOf (old ends) (old order)) n c (old ups) .root ⌝ }
+    ensures left { λ _. ⌜ new ups ≡ partOf (endOf (old ends) (old order)) n c (old ups) .parents ⌝ }
 {
-    if c < n {
-        return c as u32;
+    let k = index32(c);
+    if k < n {
+        return c;
     }
-    let e = index32(at32(order, c - n));
-    at32(labels, index32(at32(ends, e)))
+    let e = index32(at32(order, k - n));
+    climb(ups, at32(ends, e), k)
 }
 
-// Component c has arisen of x and y: its members have its number, and its record is kept. A single vertex is one from
-// the start.
-fn keep(
-    labels: &mut [u32; MAX_VERTICES],
-    sets: &mut [[u8; RECORD_BYTES]],
-    n: usize,
-    c: usize,
-    x: u32,
-    y: u32,
-    set: &[u8; RECORD_BYTES],
-)
-    requires { ⌜ ArisesWithin n c ⌝ }
-    ensures labels { λ _. ⌜ new labels ≡ arisen x y n c (old labels) ⌝ }
-    ensures sets { λ _. ⌜ newSets sets ≡ setsKept n c (old set) (oldSets sets) ⌝ }
+// Component c has arisen of x and y, which hang on it.
+fn hang(ups: &mut [u32; NUMBERS], x: u32, y: u32, c: u32)
+    ensures { λ _. ⌜ new ups ≡ hungOn x y c (old ups) ⌝ }
 {
-    if c < n {
+    put32(ups, index32(x), c);
+    put32(ups, index32(y), c);
+    put32(ups, index32(c), c);
+}
+
+// The record of component c is kept; a single vertex needs none.
+fn keep(sets: &mut [[u8; RECORD_BYTES]], n: usize, c: u32, set: &[u8; RECORD_BYTES])
+    ensures { λ _. ⌜ newSets sets ≡ setsKept n c (old set) (oldSets sets) ⌝ }
+{
+    let k = index32(c);
+    if k < n {
         return;
     }
-    relabel_first(labels, n, x, y, c as u32);
-    put_set(sets, c - n, set);
+    put_set(sets, k - n, set);
 }
 
 // Component c arises; answers its members. Component n + r is made of those of the ends of round r's edge.
 fn arise(
-    labels: &mut [u32; MAX_VERTICES],
+    ups: &mut [u32; NUMBERS],
     sets: &mut [[u8; RECORD_BYTES]],
     firsts: &[u32],
     seconds: &[u32],
     order: &[u32],
     n: usize,
-    c: usize,
+    c: u32,
 ) -> [u8; RECORD_BYTES]
-    requires { ⌜ ArisesWithin n c ⌝ }
     ensures set { λ r.
-        let x = partOf (endOf (old firsts) (old order)) n (old labels) c in
-        let y = partOf (endOf (old seconds) (old order)) n (old labels) c in
-        ⌜ r ≡ unionOf (oldSets sets) n x y ⌝ }
-    ensures labels { λ _.
-        let x = partOf (endOf (old firsts) (old order)) n (old labels) c in
-        let y = partOf (endOf (old seconds) (old order)) n (old labels) c in
-        ⌜ new labels ≡ arisen x y n c (old labels) ⌝ }
+        let x = partOf (endOf (old firsts) (old order)) n c (old ups) in
+        let y = partOf (endOf (old seconds) (old order)) n c (x .parents) in
+        ⌜ r ≡ unionOf (oldSets sets) n (x .root) (y .root) ⌝ }
+    ensures ups { λ _.
+        let x = partOf (endOf (old firsts) (old order)) n c (old ups) in
+        let y = partOf (endOf (old seconds) (old order)) n c (x .parents) in
+        ⌜ new ups ≡ hungOn (x .root) (y .root) c (y .parents) ⌝ }
     ensures sets { λ r. ⌜ newSets sets ≡ setsKept n c r (oldSets sets) ⌝ }
 {
-    let x = part_of(labels, firsts, order, n, c);
-    let y = part_of(labels, seconds, order, n, c);
+    let x = part_of(ups, firsts, order, n, c);
+    let y = part_of(ups, seconds, order, n, c);
     let set = union_of(sets, n, index32(x), index32(y));
-    keep(labels, sets, n, c, x, y, &set);
+    hang(ups, x, y, c);
+    keep(sets, n, c, &set);
     set
 }
 
@@ -122,15 +124,14 @@ fn draw_trace(
         let ds = traceDuals (lentTrace n firsts seconds values order rounds) in
         ⌜ new records ≡ recordsOver ds (old records) ⌝ }
 {
-    let mut labels = [0u32; MAX_VERTICES];
-    own_labels(&mut labels);
+    let mut ups = [0u32; NUMBERS];
     let none = [0u8; RECORD_BYTES];
     let mut sets = [none; MAX_VERTICES];
     let end = n + rounds;
     let mut count = 0;
     let mut c = 0;
     while c < end {
-        let set = arise(&mut labels, &mut sets, firsts, seconds, order, n, c);
+        let set = arise(&mut ups, &mut sets, firsts, seconds, order, n, c as u32);
         count = write_dual(records, count, at64(values, c), &set);
         c += 1;
     }

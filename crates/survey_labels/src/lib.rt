@@ -59,7 +59,7 @@ pub fn merge(labels: &mut [u32], first: u32, second: u32, z: u32)
 }
 
 // The root above v, within a number of steps; a vertex that a step leaves hangs where the step goes.
-fn climb(parents: &mut [u32], v: u32, steps: usize) -> u32
+pub fn climb(parents: &mut [u32], v: u32, steps: usize) -> u32
     ensures root { λ r. ⌜ r ≡ climbed steps (old parents) v .root ⌝ }
     ensures left { λ r. ⌜ new parents ≡ climbed steps (old parents) v .parents ⌝ }
 {
