@@ -1,13 +1,13 @@
 -- `draw_trace` meets its contract: up to component number c, trees and members are the trace's and the duals stand in the buffer.
 use borrow.Author.Needs.{needs}
-use Prim.Native.Nat.{ℕ, _+_, _*_, _≤_, _-_}
+use Prim.Native.Nat.{ℕ, _*_, _≤_, _-_}
 use mathlib.Core.Path.{sym}
 use mathlib.Core.List.{List}
 use lib.ListN.{length-replicate}
 use Rattle.base_limits.specs.Limits.{maxVertices}
 use Rattle.plan_duals.specs.Members.{noMember}
 use Rattle.plan_duals.specs.Trace.{traceFrom}
-use Rattle.plan_duals.specs.Laws.Drawing.{written-length, written-fits}
+use Rattle.plan_duals.specs.Laws.Drawing.{written-length}
 use Rattle.plan_duals.specs.Laws.Trace.{Replayed, replayed-none, replayed-more, replayed-end}
 use native.Mathlib.Omega.{arith}
 use Rattle.plan_draw.proofs.draw_trace.Statement.{statement}
@@ -32,13 +32,6 @@ slice-aggregate-arise c = sym (c .before .before .before .loop .inv .1 .sets-hol
 
 cast-arise : tie.Need-cast-arise Inv-loop μ-loop
 cast-arise c = let pre = c .before .before .before .before .before .before .before .before .before .pre in omega arith
-
-write-dual-requires : tie.Need-write-dual-requires Inv-loop μ-loop
-write-dual-requires c κs =
-    let entry = c .before .before .before .before .before .before .before .before .before .before .before .before .before .before in
-    let turn = c .before .before .before .before .before .before .before .before .loop in
-    let a = entry .args in
-    written-fits _ _ (a .n + a .rounds) (turn .c) (entry .pre .room) (c .before .before .before .before .before .before .before .loop-test .taken) (turn .inv .1 .duals-written)
 
 loop-again : tie.Need-loop-again Inv-loop μ-loop
 loop-again c =
@@ -80,7 +73,7 @@ draw-trace-spec =
     cast-arise
     (λ c κs. search needs)
     (λ c κs. search needs)
-    write-dual-requires
+    (λ c κs. search needs)
     (λ c. search needs)
     (λ c. search needs)
     loop-again

@@ -22,7 +22,7 @@ use Rattle.survey_labels.specs.Roots.{Climbed, climbedTo, climbed}
 use Rattle.plan_duals.specs.Drawing.{dualPut, countPut, dualsBelow, DualsWritten}
 use Rattle.plan_duals.specs.Trace.{Trace, labelAfter, partOf, hungOn, memberOf, traceDuals, Drawable}
 use Rattle.plan_duals.specs.Members.{noMember, ored, withPart, unionOf, setsKept, SetsHold}
-use Rattle.plan_duals.specs.Laws.Drawing.{written-none, written-more, written-end}
+use Rattle.plan_duals.specs.Laws.Drawing.{written-none, written-more, written-end, written-fits}
 use Rattle.plan_duals.specs.Laws.Members.{ored-records, no-member-record, put-dual, label-below, single-members, union-of-parts}
 use Rattle.plan_duals.specs.Laws.Rising.{Rising, Found, climb-rising, length-hung, one-more}
 
@@ -254,17 +254,18 @@ replayed-none t old places long =
     }
 
 -- One component more.
-pub replayed-more : (t : Trace) (c : ℕ) {ups after set old mid new records : List ℕ} {sets sets' : List (List ℕ)} {k x count : ℕ} → Drawable t records →
+pub replayed-more : (t : Trace) (c : ℕ) {ups after set old mid new : List ℕ} {sets sets' : List (List ℕ)} {k x count : ℕ} → Drawable t old →
     c < t .vertices + t .rounds → Replayed t c ups sets old mid k →
     set ≡ unionOf sets (t .vertices) (partOf (t .first) (t .vertices) c ups .root) (partOf (t .second) (t .vertices) c (partOf (t .first) (t .vertices) c ups .parents) .root) →
     after ≡ hungOn (partOf (t .first) (t .vertices) c ups .root) (partOf (t .second) (t .vertices) c (partOf (t .first) (t .vertices) c ups .parents) .root) c
         (partOf (t .second) (t .vertices) c (partOf (t .first) (t .vertices) c ups .parents) .parents) →
     sets' ≡ setsKept (t .vertices) c set sets →
-    x ≡ t .value c → count ≡ countPut k x → new ≡ dualPut k x set mid →
+    x ≡ t .value c → count ≡ countPut k x mid → new ≡ dualPut k x set mid →
     Replayed t (c + 1) after sets' old new count
 replayed-more t c {ups = ups} {set = set} {mid = mid} {k = k} {x = x} ok below s u h kept v a b =
     let is : set ≡ recordOf 0 (memberOf t c) = u ∙ set-held t (ok .few) c below (ok .first-below) (ok .second-below) ups (s .ups-rise) (s .sets-hold) in
-    let put = put-dual k x (memberOf t c) mid is in
+    let fits = written-fits (t .value) (memberOf t) (t .vertices + t .rounds) c (ok .room) below (s .duals-written) in
+    let put = put-dual k x (memberOf t c) mid fits is in
     let few = ok .few in
     let few-rounds = ok .few-rounds in
     let places = s .places in

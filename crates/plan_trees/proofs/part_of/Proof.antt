@@ -3,8 +3,8 @@ use mathlib.Core.Path.{refl}
 use borrow.Author.Tests.{lt-ltb, le-ltb}
 use Rattle.plan_duals.specs.Trace.{endOf, partOf}
 use borrow.Author.Needs.{needs}
-use Rattle.plan_draw.proofs.part_of.Statement.{statement}
-use Rattle.plan_draw.proofs.part_of.Tie as tie
+use Rattle.plan_trees.proofs.part_of.Statement.{statement}
+use Rattle.plan_trees.proofs.part_of.Tie as tie
 
 -- a single vertex
 returns : tie.Need-returns

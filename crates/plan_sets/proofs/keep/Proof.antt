@@ -3,8 +3,8 @@ use mathlib.Core.Path.{refl}
 use borrow.Author.Tests.{lt-ltb, le-ltb}
 use Rattle.plan_duals.specs.Members.{setsKept}
 use borrow.Author.Needs.{needs}
-use Rattle.plan_draw.proofs.keep.Statement.{statement}
-use Rattle.plan_draw.proofs.keep.Tie as tie
+use Rattle.plan_sets.proofs.keep.Statement.{statement}
+use Rattle.plan_sets.proofs.keep.Tie as tie
 
 -- a single vertex
 returns : tie.Need-returns

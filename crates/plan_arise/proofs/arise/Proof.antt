@@ -2,8 +2,8 @@
 use mathlib.Core.Path.{ap₂, _∙_}
 use Rattle.plan_duals.specs.Members.{unionOf}
 use borrow.Author.Needs.{needs}
-use Rattle.plan_draw.proofs.arise.Statement.{statement}
-use Rattle.plan_draw.proofs.arise.Tie as tie
+use Rattle.plan_arise.proofs.arise.Statement.{statement}
+use Rattle.plan_arise.proofs.arise.Tie as tie
 
 returns : tie.Need-returns
 returns c =

@@ -1,8 +1,8 @@
 -- `hang` meets its contract: three stores.
 use Rattle.plan_duals.specs.Trace.{hungOn}
 use borrow.Author.Needs.{needs}
-use Rattle.plan_draw.proofs.hang.Statement.{statement}
-use Rattle.plan_draw.proofs.hang.Tie as tie
+use Rattle.plan_trees.proofs.hang.Statement.{statement}
+use Rattle.plan_trees.proofs.hang.Tie as tie
 
 returns : tie.Need-returns
 unfolding hungOn
