@@ -171,7 +171,7 @@ module _ (t : Trace) (few : t .vertices ≤ maxVertices) where
 arisen : (t : Trace) (c : ℕ) (below : c < t .vertices + t .rounds) (a : (r : ℕ) → r < t .rounds → t .first r < t .vertices)
     (b : (r : ℕ) → r < t .rounds → t .second r < t .vertices) (ups : List ℕ) {after : List ℕ} → c < length ups → Rising c (labelAfter t (c - t .vertices)) ups →
     after ≡ hungOn (partOf (t .first) (t .vertices) c ups .root) (partOf (t .second) (t .vertices) c (partOf (t .first) (t .vertices) c ups .parents) .root) c
-        (partOf (t .second) (t .vertices) c (partOf (t .first) (t .vertices) c ups .parents) .parents) →
+    (partOf (t .second) (t .vertices) c (partOf (t .first) (t .vertices) c ups .parents) .parents) →
     Rising (c + 1) (labelAfter t (c + 1 - t .vertices)) after × (length after ≡ length ups)
 unfolding partOf
 arisen t c below a b ups {after} room h is = rw is (⊎-elim single made (lt-or-ge c n))
@@ -222,11 +222,11 @@ arisen t c below a b ups {after} room h is = rw is (⊎-elim single made (lt-or-
             let long = s .long ∙ f .long in
             let next : (v : ℕ) → labelAfter t k v ≡ merged x y c (labelAfter t r) v = λ v. label-next t r k c v (omega arith) (omega arith) (f .is) (s .is) in
             one-more c x y (labelAfter t r) (labelAfter t k) (two .parents) (s .rising) (omega arith) (omega arith) (omega arith)
-                (next x ∙ merged-in x y c (labelAfter t r) x (inl (f .own)))
-                (next y ∙ merged-in x y c (labelAfter t r) y (inr (s .own)))
-                (next c ∙ merged-out x y c (labelAfter t r) c (λ e. omega arith) (λ e. omega arith) ∙ own)
-                (λ u v e. next u ∙ merged-cong x y c (labelAfter t r) u v e ∙ sym (next v))
-                (λ v p q e. next v ∙ merged-out x y c (labelAfter t r) v (λ d. p (sym e ∙ d)) (λ d. q (sym e ∙ d)) ∙ e)
+            (next x ∙ merged-in x y c (labelAfter t r) x (inl (f .own)))
+            (next y ∙ merged-in x y c (labelAfter t r) y (inr (s .own)))
+            (next c ∙ merged-out x y c (labelAfter t r) c (λ e. omega arith) (λ e. omega arith) ∙ own)
+            (λ u v e. next u ∙ merged-cong x y c (labelAfter t r) u v e ∙ sym (next v))
+            (λ v p q e. next v ∙ merged-out x y c (labelAfter t r) v (λ d. p (sym e ∙ d)) (λ d. q (sym e ∙ d)) ∙ e)
 
 -- ---- the replay, up to component number c
 
@@ -258,7 +258,7 @@ pub replayed-more : (t : Trace) (c : ℕ) {ups after set old mid new : List ℕ}
     c < t .vertices + t .rounds → Replayed t c ups sets old mid k →
     set ≡ unionOf sets (t .vertices) (partOf (t .first) (t .vertices) c ups .root) (partOf (t .second) (t .vertices) c (partOf (t .first) (t .vertices) c ups .parents) .root) →
     after ≡ hungOn (partOf (t .first) (t .vertices) c ups .root) (partOf (t .second) (t .vertices) c (partOf (t .first) (t .vertices) c ups .parents) .root) c
-        (partOf (t .second) (t .vertices) c (partOf (t .first) (t .vertices) c ups .parents) .parents) →
+    (partOf (t .second) (t .vertices) c (partOf (t .first) (t .vertices) c ups .parents) .parents) →
     sets' ≡ setsKept (t .vertices) c set sets →
     x ≡ t .value c → count ≡ countPut k x mid → new ≡ dualPut k x set mid →
     Replayed t (c + 1) after sets' old new count
