@@ -1,10 +1,10 @@
 -- Duals as records in a buffer (document 01, 'What a plan holds': moat records).
 use Prim.Native.Nat.{ℕ, zero, suc, _+_, _*_, _≤_}
 use mathlib.Core.Path.{_≡_}
-use mathlib.Core.Bool.{Bool, cond}
+use mathlib.Core.Bool.{Bool, _&&_, cond}
 use mathlib.Core.List.{List, [], _∷_, _++_}
 use lib.ListN.{length, take, drop}
-use lib.Dec.{ltb}
+use lib.Dec.{ltb, leb}
 use Rattle.base_limits.specs.Limits.{recordBytes}
 use Rattle.format_record.specs.Record.{recordOf, withValue}
 use Rattle.theory_steiner.specs.Dual.{Dual}
@@ -35,12 +35,16 @@ dualIf value S = cond (ltb 0 value) (record { value = value; holds = S } ∷ [])
 unfoldable pub recordPut : (k : ℕ) → (r old : List ℕ) → List ℕ
 recordPut k r old = take (recordBytes * k) old ++ (r ++ drop (recordBytes * k + recordBytes) old)
 
--- A buffer with a dual after its first k records, and how many records it has then: the value, and the members of a record of value 0 (law `put-dual`).
-unfoldable pub dualPut : (k value : ℕ) → (members old : List ℕ) → List ℕ
-dualPut k value members old = cond (ltb 0 value) (recordPut k (withValue members value) old) old
+-- Whether a dual of this value gets a record after the first k of a buffer: not one of value 0, and none without room.
+unfoldable pub isPut : (k value : ℕ) → (old : List ℕ) → Bool
+isPut k value old = ltb 0 value && leb (recordBytes * (k + 1)) (length old)
 
-unfoldable pub countPut : (k value : ℕ) → ℕ
-countPut k value = cond (ltb 0 value) (k + 1) k
+-- The buffer then, and how many records it has: the value, and the members of a record of value 0 (law `put-dual`).
+unfoldable pub dualPut : (k value : ℕ) → (members old : List ℕ) → List ℕ
+dualPut k value members old = cond (isPut k value old) (recordPut k (withValue members value) old) old
+
+unfoldable pub countPut : (k value : ℕ) → (old : List ℕ) → ℕ
+countPut k value old = cond (isPut k value old) (k + 1) k
 
 -- The duals of the component numbers below c, rising.
 unfoldable pub dualsBelow : (value : ℕ → ℕ) → (holds : ℕ → ℕ → Bool) → ℕ → List Dual

@@ -1,7 +1,7 @@
 -- The members of components as records of value 0: a round's component has those of its two parts, ored byte by byte.
-use Prim.Native.Nat.{ℕ, _+_, _-_, _≤_, _<_}
+use Prim.Native.Nat.{ℕ, _+_, _-_, _<_}
 use mathlib.Core.Path.{_≡_}
-use mathlib.Core.Bool.{Bool, cond}
+use mathlib.Core.Bool.{cond}
 use mathlib.Core.List.{List}
 use lib.Bits.{bitOr}
 use lib.Dec.{ltb}
@@ -51,8 +51,3 @@ copied r part = remade (λ i b. getD r i 0) recordBytes part
 pub record SetsHold (t : Trace) (r : ℕ) (sets : List (List ℕ)) : Type 0 where
   pub long : length sets ≡ maxVertices
   pub at : (k : ℕ) → k < r → getD sets k noMember ≡ recordOf 0 (memberOf t (t .vertices + k))
-
--- There is a place for the record of component c.
-pub record ArisesWithin (n c : ℕ) : Type 0 where
-  pub few : n ≤ maxVertices
-  pub below : c < n + maxVertices

@@ -3,7 +3,7 @@ use Prim.Native.Nat.{ℕ, zero, suc, _+_, _*_, _-_, _≤_, _<_}
 use mathlib.Core.Path.{_≡_}
 use mathlib.Core.Bool.{Bool, _&&_, cond}
 use mathlib.Core.List.{List, []}
-use lib.ListN.{length, getD}
+use lib.ListN.{length, getD, set}
 use lib.Dec.{eqb, ltb, leb}
 use Rattle.base_finite.specs.Below.{allBelow}
 use Rattle.theory_graph.specs.Component.{merged}
@@ -12,7 +12,7 @@ use Rattle.base_limits.specs.Limits.{maxVertices, recordBytes}
 use Rattle.theory_steiner.specs.Problem.{Problem}
 use Rattle.theory_steiner.specs.Growth.{winner, edge, stateAt, grown}
 use Rattle.theory_steiner.specs.Dual.{Dual}
-use Rattle.plan_active.specs.Flags.{relabelledFirst}
+use Rattle.survey_labels.specs.Roots.{Climbed, climbedTo, climbed}
 use Rattle.plan_duals.specs.Drawing.{dualsBelow}
 
 -- Rounds are counted from 0; `first` and `second` are the ends of the edge that a round picked, and `value` is that of a component number.
@@ -47,17 +47,16 @@ unfoldable pub labelAfter : Trace → ℕ → ℕ → ℕ
 labelAfter t zero v = v
 labelAfter t (suc r) v = merged (labelAfter t r (t .first r)) (labelAfter t r (t .second r)) (t .vertices + r) (labelAfter t r) v
 
--- The same as it is held: places past the vertices keep their own number.
-unfoldable pub labelHeld : Trace → ℕ → ℕ → ℕ
-labelHeld t r v = cond (ltb v (t .vertices)) (labelAfter t r v) v
+-- The replay hangs each component number on the component that it became part of: the root above it is the component that it is in.
 
--- What component c is made of at one of its ends: a single vertex of itself, any other of the component of that end of its round's edge.
-unfoldable pub partOf : (end : ℕ → ℕ) → (n : ℕ) → (labels : List ℕ) → (c : ℕ) → ℕ
-partOf end n labels c = cond (ltb c n) c (getD labels (end (c - n)) 0)
+-- What component c is made of at one of its ends, and the trees behind that climb: a single vertex of itself, any other of the component of that end of its
+-- round's edge.
+unfoldable pub partOf : (end : ℕ → ℕ) → (n c : ℕ) → (ups : List ℕ) → Climbed
+partOf end n c ups = cond (ltb c n) (climbedTo c ups) (climbed c ups (end (c - n)))
 
--- Labels in a buffer when component c has arisen: a single vertex is there from the start, any other is made of components x and y.
-unfoldable pub arisen : (x y n c : ℕ) → List ℕ → List ℕ
-arisen x y n c labels = cond (ltb c n) labels (relabelledFirst n x y c labels)
+-- The trees when component c has arisen of components x and y.
+unfoldable pub hungOn : (x y c : ℕ) → List ℕ → List ℕ
+hungOn x y c ups = set (set (set ups x c) y c) c c
 
 -- The members of component c are the vertices in it when it arose: at the start, or after round c - n.
 unfoldable pub memberOf : Trace → (c v : ℕ) → Bool

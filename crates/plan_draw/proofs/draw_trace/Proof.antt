@@ -1,52 +1,41 @@
--- `draw_trace` meets its contract: up to component number c, labels and members are the trace's and the duals stand in the buffer.
+-- `draw_trace` meets its contract: up to component number c, trees and members are the trace's and the duals stand in the buffer.
 use borrow.Author.Needs.{needs}
-use Prim.Native.Nat.{ℕ, _+_, _≤_, _-_}
-use mathlib.Core.Path.{refl, sym, _∙_}
+use Prim.Native.Nat.{ℕ, _*_, _≤_, _-_}
+use mathlib.Core.Path.{sym}
 use mathlib.Core.List.{List}
 use lib.ListN.{length-replicate}
 use Rattle.base_limits.specs.Limits.{maxVertices}
-use Rattle.base_buffer.specs.Laws.Store.{remade-table}
 use Rattle.plan_duals.specs.Members.{noMember}
 use Rattle.plan_duals.specs.Trace.{traceFrom}
-use Rattle.plan_duals.specs.Laws.Drawing.{written-length, written-fits}
+use Rattle.plan_duals.specs.Laws.Drawing.{written-length}
 use Rattle.plan_duals.specs.Laws.Trace.{Replayed, replayed-none, replayed-more, replayed-end}
 use native.Mathlib.Omega.{arith}
 use Rattle.plan_draw.proofs.draw_trace.Statement.{statement}
 use Rattle.plan_draw.proofs.draw_trace.Tie as tie
 
 abbrev Inv-loop : tie.InvT-loop
-Inv-loop n firsts seconds values order rounds records₀ labels₀ sets₀ end count₀ c₀ records labels sets count c =
-    (c ≤ end) × Replayed (traceFrom n firsts seconds values order rounds) c labels sets records₀ records count
+Inv-loop n firsts seconds values order rounds records₀ ups₀ sets₀ end count₀ c₀ records ups sets count c =
+    (c ≤ end) × Replayed (traceFrom n firsts seconds values order rounds) c ups sets records₀ records count
 
 abbrev μ-loop : tie.MeasureT-loop
-μ-loop n firsts seconds values order rounds records₀ labels₀ sets₀ end count₀ c₀ records labels sets count c =
+μ-loop n firsts seconds values order rounds records₀ ups₀ sets₀ end count₀ c₀ records ups sets count c =
     end - c
 
 add-end : tie.Need-add-end Inv-loop μ-loop
-add-end c = let pre = c .before .before .before .before .before .before .before .before .pre in omega arith
+add-end c = let pre = c .before .before .before .before .before .pre in omega arith
 
 loop-holds : tie.Need-loop-holds Inv-loop μ-loop
-loop-holds c =
-    let labels = c .before .own-labels .ensures ∙ remade-table (λ v x. v) maxVertices _ (λ v. v) refl (λ v b. refl) in
-    (omega arith, replayed-none _ _ labels (length-replicate {A = List ℕ} maxVertices noMember))
+loop-holds c = (omega arith, replayed-none _ _ (length-replicate {A = ℕ} (2 * maxVertices) 0) (length-replicate {A = List ℕ} maxVertices noMember))
 
 slice-aggregate-arise : tie.Need-slice-aggregate-arise Inv-loop μ-loop
 slice-aggregate-arise c = sym (c .before .before .before .loop .inv .1 .sets-hold .long)
 
-arise-requires : tie.Need-arise-requires Inv-loop μ-loop
-arise-requires c κs =
-    let pre = c .before .before .before .before .before .before .before .before .before .before .before .before .pre in
-    record { few = omega arith; below = omega arith }
-
-write-dual-requires : tie.Need-write-dual-requires Inv-loop μ-loop
-write-dual-requires c κs =
-    let entry = c .before .before .before .before .before .before .before .before .before .before .before .before .before .before .before .before .before in
-    let a = entry .args in
-    written-fits _ _ (a .n + a .rounds) (c .before .before .before .before .before .before .before .before .loop .c) (entry .pre .room) (c .before .before .before .before .before .before .before .loop-test .taken) (c .before .before .before .before .before .before .before .before .loop .inv .1 .duals-written)
+cast-arise : tie.Need-cast-arise Inv-loop μ-loop
+cast-arise c = let pre = c .before .before .before .before .before .before .before .before .before .pre in omega arith
 
 loop-again : tie.Need-loop-again Inv-loop μ-loop
 loop-again c =
-    let entry = c .before .before .before .before .before .before .before .before .before .before .before .before .before .before .before .before .before .before .before .before in
+    let entry = c .before .before .before .before .before .before .before .before .before .before .before .before .before .before .before .before .before in
     let turn = c .before .before .before .before .before .before .before .before .before .before .before in
     let a = entry .args in
     let made = c .before .before .before .before .before .before .before .arise .ensures in
@@ -64,7 +53,7 @@ loop-again c =
 
 same-length : tie.Need-same-length Inv-loop μ-loop
 same-length c =
-    let pre = c .before .before .before .before .before .before .before .before .before .before .pre in
+    let pre = c .before .before .before .before .before .before .before .pre in
     written-length _ _ _ (omega arith) (c .before .loop .inv .1 .duals-written)
 
 returns : tie.Need-returns Inv-loop μ-loop
@@ -78,14 +67,13 @@ draw-trace-spec =
     (tie.spec
     Inv-loop
     μ-loop
-    (λ c. search needs)
-    (λ c κs. search needs)
     add-end
     loop-holds
     slice-aggregate-arise
-    arise-requires
+    cast-arise
     (λ c κs. search needs)
-    write-dual-requires
+    (λ c κs. search needs)
+    (λ c κs. search needs)
     (λ c. search needs)
     (λ c. search needs)
     loop-again

@@ -11,8 +11,8 @@ use native.Mathlib.Nat.{add-sub-cancel-left}
 use native.Mathlib.Decide.{ℕ-discrete}
 use lib.ListN.{length, getD, take, drop, length-take, length-drop, length-append, getD-replicate, List·getD-append}
 use lib.Seq.{ext-getD, getD-append-add, drop-at, drop-drop}
-use lib.Dec.{eqb, ltb}
-use borrow.Author.Tests.{eq-eqb, ne-eqb, lt-ltb, le-ltb, eqb-true}
+use lib.Dec.{eqb}
+use borrow.Author.Tests.{eq-eqb, ne-eqb, lt-ltb, le-ltb, le-leb, lt-leb, eqb-true}
 use Rattle.base_finite.specs.Laws.Test.{either, true-not-false, not-true-false}
 use Rattle.base_finite.specs.Laws.Below.{lt-or-ge, getD-tabulate}
 use Rattle.base_buffer.specs.Laws.Store.{length-remade, remade-passed}
@@ -24,7 +24,7 @@ use Rattle.format_record.specs.Laws.Bytes.{length-low}
 use Rattle.format_record.specs.Laws.Record.{length-record, record-of-none, overwritten-fits}
 use Rattle.theory_graph.specs.Component.{merged}
 use Rattle.plan_duals.specs.Trace.{Trace, labelAfter, memberOf}
-use Rattle.plan_duals.specs.Drawing.{recordsOf, recordsOver, recordsFrom, recordPut, dualPut, countPut, dualIf}
+use Rattle.plan_duals.specs.Drawing.{recordsOf, recordsOver, recordsFrom, recordPut, isPut, dualPut, countPut, dualIf, RecordsFit}
 use Rattle.plan_duals.specs.Members.{noMember, ored, copied}
 use Rattle.plan_duals.specs.Laws.Drawing.{from-none, from-one, dual-none, dual-one}
 
@@ -145,20 +145,33 @@ value-written x S =
     overwritten-fits (lowBytes valueBytes 0 ++ rest) low (omega (arith, length-low valueBytes x, length-low valueBytes 0, length-append (lowBytes valueBytes 0) rest))
     ∙ ap (λ l. low ++ l) (drop-at (lowBytes valueBytes 0) rest (length low) (length-low valueBytes 0 ∙ sym (length-low valueBytes x)))
 
+-- Whether a dual is put, by its value and by the room.
+pub put-none : (k x : ℕ) (old : List ℕ) → x ≡ 0 → isPut k x old ≡ false
+unfolding isPut
+put-none k x old e = rw e refl
+
+pub put-no-room : (k x : ℕ) (old : List ℕ) → 0 < x → length old < recordBytes * (k + 1) → isPut k x old ≡ false
+unfolding isPut
+put-no-room k x old some h = rw (lt-ltb 0 x some, lt-leb (recordBytes * (k + 1)) (length old) h)
+
+pub put-one : (k x : ℕ) (old : List ℕ) → 0 < x → recordBytes * (k + 1) ≤ length old → isPut k x old ≡ true
+unfolding isPut
+put-one k x old some h = rw (lt-ltb 0 x some, le-leb (recordBytes * (k + 1)) (length old) h)
+
 -- What is put for a value and a record of members are the records of the dual.
-pub put-dual : (k x : ℕ) (S : ℕ → Bool) (old : List ℕ) {set : List ℕ} → set ≡ recordOf 0 S →
-    (countPut k x ≡ k + length (dualIf x S)) × (dualPut k x set old ≡ recordsFrom k (dualIf x S) old)
+pub put-dual : (k x : ℕ) (S : ℕ → Bool) (old : List ℕ) {set : List ℕ} → RecordsFit (k + 1) old → set ≡ recordOf 0 S →
+    (countPut k x old ≡ k + length (dualIf x S)) × (dualPut k x set old ≡ recordsFrom k (dualIf x S) old)
 unfolding dualPut countPut recordPut recordsFrom recordsOver recordsOf
-put-dual k x S old {set} h = by (ℕ-discrete x 0)
+put-dual k x S old {set} fits h = by (ℕ-discrete x 0)
   where
-    by : Dec (x ≡ 0) → (countPut k x ≡ k + length (dualIf x S)) × (dualPut k x set old ≡ recordsFrom k (dualIf x S) old)
+    by : Dec (x ≡ 0) → (countPut k x old ≡ k + length (dualIf x S)) × (dualPut k x set old ≡ recordsFrom k (dualIf x S) old)
     by (yes e) =
         let none = dual-none x S e in
-        let still : ltb 0 x ≡ false = le-ltb 0 x (omega arith) in
+        let still : isPut k x old ≡ false = put-none k x old e in
         (rw (none, still) (omega arith), rw (none, still) (from-none k old))
     by (no d) =
         let one = dual-one x S d in
-        let more : ltb 0 x ≡ true = lt-ltb 0 x (omega arith) in (
+        let more : isPut k x old ≡ true = put-one k x old (omega (arith, d)) (fits .room) in (
           rw (one, more) refl,
           rw (one, more, h, value-written x S) (sym (put-whole k old {r = recordOf x S} {new = recordOf x S} refl) ∙ from-one k (record { value = x; holds = S }) old refl),
         )

@@ -1,11 +1,10 @@
--- Laws of the replay: labels in a buffer are those of the trace, the records of the rounds have the members of their components, and with them the
+-- Laws of the replay: the roots of its trees are the labels of the trace, the records of the rounds have the members of their components, and with them the
 -- duals are drawn. The code of drawing uses them.
-use Prim.Native.Nat.{ℕ, suc, _+_, _-_, _≤_, _<_}
+use Prim.Native.Nat.{ℕ, zero, suc, _+_, _*_, _-_, _≤_, _<_}
 use native.Mathlib.Omega.{arith}
-use native.Mathlib.Numerals.{add-one}
-use mathlib.Core.Path.{_≡_, refl, ap, ap₂, sym, _∙_, fun-ext}
-use mathlib.Core.Bool.{Bool, true, false, _||_, cond, or-self}
-use mathlib.Core.Logic.{⊎-elim}
+use mathlib.Core.Path.{_≡_, refl, ap, sym, _∙_, fun-ext}
+use mathlib.Core.Bool.{Bool, false, _||_, cond, or-self}
+use mathlib.Core.Logic.{inl, inr, ⊎-elim}
 use mathlib.Core.List.{List}
 use native.Mathlib.Decide.{ℕ-discrete}
 use lib.ListN.{length, getD, length-set}
@@ -13,58 +12,65 @@ use lib.ListN as ListN
 use lib.Seq.{getD-set-same, getD-set-other}
 use lib.Dec.{ltb}
 use borrow.Author.Tests.{lt-ltb, le-ltb}
-use Rattle.base_finite.specs.Below.{tabulate}
-use Rattle.base_finite.specs.Laws.Below.{lt-or-ge, length-tabulate, getD-tabulate}
+use Rattle.base_finite.specs.Laws.Below.{lt-or-ge}
 use Rattle.base_limits.specs.Limits.{maxVertices}
 use Rattle.format_record.specs.Record.{recordOf, withMemberIn}
 use Rattle.format_record.specs.Laws.Record.{member-added-record}
-use Rattle.base_buffer.specs.Laws.Store.{tabulate-cong, remade-part}
 use Rattle.theory_graph.specs.Component.{merged}
-use Rattle.plan_active.specs.Flags.{relabelledFirst}
+use Rattle.theory_graph.specs.Laws.Component.{merged-in, merged-out, merged-cong}
+use Rattle.survey_labels.specs.Roots.{Climbed, climbedTo, climbed}
 use Rattle.plan_duals.specs.Drawing.{dualPut, countPut, dualsBelow, DualsWritten}
-use Rattle.plan_duals.specs.Trace.{Trace, labelAfter, labelHeld, partOf, arisen, memberOf, traceDuals, Drawable}
+use Rattle.plan_duals.specs.Trace.{Trace, labelAfter, partOf, hungOn, memberOf, traceDuals, Drawable}
 use Rattle.plan_duals.specs.Members.{noMember, ored, withPart, unionOf, setsKept, SetsHold}
-use Rattle.plan_duals.specs.Laws.Drawing.{written-none, written-more, written-end}
+use Rattle.plan_duals.specs.Laws.Drawing.{written-none, written-more, written-end, written-fits}
 use Rattle.plan_duals.specs.Laws.Members.{ored-records, no-member-record, put-dual, label-below, single-members, union-of-parts}
+use Rattle.plan_duals.specs.Laws.Rising.{Rising, Found, climb-rising, length-hung, one-more}
 
--- ---- labels in a buffer
+-- ---- labels
 
-label-at : (t : Trace) (r v : ℕ) {labels : List ℕ} → t .vertices ≤ maxVertices → v < t .vertices → labels ≡ tabulate maxVertices (labelHeld t r) →
-    getD labels v 0 ≡ labelAfter t r v
-unfolding labelHeld
-label-at t r v few b h =
-    ap (λ l. getD l v 0) h
-    ∙ getD-tabulate maxVertices (labelHeld t r) v 0 (omega arith)
-    ∙ ap (λ x. cond x (labelAfter t r v) v) (lt-ltb v (t .vertices) b)
+-- What has not arisen after r rounds is its own label.
+label-past : (t : Trace) (r c : ℕ) → ((k : ℕ) → k < r → t .first k < t .vertices) → ((k : ℕ) → k < r → t .second k < t .vertices) → t .vertices + r ≤ c →
+    labelAfter t r c ≡ c
+unfolding labelAfter
+label-past t zero c a b h = refl
+label-past t (suc r) c a b h =
+    let own : labelAfter t r c ≡ c = label-past t r c (λ k l. a k (omega arith)) (λ k l. b k (omega arith)) (omega arith) in
+    let x = label-below t r (t .first r) (a r (omega arith)) in
+    let y = label-below t r (t .second r) (b r (omega arith)) in
+    merged-out (labelAfter t r (t .first r)) (labelAfter t r (t .second r)) (t .vertices + r) (labelAfter t r) c (λ e. omega arith) (λ e. omega arith) ∙ own
 
-same-either : (x : Bool) (v : ℕ) → cond x v v ≡ v
-same-either true v = refl
-same-either false v = refl
+-- Before the first round, so of single vertices.
+label-first : (t : Trace) (r v : ℕ) → r ≡ 0 → labelAfter t r v ≡ v
+unfolding labelAfter
+label-first t r v e = ap (λ k. labelAfter t k v) e
 
-labels-none : (t : Trace) {labels : List ℕ} → labels ≡ tabulate maxVertices (λ v. v) → labels ≡ tabulate maxVertices (labelHeld t 0)
-unfolding labelHeld labelAfter
-labels-none t h = h ∙ tabulate-cong maxVertices (λ v. v) (labelHeld t 0) (λ v b. sym (same-either (ltb v (t .vertices)) v))
+label-next : (t : Trace) (r k c v : ℕ) {x y : ℕ} → k ≡ suc r → c ≡ t .vertices + r → x ≡ labelAfter t r (t .first r) → y ≡ labelAfter t r (t .second r) →
+    labelAfter t k v ≡ merged x y c (labelAfter t r) v
+unfolding labelAfter
+label-next t r k c v e z a b = rw (e, z, a, b)
 
--- One round more.
-labels-more : (t : Trace) (r : ℕ) {x y : ℕ} {labels : List ℕ} → t .vertices ≤ maxVertices → x ≡ labelAfter t r (t .first r) → y ≡ labelAfter t r (t .second r) →
-    labels ≡ tabulate maxVertices (labelHeld t r) → relabelledFirst (t .vertices) x y (t .vertices + r) labels ≡ tabulate maxVertices (labelHeld t (r + 1))
-unfolding labelHeld labelAfter relabelledFirst merged
-labels-more t r {labels = labels} few a b h =
-    rw (a, b, add-one r)
-    (remade-part
-    (λ i. merged (labelAfter t r (t .first r)) (labelAfter t r (t .second r)) (t .vertices + r) (λ l. l))
-    (t .vertices)
-    maxVertices
-    labels
-    (labelHeld t (suc r))
-    (ap length h ∙ length-tabulate maxVertices _)
-    few
-    (λ i k. rw (label-at t r i few k h, lt-ltb i (t .vertices) k) refl)
-    (λ i k c.
-    ap (λ l. getD l i 0) h
-    ∙ getD-tabulate maxVertices (labelHeld t r) i 0 c
-    ∙ ap (λ x. cond x (labelAfter t r i) i) (le-ltb i (t .vertices) k)
-    ∙ sym (ap (λ x. cond x (labelAfter t (suc r) i) i) (le-ltb i (t .vertices) k))))
+-- ---- the trees when component c arises
+
+module _ (t : Trace) (c : ℕ) (below : c < t .vertices + t .rounds) (first-below : (r : ℕ) → r < t .rounds → t .first r < t .vertices)
+    (second-below : (r : ℕ) → r < t .rounds → t .second r < t .vertices) (ups : List ℕ) (h : Rising c (labelAfter t (c - t .vertices)) ups) where
+  abbrev r : ℕ
+  r = c - t .vertices
+
+  abbrev label : ℕ → ℕ
+  label = labelAfter t r
+
+  abbrev one : Climbed
+  one = climbed c ups (t .first r)
+
+  abbrev two : Climbed
+  two = climbed c (one .parents) (t .second r)
+
+  first-found : t .vertices ≤ c → Found c label (t .first r) ups one
+  first-found l = climb-rising c label c ups h (t .first r) (let b = first-below r (omega arith) in omega arith) (omega arith)
+
+  second-found : t .vertices ≤ c → Found c label (t .second r) (one .parents) two
+  second-found l =
+      climb-rising c label c (one .parents) (first-found l .rising) (t .second r) (let b = second-below r (omega arith) in omega arith) (omega arith)
 
 -- ---- the records of the rounds
 
@@ -97,12 +103,12 @@ module _ (t : Trace) (few : t .vertices ≤ maxVertices) where
       ∙ part-added r y (λ v. memberOf t x v) b h
 
   -- The members of component c, when the components before it have arisen.
-  set-held : (c : ℕ) {labels : List ℕ} {sets : List (List ℕ)} → c < t .vertices + t .rounds →
-      ((r : ℕ) → r < t .rounds → t .first r < t .vertices) → ((r : ℕ) → r < t .rounds → t .second r < t .vertices) →
-      labels ≡ tabulate maxVertices (labelHeld t (c - t .vertices)) → SetsHold t (c - t .vertices) sets →
-      unionOf sets (t .vertices) (partOf (t .first) (t .vertices) labels c) (partOf (t .second) (t .vertices) labels c) ≡ recordOf 0 (memberOf t c)
+  set-held : (c : ℕ) (below : c < t .vertices + t .rounds) (a : (r : ℕ) → r < t .rounds → t .first r < t .vertices) (b : (r : ℕ) → r < t .rounds → t .second r < t .vertices)
+      (ups : List ℕ) {sets : List (List ℕ)} → Rising c (labelAfter t (c - t .vertices)) ups → SetsHold t (c - t .vertices) sets →
+      unionOf sets (t .vertices) (partOf (t .first) (t .vertices) c ups .root) (partOf (t .second) (t .vertices) c (partOf (t .first) (t .vertices) c ups .parents) .root)
+      ≡ recordOf 0 (memberOf t c)
   unfolding partOf
-  set-held c {labels} {sets} below a b h k = ⊎-elim single made (lt-or-ge c n)
+  set-held c below a b ups {sets} h k = ⊎-elim single made (lt-or-ge c n)
     where
       n : ℕ
       n = t .vertices
@@ -110,17 +116,23 @@ module _ (t : Trace) (few : t .vertices ≤ maxVertices) where
       r : ℕ
       r = c - n
 
-      single : c < n → unionOf sets n (cond (ltb c n) c (getD labels (t .first r) 0)) (cond (ltb c n) c (getD labels (t .second r) 0)) ≡ recordOf 0 (memberOf t c)
+      x : Climbed
+      x = cond (ltb c n) (climbedTo c ups) (climbed c ups (t .first r))
+
+      y : Climbed
+      y = cond (ltb c n) (climbedTo c (x .parents)) (climbed c (x .parents) (t .second r))
+
+      single : c < n → unionOf sets n (x .root) (y .root) ≡ recordOf 0 (memberOf t c)
       single l =
           rw (lt-ltb c n l)
           (union-held r c c (omega arith) (omega arith) k ∙ ap (recordOf 0) (fun-ext (λ v. or-self (memberOf t c v))))
 
-      made : n ≤ c → unionOf sets n (cond (ltb c n) c (getD labels (t .first r) 0)) (cond (ltb c n) c (getD labels (t .second r) 0)) ≡ recordOf 0 (memberOf t c)
+      made : n ≤ c → unionOf sets n (x .root) (y .root) ≡ recordOf 0 (memberOf t c)
       made l =
           let number : n + r ≡ c = omega arith in
           let first : t .first r < n = a r (omega arith) in
           let second : t .second r < n = b r (omega arith) in
-          rw (le-ltb c n l, label-at t r (t .first r) few first h, label-at t r (t .second r) few second h)
+          rw (le-ltb c n l, first-found t c below a b ups h l .is, second-found t c below a b ups h l .is)
           (union-held r (labelAfter t r (t .first r)) (labelAfter t r (t .second r)) (label-below t r (t .first r) first) (label-below t r (t .second r) second) k
           ∙ ap (recordOf 0) (sym (union-of-parts t r first second))
           ∙ ap (λ i. recordOf 0 (memberOf t i)) number)
@@ -156,13 +168,13 @@ module _ (t : Trace) (few : t .vertices ≤ maxVertices) where
           (record { long = length-set sets r set ∙ h .long; at = λ k b. by k l b (ℕ-discrete k r) })
 
 -- Component c has arisen.
-arisen-labels : (t : Trace) (c : ℕ) {labels : List ℕ} → t .vertices ≤ maxVertices → c < t .vertices + t .rounds →
-    ((r : ℕ) → r < t .rounds → t .first r < t .vertices) → ((r : ℕ) → r < t .rounds → t .second r < t .vertices) →
-    labels ≡ tabulate maxVertices (labelHeld t (c - t .vertices)) →
-    arisen (partOf (t .first) (t .vertices) labels c) (partOf (t .second) (t .vertices) labels c) (t .vertices) c labels
-    ≡ tabulate maxVertices (labelHeld t (c + 1 - t .vertices))
-unfolding arisen partOf
-arisen-labels t c {labels} few below a b h = ⊎-elim single made (lt-or-ge c n)
+arisen : (t : Trace) (c : ℕ) (below : c < t .vertices + t .rounds) (a : (r : ℕ) → r < t .rounds → t .first r < t .vertices)
+    (b : (r : ℕ) → r < t .rounds → t .second r < t .vertices) (ups : List ℕ) {after : List ℕ} → c < length ups → Rising c (labelAfter t (c - t .vertices)) ups →
+    after ≡ hungOn (partOf (t .first) (t .vertices) c ups .root) (partOf (t .second) (t .vertices) c (partOf (t .first) (t .vertices) c ups .parents) .root) c
+    (partOf (t .second) (t .vertices) c (partOf (t .first) (t .vertices) c ups .parents) .parents) →
+    Rising (c + 1) (labelAfter t (c + 1 - t .vertices)) after × (length after ≡ length ups)
+unfolding partOf
+arisen t c below a b ups {after} room h is = rw is (⊎-elim single made (lt-or-ge c n))
   where
     n : ℕ
     n = t .vertices
@@ -170,64 +182,103 @@ arisen-labels t c {labels} few below a b h = ⊎-elim single made (lt-or-ge c n)
     r : ℕ
     r = c - n
 
-    after : List ℕ
-    after = cond (ltb c n) labels (relabelledFirst n (cond (ltb c n) c (getD labels (t .first r) 0)) (cond (ltb c n) c (getD labels (t .second r) 0)) c labels)
+    k : ℕ
+    k = c + 1 - n
 
-    single : c < n → after ≡ tabulate maxVertices (labelHeld t (c + 1 - n))
+    x : Climbed
+    x = cond (ltb c n) (climbedTo c ups) (climbed c ups (t .first r))
+
+    y : Climbed
+    y = cond (ltb c n) (climbedTo c (x .parents)) (climbed c (x .parents) (t .second r))
+
+    single : c < n → Rising (c + 1) (labelAfter t k) (hungOn (x .root) (y .root) c (y .parents)) × (length (hungOn (x .root) (y .root) c (y .parents)) ≡ length ups)
     single l =
-        let same : c - n ≡ c + 1 - n = omega arith in
-        rw (lt-ltb c n l) (h ∙ ap (λ k. tabulate maxVertices (labelHeld t k)) same)
+        let next : (v : ℕ) → labelAfter t k v ≡ v = λ v. label-first t k v (omega arith) in
+        let last : (v : ℕ) → labelAfter t r v ≡ v = λ v. label-first t r v (omega arith) in
+        rw (lt-ltb c n l) (
+          one-more c c c (labelAfter t r) (labelAfter t k) ups h room (omega arith) (omega arith) (next c) (next c) (next c)
+              (λ u v e. next u ∙ sym (last u) ∙ e ∙ last v ∙ sym (next v))
+              (λ v p q e. next v),
+          length-hung c c c ups,
+        )
 
-    made : n ≤ c → after ≡ tabulate maxVertices (labelHeld t (c + 1 - n))
+    made : n ≤ c → Rising (c + 1) (labelAfter t k) (hungOn (x .root) (y .root) c (y .parents)) × (length (hungOn (x .root) (y .root) c (y .parents)) ≡ length ups)
     made l =
-        let number : c ≡ n + r = omega arith in
-        let next : r + 1 ≡ c + 1 - n = omega arith in
-        let first : t .first r < n = a r (omega arith) in
-        let second : t .second r < n = b r (omega arith) in
-        rw (le-ltb c n l)
-        (ap (λ k. relabelledFirst n (getD labels (t .first r) 0) (getD labels (t .second r) 0) k labels) number
-        ∙ labels-more t r few (label-at t r (t .first r) few first h) (label-at t r (t .second r) few second h) h
-        ∙ ap (λ k. tabulate maxVertices (labelHeld t k)) next)
+        let first = first-found t c below a b ups h l in
+        let second = second-found t c below a b ups h l in
+        rw (le-ltb c n l) (
+          by (climbed c ups (t .first r)) (climbed c (climbed c ups (t .first r) .parents) (t .second r)) first second,
+          length-hung _ _ c _ ∙ second .long ∙ first .long,
+        )
+      where
+        by : (one two : Climbed) → Found c (labelAfter t r) (t .first r) ups one → Found c (labelAfter t r) (t .second r) (one .parents) two
+            → Rising (c + 1) (labelAfter t k) (hungOn (one .root) (two .root) c (two .parents))
+        by one two f s =
+            let own : labelAfter t r c ≡ c = label-past t r c (λ i l. a i (omega arith)) (λ i l. b i (omega arith)) (omega arith) in
+            let x = one .root in
+            let y = two .root in
+            let bx = f .root-below in
+            let by = s .root-below in
+            let long = s .long ∙ f .long in
+            let next : (v : ℕ) → labelAfter t k v ≡ merged x y c (labelAfter t r) v = λ v. label-next t r k c v (omega arith) (omega arith) (f .is) (s .is) in
+            one-more c x y (labelAfter t r) (labelAfter t k) (two .parents) (s .rising) (omega arith) (omega arith) (omega arith)
+            (next x ∙ merged-in x y c (labelAfter t r) x (inl (f .own)))
+            (next y ∙ merged-in x y c (labelAfter t r) y (inr (s .own)))
+            (next c ∙ merged-out x y c (labelAfter t r) c (λ e. omega arith) (λ e. omega arith) ∙ own)
+            (λ u v e. next u ∙ merged-cong x y c (labelAfter t r) u v e ∙ sym (next v))
+            (λ v p q e. next v ∙ merged-out x y c (labelAfter t r) v (λ d. p (sym e ∙ d)) (λ d. q (sym e ∙ d)) ∙ e)
 
 -- ---- the replay, up to component number c
 
-pub record Replayed (t : Trace) (c : ℕ) (labels : List ℕ) (sets : List (List ℕ)) (old new : List ℕ) (count : ℕ) : Type 0 where
-  pub labels-are : labels ≡ tabulate maxVertices (labelHeld t (c - t .vertices))
+pub record Replayed (t : Trace) (c : ℕ) (ups : List ℕ) (sets : List (List ℕ)) (old new : List ℕ) (count : ℕ) : Type 0 where
+  pub places : length ups ≡ 2 * maxVertices
+  pub ups-rise : Rising c (labelAfter t (c - t .vertices)) ups
   pub sets-hold : SetsHold t (c - t .vertices) sets
   pub duals-written : DualsWritten (dualsBelow (t .value) (memberOf t) c) old new count
 
-pub replayed-none : (t : Trace) {labels : List ℕ} {sets : List (List ℕ)} (old : List ℕ) → labels ≡ tabulate maxVertices (λ v. v) → length sets ≡ maxVertices →
-    Replayed t 0 labels sets old old 0
-replayed-none t old h long =
-    let start : 0 - t .vertices ≡ 0 = omega arith in
+pub replayed-none : (t : Trace) {ups : List ℕ} {sets : List (List ℕ)} (old : List ℕ) → length ups ≡ 2 * maxVertices → length sets ≡ maxVertices →
+    Replayed t 0 ups sets old old 0
+replayed-none t old places long =
     record {
-      labels-are = rw start (labels-none t h);
+      places = places;
+      ups-rise =
+          record {
+            fits = omega arith;
+            below = λ v b. absurd (omega arith);
+            rises = λ v b. absurd (omega arith);
+            same = λ v b. absurd (omega arith);
+            root = λ v b e. absurd (omega arith);
+          };
       sets-hold = record { long = long; at = λ k b. absurd (omega arith) };
       duals-written = written-none (t .value) (memberOf t) old;
     }
 
 -- One component more.
-pub replayed-more : (t : Trace) (c : ℕ) {labels labels' set old mid new records : List ℕ} {sets sets' : List (List ℕ)} {k x count : ℕ} → Drawable t records →
-    c < t .vertices + t .rounds → Replayed t c labels sets old mid k →
-    set ≡ unionOf sets (t .vertices) (partOf (t .first) (t .vertices) labels c) (partOf (t .second) (t .vertices) labels c) →
-    labels' ≡ arisen (partOf (t .first) (t .vertices) labels c) (partOf (t .second) (t .vertices) labels c) (t .vertices) c labels →
+pub replayed-more : (t : Trace) (c : ℕ) {ups after set old mid new : List ℕ} {sets sets' : List (List ℕ)} {k x count : ℕ} → Drawable t old →
+    c < t .vertices + t .rounds → Replayed t c ups sets old mid k →
+    set ≡ unionOf sets (t .vertices) (partOf (t .first) (t .vertices) c ups .root) (partOf (t .second) (t .vertices) c (partOf (t .first) (t .vertices) c ups .parents) .root) →
+    after ≡ hungOn (partOf (t .first) (t .vertices) c ups .root) (partOf (t .second) (t .vertices) c (partOf (t .first) (t .vertices) c ups .parents) .root) c
+    (partOf (t .second) (t .vertices) c (partOf (t .first) (t .vertices) c ups .parents) .parents) →
     sets' ≡ setsKept (t .vertices) c set sets →
-    x ≡ t .value c → count ≡ countPut k x → new ≡ dualPut k x set mid →
-    Replayed t (c + 1) labels' sets' old new count
-replayed-more t c {set = set} {mid = mid} {k = k} {x = x} ok below s u h kept v a b =
-    let is : set ≡ recordOf 0 (memberOf t c) = u ∙ set-held t (ok .few) c below (ok .first-below) (ok .second-below) (s .labels-are) (s .sets-hold) in
-    let put = put-dual k x (memberOf t c) mid is in
+    x ≡ t .value c → count ≡ countPut k x mid → new ≡ dualPut k x set mid →
+    Replayed t (c + 1) after sets' old new count
+replayed-more t c {ups = ups} {set = set} {mid = mid} {k = k} {x = x} ok below s u h kept v a b =
+    let is : set ≡ recordOf 0 (memberOf t c) = u ∙ set-held t (ok .few) c below (ok .first-below) (ok .second-below) ups (s .ups-rise) (s .sets-hold) in
+    let fits = written-fits (t .value) (memberOf t) (t .vertices + t .rounds) c (ok .room) below (s .duals-written) in
+    let put = put-dual k x (memberOf t c) mid fits is in
+    let few = ok .few in
+    let few-rounds = ok .few-rounds in
+    let places = s .places in
+    let next = arisen t c below (ok .first-below) (ok .second-below) ups (omega arith) (s .ups-rise) h in
     record {
-      labels-are = h ∙ arisen-labels t c (ok .few) below (ok .first-below) (ok .second-below) (s .labels-are);
-      sets-hold = rw kept (kept-more t (ok .few) c (within (ok .few) (ok .few-rounds)) is (s .sets-hold));
+      places = next .1 ∙ places;
+      ups-rise = next .0;
+      sets-hold = rw kept (kept-more t few c (omega arith) is (s .sets-hold));
       duals-written = written-more (t .value) (memberOf t) c v refl (s .duals-written) (a ∙ put .0) (b ∙ put .1);
     }
-  where
-    within : t .vertices ≤ maxVertices → t .rounds ≤ t .vertices → c < t .vertices + maxVertices
-    within p q = omega arith
 
 -- All components.
-pub replayed-end : (t : Trace) (c : ℕ) {labels old new : List ℕ} {sets : List (List ℕ)} {count : ℕ} → c ≤ t .vertices + t .rounds → t .vertices + t .rounds ≤ c →
-    Replayed t c labels sets old new count → DualsWritten (traceDuals t) old new count
+pub replayed-end : (t : Trace) (c : ℕ) {ups old new : List ℕ} {sets : List (List ℕ)} {count : ℕ} → c ≤ t .vertices + t .rounds → t .vertices + t .rounds ≤ c →
+    Replayed t c ups sets old new count → DualsWritten (traceDuals t) old new count
 unfolding traceDuals
 replayed-end t c a b s = written-end (t .value) (memberOf t) a b (s .duals-written)

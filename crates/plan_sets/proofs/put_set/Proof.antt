@@ -3,8 +3,8 @@ use mathlib.Core.Path.{refl, sym}
 use lib.Seq.{set-out}
 use native.Mathlib.Omega.{arith}
 use borrow.Author.Needs.{needs}
-use Rattle.plan_members.proofs.put_set.Statement.{statement}
-use Rattle.plan_members.proofs.put_set.Tie as tie
+use Rattle.plan_sets.proofs.put_set.Statement.{statement}
+use Rattle.plan_sets.proofs.put_set.Tie as tie
 
 -- no such round
 returns : tie.Need-returns

@@ -6,8 +6,8 @@ use Rattle.plan_duals.specs.Members.{noMember}
 use Rattle.plan_duals.specs.Laws.Members.{at-any}
 use native.Mathlib.Omega.{arith}
 use borrow.Author.Needs.{needs}
-use Rattle.plan_members.proofs.set_at.Statement.{statement}
-use Rattle.plan_members.proofs.set_at.Tie as tie
+use Rattle.plan_sets.proofs.set_at.Statement.{statement}
+use Rattle.plan_sets.proofs.set_at.Tie as tie
 
 -- a round within the limits
 returns : tie.Need-returns

@@ -8,8 +8,8 @@ use Rattle.base_buffer.specs.Laws.Store.{length-remade, remade-more, remade-end
 use Rattle.plan_duals.specs.Members.{copied}
 use native.Mathlib.Omega.{arith}
 use borrow.Author.Needs.{needs}
-use Rattle.plan_members.proofs.copy_record.Statement.{statement}
-use Rattle.plan_members.proofs.copy_record.Tie as tie
+use Rattle.plan_record.proofs.copy_record.Statement.{statement}
+use Rattle.plan_record.proofs.copy_record.Tie as tie
 
 abbrev Inv-loop : tie.InvT-loop
 Inv-loop part₀ set i₀ part i = (i ≤ recordBytes) × (part ≡ remade (λ j b. getD set j 0) i part₀)

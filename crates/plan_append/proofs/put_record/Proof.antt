@@ -3,8 +3,8 @@ use mathlib.Core.Path.{ap, _∙_}
 use Rattle.format_record.specs.Record.{withValue}
 use Rattle.plan_duals.specs.Laws.Members.{copied-whole, place-long, put-whole}
 use borrow.Author.Needs.{needs}
-use Rattle.plan_draw.proofs.put_record.Statement.{statement}
-use Rattle.plan_draw.proofs.put_record.Tie as tie
+use Rattle.plan_append.proofs.put_record.Statement.{statement}
+use Rattle.plan_append.proofs.put_record.Tie as tie
 
 returns : tie.Need-returns
 returns c =

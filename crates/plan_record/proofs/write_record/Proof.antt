@@ -2,8 +2,8 @@
 use mathlib.Core.Path.{ap, _∙_}
 use Rattle.format_record.specs.Record.{withValue}
 use borrow.Author.Needs.{needs}
-use Rattle.plan_members.proofs.write_record.Statement.{statement}
-use Rattle.plan_members.proofs.write_record.Tie as tie
+use Rattle.plan_record.proofs.write_record.Statement.{statement}
+use Rattle.plan_record.proofs.write_record.Tie as tie
 
 returns : tie.Need-returns
 returns c =
