@@ -1,4 +1,4 @@
--- `format_also_lines::also_line` meets its contract: a line past the last is malformed, another is read and then tested.
+-- `format_also_line::also_line` meets its contract: a line past the last is malformed, another is read and then tested.
 use native.Mathlib.Omega.{arith}
 use borrow.Author.Needs.{needs}
 use Prim.Native.Nat.{_≤_}
@@ -6,8 +6,8 @@ use mathlib.Core.Path.{ap, sym, _∙_}
 use Rattle.base_limits.specs.Limits.{maxPairs}
 use Rattle.format_also.specs.Answer.{pairStep}
 use Rattle.format_also.specs.Laws.Tests.{pair-digits, line-past, line-malformed, line-refused, line-fine}
-use Rattle.format_also_lines.proofs.also_line.Statement.{statement}
-use Rattle.format_also_lines.proofs.also_line.Tie as tie
+use Rattle.format_also_line.proofs.also_line.Statement.{statement}
+use Rattle.format_also_line.proofs.also_line.Tie as tie
 
 -- 16: past the last line that may be
 returns : tie.Need-returns
@@ -30,11 +30,21 @@ returns-2 c =
     ap pairStep told
     ∙ sym (line-malformed (a .text .now) (a .groups .now) (a .room) (a .low) (a .i) (a .cursor .at) (c .before .before .before .if1 .left) (sym (c .before .before .pair-at .ensures) ∙ ap pairStep told))
 
-pair-test-requires : tie.Need-pair-test-requires
+cast-pair-test : tie.Need-cast-pair-test
 unfolding pairStep
-pair-test-requires c κs =
+cast-pair-test c =
     let a = c .before .before .before .before .before .before .before .args in
-    pair-digits (a .text .now) (a .cursor .at) (sym (c .before .before .before .pair-at .ensures) ∙ ap pairStep (c .before .line .given .1))
+    let digits = pair-digits (a .text .now) (a .cursor .at) (sym (c .before .before .before .pair-at .ensures) ∙ ap pairStep (c .before .line .given .1)) in
+    let k = digits .owner in
+    omega arith
+
+cast-pair-test-2 : tie.Need-cast-pair-test-2
+unfolding pairStep
+cast-pair-test-2 c =
+    let a = c .before .before .before .before .before .before .before .args in
+    let digits = pair-digits (a .text .now) (a .cursor .at) (sym (c .before .before .before .pair-at .ensures) ∙ ap pairStep (c .before .line .given .1)) in
+    let k = digits .other in
+    omega arith
 
 -- the pair passes
 returns-3 : tie.Need-returns-3
@@ -65,7 +75,9 @@ also-line-spec =
     (λ c. search needs)
     enum-told
     returns-2
-    pair-test-requires
+    cast-pair-test
+    cast-pair-test-2
+    (λ c κs. search needs)
     (λ c. search needs)
     (λ c. search needs)
     returns-3

@@ -1,12 +1,12 @@
--- `format_also_lines::pair_test` meets its contract: each test decides a case of the definition.
+-- `format_also_test::pair_test` meets its contract: each test decides a case of the definition.
 use native.Mathlib.Omega.{arith}
 use borrow.Author.Needs.{needs}
 use Prim.Native.Nat.{ℕ, _≤_, _<_}
 use mathlib.Core.Path.{sym, _∙_, subst}
 use Rattle.format_also.specs.Pair.{pairOf, rank}
 use Rattle.format_also.specs.Laws.Tests.{also-high, also-out, also-none, also-own, also-falls, also-full, also-fine}
-use Rattle.format_also_lines.proofs.pair_test.Statement.{statement}
-use Rattle.format_also_lines.proofs.pair_test.Tie as tie
+use Rattle.format_also_test.proofs.pair_test.Statement.{statement}
+use Rattle.format_also_test.proofs.pair_test.Tie as tie
 
 -- 17: no group
 returns : tie.Need-returns
