@@ -1,11 +1,11 @@
--- `format_survey_read::ended` meets its contract: a refusal of a line stays, and the end of the text is looked for last.
+-- `format_survey_decide::ended` meets its contract: a refusal of a line stays, and the end of the text is looked for last.
 use borrow.Author.Needs.{needs}
 use mathlib.Core.Path.{ap, sym, _∙_}
 use Rattle.format_grammar.specs.Laws.Step.{then-found, then-refused}
 use Rattle.format_grammar.specs.Laws.Bytes.{end-here, end-later}
 use Rattle.format_number.specs.Answer.{numberStep}
-use Rattle.format_survey_read.proofs.ended.Statement.{statement}
-use Rattle.format_survey_read.proofs.ended.Tie as tie
+use Rattle.format_survey_decide.proofs.ended.Statement.{statement}
+use Rattle.format_survey_decide.proofs.ended.Tie as tie
 
 -- a line is refused
 returns : tie.Need-returns

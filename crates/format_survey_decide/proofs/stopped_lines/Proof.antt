@@ -1,12 +1,12 @@
--- `format_survey_read::stopped_lines` meets its contract, by the case that the step is.
+-- `format_survey_decide::stopped_lines` meets its contract, by the case that the step is.
 use borrow.Author.Needs.{needs}
 use mathlib.Core.Path.{sym, ap}
 use Rattle.format_number.specs.Answer.{numberStep}
 use Rattle.format_grammar.specs.Step.{stopped}
 use Rattle.format_survey.specs.Reading.{stepOutcome}
 use Rattle.format_survey.specs.Answer.{TextCounts, countsOutcome}
-use Rattle.format_survey_read.proofs.stopped_lines.Statement.{statement}
-use Rattle.format_survey_read.proofs.stopped_lines.Tie as tie
+use Rattle.format_survey_decide.proofs.stopped_lines.Statement.{statement}
+use Rattle.format_survey_decide.proofs.stopped_lines.Tie as tie
 
 returns : tie.Need-returns
 unfolding countsOutcome numberStep stopped stepOutcome
