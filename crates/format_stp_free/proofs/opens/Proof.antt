@@ -1,4 +1,4 @@
--- `format_stp_number::opens` meets its contract: one of the numbers reaches, or none does.
+-- `format_stp_free::opens` meets its contract: one of the numbers reaches, or none does.
 use borrow.Author.Needs.{needs}
 use native.Mathlib.Omega.{arith}
 use Prim.Native.Nat.{_+_, _-_, _≤_}
@@ -9,8 +9,8 @@ use Rattle.base_finite.specs.Laws.Count.{any-more, any-end}
 use Rattle.format_stp_rule.specs.Laws.Lines.{free-elim}
 use Rattle.format_stp_rule.specs.Laws.Number.{opens-itself, opens-zero, opens-later, opens-none}
 use Rattle.format_stp_rule.specs.StpNumber.{isFree, reaches}
-use Rattle.format_stp_number.proofs.opens.Statement.{statement}
-use Rattle.format_stp_number.proofs.opens.Tie as tie
+use Rattle.format_stp_free.proofs.opens.Statement.{statement}
+use Rattle.format_stp_free.proofs.opens.Tie as tie
 
 abbrev Inv-loop : tie.InvT-loop
 Inv-loop groups low high more x i₀ i = (i ≤ high) × (anyBelow i (λ j. reaches (isFree groups low high) more x (j + 1)) ≡ false)

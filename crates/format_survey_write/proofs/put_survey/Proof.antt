@@ -11,8 +11,8 @@ use Rattle.format_survey.specs.Render.{render}
 use Rattle.format_survey_print.specs.Print.{surveyText}
 use Rattle.format_survey_print.specs.Laws.Print.{edges-count}
 use borrow.Author.Needs.{needs}
-use Rattle.format_survey_out.proofs.put_survey.Statement.{statement}
-use Rattle.format_survey_out.proofs.put_survey.Tie as tie
+use Rattle.format_survey_write.proofs.put_survey.Statement.{statement}
+use Rattle.format_survey_write.proofs.put_survey.Tie as tie
 
 returns : tie.Need-returns
 unfolding surveyText render

@@ -1,10 +1,10 @@
--- `format_stp_number::leads_to` meets its contract: a digit of v is dropped at each turn.
+-- `format_stp_free::leads_to` meets its contract: a digit of v is dropped at each turn.
 use borrow.Author.Needs.{needs}
 use mathlib.Core.Path.{_≡_, _∙_, sym, refl}
 use Rattle.format_stp_rule.specs.StpNumber.{leadsTo}
-use Rattle.format_stp_number.specs.Laws.Turn.{leads-there, leads-on, leads-last}
-use Rattle.format_stp_number.proofs.leads_to.Statement.{statement}
-use Rattle.format_stp_number.proofs.leads_to.Tie as tie
+use Rattle.format_stp_free.specs.Laws.Turn.{leads-there, leads-on, leads-last}
+use Rattle.format_stp_free.proofs.leads_to.Statement.{statement}
+use Rattle.format_stp_free.proofs.leads_to.Tie as tie
 
 abbrev Inv-loop : tie.InvT-loop
 Inv-loop more x v rest₀ left₀ rest left = leadsTo left x rest ≡ leadsTo more x v

@@ -1,10 +1,10 @@
--- `format_stp_number::reaches` meets its contract, by its two cases.
+-- `format_stp_free::reaches` meets its contract, by its two cases.
 use borrow.Author.Needs.{needs}
 use mathlib.Core.Path.{_∙_, sym}
 use Rattle.format_stp_rule.specs.StpNumber.{isFree}
-use Rattle.format_stp_number.specs.Laws.Turn.{reach-free, reach-none}
-use Rattle.format_stp_number.proofs.reaches.Statement.{statement}
-use Rattle.format_stp_number.proofs.reaches.Tie as tie
+use Rattle.format_stp_free.specs.Laws.Turn.{reach-free, reach-none}
+use Rattle.format_stp_free.proofs.reaches.Statement.{statement}
+use Rattle.format_stp_free.proofs.reaches.Tie as tie
 
 returns : tie.Need-returns
 returns c =

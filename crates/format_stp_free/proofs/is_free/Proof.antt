@@ -1,9 +1,9 @@
--- `format_stp_number::is_free` meets its contract: each test decides a case of the definition.
+-- `format_stp_free::is_free` meets its contract: each test decides a case of the definition.
 use borrow.Author.Needs.{needs}
 use mathlib.Core.Path.{sym}
-use Rattle.format_stp_number.specs.Laws.Turn.{free-low, free-high, free-within}
-use Rattle.format_stp_number.proofs.is_free.Statement.{statement}
-use Rattle.format_stp_number.proofs.is_free.Tie as tie
+use Rattle.format_stp_free.specs.Laws.Turn.{free-low, free-high, free-within}
+use Rattle.format_stp_free.proofs.is_free.Statement.{statement}
+use Rattle.format_stp_free.proofs.is_free.Tie as tie
 
 returns : tie.Need-returns
 returns c =
