@@ -5,10 +5,10 @@ use lib.ListN.{length}
 use Rattle.format_write.specs.Wrote.{farthest}
 use Rattle.format_write.specs.Laws.Wrote.{wrote-then}
 use Rattle.format_key.specs.Key.{routeKey}
 use Rattle.format_why.specs.ReasonText.{routeLine}
 use borrow.Author.Needs.{needs}
-use Rattle.format_why.proofs.put_route.Statement.{statement}
-use Rattle.format_why.proofs.put_route.Tie as tie
+use Rattle.format_why_kept.proofs.put_route.Statement.{statement}
+use Rattle.format_why_kept.proofs.put_route.Tie as tie
 
 returns : tie.Need-returns
 unfolding routeLine routeKey

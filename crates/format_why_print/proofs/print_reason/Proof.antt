@@ -4,10 +4,10 @@ use native.Mathlib.Omega.{arith}
 use lib.ListN.{length}
 use Rattle.format_write.specs.Wrote.{farthest}
 use Rattle.format_print.specs.Laws.Print.{short-prints, fit-prints}
 use Rattle.format_why.specs.ReasonText.{reasonText}
 use borrow.Author.Needs.{needs}
-use Rattle.format_why.proofs.print_reason.Statement.{statement}
-use Rattle.format_why.proofs.print_reason.Tie as tie
+use Rattle.format_why_print.proofs.print_reason.Statement.{statement}
+use Rattle.format_why_print.proofs.print_reason.Tie as tie
 
 -- 7: the buffer is short
 returns : tie.Need-returns

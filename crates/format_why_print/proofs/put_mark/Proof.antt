@@ -2,10 +2,10 @@
 use Rattle.format_key.specs.Key.{roundKey}
 use native.Mathlib.Omega.{arith}
 use Rattle.format_write.specs.Laws.Wrote.{wrote-none, wrote-as}
 use Rattle.format_why.specs.Laws.Mark.{mark-kept, mark-unpicked, mark-other}
 use borrow.Author.Needs.{needs}
-use Rattle.format_why.proofs.put_mark.Statement.{statement}
-use Rattle.format_why.proofs.put_mark.Tie as tie
+use Rattle.format_why_print.proofs.put_mark.Statement.{statement}
+use Rattle.format_why_print.proofs.put_mark.Tie as tie
 
 -- not picked
 returns : tie.Need-returns

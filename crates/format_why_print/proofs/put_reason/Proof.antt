@@ -5,10 +5,10 @@ use lib.ListN.{length}
 use Rattle.format_write.specs.Wrote.{farthest}
 use Rattle.format_write.specs.Laws.Wrote.{wrote-then}
 use Rattle.format_key.specs.Key.{trackKey, markKey}
 use Rattle.format_why.specs.ReasonText.{reasonText}
 use borrow.Author.Needs.{needs}
-use Rattle.format_why.proofs.put_reason.Statement.{statement}
-use Rattle.format_why.proofs.put_reason.Tie as tie
+use Rattle.format_why_print.proofs.put_reason.Statement.{statement}
+use Rattle.format_why_print.proofs.put_reason.Tie as tie
 
 returns : tie.Need-returns
 unfolding reasonText trackKey markKey
