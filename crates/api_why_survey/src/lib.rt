@@ -9,7 +9,7 @@ ghost use Rattle.format_print.specs.Print.{printed, printedOut};
 ghost use Rattle.api_why_text.specs.Output.{surveyLines};
 use base_limits::MAX_ROUTE;
 use format_print::Printed;
-use format_why::print_reason;
+use format_why_print::print_reason;
 use why_rule::Why;
 
 // Prints why a track of a survey has its mark, or the refusal's two lines.

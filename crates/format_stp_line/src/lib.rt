@@ -13,9 +13,9 @@ use format_line::number_to;
 use format_number::Cursor;
 use format_number::Number;
 use format_reader::fixed;
+use format_stp_free::less;
 use format_stp_head::skip;
 use format_stp_number::free_number;
-use format_stp_number::less;
 use format_survey_edge::stopped_edge;
 use format_survey_lines::EdgeLine;
 

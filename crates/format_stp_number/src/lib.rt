@@ -7,8 +7,7 @@ ghost use Prim.Native.Nat.{_+_, _*_, _-_, _^_, _≤_, min};
 ghost use Rattle.base_limits.specs.Limits.{maxDigits};
 ghost use Rattle.format_number.specs.Answer.{numberStep};
 ghost use Rattle.format_number.specs.Number.{classOf, isDigit};
-ghost use Rattle.format_stp_rule.specs.StpNumber.{isFree, leadsTo, reaches, opens, withDigit, goesOn, digitsAfter};
-ghost use Rattle.format_stp_rule.specs.StpNumber.{moreAfter, freeTo, stopByte};
+ghost use Rattle.format_stp_rule.specs.StpNumber.{isFree, withDigit, goesOn, digitsAfter, moreAfter, freeTo, stopByte};
 use base_buffer::at8;
 use base_buffer::wide;
 use base_limits::MAX_DIGITS;
@@ -16,75 +15,9 @@ use format_number::Class;
 use format_number::Cursor;
 use format_number::Number;
 use format_reader::is_class;
-
-// One less, and 0 for 0.
-pub fn less(x: usize) -> usize
-    ensures { λ r. ⌜ r ≡ x - 1 ⌝ }
-{
-    if x == 0 {
-        return 0;
-    }
-    x - 1
-}
-
-// From low to high, and of a junction that is in no group yet.
-fn is_free(groups: &[u8], low: usize, high: usize, x: usize) -> bool
-    ensures { λ r. ⌜ r ≡ isFree (old groups) low high x ⌝ }
-{
-    if x < low {
-        return false;
-    }
-    if high < x {
-        return false;
-    }
-    at8(groups, less(x)) == 0
-}
-
-// The digits of v are those of x and at most so many more.
-fn leads_to(more: usize, x: usize, v: usize) -> bool
-    ensures { λ r. ⌜ r ≡ leadsTo more x v ⌝ }
-{
-    let mut rest = v;
-    let mut left = more;
-    while 0 < left {
-        if x == rest {
-            return true;
-        }
-        rest = rest / 10;
-        left -= 1;
-    }
-    x == rest
-}
-
-// The number v is free, and begins with the digits of x.
-fn reaches(groups: &[u8], low: usize, high: usize, more: usize, x: usize, v: usize) -> bool
-    ensures { λ r. ⌜ r ≡ reaches (isFree (old groups) low high) more x v ⌝ }
-{
-    if is_free(groups, low, high, v) {
-        return leads_to(more, x, v);
-    }
-    false
-}
-
-// One of the numbers from 0 to high does; where x is free itself there is no need to look for one.
-fn opens(groups: &[u8], low: usize, high: usize, more: usize, x: usize) -> bool
-    ensures { λ r. ⌜ r ≡ opens (isFree (old groups) low high) high more x ⌝ }
-{
-    if is_free(groups, low, high, x) {
-        return true;
-    }
-    if reaches(groups, low, high, more, x, 0) {
-        return true;
-    }
-    let mut i = 0;
-    while i < high {
-        if reaches(groups, low, high, more, x, i + 1) {
-            return true;
-        }
-        i += 1;
-    }
-    false
-}
+use format_stp_free::is_free;
+use format_stp_free::less;
+use format_stp_free::opens;
 
 // A digit stands at an offset.
 fn is_digit(text: &[u8], at: usize) -> bool

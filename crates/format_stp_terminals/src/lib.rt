@@ -14,9 +14,9 @@ use base_limits::MAX_VERTICES;
 use format_number::Cursor;
 use format_number::Number;
 use format_put::put_bytes;
+use format_stp_free::less;
 use format_stp_head::line;
 use format_stp_number::free_number;
-use format_stp_number::less;
 use format_stp_sections::terminals_announced;
 use format_stp_sections::terminals_closed;
 

@@ -1,40 +1,9 @@
 // Printing of a survey's text, which reading takes back.
 ghost use Rattle.base_buffer.specs.Lent.{old, new};
 ghost use mathlib.Core.Path.{_≡_};
-ghost use Rattle.format_write.specs.Wrote.{Wrote};
-ghost use Rattle.format_survey_print.specs.Print.{surveyText, surveyLent, surveyPrinted, surveyPrintedOut};
-use format_also_print::put_pairs;
+ghost use Rattle.format_survey_print.specs.Print.{surveyLent, surveyPrinted, surveyPrintedOut};
 use format_print::Printed;
-use format_put::put_line;
-use format_survey_put::put_edges;
-use format_survey_put::put_groups;
-
-// Writes a whole survey.
-fn put_survey(
-    out: &mut [u8],
-    at: usize,
-    groups: &[u8],
-    firsts: &[u32],
-    seconds: &[u32],
-    weights: &[u32],
-    owners: &[u32],
-    others: &[u8],
-) -> usize
-    ensures { λ r.
-        let text = surveyText (surveyLent groups firsts seconds weights owners others) in
-        ⌜ Wrote (old out) at text (new out) r ⌝ }
-{
-    let next = put_line(out, at, &format_key::NODES, base_buffer::wide(groups.len()));
-    let next = put_line(
-        out,
-        next,
-        &format_key::LINKS,
-        base_buffer::wide(firsts.len()),
-    );
-    let next = put_groups(out, next, groups);
-    let next = put_pairs(out, next, owners, others);
-    put_edges(out, next, firsts, seconds, weights)
-}
+use format_survey_write::put_survey;
 
 // Prints a survey's text: 2 where the buffers of the edges or those of the pairs differ in length, then 7 where the
 // text does not fit; either way nothing is written. It checks nothing else: the text of a survey that planning refuses

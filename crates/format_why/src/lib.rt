@@ -1,111 +1,12 @@
-// Printing of reasons: why an edge has its mark. Definitions in specs/.
-ghost use Rattle.base_buffer.specs.Lent.{old, new};
+// Reasons as text: why an edge has its mark. Definitions in specs/.
 ghost use mathlib.Core.Path.{_≡_};
 ghost use lib.ListN.{length};
 ghost use Rattle.base_limits.specs.Limits.{whyRoom};
-ghost use Rattle.format_write.specs.Wrote.{Wrote};
-ghost use Rattle.format_print.specs.Print.{printed, printedOut};
-ghost use Rattle.format_why.specs.ReasonText.{routeLine, keptText, markText, reasonText};
 use base_limits::WHY_ROOM;
-use format_print::Printed;
-use format_put::put_line;
 
 // A buffer that holds every reason within the limits (`reason-room`).
 pub fn why_buffer() -> [u8; WHY_ROOM]
     ensures { λ r. ⌜ length r ≡ whyRoom ⌝ }
 {
     [0; WHY_ROOM]
-}
-
-// Writes the line of a route.
-fn put_route(out: &mut [u8], at: usize, route: &[u32]) -> usize
-    ensures { λ r. ⌜ Wrote (old out) at (routeLine (old route)) (new out) r ⌝ }
-{
-    let next = format_put::put_bytes(out, at, &format_key::ROUTE);
-    let next = format_put_list::put_list(out, next, route);
-    format_put::put(out, next, b'\n')
-}
-
-// Writes what a kept edge is needed for.
-fn put_kept(out: &mut [u8], at: usize, group: u64, low: u64, high: u64, route: &[u32]) -> usize
-    ensures { λ r. ⌜ Wrote (old out) at (keptText group low high (old route)) (new out) r ⌝ }
-{
-    let next = put_line(out, at, &format_key::GROUP, group);
-    let next = put_line(out, next, &format_key::FROM, low);
-    let next = put_line(out, next, &format_key::TO, high);
-    put_route(out, next, route)
-}
-
-// Writes the lines behind the mark.
-fn put_mark(
-    out: &mut [u8],
-    at: usize,
-    mark: u64,
-    group: u64,
-    low: u64,
-    high: u64,
-    round: u64,
-    route: &[u32],
-) -> usize
-    ensures { λ r. ⌜ Wrote (old out) at (markText mark group low high round (old route)) (new out) r ⌝ }
-{
-    match mark {
-        0 => put_line(out, at, &format_key::ROUND, round),
-        1 => at,
-        2 => put_kept(out, at, group, low, high, route),
-        _ => at,
-    }
-}
-
-// Writes a whole reason.
-fn put_reason(
-    out: &mut [u8],
-    at: usize,
-    track: u64,
-    mark: u64,
-    group: u64,
-    low: u64,
-    high: u64,
-    round: u64,
-    route: &[u32],
-) -> usize
-    ensures { λ r. ⌜ Wrote (old out) at (reasonText track mark group low high round (old route)) (new out) r ⌝ }
-{
-    let next = put_line(out, at, &format_key::TRACK, track);
-    let next = put_line(out, next, &format_key::MARK, mark);
-    put_mark(out, next, mark, group, low, high, round, route)
-}
-
-// Prints why edge `track` has its mark. The text is measured on an empty part of the buffer before it is written.
-pub fn print_reason(
-    track: u64,
-    mark: u64,
-    group: u64,
-    low: u64,
-    high: u64,
-    round: u64,
-    route: &[u32],
-    out: &mut [u8],
-) -> Printed
-    ensures { λ r. ⌜ r ≡ printed (reasonText track mark group low high round (old route)) (old out) ⌝ }
-    ensures { λ _. ⌜ new out ≡ printedOut (reasonText track mark group low high round (old route)) (old out) ⌝ }
-{
-    let need = put_reason(
-        &mut out[0..0],
-        0,
-        track,
-        mark,
-        group,
-        low,
-        high,
-        round,
-        route,
-    );
-    if out.len() < need {
-        return Printed::Refused {
-            number: 7,
-            place: 0,
-        };
-    }
-    Printed::Length(put_reason(out, 0, track, mark, group, low, high, round, route))
 }

@@ -78,13 +78,23 @@ cast-put8 c =
     let k = p .passes .group in
     omega arith
 
-rank-requires : tie.Need-rank-requires Inv-loop μ-loop
+cast-rank : tie.Need-cast-rank Inv-loop μ-loop
 unfolding pairStep
-rank-requires c κs =
+cast-rank c =
     let a = c .before .before .before .before .before .before .before .before .before .before .before .before .before .before .before .before .before .before .before .before .args in
     let l = c .before .before .before .before .before .before .before .before .before .before .before .before .before .before .before .loop in
     let p = line-passed (a .text .now) (a .groups .now) (a .room) (l .low) (l .i) (l .next .at) (sym (c .before .before .before .before .before .before .before .before .before .before .before .also-line .ensures) ∙ ap pairStep (c .before .before .before .before .before .before .before .before .before .line .given .1)) in
-    p .digits
+    let k = p .digits .owner in
+    omega arith
+
+cast-rank-2 : tie.Need-cast-rank-2 Inv-loop μ-loop
+unfolding pairStep
+cast-rank-2 c =
+    let a = c .before .before .before .before .before .before .before .before .before .before .before .before .before .before .before .before .before .before .before .before .args in
+    let l = c .before .before .before .before .before .before .before .before .before .before .before .before .before .before .before .loop in
+    let p = line-passed (a .text .now) (a .groups .now) (a .room) (l .low) (l .i) (l .next .at) (sym (c .before .before .before .before .before .before .before .before .before .before .before .also-line .ensures) ∙ ap pairStep (c .before .before .before .before .before .before .before .before .before .line .given .1)) in
+    let k = p .digits .other in
+    omega arith
 
 loop-again : tie.Need-loop-again Inv-loop μ-loop
 unfolding pairStep alsoReader
@@ -128,7 +138,9 @@ pair-lines-spec =
     (λ c κs. search needs)
     cast-put8
     (λ c κs. search needs)
-    rank-requires
+    cast-rank
+    cast-rank-2
+    (λ c κs. search needs)
     (λ c. search needs)
     (λ c. search needs)
     loop-again

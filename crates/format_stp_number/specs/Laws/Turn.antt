@@ -1,13 +1,13 @@
 -- One turn of each loop over the digits of a number.
-use Prim.Native.Nat.{ℕ, zero, suc, _+_, _*_, _-_, _/_, _^_, _≤_, _<_, min}
+use Prim.Native.Nat.{ℕ, zero, suc, _+_, _*_, _-_, _^_, _≤_, _<_, min}
 use native.Mathlib.Nat.{pow-suc, mul-le-mul-right, mul-le-mul-left, one-le-pow, pow-le-pow-right}
 use native.Mathlib.Omega.{arith}
 use mathlib.Core.Bool.{Bool, true, false, _&&_, _||_, cond}
 use mathlib.Core.List.{List, []}
 use mathlib.Core.Path.{_≡_, refl, ap, sym, _∙_, subst}
-use lib.Dec.{eqb, leb, ltb}
+use lib.Dec.{eqb, ltb}
 use lib.ListN.{length, getD}
-use borrow.Author.Tests.{eq-eqb, ne-eqb, le-leb, lt-leb, eqb-true, eqb-false, lt-ltb}
+use borrow.Author.Tests.{eq-eqb, ne-eqb, eqb-true, eqb-false, lt-ltb}
 use Rattle.base_finite.specs.Laws.Test.{and-left, and-right, same-test}
 use Rattle.base_limits.specs.Limits.{maxDigits}
 use Rattle.format_key.specs.Key.{newline}
@@ -19,39 +19,7 @@ use Rattle.format_number.specs.declared.Class.{Class}
 use Rattle.format_number.specs.declared.Class.the-variants.{Zero, Digit, LineEnd, Comma, Colon, Keep, Also, Other}
 use Rattle.format_stp_rule.specs.Laws.ByByte.{byte-passes, byte-fails}
 use Rattle.format_stp_rule.specs.StpKey.{space}
-use Rattle.format_stp_rule.specs.StpNumber.{isFree, leadsTo, reaches, opens, withDigit, goesOn, endsFree, digitsAfter, moreAfter, freeTo, stopByte}
-
--- ---- what is free
-
-module _ (groups : List ℕ) (low high x : ℕ) where
-  pub free-low : x < low → isFree groups low high x ≡ false
-  unfolding isFree
-  free-low h = rw (lt-leb low x h) refl
-
-  pub free-high : low ≤ x → high < x → isFree groups low high x ≡ false
-  unfolding isFree
-  free-high h k = rw (le-leb low x h, lt-leb x high k) refl
-
-  pub free-within : low ≤ x → x ≤ high → isFree groups low high x ≡ eqb (getD groups (x - 1) 0) 0
-  unfolding isFree
-  free-within h k = rw (le-leb low x h, le-leb x high k) refl
-
--- ---- the digits that lead to a number
-
-pub leads-there : (more x v : ℕ) → 0 < more → x ≡ v → leadsTo more x v ≡ true
-unfolding leadsTo
-leads-there zero x v h e = absurd (omega arith)
-leads-there (suc more) x v h e = rw (eq-eqb x v e) refl
-
-pub leads-on : (more x v : ℕ) → 0 < more → (x ≡ v → ⊥) → leadsTo more x v ≡ leadsTo (more - 1) x (v / 10)
-unfolding leadsTo
-leads-on zero x v h n = absurd (omega arith)
-leads-on (suc more) x v h n = let z : suc more - 1 ≡ more = omega arith in rw (ne-eqb x v n, z) refl
-
-pub leads-last : (more x v : ℕ) → more ≤ 0 → leadsTo more x v ≡ eqb x v
-unfolding leadsTo
-leads-last zero x v h = refl
-leads-last (suc more) x v h = absurd (omega arith)
+use Rattle.format_stp_rule.specs.StpNumber.{opens, withDigit, goesOn, endsFree, digitsAfter, moreAfter, freeTo, stopByte}
 
 -- ---- the bytes of a number
 
@@ -189,15 +157,6 @@ module _ (free : ℕ → Bool) (high more x b : ℕ) where
 
 pub goes-inside : (free : ℕ → Bool) (high more x : ℕ) (t : List ℕ) (at : ℕ) → goesOn free high more x (getD t at 0) ≡ true → at < length t
 goes-inside free high more x t at g = let f = goes-facts free high more x (getD t at 0) g in let l = f .0 in read-inside t at (omega arith)
-
-module _ (free : ℕ → Bool) (more x v : ℕ) where
-  pub reach-free : free v ≡ true → reaches free more x v ≡ leadsTo more x v
-  unfolding reaches
-  reach-free f = rw f refl
-
-  pub reach-none : free v ≡ false → reaches free more x v ≡ false
-  unfolding reaches
-  reach-none f = rw f refl
 
 pub more-none : (limit b : ℕ) → b ≡ 48 → moreAfter limit b ≡ 0
 unfolding moreAfter

@@ -39,13 +39,6 @@ returns c =
       ),
     )
 
-decided-requires : tie.Need-decided-requires
-unfolding countsStep testsFor
-decided-requires c κs =
-    let p = c .before .before .before .before in
-    let a = p .before .before .before .before .before .before .before .before .args in
-    counts-read-fit (a .text .now) (lengthsOf (a .groups .now) (a .firsts .now) (a .seconds .now) (a .weights .now) (a .owners .now) (a .others .now)) (sym (p .counts .ensures) ∙ ap countsStep (c .before .before .head .given .1)) .0
-
 -- a line is refused
 returns-2 : tie.Need-returns-2
 unfolding countsOutcome countsOf countsStep numberStep stopped stepOutcome testsFor
@@ -55,7 +48,8 @@ returns-2 c =
     let a = p .before .before .before .before .before .before .before .before .args in
     let told = c .before .enum-told2 .given .1 in
     let e = sym (p .counts .ensures) ∙ ap countsStep (q .before .before .before .head .given .1) in
-    let r = read-refused (a .text .now) (a .groups .now) (a .firsts .now) (a .seconds .now) (a .weights .now) (a .owners .now) (a .others .now) e (q .before .pair-room .ensures) (sym (q .decided .ensures) ∙ ap numberStep told) in (
+    let few = counts-read-fit (a .text .now) (lengthsOf (a .groups .now) (a .firsts .now) (a .seconds .now) (a .weights .now) (a .owners .now) (a .others .now)) e .0 in
+    let r = read-refused (a .text .now) (a .groups .now) (a .firsts .now) (a .seconds .now) (a .weights .now) (a .owners .now) (a .others .now) e (q .before .pair-room .ensures) (sym (q .decided .ensures few) ∙ ap numberStep told) in (
       c .stopped-lines .ensures ∙ ap (λ x. stepOutcome (stopped {B = TextCounts} (numberStep x))) told ∙ sym (ap countsOf r),
       (
         buffer-kept (λ s. s .groups) (a .groups .now) r,
@@ -102,8 +96,9 @@ returns-3 c =
     let p = q .before .before .before .before .before in
     let a = p .before .before .before .before .before .before .before .before .args in
     let e = sym (p .counts .ensures) ∙ ap countsStep (q .before .before .before .head .given .1) in
+    let few = counts-read-fit (a .text .now) (lengthsOf (a .groups .now) (a .firsts .now) (a .seconds .now) (a .weights .now) (a .owners .now) (a .others .now)) e .0 in
     let f = l .survey-lines .ensures in
-    let s = read-found (a .text .now) (a .groups .now) (a .firsts .now) (a .seconds .now) (a .weights .now) (a .owners .now) (a .others .now) e (q .before .pair-room .ensures) (sym (q .decided .ensures) ∙ ap numberStep (l .before .before .before .before .before .before .before .before .found .given .1)) (f .1) (f .2) (f .3) (f .4) (f .5) (f .6) in
+    let s = read-found (a .text .now) (a .groups .now) (a .firsts .now) (a .seconds .now) (a .weights .now) (a .owners .now) (a .others .now) e (q .before .pair-room .ensures) (sym (q .decided .ensures few) ∙ ap numberStep (l .before .before .before .before .before .before .before .before .found .given .1)) (f .1) (f .2) (f .3) (f .4) (f .5) (f .6) in
     (s .counts, (s .groups, (s .firsts, (s .seconds, (s .weights, (s .owners, s .others))))))
 
 pub read-spec : {M : Type 1} → statement M
@@ -116,7 +111,7 @@ read-spec =
     (λ c κs. search needs)
     returns
     (λ c κs. search needs)
-    decided-requires
+    (λ c κs. search needs)
     (λ c. search needs)
     (λ c. search needs)
     (λ c κs. search needs)
