@@ -9,11 +9,11 @@ use Rattle.plan_cuts.specs.Word.{areAlone, hungFrom}
 use Rattle.plan_cuts.specs.Taken.{takenBelow}
 
 -- Each vertex that was taken away hangs on the other end of the edge that it went with.
-unfoldable pub guessedWords : (N : ℕ) (a b : ℕ → ℕ) → (ℕ → Bool) → (base m : ℕ) → List ℕ
-guessedWords N a b F base m =
-    let end = peeled N a b F m in hungFrom (end .queue .order) (end .ends .others) (end .ends .marks) base (end .queue .count) (replicate N 0)
+unfoldable pub guessedWords : (N n : ℕ) (a b : ℕ → ℕ) → (ℕ → Bool) → (base m : ℕ) → List ℕ
+guessedWords N n a b F base m =
+    let end = peeled N n a b F m in hungFrom (end .queue .order) (end .ends .others) (end .ends .marks) base (end .queue .count) (replicate N 0)
 
 -- For a forest they are cuts (law `tried-words-alone`).
-unfoldable pub triedWords : (N : ℕ) (a b : ℕ → ℕ) → (ℕ → Bool) → (base m : ℕ) → List ℕ
-triedWords N a b F base m =
-    let guess = guessedWords N a b F base m in cond (areAlone a b F base m guess) guess (takenBelow N a b F base m .words)
+unfoldable pub triedWords : (N n : ℕ) (a b : ℕ → ℕ) → (ℕ → Bool) → (base m : ℕ) → List ℕ
+triedWords N n a b F base m =
+    let guess = guessedWords N n a b F base m in cond (areAlone a b F base m guess) guess (takenBelow N a b F base m .words)

@@ -67,7 +67,7 @@ fn prune_batch(
     ensures { λ r. let p = unweighted (old groups) (old firsts) (old seconds) in
         ⌜ new marks ≡ batchMarks p (pickedIn (old picked)) base (length (old firsts)) (old marks) ⌝ }
 {
-    let words = plan_sides::side_words(firsts, seconds, picked, base);
+    let words = plan_sides::side_words(firsts, seconds, picked, groups.len() as u32, base);
     plan_judge::judge_edges(
         &words,
         mates,

@@ -113,20 +113,21 @@ fn is_alone(
     true
 }
 
-// The words of all vertices for the picked edges whose indexes are the 64 from base on. An order in which a forest
+// The words of n vertices for the picked edges whose indexes are the 64 from base on. An order in which a forest
 // hangs together gives them at once; where the guess fails they are made edge by edge.
 pub fn side_words(
     firsts: &[u32],
     seconds: &[u32],
     picked: &[u8],
+    n: u32,
     base: usize,
 ) -> [u64; MAX_VERTICES]
     ensures { λ r. let first : ℕ → ℕ = λ e. getD (old firsts) e 0 in
         let second : ℕ → ℕ = λ e. getD (old seconds) e 0 in
         let m = length (old firsts) in
-        ⌜ r ≡ triedWords maxVertices first second (pickedIn (old picked)) base m ⌝ }
+        ⌜ r ≡ triedWords maxVertices n first second (pickedIn (old picked)) base m ⌝ }
 {
-    let guess = plan_peel::peel(firsts, seconds, picked);
+    let guess = plan_peel::peel(firsts, seconds, picked, n);
     let order = guess.order;
     let others = guess.others;
     let marks = guess.marks;

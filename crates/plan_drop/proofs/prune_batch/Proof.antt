@@ -13,6 +13,7 @@ pub prune-batch-spec : {M : Type 1} → statement M
 prune-batch-spec =
     tie.close
     (tie.spec
+    (λ c. search needs)
     (λ c κs. search needs)
     (λ c κs. search needs)
     (λ c. search needs)

@@ -133,7 +133,7 @@ module _ (groups firsts seconds picked : List ℕ) (ok : Prunable groups firsts 
 
   -- A batch by the words is the batch of the definition.
   pub batch-is : (base : ℕ) (marks : List ℕ) {mates after words : List ℕ} → mates ≡ tabulate maxVertices (mateOf groups)
-      → words ≡ triedWords maxVertices (λ e. getD firsts e 0) (λ e. getD seconds e 0) F base (length firsts)
+      → words ≡ triedWords maxVertices (length groups) (λ e. getD firsts e 0) (λ e. getD seconds e 0) F base (length firsts)
       → after ≡ remade (raised F (judged (partedBelow words mates (length groups)) base)) (length firsts) marks
       → after ≡ batchMarks p F base (length firsts) marks
   unfolding batchMarks raised judged problemOf
@@ -151,7 +151,7 @@ module _ (groups firsts seconds picked : List ℕ) (ok : Prunable groups firsts 
           rw
           (t, i)
           (parted-separates words mates groups (ok .few) m (countBelow e F - base)
-          ∙ bit-needed base e (tried-words-alone maxVertices _ _ F base (length firsts) ends-below (ok .forest) h) b t (in-batch base (countBelow e F) i))
+          ∙ bit-needed base e (tried-words-alone maxVertices _ _ _ F base (length firsts) ends-below (ok .forest) h) b t (in-batch base (countBelow e F) i))
 
 -- ---- batch after batch
 
