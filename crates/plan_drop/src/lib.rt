@@ -52,13 +52,17 @@ fn count_picked(picked: &[u8], m: usize) -> usize
     count
 }
 
-// The 64 picked edges from index base on.
+// The 64 picked edges from index base on, by an order in which vertices may hang on others by their links.
 fn prune_batch(
     groups: &[u8],
     firsts: &[u32],
     seconds: &[u32],
     picked: &[u8],
     mates: &[u32; MAX_VERTICES],
+    order: &[u32; MAX_VERTICES],
+    others: &[u32; MAX_VERTICES],
+    links: &[u32; MAX_VERTICES],
+    count: usize,
     marks: &mut [u8],
     base: usize,
 )
@@ -67,7 +71,7 @@ fn prune_batch(
     ensures { λ r. let p = unweighted (old groups) (old firsts) (old seconds) in
         ⌜ new marks ≡ batchMarks p (pickedIn (old picked)) base (length (old firsts)) (old marks) ⌝ }
 {
-    let words = plan_sides::side_words(firsts, seconds, picked, base);
+    let words = plan_sides::side_words(firsts, seconds, picked, order, others, links, count, base);
     plan_judge::judge_edges(
         &words,
         mates,
@@ -88,10 +92,27 @@ fn prune_forest(groups: &[u8], firsts: &[u32], seconds: &[u32], picked: &[u8], m
 {
     drop_all(picked, marks, firsts.len());
     let mates = survey_mates::mates(groups);
+    let guess = plan_peel::peel(firsts, seconds, picked, groups.len() as u32);
+    let order = guess.order;
+    let others = guess.others;
+    let links = guess.marks;
+    let hung = guess.count;
     let count = count_picked(picked, firsts.len());
     let mut base = 0;
     while base < count {
-        prune_batch(groups, firsts, seconds, picked, &mates, marks, base);
+        prune_batch(
+            groups,
+            firsts,
+            seconds,
+            picked,
+            &mates,
+            &order,
+            &others,
+            &links,
+            hung,
+            marks,
+            base,
+        );
         base += plan_cuts::WORD_BITS;
     }
 }

@@ -84,13 +84,13 @@ leavesTaken N zero s = s
 leavesTaken N (suc k) s =
     let before = leavesTaken N k s in cond (ltb k (before .queue .count)) (leafTaken N k before) before
 
--- Before the first is taken: all edges are noted, and the vertices with one edge come in the order of their numbers.
-unfoldable pub unpeeled : (N : ℕ) (a b : ℕ → ℕ) → (ℕ → Bool) → (m : ℕ) → Peel
-unpeeled N a b F m =
+-- Before the first is taken: all edges are noted, and the vertices below n with one edge come in the order of their numbers.
+unfoldable pub unpeeled : (N n : ℕ) (a b : ℕ → ℕ) → (ℕ → Bool) → (m : ℕ) → Peel
+unpeeled N n a b F m =
     let zeros : List ℕ = replicate N 0 in
     let noted = edgesNoted a b F m (endsOf zeros zeros zeros) in
-    peelOf noted (leavesQueued N (noted .degrees) N (queueOf zeros 0))
+    peelOf noted (leavesQueued N (noted .degrees) n (queueOf zeros 0))
 
 -- And the whole. N are never too few (law `peel-last`).
-unfoldable pub peeled : (N : ℕ) (a b : ℕ → ℕ) → (ℕ → Bool) → (m : ℕ) → Peel
-peeled N a b F m = leavesTaken N N (unpeeled N a b F m)
+unfoldable pub peeled : (N n : ℕ) (a b : ℕ → ℕ) → (ℕ → Bool) → (m : ℕ) → Peel
+peeled N n a b F m = leavesTaken N N (unpeeled N n a b F m)

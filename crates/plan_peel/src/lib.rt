@@ -123,15 +123,14 @@ fn queue_leaf(
     count
 }
 
-// The vertices that have one edge from the start.
-fn queue_leaves(degrees: &[u32; MAX_VERTICES], order: &mut [u32; MAX_VERTICES]) -> usize
-    ensures { λ r. ⌜ queueOf (new order) r
-        ≡ leavesQueued maxVertices (old degrees) maxVertices (queueOf (old order) 0) ⌝ }
+// The vertices below n that have one edge from the start.
+fn queue_leaves(degrees: &[u32; MAX_VERTICES], order: &mut [u32; MAX_VERTICES], n: u32) -> usize
+    ensures { λ r. ⌜ queueOf (new order) r ≡ leavesQueued maxVertices (old degrees) n (queueOf (old order) 0) ⌝ }
 {
     let mut count = 0;
     let mut v = 0;
-    while v < MAX_VERTICES {
-        count = queue_leaf(degrees, order, v as u32, count);
+    while v < n {
+        count = queue_leaf(degrees, order, v, count);
         v += 1;
     }
     count
@@ -160,11 +159,11 @@ fn take_leaf(
     queue_leaf(degrees, order, w, count)
 }
 
-// The order for the picked edges.
-pub fn peel(firsts: &[u32], seconds: &[u32], picked: &[u8]) -> Peeling
+// The order for the picked edges between n vertices.
+pub fn peel(firsts: &[u32], seconds: &[u32], picked: &[u8], n: u32) -> Peeling
     ensures { λ r. let first : ℕ → ℕ = λ e. getD (old firsts) e 0 in
         let second : ℕ → ℕ = λ e. getD (old seconds) e 0 in
-        let end = peeled maxVertices first second (pickedIn (old picked)) (length (old firsts)) in
+        let end = peeled maxVertices n first second (pickedIn (old picked)) (length (old firsts)) in
         ⌜ (r .count ≡ end .queue .count) × (r .order ≡ end .queue .order)
         × (r .others ≡ end .ends .others) × (r .marks ≡ end .ends .marks) ⌝ }
 {
@@ -180,7 +179,7 @@ pub fn peel(firsts: &[u32], seconds: &[u32], picked: &[u8]) -> Peeling
         &mut others,
         &mut marks,
     );
-    let mut count = queue_leaves(&degrees, &mut order);
+    let mut count = queue_leaves(&degrees, &mut order, n);
     let mut k = 0;
     while k < count {
         count = take_leaf(&mut degrees, &mut others, &mut marks, &mut order, k, count);

@@ -119,18 +119,18 @@ pub fn side_words(
     firsts: &[u32],
     seconds: &[u32],
     picked: &[u8],
+    order: &[u32; MAX_VERTICES],
+    others: &[u32; MAX_VERTICES],
+    marks: &[u32; MAX_VERTICES],
+    count: usize,
     base: usize,
 ) -> [u64; MAX_VERTICES]
     ensures { λ r. let first : ℕ → ℕ = λ e. getD (old firsts) e 0 in
         let second : ℕ → ℕ = λ e. getD (old seconds) e 0 in
-        let m = length (old firsts) in
-        ⌜ r ≡ triedWords maxVertices first second (pickedIn (old picked)) base m ⌝ }
+        let guess = hungFrom (old order) (old others) (old marks) base count (replicate maxVertices 0) in
+        ⌜ r ≡ triedWords maxVertices guess first second (pickedIn (old picked)) base (length (old firsts)) ⌝ }
 {
-    let guess = plan_peel::peel(firsts, seconds, picked);
-    let order = guess.order;
-    let others = guess.others;
-    let marks = guess.marks;
-    let words = hung_words(&order, &others, &marks, guess.count, base);
+    let words = hung_words(order, others, marks, count, base);
     if is_alone(firsts, seconds, picked, &words, base) {
         return words;
     }

@@ -1,2 +1,3 @@
 pub mod Labels
+pub mod Met
 pub mod Picked

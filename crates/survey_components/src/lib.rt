@@ -11,8 +11,9 @@ ghost use Rattle.base_limits.specs.Limits.{maxVertices};
 ghost use Rattle.base_limits.specs.Verdict.{written};
 ghost use Rattle.survey_core.specs.Survey.{lentSurvey};
 ghost use Rattle.survey_core.specs.Refusal.{surveyRefusal};
-ghost use Rattle.survey_labels.specs.Roots.{endsHung};
-ghost use Rattle.survey_components.specs.Labels.{chosenMark, chosen, pickedIn, EndsFit, labelsOf};
+ghost use Rattle.survey_components.specs.Labels.{chosenMark, chosen, pickedIn, endsMet, EndsFit, labelsOf};
+use base_buffer::at32;
+use base_buffer::index32;
 use base_limits::MAX_VERTICES;
 use base_limits::Verdict;
 use survey_hang::hang_ends;
@@ -56,6 +57,17 @@ pub fn is_picked(marks: &[u8], e: usize) -> bool
     }
 }
 
+// Two vertices come into one tree. Those that hang on one vertex are in one already, and nothing is written.
+fn join_ends(labels: &mut [u32], first: u32, second: u32, steps: usize)
+    ensures { λ r. ⌜ new labels ≡ endsMet steps first second (old labels) ⌝ }
+{
+    let up = at32(labels, index32(first));
+    if up == at32(labels, index32(second)) {
+        return;
+    }
+    hang_ends(labels, first, second, steps);
+}
+
 // The ends of edge e come into one tree, if it is in the set.
 fn join_edge(
     set: Chosen,
@@ -66,16 +78,11 @@ fn join_edge(
     e: usize,
 )
     ensures { λ r. let first = getD (old firsts) e 0 in
-        let hung = endsHung (length (old firsts)) first (getD (old seconds) e 0) (old labels) in
-        ⌜ new labels ≡ cond (chosen set (old marks) e) hung (old labels) ⌝ }
+        let met = endsMet (length (old firsts)) first (getD (old seconds) e 0) (old labels) in
+        ⌜ new labels ≡ cond (chosen set (old marks) e) met (old labels) ⌝ }
 {
     if is_chosen(set, base_buffer::at8(marks, e)) {
-        hang_ends(
-            labels,
-            base_buffer::at32(firsts, e),
-            base_buffer::at32(seconds, e),
-            firsts.len(),
-        );
+        join_ends(labels, at32(firsts, e), at32(seconds, e), firsts.len());
     }
 }
 

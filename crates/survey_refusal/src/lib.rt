@@ -1,8 +1,15 @@
 // Refusals 1 to 6 of a survey.
+ghost use Rattle.base_buffer.specs.Lent.{old};
 ghost use mathlib.Core.Path.{_≡_};
+ghost use Prim.Native.Nat.{_≤_};
+ghost use lib.ListN.{length, getD};
+ghost use lib.Dec.{eqb, ltb, leb};
+ghost use Rattle.base_finite.specs.Below.{counted, anyBelow};
+ghost use Rattle.base_limits.specs.Limits.{maxVertices, maxWeight};
 ghost use Rattle.base_limits.specs.Verdict.{lowestBelow};
 ghost use Rattle.survey_core.specs.Survey.{lentSurvey, edgeCount};
 ghost use Rattle.survey_core.specs.Refusal.{edgeRefusal, surveyRefusal};
+ghost use Rattle.survey_refusal.specs.Fault.{faulty};
 use base_limits::MAX_EDGES;
 use base_limits::MAX_VERTICES;
 use base_limits::MAX_WEIGHT;
@@ -47,8 +54,65 @@ fn edge_refusal(
     Verdict::Fine
 }
 
+// 1 if vertex v is none of n.
+fn is_outside(v: u32, n: u32) -> u32
+    ensures { λ r. ⌜ r ≡ counted (leb n v) 1 ⌝ }
+{
+    if n <= v {
+        return 1;
+    }
+    0
+}
+
+// 1 if an edge ends where it begins.
+fn is_loop(first: u32, second: u32) -> u32
+    ensures { λ r. ⌜ r ≡ counted (eqb first second) 1 ⌝ }
+{
+    if first == second {
+        return 1;
+    }
+    0
+}
+
+// 1 if a weight is above the limit.
+fn is_heavy(weight: u32) -> u32
+    ensures { λ r. ⌜ r ≡ counted (ltb maxWeight weight) 1 ⌝ }
+{
+    if MAX_WEIGHT < weight {
+        return 1;
+    }
+    0
+}
+
+// 1 if something is wrong with an edge.
+fn edge_fault(n: u32, first: u32, second: u32, weight: u32) -> u32
+    ensures { λ r. ⌜ r ≡ counted (faulty n first second weight) 1 ⌝ }
+{
+    is_outside(first, n) | is_outside(second, n) | is_loop(first, second) | is_heavy(weight)
+}
+
+// 1 if something is wrong with some track. The loop runs to its end, so that several are tested at once.
+fn edges_fault(n: u32, firsts: &[u32], seconds: &[u32], weights: &[u32]) -> u32
+    ensures { λ r. ⌜ r ≡ counted (anyBelow (length (old firsts))
+        (λ e. faulty n (getD (old firsts) e 0) (getD (old seconds) e 0) (getD (old weights) e 0))) 1 ⌝ }
+{
+    let mut found = 0;
+    let mut e = 0;
+    while e < firsts.len() {
+        found = found
+            | edge_fault(
+                n,
+                base_buffer::at32(firsts, e),
+                base_buffer::at32(seconds, e),
+                base_buffer::at32(weights, e),
+            );
+        e += 1;
+    }
+    found
+}
+
 // What is wrong with the lowest track that has something wrong.
-fn edges_refusal(groups: &[u8], firsts: &[u32], seconds: &[u32], weights: &[u32]) -> Verdict
+fn lowest_refusal(groups: &[u8], firsts: &[u32], seconds: &[u32], weights: &[u32]) -> Verdict
     ensures { λ r. let s = lentSurvey groups firsts seconds weights in
         ⌜ r ≡ lowestBelow (edgeCount s) (edgeRefusal s) ⌝ }
 {
@@ -61,6 +125,18 @@ fn edges_refusal(groups: &[u8], firsts: &[u32], seconds: &[u32], weights: &[u32]
         e += 1;
     }
     Verdict::Fine
+}
+
+// The same: the tracks are gone through only where something is wrong with one.
+fn edges_refusal(groups: &[u8], firsts: &[u32], seconds: &[u32], weights: &[u32]) -> Verdict
+    requires { ⌜ length (now groups) ≤ maxVertices ⌝ }
+    ensures { λ r. let s = lentSurvey groups firsts seconds weights in
+        ⌜ r ≡ lowestBelow (edgeCount s) (edgeRefusal s) ⌝ }
+{
+    if edges_fault(groups.len() as u32, firsts, seconds, weights) == 0 {
+        return Verdict::Fine;
+    }
+    lowest_refusal(groups, firsts, seconds, weights)
 }
 
 // 1, 2 and 3, then the tracks rising.

@@ -12,29 +12,30 @@ use Rattle.plan_drop.proofs.prune_forest.Statement.{statement}
 use Rattle.plan_drop.proofs.prune_forest.Tie as tie
 
 abbrev Inv-loop : tie.InvT-loop
-Inv-loop groups firsts seconds picked marks₀ mates count base₀ marks base =
+Inv-loop groups firsts seconds picked marks₀ mates order others links hung count base₀ marks base =
     marks ≡ marksBelow (unweighted groups firsts seconds) (pickedIn picked) base (length firsts) marks₀
 
 abbrev μ-loop : tie.MeasureT-loop
-μ-loop groups firsts seconds picked marks₀ mates count base₀ marks base =
+μ-loop groups firsts seconds picked marks₀ mates order others links hung count base₀ marks base =
     count - base
 
 count-picked-requires : tie.Need-count-picked-requires Inv-loop μ-loop
 count-picked-requires c κs =
-    c .before .before .before .before .before .before .before .before .before .before .pre .edges-few
+    let start = c .before .before .before .before .before .before .before .before .before .before .before .before .before .before in start .pre .edges-few
 
 loop-holds : tie.Need-loop-holds Inv-loop μ-loop
 loop-holds c =
-    below-start _ _ _ _ (c .before .before .before .before .drop-all .ensures)
+    below-start _ _ _ _ (c .before .before .before .before .before .before .before .before .drop-all .ensures)
 
 prune-batch-requires : tie.Need-prune-batch-requires Inv-loop μ-loop
 prune-batch-requires c κs =
-    (c .before .before .before .before .before .before .before .before .before .before .before .before .before .before .before .pre, c .before .before .before .before .before .mates .ensures)
+    let mates = c .before .before .before .before .before .before .before .before .before .before .before .before in
+    let start = mates .before .before .before .before .before .before .before .before .before .before in (start .pre, mates .mates .ensures)
 
 add-base : tie.Need-add-base Inv-loop μ-loop
 add-base c =
-    let counted = c .before .before .before .before .before .before .before in
-    let start = counted .before .before .before .before .before .before .before .before .before .before .before in
+    let counted = c .before .before .before .before .before .before .before .before .before .before in
+    let start = counted .before .before .before .before .before .before .before .before .before .before .before .before .before .before .before in
     let few = start .pre .edges-few in omega (arith, counted .count-picked .ensures, count-le (length (start .args .firsts .now)) (pickedIn (start .args .picked .now)))
 
 loop-less : tie.Need-loop-less Inv-loop μ-loop
@@ -43,15 +44,15 @@ loop-less c =
 
 loop-again : tie.Need-loop-again Inv-loop μ-loop
 loop-again c =
-    below-more _ _ _ _ _ (c .before .before .before .before .before .before .loop .inv) (c .before .before .prune-batch .ensures)
+    below-more _ _ _ _ _ (c .before .before .before .before .before .before .before .before .before .loop .inv) (c .before .before .prune-batch .ensures)
 
 same-length : tie.Need-same-length Inv-loop μ-loop
 same-length c =
-    ap length (c .before .loop .inv) ∙ length-below _ _ _ _ _ ∙ ap length (c .before .before .before .before .before .before .drop-all .ensures) ∙ length-dropped _ _ _
+    ap length (c .before .loop .inv) ∙ length-below _ _ _ _ _ ∙ ap length (c .before .before .before .before .before .before .before .before .before .before .drop-all .ensures) ∙ length-dropped _ _ _
 
 returns : tie.Need-returns Inv-loop μ-loop
 returns c =
-    below-end _ _ _ _ _ (omega (arith, c .before .before .count-picked .ensures)) (c .before .before .before .before .before .before .drop-all .ensures) (c .before .loop .inv)
+    below-end _ _ _ _ _ (omega (arith, c .before .before .count-picked .ensures)) (c .before .before .before .before .before .before .before .before .before .before .drop-all .ensures) (c .before .loop .inv)
 
 pub prune-forest-spec : {M : Type 1} → statement M
 prune-forest-spec =
@@ -60,6 +61,8 @@ prune-forest-spec =
     Inv-loop
     μ-loop
     (λ c κs. search needs)
+    (λ c κs. search needs)
+    (λ c. search needs)
     (λ c κs. search needs)
     count-picked-requires
     loop-holds

@@ -132,12 +132,12 @@ module _ (groups firsts seconds picked : List ℕ) (ok : Prunable groups firsts 
       t)
 
   -- A batch by the words is the batch of the definition.
-  pub batch-is : (base : ℕ) (marks : List ℕ) {mates after words : List ℕ} → mates ≡ tabulate maxVertices (mateOf groups)
-      → words ≡ triedWords maxVertices (λ e. getD firsts e 0) (λ e. getD seconds e 0) F base (length firsts)
+  pub batch-is : (base : ℕ) (guess marks : List ℕ) {mates after words : List ℕ} → mates ≡ tabulate maxVertices (mateOf groups)
+      → words ≡ triedWords maxVertices guess (λ e. getD firsts e 0) (λ e. getD seconds e 0) F base (length firsts)
       → after ≡ remade (raised F (judged (partedBelow words mates (length groups)) base)) (length firsts) marks
       → after ≡ batchMarks p F base (length firsts) marks
   unfolding batchMarks raised judged problemOf
-  batch-is base marks {mates} {after} {words} m h r =
+  batch-is base guess marks {mates} {after} {words} m h r =
       r ∙ remade-cong _ _ (length firsts) marks (λ e x b. ap (λ t. cond t 2 x) (by e b (either (F e)) (either (inBatch base (countBelow e F)))))
     where
       bits : ℕ
@@ -151,7 +151,7 @@ module _ (groups firsts seconds picked : List ℕ) (ok : Prunable groups firsts 
           rw
           (t, i)
           (parted-separates words mates groups (ok .few) m (countBelow e F - base)
-          ∙ bit-needed base e (tried-words-alone maxVertices _ _ F base (length firsts) ends-below (ok .forest) h) b t (in-batch base (countBelow e F) i))
+          ∙ bit-needed base e (tried-words-alone maxVertices guess _ _ F base (length firsts) ends-below (ok .forest) h) b t (in-batch base (countBelow e F) i))
 
 -- ---- batch after batch
 

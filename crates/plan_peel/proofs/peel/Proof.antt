@@ -12,29 +12,29 @@ use Rattle.plan_peel.proofs.peel.Statement.{statement}
 use Rattle.plan_peel.proofs.peel.Tie as tie
 
 abbrev Inv-loop : tie.InvT-loop
-Inv-loop firsts seconds picked degrees₀ others₀ marks₀ order₀ count₀ k₀ degrees others marks order count k =
+Inv-loop firsts seconds picked n degrees₀ others₀ marks₀ order₀ count₀ k₀ degrees others marks order count k =
     (k ≤ maxVertices)
     × (peelOf (endsOf degrees others marks) (queueOf order count)
-    ≡ leavesTaken maxVertices k (unpeeled maxVertices (λ e. getD firsts e 0) (λ e. getD seconds e 0) (pickedIn picked) (length firsts)))
+    ≡ leavesTaken maxVertices k (unpeeled maxVertices n (λ e. getD firsts e 0) (λ e. getD seconds e 0) (pickedIn picked) (length firsts)))
 
 abbrev μ-loop : tie.MeasureT-loop
-μ-loop firsts seconds picked degrees₀ others₀ marks₀ order₀ count₀ k₀ degrees others marks order count k = maxVertices - k
+μ-loop firsts seconds picked n degrees₀ others₀ marks₀ order₀ count₀ k₀ degrees others marks order count k = maxVertices - k
 
 loop-holds : tie.Need-loop-holds Inv-loop μ-loop
-loop-holds c = (omega arith, peel-start maxVertices _ _ _ _ (c .before .before .before .note-edges .ensures .1) (c .queue-leaves .ensures))
+loop-holds c = (omega arith, peel-start maxVertices _ _ _ _ _ (c .before .before .before .note-edges .ensures .1) (c .queue-leaves .ensures))
 
 loop-less : tie.Need-loop-less Inv-loop μ-loop
-loop-less c = omega (arith, peel-few maxVertices _ _ _ _ _ (c .before .before .before .before .before .before .loop .inv .1))
+loop-less c = omega (arith, peel-few maxVertices _ _ _ _ _ _ (c .before .before .before .before .before .before .loop .inv .1))
 
 loop-again : tie.Need-loop-again Inv-loop μ-loop
 loop-again c = (
-  omega (arith, peel-few maxVertices _ _ _ _ _ (c .before .before .before .before .before .before .loop .inv .1)),
+  omega (arith, peel-few maxVertices _ _ _ _ _ _ (c .before .before .before .before .before .before .loop .inv .1)),
   peel-more maxVertices _ _ (c .before .before .before .before .before .before .loop .inv .1) (c .before .before .before .before .before .loop-test .taken) (c .take-leaf .ensures),
 )
 
 returns : tie.Need-returns Inv-loop μ-loop
 returns c =
-    let end = peel-end maxVertices _ _ _ _ _ (c .before .loop .inv .0) (c .before .loop .inv .1) (c .loop-test .left) in
+    let end = peel-end maxVertices _ _ _ _ _ _ (c .before .loop .inv .0) (c .before .loop .inv .1) (c .loop-test .left) in
     (ap (λ (s : Peel). s .queue .count) end, ap (λ (s : Peel). s .queue .order) end, ap (λ (s : Peel). s .ends .others) end, ap (λ (s : Peel). s .ends .marks) end)
 
 pub peel-spec : {M : Type 1} → statement M

@@ -10,11 +10,11 @@ use Rattle.plan_peel.proofs.queue_leaves.Statement.{statement}
 use Rattle.plan_peel.proofs.queue_leaves.Tie as tie
 
 abbrev Inv-loop : tie.InvT-loop
-Inv-loop degrees order₀ count₀ v₀ order count v =
-    (v ≤ maxVertices) × (queueOf order count ≡ leavesQueued maxVertices degrees v (queueOf order₀ 0))
+Inv-loop degrees order₀ n count₀ v₀ order count v =
+    (v ≤ n) × (queueOf order count ≡ leavesQueued maxVertices degrees v (queueOf order₀ 0))
 
 abbrev μ-loop : tie.MeasureT-loop
-μ-loop degrees order₀ count₀ v₀ order count v = maxVertices - v
+μ-loop degrees order₀ n count₀ v₀ order count v = n - v
 
 loop-holds : tie.Need-loop-holds Inv-loop μ-loop
 loop-holds c = (omega arith, sym (leaves-none maxVertices _ _))
@@ -23,7 +23,7 @@ loop-again : tie.Need-loop-again Inv-loop μ-loop
 loop-again c = (omega arith, leaves-more maxVertices _ _ _ (c .before .before .before .loop .inv .1) (c .queue-leaf .ensures))
 
 returns : tie.Need-returns Inv-loop μ-loop
-returns c = leaves-end maxVertices _ maxVertices _ _ (omega arith) (omega arith) (c .before .loop .inv .1)
+returns c = leaves-end maxVertices _ _ _ _ (omega arith) (omega arith) (c .before .loop .inv .1)
 
 pub queue-leaves-spec : {M : Type 1} → statement M
 queue-leaves-spec =
@@ -32,7 +32,6 @@ queue-leaves-spec =
     Inv-loop
     μ-loop
     loop-holds
-    (λ c. search needs)
     (λ c κs. search needs)
     (λ c. search needs)
     (λ c. search needs)

@@ -134,19 +134,19 @@ module _ (N : ℕ) where
 
 -- ---- the whole
 
-module _ (N : ℕ) (a b : ℕ → ℕ) (F : ℕ → Bool) (m : ℕ) where
+module _ (N n : ℕ) (a b : ℕ → ℕ) (F : ℕ → Bool) (m : ℕ) where
   -- There is room for the whole order at any time.
-  pub peel-few : (k : ℕ) {now : Peel} → now ≡ leavesTaken N k (unpeeled N a b F m) → now .queue .count ≤ N
+  pub peel-few : (k : ℕ) {now : Peel} → now ≡ leavesTaken N k (unpeeled N n a b F m) → now .queue .count ≤ N
   unfolding unpeeled
-  peel-few k h = rw h (all-few N k _ (leaves-few N _ N _ (omega arith)))
+  peel-few k h = rw h (all-few N k _ (leaves-few N _ n _ (omega arith)))
 
   -- What the first two loops leave.
   pub peel-start : {ends : EndSums} {queue : Queue} → ends ≡ edgesNoted a b F m (endsOf (replicate N 0) (replicate N 0) (replicate N 0))
-      → queue ≡ leavesQueued N (ends .degrees) N (queueOf (replicate N 0) 0) → peelOf ends queue ≡ leavesTaken N 0 (unpeeled N a b F m)
+      → queue ≡ leavesQueued N (ends .degrees) n (queueOf (replicate N 0) 0) → peelOf ends queue ≡ leavesTaken N 0 (unpeeled N n a b F m)
   unfolding leavesTaken unpeeled
   peel-start h k = rw (k, h)
 
   -- And the last.
-  pub peel-end : (k : ℕ) {now : Peel} → k ≤ N → now ≡ leavesTaken N k (unpeeled N a b F m) → now .queue .count ≤ k → now ≡ peeled N a b F m
+  pub peel-end : (k : ℕ) {now : Peel} → k ≤ N → now ≡ leavesTaken N k (unpeeled N n a b F m) → now .queue .count ≤ k → now ≡ peeled N n a b F m
   unfolding peeled
   peel-end k few h l = peel-last N k _ few h l

@@ -6,7 +6,7 @@ use Rattle.survey_components.proofs.join_edge.Tie as tie
 
 returns : tie.Need-returns
 unfolding chosen
-returns c = rw (← c .before .before .before .before .before .before .before .before .at8 .ensures, ← c .before .before .before .before .before .before .before .is-chosen .ensures, c .before .before .before .before .before .before .if1 .taken) (rw (← c .before .before .before .before .at32 .ensures, ← c .before .before .before .at322 .ensures) (c .before .before .hang-ends .ensures .1))
+returns c = rw (← c .before .before .before .before .before .before .before .before .at8 .ensures, ← c .before .before .before .before .before .before .before .is-chosen .ensures, c .before .before .before .before .before .before .if1 .taken) (rw (← c .before .before .before .before .at32 .ensures, ← c .before .before .before .at322 .ensures) (c .before .before .join-ends .ensures))
 
 returns-2 : tie.Need-returns-2
 unfolding chosen

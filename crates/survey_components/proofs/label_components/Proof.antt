@@ -5,7 +5,8 @@ use lib.ListN.{length, getD}
 use Rattle.theory_graph.specs.Component.{components}
 use Rattle.base_limits.specs.Limits.{maxVertices}
 use Rattle.survey_components.specs.Labels.{chosen}
-use Rattle.survey_labels.specs.Laws.Roots.{Trees, trees-none, trees-more, trees-labels}
+use Rattle.survey_labels.specs.Laws.Roots.{Trees, trees-none, trees-labels}
+use Rattle.survey_components.specs.Laws.Met.{trees-met}
 use native.Mathlib.Omega.{arith}
 use borrow.Author.Needs.{needs}
 use Rattle.survey_components.proofs.label_components.Statement.{statement}
@@ -30,7 +31,7 @@ loop-again c =
     let turn = c .before .before .before .before in
     let ends = turn .before .before .before .before .before .before .pre .ends in (
       omega arith,
-      trees-more maxVertices _ _ _ _ _ _ (ends .first-within _ (turn .loop-test .taken)) (ends .second-within _ (turn .loop-test .taken)) (omega arith) (turn .before .loop .inv .1) (c .before .before .join-edge .ensures),
+      trees-met maxVertices _ _ _ _ _ (ends .first-within _ (turn .loop-test .taken)) (ends .second-within _ (turn .loop-test .taken)) (turn .before .loop .inv .1) _ (omega arith) (c .before .before .join-edge .ensures),
     )
 
 same-length : tie.Need-same-length Inv-loop μ-loop
