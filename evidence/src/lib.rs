@@ -228,35 +228,42 @@ impl View<'_> {
     /// For each junction the lowest junction that tracks of the set link with it, each walked either way.
     /// `holds` tells whether the set holds a track.
     pub fn components(&self, holds: impl Fn(usize) -> bool) -> Vec<usize> {
-        let mut beside = vec![Vec::new(); self.n()];
+        // Each junction points to a lower one that is linked with it, the lowest to itself.
+        let mut lower: Vec<usize> = (0..self.n()).collect();
         for t in (0..self.m()).filter(|&t| holds(t)) {
-            let (u, v) = (self.first[t] as usize, self.second[t] as usize);
-            beside[u].push(v);
-            beside[v].push(u);
+            let [u, v] = [self.first[t], self.second[t]].map(|end| lowest(&mut lower, end as usize));
+            lower[u.max(v)] = u.min(v);
         }
-        let mut lowest = vec![usize::MAX; self.n()];
-        for start in 0..self.n() {
-            if lowest[start] != usize::MAX {
-                continue;
-            }
-            lowest[start] = start;
-            let mut open = vec![start];
-            while let Some(u) = open.pop() {
-                for &v in &beside[u] {
-                    if lowest[v] == usize::MAX {
-                        lowest[v] = start;
-                        open.push(v);
-                    }
-                }
-            }
+        for v in 0..self.n() {
+            lower[v] = lower[lower[v]];
         }
-        lowest
+        lower
     }
 
     /// The lowest group that the set of tracks doesn't join, if there is one.
     pub fn unjoined(&self, holds: impl Fn(usize) -> bool) -> Option<u8> {
-        let component = self.components(holds);
-        let apart = |members: &Vec<usize>| members.iter().any(|&v| component[v] != component[members[0]]);
-        self.members_by_group().iter().position(apart).map(|group| group as u8)
+        parted(&self.members_by_group(), &self.components(holds))
     }
+
+    /// For each track whether it is picked and the other picked tracks leave some group unjoined.
+    pub fn needed(&self, picked: &[bool]) -> Vec<bool> {
+        let members = self.members_by_group();
+        let parts = |t: usize| parted(&members, &self.components(|other| other != t && picked[other])).is_some();
+        (0..self.m()).map(|t| picked[t] && parts(t)).collect()
+    }
+}
+
+/// Where the pointers from a junction lead. Those that are passed lead on by two from then on.
+fn lowest(lower: &mut [usize], mut v: usize) -> usize {
+    while lower[v] != v {
+        lower[v] = lower[lower[v]];
+        v = lower[v];
+    }
+    v
+}
+
+/// The lowest group with members in more than one component, if there is one; `component[v]` is junction v's.
+pub fn parted(members: &[Vec<usize>], component: &[usize]) -> Option<u8> {
+    let apart = |list: &Vec<usize>| list.iter().any(|&v| component[v] != component[list[0]]);
+    members.iter().position(apart).map(|group| group as u8)
 }

@@ -5,12 +5,22 @@ use crate::plan::{owned, Plan, Planner, KEPT};
 use crate::read::{parse, Lengths};
 use crate::why::{why, Reason};
 use crate::{refuse, stp, Refusal, Survey, AMOUNT_BYTES, MAX_INPUT, MAX_JUNCTIONS, RECORD_BYTES};
+use std::fmt::{Arguments, Write};
 
 /// The line of a record. Any amount and any member bit is printed as it stands.
 fn line(record: &[u8]) -> String {
-    let members: Vec<String> =
-        (0..8 * (RECORD_BYTES - AMOUNT_BYTES)).filter(|&v| holds(record, v)).map(|v| v.to_string()).collect();
-    format!("moat={}:{}\n", amount(record), members.join(","))
+    let mut out = format!("moat={}:", amount(record));
+    let mut between = "";
+    for v in (0..8 * (RECORD_BYTES - AMOUNT_BYTES)).filter(|&v| holds(record, v)) {
+        put(&mut out, format_args!("{between}{v}"));
+        between = ",";
+    }
+    out + "\n"
+}
+
+/// Appends to a text.
+fn put(out: &mut String, more: Arguments) {
+    out.write_fmt(more).expect("a text in memory takes all");
 }
 
 /// Writes a moat line and answers with its length; 9 if the record has another length, 7 if the line doesn't fit.
@@ -32,7 +42,7 @@ pub fn plan_lines(plan: &Plan) -> String {
     let mut out =
         format!("sites={}\ncost={}\nbound={}\nrounds={}\n", counts.sites, counts.cost, counts.bound, counts.rounds);
     for track in (0..plan.marks.len()).filter(|&t| plan.marks[t] == KEPT) {
-        out += &format!("keep={track}\n");
+        put(&mut out, format_args!("keep={track}\n"));
     }
     for record in plan.records.chunks_exact(RECORD_BYTES) {
         out += &line(record);
@@ -63,13 +73,13 @@ pub fn program(planner: Planner, input: &[u8]) -> String {
 pub fn survey_text(survey: &Survey) -> Vec<u8> {
     let mut out = format!("nodes={}\nlinks={}\n", survey.groups.len(), survey.first.len());
     for group in &survey.groups {
-        out += &format!("node={group}\n");
+        put(&mut out, format_args!("node={group}\n"));
     }
     for (v, group) in survey.owners.iter().zip(&survey.others) {
-        out += &format!("also={v},{group}\n");
+        put(&mut out, format_args!("also={v},{group}\n"));
     }
     for t in 0..survey.first.len() {
-        out += &format!("link={},{},{}\n", survey.first[t], survey.second[t], survey.prices[t]);
+        put(&mut out, format_args!("link={},{},{}\n", survey.first[t], survey.second[t], survey.prices[t]));
     }
     out.into_bytes()
 }

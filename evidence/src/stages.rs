@@ -60,11 +60,9 @@ pub fn drop_tracks(survey: View, marks: &mut [u8]) -> Result<Kept, Refusal> {
         return refuse(14, usize::from(group));
     }
     let mut kept = Kept { sites: survey.sites(), cost: 0 };
-    for t in (0..survey.m()).filter(|&t| picked[t]) {
-        if survey.unjoined(|other| other != t && picked[other]).is_some() {
-            marks[t] = KEPT;
-            kept.cost += u64::from(survey.prices[t]);
-        }
+    for (t, _) in survey.needed(&picked).iter().enumerate().filter(|(_, needed)| **needed) {
+        marks[t] = KEPT;
+        kept.cost += u64::from(survey.prices[t]);
     }
     Ok(kept)
 }

@@ -1,7 +1,7 @@
 //! Why a track is on the sheet, or not (No. 3).
 
 use crate::plan::{growth, DROPPED, KEPT, NOT_PICKED};
-use crate::{refuse, Refusal, View};
+use crate::{parted, refuse, Refusal, View};
 
 /// One reason, in numbers; what doesn't belong to its kind is 0.
 #[derive(Clone, Copy, Debug, Default, PartialEq, Eq)]
@@ -22,10 +22,11 @@ pub struct Reason {
 /// The picked tracks in the order of their rounds, and the marks of a plan, of a survey whose groups can all be joined.
 fn planned(survey: View) -> (Vec<usize>, Vec<u8>) {
     let growth = growth(survey);
-    let mark = |t: usize| match growth.picked[t] {
-        false => NOT_PICKED,
-        true if survey.unjoined(|other| other != t && growth.picked[other]).is_some() => KEPT,
-        true => DROPPED,
+    let needed = survey.needed(&growth.picked);
+    let mark = |t: usize| match (growth.picked[t], needed[t]) {
+        (false, _) => NOT_PICKED,
+        (true, true) => KEPT,
+        (true, false) => DROPPED,
     };
     (growth.rounds.iter().map(|round| round.winner).collect(), (0..survey.m()).map(mark).collect())
 }
@@ -80,25 +81,27 @@ pub fn why(survey: View, track: u32, lent: &mut [u32]) -> Result<Reason, Refusal
         KEPT => {
             let component = survey.components(|t| t != track && marks[t] == KEPT);
             let members = survey.members_by_group();
-            let apart = |list: &Vec<usize>| list.iter().any(|&v| component[v] != component[list[0]]);
-            let list = members.iter().position(apart).expect("a kept track is needed");
-            let pairs = members[list].iter().flat_map(|&u| members[list].iter().map(move |&v| (u, v)));
+            let list = parted(&members, &component).expect("a kept track is needed");
+            let members = &members[usize::from(list)];
+            let pairs = members.iter().flat_map(|&u| members.iter().map(move |&v| (u, v)));
             let (smaller, larger) =
                 pairs.filter(|&(u, v)| u < v && component[u] != component[v]).min().expect("two of them are apart");
             let tracks = route(survey, &marks, smaller, larger);
             for (entry, &track) in lent.iter_mut().zip(&tracks) {
                 *entry = track as u32;
             }
-            reason.list = list as u64;
+            reason.list = u64::from(list);
             (reason.smaller, reason.larger) = (smaller as u64, larger as u64);
             reason.entries = tracks.len() as u64;
         }
         NOT_PICKED => {
-            let linked = |rounds: &usize| {
-                let component = survey.components(|t| picks[..*rounds].contains(&t));
+            let mut picked = vec![false; survey.m()];
+            let linked = |&pick: &usize| {
+                picked[pick] = true;
+                let component = survey.components(|t| picked[t]);
                 component[ends[0]] == component[ends[1]]
             };
-            reason.round = (1..=picks.len()).find(linked).unwrap_or(0) as u64;
+            reason.round = picks.iter().position(linked).map_or(0, |before| before as u64 + 1);
         }
         _ => {}
     }

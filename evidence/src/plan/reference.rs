@@ -1,5 +1,5 @@
-//! The plain planner: each round starts afresh from the picked tracks and the moats so far. It follows the paper's
-//! sentences and spares no work.
+//! The plain planner: each round starts afresh from the picked tracks. It follows the paper's sentences and spares
+//! little work.
 
 use super::{admitted, Counts, DROPPED, KEPT, NOT_PICKED};
 use crate::{Refusal, View, AMOUNT_BYTES, RECORD_BYTES};
@@ -41,6 +41,15 @@ fn growing(lists: &[Vec<usize>], component: &[usize]) -> Vec<bool> {
     growing
 }
 
+/// The load of each junction: the amounts of all moats that hold it.
+fn loads(n: usize, moats: &[Moat]) -> Vec<u64> {
+    let mut load = vec![0; n];
+    for moat in moats {
+        moat.members.iter().for_each(|&v| load[v] += moat.amount);
+    }
+    load
+}
+
 /// The rounds of a survey whose groups can all be joined.
 pub fn growth(survey: View) -> Growth {
     let (n, m) = (survey.n(), survey.m());
@@ -48,20 +57,17 @@ pub fn growth(survey: View) -> Growth {
     let mut moats: Vec<Moat> = (0..n).map(|v| Moat { members: vec![v], amount: 0 }).collect();
     let mut rounds: Vec<Round> = Vec::new();
     let mut picked = vec![false; m];
+    // Of each junction the load, which is the amounts of all moats that hold it, and the last of these moats to arise,
+    // which is its component's.
+    let mut load = vec![0; n];
+    let mut last: Vec<usize> = (0..n).collect();
     loop {
         // `component[v]` is the lowest junction of v's component.
         let component = survey.components(|t| picked[t]);
         let growing = growing(&lists, &component);
         if !growing.contains(&true) {
+            assert_eq!(load, loads(n, &moats), "the loads, counted both ways");
             return Growth { rounds, picked, moats };
-        }
-
-        // The load of a junction: the amounts of all moats that hold it.
-        let mut load = vec![0; n];
-        for moat in moats.iter().filter(|moat| moat.amount != 0) {
-            for &v in &moat.members {
-                load[v] += moat.amount;
-            }
         }
 
         // The smallest wait, and among equals the lowest track number.
@@ -87,16 +93,18 @@ pub fn growth(survey: View) -> Growth {
         let (wait, winner) = best.expect("a growing component of a joinable survey has a way out");
 
         // Raise every growing component, then make the winner's two components one.
-        // Of the moats that hold a junction the last to arise is its component's.
         for c in (0..n).filter(|&c| growing[c]) {
-            let moat =
-                moats.iter_mut().rev().find(|moat| moat.members.contains(&c)).expect("each component has arisen");
-            moat.amount += wait;
+            moats[last[c]].amount += wait;
+        }
+        for v in (0..n).filter(|&v| growing[component[v]]) {
+            load[v] += wait;
         }
         rounds.push(Round { winner, wait, growing: growing.iter().filter(|&&g| g).count() as u64 });
         picked[winner] = true;
         let ends = [component[survey.first[winner] as usize], component[survey.second[winner] as usize]];
-        moats.push(Moat { members: (0..n).filter(|&v| ends.contains(&component[v])).collect(), amount: 0 });
+        let members: Vec<usize> = (0..n).filter(|&v| ends.contains(&component[v])).collect();
+        members.iter().for_each(|&v| last[v] = moats.len());
+        moats.push(Moat { members, amount: 0 });
     }
 }
 
@@ -110,10 +118,10 @@ pub fn reference(survey: View, marks: &mut [u8], records: &mut [u8]) -> Result<C
     let Growth { rounds, picked, moats } = growth(survey);
     let mut counts = Counts { sites: survey.sites(), rounds: rounds.len() as u64, ..Counts::default() };
 
-    for t in 0..survey.m() {
+    for (t, needed) in survey.needed(&picked).into_iter().enumerate() {
         marks[t] = if !picked[t] {
             NOT_PICKED
-        } else if survey.unjoined(|other| other != t && picked[other]).is_some() {
+        } else if needed {
             counts.cost += u64::from(survey.prices[t]);
             KEPT
         } else {
