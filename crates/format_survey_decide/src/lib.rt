@@ -1,13 +1,13 @@
 // How the lines after a survey text's counts end, found before any of them is stored.
 ghost use Rattle.base_buffer.specs.Lent.{old};
 ghost use mathlib.Core.Path.{_≡_};
-ghost use Prim.Native.Nat.{_≤_};
 ghost use Rattle.base_limits.specs.Limits.{maxVertices};
 ghost use Rattle.format_number.specs.Answer.{numberStep};
 ghost use Rattle.format_grammar.specs.Bytes.{endAt};
 ghost use Rattle.format_grammar.specs.Step.{found, _then_, stopped};
+ghost use Rattle.format_survey_lines.specs.Line.{linesWith};
 ghost use Rattle.format_survey_lines.specs.Answer.{countsStep};
-ghost use Rattle.format_survey.specs.Reading.{bodyOf, stepOutcome};
+ghost use Rattle.format_survey.specs.Reading.{stepOutcome};
 ghost use Rattle.format_survey.specs.Answer.{countsOutcome};
 use base_limits::MAX_VERTICES;
 use format_number::Cursor;
@@ -40,11 +40,12 @@ fn ended(text: &[u8], lines: Number) -> Number
     }
 }
 
-// How the lines after the counts end, and how many pairs there are: a pass over them that stores into groups of its own
-// and buffers of no length. For so many vertices as there may be, that is how they are to end.
+// How the lines after the counts end, and how many pairs there are: a pass over them that stores into groups of its own,
+// as many as there may be, and buffers of no length.
 pub fn decided(text: &[u8], cursor: Cursor, vertices: usize, edges: usize, room: usize) -> Number
     ensures { λ r.
-        ⌜ (vertices ≤ maxVertices → numberStep r ≡ bodyOf room (old text) vertices edges (cursor .at) .end) ⌝ }
+        let lines = linesWith maxVertices room (old text) vertices edges (cursor .at) in
+        ⌜ numberStep r ≡ (lines .end then λ k p. endAt (old text) p then λ z q. found k q) ⌝ }
 {
     let mut groups = [0u8; MAX_VERTICES];
     let mut firsts = [0u32; 0];

@@ -1,11 +1,16 @@
 -- `format_survey_read::read` meets its contract, by the cases of the counts and of the lines after them.
 use borrow.Author.Needs.{needs}
-use mathlib.Core.Path.{ap, sym, _∙_}
-use Rattle.format_grammar.specs.Step.{stopped}
+use Prim.Native.Nat.{ℕ, _≤_}
+use mathlib.Core.Path.{_≡_, ap, sym, _∙_}
+use mathlib.Core.List.{List}
+use Rattle.base_limits.specs.Limits.{maxVertices}
+use Rattle.format_grammar.specs.Bytes.{endAt}
+use Rattle.format_grammar.specs.Step.{found, _then_, stopped}
 use Rattle.format_number.specs.Answer.{numberStep}
 use Rattle.format_survey_lines.specs.Answer.{countsStep}
-use Rattle.format_survey_lines.specs.Line.{lengthsOf, testsFor}
-use Rattle.format_survey.specs.Reading.{stepOutcome}
+use Rattle.format_survey_lines.specs.Line.{SurveyLines, lengthsOf, linesAt, linesWith, testsFor}
+use Rattle.format_survey_lines.specs.Laws.Body.{with-room}
+use Rattle.format_survey.specs.Reading.{bodyAt, bodyOf, stepOutcome}
 use Rattle.format_survey.specs.Answer.{TextCounts, countsOutcome, countsOf}
 use Rattle.format_survey.specs.Laws.Reading.{reading-refused, buffer-kept, counts-read-fit}
 use Rattle.format_survey_read.specs.Laws.Storing.{read-refused, read-found}
@@ -39,6 +44,12 @@ returns c =
       ),
     )
 
+-- With room for the groups the lines end as they are to.
+decided-body : (room : ℕ) (t : List ℕ) (n m at : ℕ) → n ≤ maxVertices → (linesWith maxVertices room t n m at .end then λ k p. endAt t p then λ z q. found k q) ≡ bodyOf room t n m at .end
+unfolding bodyOf bodyAt linesAt
+decided-body room t n m at h =
+    ap (λ (x : SurveyLines). x .end then λ k p. endAt t p then λ z q. found k q) (with-room room t n m at {lent = maxVertices} h)
+
 -- a line is refused
 returns-2 : tie.Need-returns-2
 unfolding countsOutcome countsOf countsStep numberStep stopped stepOutcome testsFor
@@ -49,7 +60,7 @@ returns-2 c =
     let told = c .before .enum-told2 .given .1 in
     let e = sym (p .counts .ensures) ∙ ap countsStep (q .before .before .before .head .given .1) in
     let few = counts-read-fit (a .text .now) (lengthsOf (a .groups .now) (a .firsts .now) (a .seconds .now) (a .weights .now) (a .owners .now) (a .others .now)) e .0 in
-    let r = read-refused (a .text .now) (a .groups .now) (a .firsts .now) (a .seconds .now) (a .weights .now) (a .owners .now) (a .others .now) e (q .before .pair-room .ensures) (sym (q .decided .ensures few) ∙ ap numberStep told) in (
+    let r = read-refused (a .text .now) (a .groups .now) (a .firsts .now) (a .seconds .now) (a .weights .now) (a .owners .now) (a .others .now) e (q .before .pair-room .ensures) (sym (q .decided .ensures ∙ decided-body _ (a .text .now) _ _ _ few) ∙ ap numberStep told) in (
       c .stopped-lines .ensures ∙ ap (λ x. stepOutcome (stopped {B = TextCounts} (numberStep x))) told ∙ sym (ap countsOf r),
       (
         buffer-kept (λ s. s .groups) (a .groups .now) r,
@@ -98,7 +109,7 @@ returns-3 c =
     let e = sym (p .counts .ensures) ∙ ap countsStep (q .before .before .before .head .given .1) in
     let few = counts-read-fit (a .text .now) (lengthsOf (a .groups .now) (a .firsts .now) (a .seconds .now) (a .weights .now) (a .owners .now) (a .others .now)) e .0 in
     let f = l .survey-lines .ensures in
-    let s = read-found (a .text .now) (a .groups .now) (a .firsts .now) (a .seconds .now) (a .weights .now) (a .owners .now) (a .others .now) e (q .before .pair-room .ensures) (sym (q .decided .ensures few) ∙ ap numberStep (l .before .before .before .before .before .before .before .before .found .given .1)) (f .1) (f .2) (f .3) (f .4) (f .5) (f .6) in
+    let s = read-found (a .text .now) (a .groups .now) (a .firsts .now) (a .seconds .now) (a .weights .now) (a .owners .now) (a .others .now) e (q .before .pair-room .ensures) (sym (q .decided .ensures ∙ decided-body _ (a .text .now) _ _ _ few) ∙ ap numberStep (l .before .before .before .before .before .before .before .before .found .given .1)) (f .1) (f .2) (f .3) (f .4) (f .5) (f .6) in
     (s .counts, (s .groups, (s .firsts, (s .seconds, (s .weights, (s .owners, s .others))))))
 
 pub read-spec : {M : Type 1} → statement M
