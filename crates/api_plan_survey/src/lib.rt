@@ -7,11 +7,10 @@ ghost use Rattle.base_limits.specs.Limits.{planRoom};
 ghost use Rattle.survey_core.specs.Survey.{lentWith};
 ghost use Rattle.format_print.specs.Print.{printed, printedOut};
 ghost use Rattle.api_plan_text.specs.Output.{surveyOutput};
+use api_plan_print::print_planned;
 use base_limits::MAX_EDGES;
-use base_limits::RECORD_BYTES;
 use base_limits::RECORDS_ROOM;
 use format_print::Printed;
-use plan_rule::Planned;
 
 // Plans a survey and prints the plan, or the refusal's two lines.
 pub fn plan_survey(
@@ -35,8 +34,7 @@ pub fn plan_survey(
 {
     let mut marks = [0u8; MAX_EDGES];
     let mut records = [0u8; RECORDS_ROOM];
-    let edges = firsts.len();
-    match plan_core::plan(
+    let planned = plan_core::plan(
         groups,
         firsts,
         seconds,
@@ -45,25 +43,6 @@ pub fn plan_survey(
         others,
         &mut marks,
         &mut records,
-    ) {
-        Planned::Refused { number, place } => format_print_lines::print_refusal(number, place, out),
-        Planned::Finished {
-            terminals,
-            cost,
-            bound,
-            rounds,
-            duals,
-        } => {
-            let size = RECORD_BYTES * (duals as usize);
-            format_print_plan::print_plan(
-                terminals,
-                cost,
-                bound,
-                rounds,
-                &marks[0..edges],
-                &records[0..size],
-                out,
-            )
-        }
-    }
+    );
+    print_planned(planned, firsts.len(), &marks, &records, out)
 }
