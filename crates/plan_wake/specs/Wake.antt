@@ -55,6 +55,14 @@ wokenBy t time n e s =
     let at : ℕ → KeyNotes → KeyNotes = wokenAt (t .firsts) (t .seconds) (t .weights) (t .loads) (t .flags) time n in
     at (getD (t .labels) (getD (t .seconds) e 0) 0) (at (getD (t .labels) (getD (t .firsts) e 0) 0) s)
 
--- Whole blocks within two lengths.
-unfoldable pub wholeBlocks : (m k : ℕ) → ℕ
-wholeBlocks m k = cond (ltb k m) (k / blockEdges) (m / blockEdges)
+-- So many edges are compared with a vertex at once.
+abbrev pub wakeEdges : ℕ
+wakeEdges = 64
+
+-- The shorter of two lengths.
+unfoldable pub leastOf : (m k : ℕ) → ℕ
+leastOf m k = cond (ltb k m) k m
+
+-- Where the part ends that begins at `from`, within a length.
+unfoldable pub partEnd : (from least : ℕ) → ℕ
+partEnd from least = cond (ltb wakeEdges (least - from)) (from + wakeEdges) least

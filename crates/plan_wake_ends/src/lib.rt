@@ -1,16 +1,19 @@
 // Waking the edges that end at a vertex, block by block. Definitions in plan_wake.
 ghost use Rattle.base_buffer.specs.Lent.{old, new};
 ghost use mathlib.Core.Path.{_≡_};
-ghost use Prim.Native.Nat.{_+_, _-_, _≤_};
+ghost use Prim.Native.Nat.{_-_, _≤_};
 ghost use lib.ListN.{getD, length};
 ghost use lib.Dec.{eqb};
 ghost use Rattle.base_finite.specs.Below.{counted, anyBelow};
-ghost use Rattle.plan_winner.specs.Scan.{blockEdges};
-ghost use Rattle.plan_wake.specs.Wake.{endsAt, notesFrom, wokenKey, lowered, wokenEdge, wokenOn, wholeBlocks};
+ghost use Rattle.plan_wake.specs.Wake.{endsAt, notesFrom, wokenKey, lowered, wokenEdge, wokenOn};
+ghost use Rattle.plan_wake.specs.Wake.{leastOf, partEnd};
 use base_buffer::at32;
 use base_buffer::at64;
 use base_buffer::put64;
 use plan_winner::BLOCK_EDGES;
+
+// So many edges are compared with a vertex at once (`wakeEdges`).
+const WAKE_EDGES: usize = 64;
 
 // 1 if two numbers are the same.
 fn same_number(x: u32, c: u32) -> u32
@@ -108,8 +111,8 @@ fn wake_edges(
     }
 }
 
-// Those of a block, which is passed over if none of them ends at c.
-fn wake_block(
+// Those of a part, which is passed over if none of them ends at c.
+fn wake_part(
     firsts: &[u32],
     seconds: &[u32],
     weights: &[u32],
@@ -118,29 +121,41 @@ fn wake_block(
     keys: &mut [u64],
     floors: &mut [u64],
     from: usize,
+    to: usize,
 )
-    requires { ⌜ from + blockEdges ≤ length (now firsts) ⌝ }
-    requires { ⌜ from + blockEdges ≤ length (now seconds) ⌝ }
+    requires { ⌜ from ≤ to ⌝ }
+    requires { ⌜ to ≤ length (now firsts) ⌝ }
+    requires { ⌜ to ≤ length (now seconds) ⌝ }
     ensures { λ r.
         let s = notesFrom (old keys) (old floors) in
-        let woken = wokenOn (endsAt (old firsts) (old seconds) c) (wokenKey (old weights) behind) s from blockEdges in
+        let woken = wokenOn (endsAt (old firsts) (old seconds) c) (wokenKey (old weights) behind) s from (to - from) in
         ⌜ notesFrom (new keys) (new floors) ≡ woken ⌝ }
 {
-    let to = from + BLOCK_EDGES;
     let found = has_end(&firsts[from..to], c) | has_end(&seconds[from..to], c);
     if 0 < found {
         wake_edges(firsts, seconds, weights, c, behind, keys, floors, from, to);
     }
 }
 
-// Blocks that two lists fill.
-fn whole_blocks(m: usize, k: usize) -> usize
-    ensures { λ r. ⌜ r ≡ wholeBlocks m k ⌝ }
+// The shorter of two lengths.
+fn least_of(m: usize, k: usize) -> usize
+    ensures { λ r. ⌜ r ≡ leastOf m k ⌝ }
 {
     if k < m {
-        return k / BLOCK_EDGES;
+        return k;
     }
-    m / BLOCK_EDGES
+    m
+}
+
+// Where the part ends that begins at `from`.
+fn part_end(from: usize, least: usize) -> usize
+    requires { ⌜ from ≤ least ⌝ }
+    ensures { λ r. ⌜ r ≡ partEnd from least ⌝ }
+{
+    if WAKE_EDGES < least - from {
+        return from + WAKE_EDGES;
+    }
+    least
 }
 
 // All edges that end at c.
@@ -159,20 +174,12 @@ pub fn wake_ends(
         let woken = wokenOn (endsAt (old firsts) (old seconds) c) (wokenKey (old weights) behind) s 0 m in
         ⌜ notesFrom (new keys) (new floors) ≡ woken ⌝ }
 {
-    let blocks = whole_blocks(firsts.len(), seconds.len());
-    let mut b = 0;
-    while b < blocks {
-        wake_block(
-            firsts,
-            seconds,
-            weights,
-            c,
-            behind,
-            keys,
-            floors,
-            BLOCK_EDGES * b,
-        );
-        b += 1;
+    let least = least_of(firsts.len(), seconds.len());
+    let mut from = 0;
+    while from < least {
+        let to = part_end(from, least);
+        wake_part(firsts, seconds, weights, c, behind, keys, floors, from, to);
+        from = to;
     }
     wake_edges(
         firsts,
@@ -182,7 +189,7 @@ pub fn wake_ends(
         behind,
         keys,
         floors,
-        BLOCK_EDGES * b,
+        from,
         firsts.len(),
     );
 }

@@ -85,7 +85,7 @@ pub record Woken (p : Problem) (s : State) (time x y : ℕ) (woken : List ℕ) :
 
 -- Edges come in blocks, and a block's floor is not above any of its keys (law `passes-scan`: blocks whose floors say so are passed over whole).
 abbrev pub blockEdges : ℕ
-blockEdges = 16
+blockEdges = 8
 
 -- The edges of block b, where m are all.
 unfoldable pub blockSize : (m b : ℕ) → ℕ

@@ -9,7 +9,7 @@ pub const NO_KEY: u64 = 18446744073709551615;
 pub const TIME_LIMIT: u64 = 4611686018427387904;
 
 // Edges of a whole block (`blockEdges`).
-pub const BLOCK_EDGES: usize = 16;
+pub const BLOCK_EDGES: usize = 8;
 
 // Blocks, at most (`maxBlocks`).
 pub const MAX_BLOCKS: usize = MAX_EDGES / BLOCK_EDGES + 1;

@@ -16,7 +16,7 @@ use Rattle.base_finite.specs.Laws.Below.{any-none, counted-true}
 use Rattle.base_finite.specs.Laws.Test.{not-true-false, and-both, not-of-false, or-false-left, or-false-right}
 use Rattle.plan_winner.specs.Scan.{blockEdges}
 use Rattle.plan_winner.specs.Tables.{Tables}
-use Rattle.plan_wake.specs.Wake.{endsAt, idleVertex, KeyNotes, notesFrom, behindBy, wokenKey, lowered, wokenEdge, wokenOn, wokenAt, wokenBy, wholeBlocks}
+use Rattle.plan_wake.specs.Wake.{endsAt, idleVertex, KeyNotes, notesFrom, behindBy, wokenKey, lowered, wokenEdge, wokenOn, wokenAt, wokenBy, wakeEdges, leastOf, partEnd}
 use Rattle.plan_wake.specs.Laws.Wake.{on-length}
 
 -- ---- whether some end is c
@@ -114,19 +114,18 @@ module _ (wakes : ℕ → Bool) (fresh : ℕ → ℕ) where
       ∙ ap (wokenEdge wakes fresh (wokenOn wakes fresh s from (a + b))) q
       ∙ ap (wokenOn wakes fresh s from) (sym (add-suc a b))
 
--- A block of a list of ends, and whether some of it is c.
-abbrev part : List ℕ → (from : ℕ) → List ℕ
-part l from = take (from + blockEdges - from) (drop from l)
+-- A part of a list of ends, and whether some of it is c.
+abbrev part : List ℕ → (from to : ℕ) → List ℕ
+part l from to = take (to - from) (drop from l)
 
-abbrev partHas : List ℕ → (from c : ℕ) → Bool
-partHas l from c = anyBelow (length (part l from)) (λ i. eqb (getD (part l from) i 0) c)
+abbrev partHas : List ℕ → (from to c : ℕ) → Bool
+partHas l from to c = anyBelow (length (part l from to)) (λ i. eqb (getD (part l from to) i 0) c)
 
-part-none : (l : List ℕ) (from c : ℕ) → from + blockEdges ≤ length l → partHas l from c ≡ false → (k : ℕ) → k < blockEdges → eqb (getD l (from + k) 0) c ≡ false
-part-none l from c b h k u =
-    let q : from + blockEdges - from ≡ blockEdges = omega arith in
-    let long : length (part l from) ≡ blockEdges = rw q (length-take-le blockEdges (drop from l) (omega (arith, length-drop from l))) in
-    let same : getD (part l from) k 0 ≡ getD l (from + k) 0 = getD-take (from + blockEdges - from) (drop from l) k 0 (omega arith) ∙ getD-drop from l k 0 in
-    ap (λ x. eqb x c) (sym same) ∙ any-none (length (part l from)) (λ i. eqb (getD (part l from) i 0) c) h k (omega arith)
+part-none : (l : List ℕ) (from to c : ℕ) → to ≤ length l → partHas l from to c ≡ false → (k : ℕ) → k < to - from → eqb (getD l (from + k) 0) c ≡ false
+part-none l from to c b h k u =
+    let long : length (part l from to) ≡ to - from = length-take-le (to - from) (drop from l) (omega (arith, length-drop from l)) in
+    let same : getD (part l from to) k 0 ≡ getD l (from + k) 0 = getD-take (to - from) (drop from l) k 0 (omega arith) ∙ getD-drop from l k 0 in
+    ap (λ x. eqb x c) (sym same) ∙ any-none (length (part l from to)) (λ i. eqb (getD (part l from to) i 0) c) h k (omega arith)
 
 none-counted : (s t : Bool) {p q : ℕ} → p ≡ counted s 1 → q ≡ counted t 1 → bitOr p q ≤ 0 → (s ≡ false) × (t ≡ false)
 none-counted s t {p} {q} h k z =
@@ -134,77 +133,71 @@ none-counted s t {p} {q} h k z =
     let none : (s || t) ≡ false = not-true-false (s || t) (λ y. let one = counted-true y 1 in omega arith) in
     (or-false-left s t none, or-false-right s t none)
 
--- A block that has c at no end.
-pub block-left : (firsts seconds : List ℕ) (fresh : ℕ → ℕ) (from c : ℕ) (s : KeyNotes) {p q : ℕ} → from + blockEdges ≤ length firsts → from + blockEdges ≤ length seconds
-    → p ≡ counted (partHas firsts from c) 1 → q ≡ counted (partHas seconds from c) 1 → bitOr p q ≤ 0 → s ≡ wokenOn (endsAt firsts seconds c) fresh s from blockEdges
+-- A part that has c at no end.
+pub part-left : (firsts seconds : List ℕ) (fresh : ℕ → ℕ) (from to c : ℕ) (s : KeyNotes) {p q : ℕ} → to ≤ length firsts → to ≤ length seconds
+    → p ≡ counted (partHas firsts from to c) 1 → q ≡ counted (partHas seconds from to c) 1 → bitOr p q ≤ 0 → s ≡ wokenOn (endsAt firsts seconds c) fresh s from (to - from)
 unfolding endsAt
-block-left firsts seconds fresh from c s a b h k z =
-    let none = none-counted (partHas firsts from c) (partHas seconds from c) h k z in
-    on-skip (endsAt firsts seconds c) fresh s from blockEdges
+part-left firsts seconds fresh from to c s a b h k z =
+    let none = none-counted (partHas firsts from to c) (partHas seconds from to c) h k z in
+    on-skip (endsAt firsts seconds c) fresh s from (to - from)
     (λ i u.
-    ap (λ t. t || eqb (getD seconds (from + i) 0) c) (part-none firsts from c a (none .0) i u)
-    ∙ part-none seconds from c b (none .1) i u)
+    ap (λ t. t || eqb (getD seconds (from + i) 0) c) (part-none firsts from to c a (none .0) i u)
+    ∙ part-none seconds from to c b (none .1) i u)
 
-pub block-woken : (wakes : ℕ → Bool) (fresh : ℕ → ℕ) (s t : KeyNotes) (from : ℕ) → t ≡ wokenOn wakes fresh s from (from + blockEdges - from) → t ≡ wokenOn wakes fresh s from blockEdges
-block-woken wakes fresh s t from h = let q : from + blockEdges - from ≡ blockEdges = omega arith in rw q at h
-
-pub whole-fits : (m k b : ℕ) {n : ℕ} → n ≡ wholeBlocks m k → b < n → (blockEdges * b + blockEdges ≤ m) × (blockEdges * b + blockEdges ≤ k)
-unfolding wholeBlocks
-whole-fits m k b {n} h l = by (ltb k m) refl h
+pub least-le : (m k : ℕ) {n : ℕ} → n ≡ leastOf m k → (n ≤ m) × (n ≤ k)
+unfolding leastOf
+least-le m k {n} = by (ltb k m) refl
   where
-    by : (t : Bool) → ltb k m ≡ t → n ≡ cond t (k / blockEdges) (m / blockEdges) → (blockEdges * b + blockEdges ≤ m) × (blockEdges * b + blockEdges ≤ k)
-    by true g q = let u = ltb-true k m g in (omega arith, omega arith)
-    by false g q = let u = ltb-false k m g in (omega arith, omega arith)
+    by : (t : Bool) → ltb k m ≡ t → n ≡ cond t k m → (n ≤ m) × (n ≤ k)
+    by true g h = let u = ltb-true k m g in (omega arith, omega arith)
+    by false g h = let u = ltb-false k m g in (omega arith, omega arith)
 
-pub whole-le : (m k b : ℕ) {n : ℕ} → n ≡ wholeBlocks m k → b ≤ n → blockEdges * b ≤ m
-unfolding wholeBlocks
-whole-le m k b {n} h l = by (ltb k m) refl h
+-- A part is not empty, and within the length.
+pub record Within (from to least : ℕ) : Type 0 where
+  pub more : from < to
+  pub upto : to ≤ least
+
+pub part-within : (from least : ℕ) {to : ℕ} → from < least → to ≡ partEnd from least → Within from to least
+unfolding partEnd
+part-within from least {to} b = by (ltb wakeEdges (least - from)) refl
   where
-    by : (t : Bool) → ltb k m ≡ t → n ≡ cond t (k / blockEdges) (m / blockEdges) → blockEdges * b ≤ m
-    by true g q = let u = ltb-true k m g in omega arith
-    by false g q = omega arith
+    by : (t : Bool) → ltb wakeEdges (least - from) ≡ t → to ≡ cond t (from + wakeEdges) least → Within from to least
+    by true g h = let u = ltb-true wakeEdges (least - from) g in record { more = omega arith; upto = omega arith }
+    by false g h = record { more = omega arith; upto = omega arith }
 
--- Before block b.
-pub record WakingBlocks (wakes : ℕ → Bool) (fresh : ℕ → ℕ) (s : KeyNotes) (n b : ℕ) (keys floors : List ℕ) : Type 0 where
-  pub upto : b ≤ n
-  pub made : notesFrom keys floors ≡ wokenOn wakes fresh s 0 (blockEdges * b)
+-- Before edge `from`.
+pub record WakingParts (wakes : ℕ → Bool) (fresh : ℕ → ℕ) (s : KeyNotes) (least from : ℕ) (keys floors : List ℕ) : Type 0 where
+  pub upto : from ≤ least
+  pub made : notesFrom keys floors ≡ wokenOn wakes fresh s 0 from
 
-pub blocks-start : (wakes : ℕ → Bool) (fresh : ℕ → ℕ) (s : KeyNotes) (n : ℕ) → WakingBlocks wakes fresh s n 0 (s .keys) (s .floors)
+pub parts-start : (wakes : ℕ → Bool) (fresh : ℕ → ℕ) (s : KeyNotes) (least : ℕ) → WakingParts wakes fresh s least 0 (s .keys) (s .floors)
 unfolding wokenOn
-blocks-start wakes fresh s n = record { upto = omega arith; made = refl }
+parts-start wakes fresh s least = record { upto = omega arith; made = refl }
 
-module _ {wakes : ℕ → Bool} {fresh : ℕ → ℕ} {s : KeyNotes} {n b : ℕ} {keys floors : List ℕ} (h : WakingBlocks wakes fresh s n b keys floors) where
-  pub blocks-more : {keys' floors' : List ℕ} → b < n → notesFrom keys' floors' ≡ wokenOn wakes fresh (notesFrom keys floors) (blockEdges * b) blockEdges
-      → WakingBlocks wakes fresh s n (b + 1) keys' floors'
-  blocks-more l k =
-      let q : blockEdges * b + blockEdges ≡ blockEdges * (b + 1) = omega arith in
-      let z : 0 + blockEdges * b ≡ blockEdges * b = omega arith in
-      record {
-        upto = omega arith;
-        made =
-            k
-            ∙ ap (λ t. wokenOn wakes fresh t (blockEdges * b) blockEdges) (h .made)
-            ∙ ap (λ i. wokenOn wakes fresh (wokenOn wakes fresh s 0 (blockEdges * b)) i blockEdges) (sym z)
-            ∙ on-join wakes fresh s 0 (blockEdges * b) blockEdges
-            ∙ ap (wokenOn wakes fresh s 0) q;
-      }
-
-  -- And the edges that are left.
-  pub blocks-end : (m k : ℕ) {keys' floors' : List ℕ} → n ≡ wholeBlocks m k → notesFrom keys' floors' ≡ wokenOn wakes fresh (notesFrom keys floors) (blockEdges * b) (m - blockEdges * b)
-      → notesFrom keys' floors' ≡ wokenOn wakes fresh s 0 m
-  blocks-end m k whole g =
-      let z : 0 + blockEdges * b ≡ blockEdges * b = omega arith in
-      let l = whole-le m k b whole (h .upto) in
-      let q : blockEdges * b + (m - blockEdges * b) ≡ m = omega arith in
-      g
-      ∙ ap (λ t. wokenOn wakes fresh t (blockEdges * b) (m - blockEdges * b)) (h .made)
-      ∙ ap (λ i. wokenOn wakes fresh (wokenOn wakes fresh s 0 (blockEdges * b)) i (m - blockEdges * b)) (sym z)
-      ∙ on-join wakes fresh s 0 (blockEdges * b) (m - blockEdges * b)
+module _ {wakes : ℕ → Bool} {fresh : ℕ → ℕ} {s : KeyNotes} {least from : ℕ} {keys floors : List ℕ} (h : WakingParts wakes fresh s least from keys floors) where
+  parts-on : (to : ℕ) {keys' floors' : List ℕ} → from ≤ to → notesFrom keys' floors' ≡ wokenOn wakes fresh (notesFrom keys floors) from (to - from)
+      → notesFrom keys' floors' ≡ wokenOn wakes fresh s 0 to
+  parts-on to l k =
+      let z : 0 + from ≡ from = omega arith in
+      let q : from + (to - from) ≡ to = omega arith in
+      k
+      ∙ ap (λ t. wokenOn wakes fresh t from (to - from)) (h .made)
+      ∙ ap (λ i. wokenOn wakes fresh (wokenOn wakes fresh s 0 from) i (to - from)) (sym z)
+      ∙ on-join wakes fresh s 0 from (to - from)
       ∙ ap (wokenOn wakes fresh s 0) q
 
-  pub blocks-long : (length keys ≡ length (s .keys)) × (length floors ≡ length (s .floors))
-  blocks-long =
-      let l = on-length wakes fresh s 0 (blockEdges * b) in
+  pub parts-more : (to : ℕ) {keys' floors' : List ℕ} → Within from to least → notesFrom keys' floors' ≡ wokenOn wakes fresh (notesFrom keys floors) from (to - from)
+      → WakingParts wakes fresh s least to keys' floors'
+  parts-more to w k = record { upto = w .upto; made = parts-on to (let m = w .more in omega arith) k }
+
+  -- And the edges that are left.
+  pub parts-end : (m : ℕ) {keys' floors' : List ℕ} → least ≤ m → notesFrom keys' floors' ≡ wokenOn wakes fresh (notesFrom keys floors) from (m - from)
+      → notesFrom keys' floors' ≡ wokenOn wakes fresh s 0 m
+  parts-end m l g = parts-on m (let u = h .upto in omega arith) g
+
+  pub parts-long : (length keys ≡ length (s .keys)) × (length floors ≡ length (s .floors))
+  parts-long =
+      let l = on-length wakes fresh s 0 from in
       (ap (λ (t : KeyNotes). length (t .keys)) (h .made) ∙ l .0, ap (λ (t : KeyNotes). length (t .floors)) (h .made) ∙ l .1)
 
 -- ---- a vertex

@@ -1,45 +1,54 @@
--- `wake_ends` meets its contract: block after block, and then what is left.
+-- `wake_ends` meets its contract: part after part.
 use Prim.Native.Nat.{_-_}
 use native.Mathlib.Omega.{arith}
 use mathlib.Core.Path.{_∙_}
 use Rattle.plan_wake.specs.Wake.{endsAt, notesFrom, wokenKey}
-use Rattle.plan_wake.specs.Laws.Loops.{WakingBlocks, blocks-start, blocks-more, blocks-end, whole-fits, whole-le, blocks-long}
+use Rattle.plan_wake.specs.Laws.Loops.{WakingParts, parts-start, parts-more, parts-end, least-le, part-within, parts-long}
 use borrow.Author.Needs.{needs}
 use Rattle.plan_wake_ends.proofs.wake_ends.Statement.{statement}
 use Rattle.plan_wake_ends.proofs.wake_ends.Tie as tie
 
 abbrev Inv-loop : tie.InvT-loop
-Inv-loop firsts seconds weights c behind keys₀ floors₀ blocks b₀ keys floors b = WakingBlocks (endsAt firsts seconds c) (wokenKey weights behind) (notesFrom keys₀ floors₀) blocks b keys floors
+Inv-loop firsts seconds weights c behind keys₀ floors₀ least from₀ keys floors from = WakingParts (endsAt firsts seconds c) (wokenKey weights behind) (notesFrom keys₀ floors₀) least from keys floors
 
 abbrev μ-loop : tie.MeasureT-loop
-μ-loop firsts seconds weights c behind keys₀ floors₀ blocks b₀ keys floors b = blocks - b
+μ-loop firsts seconds weights c behind keys₀ floors₀ least from₀ keys floors from = least - from
 
 loop-holds : tie.Need-loop-holds Inv-loop μ-loop
-loop-holds c = blocks-start _ _ _ _
+loop-holds c = parts-start _ _ _ _
 
-mul-wake-block : tie.Need-mul-wake-block Inv-loop μ-loop
-mul-wake-block c = record { fits = omega (arith, whole-le _ _ _ (c .before .before .before .before .whole-blocks .ensures) (c .before .before .before .loop .inv .upto)) }
+part-end-requires : tie.Need-part-end-requires Inv-loop μ-loop
+part-end-requires c κs = c .before .loop .inv .upto
 
-wake-block-requires : tie.Need-wake-block-requires Inv-loop μ-loop
-wake-block-requires c κs = whole-fits _ _ _ (c .before .before .before .before .whole-blocks .ensures) (c .before .before .loop-test .taken)
+wake-part-requires : tie.Need-wake-part-requires Inv-loop μ-loop
+wake-part-requires c κs =
+    let in-part = part-within _ _ (c .before .before .before .loop-test .taken) (c .before .before .part-end .ensures) in
+    let in-both = least-le _ _ (c .before .before .before .before .before .least-of .ensures) in
+    let more = in-part .more in
+    let upto = in-part .upto in
+    (omega arith, (omega (arith, in-both .0), omega (arith, in-both .1)))
 
 loop-less : tie.Need-loop-less Inv-loop μ-loop
-loop-less c = omega arith
+loop-less c =
+    let turn = c .before .before .before .before .before .before .before in
+    let in-part = part-within _ _ (turn .before .loop-test .taken) (turn .part-end .ensures) in
+    let more = in-part .more in
+    let upto = in-part .upto in
+    omega arith
 
 loop-again : tie.Need-loop-again Inv-loop μ-loop
-loop-again c = blocks-more (c .before .before .before .before .before .before .before .before .loop .inv) (c .before .before .before .before .before .before .before .loop-test .taken) (c .before .before .before .before .wake-block .ensures)
-
-mul-wake-edges : tie.Need-mul-wake-edges Inv-loop μ-loop
-mul-wake-edges c = record { fits = omega (arith, whole-le _ _ _ (c .before .before .before .before .whole-blocks .ensures) (c .before .before .before .loop .inv .upto)) }
+loop-again c =
+    let turn = c .before .before .before .before .before .before .before in
+    parts-more (turn .before .before .loop .inv) _ (part-within _ _ (turn .before .loop-test .taken) (turn .part-end .ensures)) (c .before .before .before .before .wake-part .ensures)
 
 same-length : tie.Need-same-length Inv-loop μ-loop
-same-length c = c .before .before .before .keys2 .given ∙ blocks-long (c .before .before .before .before .before .before .before .before .loop .inv) .0
+same-length c = c .before .before .before .keys2 .given ∙ parts-long (c .before .before .before .before .before .before .before .before .loop .inv) .0
 
 same-length-2 : tie.Need-same-length-2 Inv-loop μ-loop
-same-length-2 c = c .before .floors2 .given ∙ blocks-long (c .before .before .before .before .before .before .before .before .loop .inv) .1
+same-length-2 c = c .before .floors2 .given ∙ parts-long (c .before .before .before .before .before .before .before .before .loop .inv) .1
 
 returns : tie.Need-returns Inv-loop μ-loop
-returns c = blocks-end (c .before .before .before .before .before .before .before .before .loop .inv) _ _ (c .before .before .before .before .before .before .before .before .before .whole-blocks .ensures) (c .before .before .before .before .wake-edges .ensures)
+returns c = parts-end (c .before .before .before .before .before .before .before .before .loop .inv) _ (least-le _ _ (c .before .before .before .before .before .before .before .before .before .least-of .ensures) .0) (c .before .before .before .before .wake-edges .ensures)
 
 pub wake-ends-spec : {M : Type 1} → statement M
 wake-ends-spec =
@@ -49,12 +58,10 @@ wake-ends-spec =
     μ-loop
     (λ c κs. search needs)
     loop-holds
-    mul-wake-block
-    wake-block-requires
-    (λ c. search needs)
+    part-end-requires
+    wake-part-requires
     loop-less
     loop-again
-    mul-wake-edges
     (λ c κs. search needs)
     same-length
     same-length-2
