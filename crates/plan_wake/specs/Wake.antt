@@ -57,7 +57,7 @@ wokenBy t time n e s =
 
 -- So many edges are compared with a vertex at once.
 abbrev pub wakeEdges : ℕ
-wakeEdges = 64
+wakeEdges = 16
 
 -- The shorter of two lengths.
 unfoldable pub leastOf : (m k : ℕ) → ℕ

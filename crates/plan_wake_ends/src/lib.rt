@@ -13,7 +13,7 @@ use base_buffer::put64;
 use plan_winner::BLOCK_EDGES;
 
 // So many edges are compared with a vertex at once (`wakeEdges`).
-const WAKE_EDGES: usize = 64;
+const WAKE_EDGES: usize = 16;
 
 // 1 if two numbers are the same.
 fn same_number(x: u32, c: u32) -> u32
