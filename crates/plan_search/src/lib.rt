@@ -1,8 +1,10 @@
 // The search for a round's winner, edge by edge and block by block. Definitions in plan_winner.
 ghost use Rattle.base_buffer.specs.Lent.{old, new};
 ghost use mathlib.Core.Path.{_≡_};
+ghost use mathlib.Core.Bool.{cond};
 ghost use Prim.Native.Nat.{_-_, _*_, _<_, _≤_};
 ghost use lib.ListN.{set, length};
+ghost use lib.Dec.{ltb};
 ghost use Rattle.plan_winner.specs.Scan.{timeLimit, limitOf, cappedTime};
 ghost use Rattle.plan_winner.specs.Scan.{blockEdges, blockSize, blocksOf, lowestKey, nextBlock};
 ghost use Rattle.plan_winner.specs.Tables.{tablesIn, onBy, passBy, scanFrom};
@@ -28,6 +30,22 @@ fn limit_of(time: u64, best: Winner) -> u64
     NO_KEY
 }
 
+// What the edges of a block leave: the best so far, and the lowest of their keys.
+struct Passed {
+    best: Winner,
+    low: u64,
+}
+
+// The lower of two keys.
+fn lower_of(x: u64, y: u64) -> u64
+    ensures { λ r. ⌜ r ≡ cond (ltb y x) y x ⌝ }
+{
+    if y < x {
+        return y;
+    }
+    x
+}
+
 // Looks at the edges of a block whose noted keys do not say that they come later than the best so far.
 fn scan_block(
     firsts: &[u32],
@@ -41,17 +59,19 @@ fn scan_block(
     from: usize,
     to: usize,
     best: Winner,
-) -> Winner
+) -> Passed
     requires { ⌜ time < timeLimit ⌝ }
     ensures { λ r.
         let t = tablesIn firsts seconds weights labels loads flags in
-        ⌜ winnerIn r ≡ onBy t time (scanFrom (winnerIn best) (old keys)) from (to - from) .best ⌝ }
+        ⌜ winnerIn (r .best) ≡ onBy t time (scanFrom (winnerIn best) (old keys)) from (to - from) .best ⌝ }
     ensures { λ r.
         let t = tablesIn firsts seconds weights labels loads flags in
         ⌜ new keys ≡ onBy t time (scanFrom (winnerIn best) (old keys)) from (to - from) .keys ⌝ }
+    ensures { λ r. ⌜ r .low ≡ lowestKey (new keys) from (to - from) ⌝ }
 {
     let mut winner = best;
     let mut limit = limit_of(time, best);
+    let mut low = NO_KEY;
     let mut e = from;
     while e < to {
         if at64(keys, e) < limit {
@@ -69,25 +89,10 @@ fn scan_block(
             );
             limit = limit_of(time, winner);
         }
+        low = lower_of(low, at64(keys, e));
         e += 1;
     }
-    winner
-}
-
-// The lowest of some keys.
-fn lowest_key(keys: &[u64], from: usize, to: usize) -> u64
-    ensures { λ r. ⌜ r ≡ lowestKey (old keys) from (to - from) ⌝ }
-{
-    let mut low = NO_KEY;
-    let mut e = from;
-    while e < to {
-        let key = at64(keys, e);
-        if key < low {
-            low = key;
-        }
-        e += 1;
-    }
-    low
+    Passed { best: winner, low }
 }
 
 // How many edges block b has.
@@ -132,7 +137,7 @@ fn pass_block(
 {
     let from = BLOCK_EDGES * b;
     let to = from + block_size(firsts.len(), b);
-    let winner = scan_block(
+    let passed = scan_block(
         firsts,
         seconds,
         weights,
@@ -145,8 +150,8 @@ fn pass_block(
         to,
         best,
     );
-    put64(floors, b, lowest_key(keys, from, to));
-    winner
+    put64(floors, b, passed.low);
+    passed.best
 }
 
 // The first block from `from` on whose floor is below the limit.

@@ -16,7 +16,7 @@ add-to c =
 
 -- keys
 same-length : tie.Need-same-length
-same-length c = c .before .before .before .before .before .before .before .keys .given
+same-length c = c .before .before .before .before .before .keys .given
 
 -- floors
 same-length-2 : tie.Need-same-length-2
@@ -25,11 +25,12 @@ same-length-2 c = c .before .floors .given
 returns : tie.Need-returns
 unfolding onBy
 returns c =
-    let entry = c .before .before .before .before .before .before .before .before .before .before .before .before .before .before .before .before .before .before .before in
-    let z = size-is (entry .args .b) (c .before .before .before .before .before .before .before .before .before .before .block-size .ensures) in
-    let best = c .before .before .before .before .before .before .before .before .scan-block .ensures .0 in
-    let keys = c .before .before .before .before .before .before .before .before .scan-block .ensures .1 in
-    let floors = c .before .before .put64 .ensures ∙ ap (λ x. set (entry .args .floors .now) (entry .args .b) x) (c .before .before .before .lowest-key .ensures) in
+    let scanned = c .before .before .before .before .before .before in
+    let entry = scanned .before .before .before .before .before .before .before .before .before .before .before in
+    let z = size-is (entry .args .b) (scanned .before .before .block-size .ensures) in
+    let best = scanned .scan-block .ensures .0 in
+    let keys = scanned .scan-block .ensures .1 .0 in
+    let floors = c .before .before .put64 .ensures ∙ ap (λ x. set (entry .args .floors .now) (entry .args .b) x) (scanned .scan-block .ensures .1 .1) in
     (rw z at best, (rw z at keys, rw z at floors))
 
 pub pass-block-spec : {M : Type 1} → statement M
@@ -39,7 +40,6 @@ pass-block-spec =
     (λ c. search needs)
     (λ c κs. search needs)
     add-to
-    (λ c κs. search needs)
     (λ c κs. search needs)
     (λ c κs. search needs)
     same-length

@@ -4,18 +4,18 @@ use mathlib.Core.Path.{ap, _∙_}
 use mathlib.Core.Logic.{⊎-elim}
 use Rattle.plan_winner.specs.Tables.{tablesFrom}
 use Rattle.plan_delay.specs.Between.{winnerIn}
-use Rattle.plan_winner.specs.Laws.Loops.{Scanning, scanning-start, scanning-look, scanning-pass, scanning-long, scanning-end}
+use Rattle.plan_winner.specs.Laws.Loops.{Scanning, scanning-start, scanning-look, scanning-pass, scanning-long, scanning-low, scanning-end}
 use borrow.Author.Needs.{needs}
 use native.Mathlib.Omega.{arith}
 use Rattle.plan_search.proofs.scan_block.Statement.{statement}
 use Rattle.plan_search.proofs.scan_block.Tie as tie
 
 abbrev Inv-loop : tie.InvT-loop
-Inv-loop firsts seconds weights labels loads flags time keys₀ from to winner₀ limit₀ e₀ keys winner limit e =
-    Scanning (tablesFrom firsts seconds weights labels loads flags) time (winnerIn winner₀) keys₀ from to e limit (winnerIn winner) keys
+Inv-loop firsts seconds weights labels loads flags time keys₀ from to winner₀ limit₀ low₀ e₀ keys winner limit low e =
+    Scanning (tablesFrom firsts seconds weights labels loads flags) time (winnerIn winner₀) keys₀ from to e limit low (winnerIn winner) keys
 
 abbrev μ-loop : tie.MeasureT-loop
-μ-loop firsts seconds weights labels loads flags time keys₀ from to winner₀ limit₀ e₀ keys winner limit e =
+μ-loop firsts seconds weights labels loads flags time keys₀ from to winner₀ limit₀ low₀ e₀ keys winner limit low e =
     to - e
 
 loop-holds : tie.Need-loop-holds Inv-loop μ-loop
@@ -26,16 +26,24 @@ loop-less c = omega arith
 
 loop-again : tie.Need-loop-again Inv-loop μ-loop
 loop-again c =
+    let looked = c .before .before .before in
+    let turn = looked .before .before .before .before in
+    let taken = looked .before .before .before .loop-test .taken in
+    let read = looked .before .at64 .ensures in
+    let again = c .before .at642 .ensures in
+    let low = c .lower-of .ensures in
     ⊎-elim
-    (λ w. scanning-look (c .before .before .before .before .loop .inv) (c .before .before .before .loop-test .taken) (c .before .at64 .ensures) (w .0 .taken) (w .2 .ensures .0) (w .2 .ensures .1) (ap winnerIn (w .7)) (w .8 ∙ w .5 .ensures) (w .6))
-    (λ w. scanning-pass (c .before .before .before .before .loop .inv) (c .before .before .before .loop-test .taken) (c .before .at64 .ensures) (w .0 .left) (ap winnerIn (w .2)) (w .3) (w .1))
-    (c .if1 .came)
+    (λ w. scanning-look (turn .loop .inv) taken read (w .0 .taken) (w .2 .ensures .0) (w .2 .ensures .1) (ap winnerIn (w .7)) (w .8 ∙ w .5 .ensures) (w .6) again low)
+    (λ w. scanning-pass (turn .loop .inv) taken read (w .0 .left) (ap winnerIn (w .2)) (w .3) (w .1) again low)
+    (looked .if1 .came)
 
 same-length : tie.Need-same-length Inv-loop μ-loop
 same-length c = scanning-long (c .before .loop .inv)
 
 returns : tie.Need-returns Inv-loop μ-loop
-returns c = scanning-end (c .before .loop .inv) (c .loop-test .left)
+returns c =
+    let end = scanning-end (c .before .loop .inv) (c .loop-test .left) in
+    (end .0, (end .1, scanning-low (c .before .loop .inv) (c .loop-test .left)))
 
 pub scan-block-spec : {M : Type 1} → statement M
 scan-block-spec =
@@ -45,6 +53,8 @@ scan-block-spec =
     μ-loop
     (λ c κs. search needs)
     loop-holds
+    (λ c κs. search needs)
+    (λ c κs. search needs)
     (λ c κs. search needs)
     (λ c κs. search needs)
     (λ c κs. search needs)

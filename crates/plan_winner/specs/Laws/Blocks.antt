@@ -123,28 +123,27 @@ lowest-le keys from (suc n) k b = by (lt-or-ge k n) (λ h. lowest-le keys from n
     by (inl h) ih = let l = cond-low (lowestKey keys from n) (getD keys (from + n) 0) .0 in let i = ih h in omega arith
     by (inr h) ih = let q : k ≡ n = omega arith in rw q (cond-low (lowestKey keys from n) (getD keys (from + n) 0) .1)
 
--- One key more, as the code goes.
-module _ (keys : List ℕ) (from : ℕ) where
-  pub lowest-key-none : noKey ≡ lowestKey keys from (from - from)
-  unfolding lowestKey
-  lowest-key-none = let z : from - from ≡ 0 = omega arith in rw z refl
+lowest-cong : (keys others : List ℕ) (from n : ℕ) → ((k : ℕ) → k < n → getD keys (from + k) 0 ≡ getD others (from + k) 0) → lowestKey keys from n ≡ lowestKey others from n
+unfolding lowestKey
+lowest-cong keys others from zero h = refl
+lowest-cong keys others from (suc n) h = rw (lowest-cong keys others from n (λ k b. h k (omega arith)), h n (omega arith)) refl
 
-  module _ (e y : ℕ) {x : ℕ} (b : from ≤ e) (y-is : y ≡ getD keys e 0) (p : x ≡ lowestKey keys from (e - from)) where
-    lowest-more : cond (ltb y x) y x ≡ lowestKey keys from (e + 1 - from)
-    unfolding lowestKey
-    lowest-more =
-        let q : e + 1 - from ≡ suc (e - from) = omega arith in
-        let h : from + (e - from) ≡ e = omega arith in
-        rw (q, h, sym p, sym y-is) refl
+-- One key more, as the code goes: those before it are as they were.
+pub lowest-start : (keys : List ℕ) (from : ℕ) → noKey ≡ lowestKey keys from (from - from)
+unfolding lowestKey
+lowest-start keys from = let z : from - from ≡ 0 = omega arith in rw z refl
 
-    pub lowest-key-falls : y < x → y ≡ lowestKey keys from (e + 1 - from)
-    lowest-key-falls h = rw (lt-ltb y x h) at lowest-more
+pub lowest-next : (from e : ℕ) (now now' : List ℕ) {low low' y : ℕ} → from ≤ e → ((i : ℕ) → i < e → getD now i 0 ≡ getD now' i 0) → low ≡ lowestKey now from (e - from)
+    → y ≡ getD now' e 0 → low' ≡ cond (ltb y low) y low → low' ≡ lowestKey now' from (e + 1 - from)
+unfolding lowestKey
+lowest-next from e now now' b same p y-is l =
+    let q : e + 1 - from ≡ suc (e - from) = omega arith in
+    let h : from + (e - from) ≡ e = omega arith in
+    let s : lowestKey now from (e - from) ≡ lowestKey now' from (e - from) = lowest-cong now now' from (e - from) (λ k c. same (from + k) (omega arith)) in
+    l ∙ rw (q, h, sym (p ∙ s), sym y-is) refl
 
-    pub lowest-key-stays : x ≤ y → x ≡ lowestKey keys from (e + 1 - from)
-    lowest-key-stays h = rw (le-ltb y x h) at lowest-more
-
-  pub lowest-key-end : (to e : ℕ) {x : ℕ} → from ≤ e → e - from ≤ to - from → to ≤ e → x ≡ lowestKey keys from (e - from) → x ≡ lowestKey keys from (to - from)
-  lowest-key-end to e a b c p = let z : to - from ≡ e - from = omega arith in rw z p
+pub lowest-end : (keys : List ℕ) (from to e : ℕ) {x : ℕ} → from ≤ e → e - from ≤ to - from → to ≤ e → x ≡ lowestKey keys from (e - from) → x ≡ lowestKey keys from (to - from)
+lowest-end keys from to e a b c p = let z : to - from ≡ e - from = omega arith in rw z p
 
 -- ---- blocks
 

@@ -6,50 +6,74 @@ use mathlib.Core.Path.{_≡_, refl, ap, sym, _∙_, subst}
 use mathlib.Core.Bool.{Bool, true, false, cond}
 use mathlib.Core.List.{List}
 use lib.ListN.{length, getD, set}
+use lib.Seq.{getD-set-other}
 use lib.Dec.{ltb}
 use borrow.Author.Tests.{ltb-true, ltb-false, lt-ltb, le-ltb}
 use Rattle.theory_steiner.specs.Growth.{Winner, nobody, better}
 use Rattle.plan_winner.specs.Scan.{noKey, timeLimit, limitOf, cappedTime, blockEdges, blockSize, lowestKey, nextBlock, passesBelow}
 use Rattle.plan_winner.specs.Tables.{Tables, delayBy, keyBy, onBy, passBy, scanFrom}
 use Rattle.plan_winner.specs.Laws.Scan.{capped-is}
-use Rattle.plan_winner.specs.Laws.Blocks.{on-none, on-look, on-pass, on-end, length-on, block-look, block-pass, passes-end, length-passes}
+use Rattle.plan_winner.specs.Laws.Blocks.{lowest-start, lowest-next, lowest-end, on-none, on-look, on-pass, on-end, length-on, block-look, block-pass, passes-end, length-passes}
 
 -- Before edge e of a block, from the best and the keys at its start.
-pub record Scanning (t : Tables) (time : ℕ) (start : Winner) (keys : List ℕ) (from to e limit : ℕ) (best : Winner) (now : List ℕ) : Type 0 where
+pub record Scanning (t : Tables) (time : ℕ) (start : Winner) (keys : List ℕ) (from to e limit low : ℕ) (best : Winner) (now : List ℕ) : Type 0 where
   pub small : time < timeLimit
   pub from-le : from ≤ e
   pub upto : e - from ≤ to - from
   pub limit-is : limit ≡ limitOf time best
   pub best-is : best ≡ onBy t time (scanFrom start keys) from (e - from) .best
   pub keys-are : now ≡ onBy t time (scanFrom start keys) from (e - from) .keys
+  pub low-is : low ≡ lowestKey now from (e - from)
 
 pub scanning-start : (t : Tables) (time : ℕ) (start : Winner) (keys : List ℕ) (from to : ℕ) {limit : ℕ} → time < timeLimit → limit ≡ limitOf time start
-    → Scanning t time start keys from to from limit start keys
+    → Scanning t time start keys from to from limit noKey start keys
 unfolding onBy
 scanning-start t time start keys from to b h =
     let z = on-none (delayBy t time) (keyBy t time) time (scanFrom start keys) from in
-    record { small = b; from-le = omega arith; upto = omega arith; limit-is = h; best-is = z .0; keys-are = z .1 }
+    record { small = b; from-le = omega arith; upto = omega arith; limit-is = h; best-is = z .0; keys-are = z .1; low-is = lowest-start keys from }
 
-module _ {t : Tables} {time : ℕ} {start : Winner} {keys : List ℕ} {from to e limit : ℕ} {best : Winner} {now : List ℕ}
-    (h : Scanning t time start keys from to e limit best now) where
+module _ {t : Tables} {time : ℕ} {start : Winner} {keys : List ℕ} {from to e limit low : ℕ} {best : Winner} {now : List ℕ}
+    (h : Scanning t time start keys from to e limit low best now) where
   -- An edge that is looked at.
-  pub scanning-look : {x limit' : ℕ} {found best' : Winner} {left now' : List ℕ} → e < to → x ≡ getD now e 0 → x < limit → found ≡ better best e (delayBy t (cappedTime time) e)
-      → left ≡ set now e (keyBy t (cappedTime time) e) → best' ≡ found → limit' ≡ limitOf time found → now' ≡ left → Scanning t time start keys from to (e + 1) limit' best' now'
+  pub scanning-look : {x limit' y low' : ℕ} {found best' : Winner} {left now' : List ℕ} → e < to → x ≡ getD now e 0 → x < limit → found ≡ better best e (delayBy t (cappedTime time) e)
+      → left ≡ set now e (keyBy t (cappedTime time) e) → best' ≡ found → limit' ≡ limitOf time found → now' ≡ left
+      → y ≡ getD now' e 0 → low' ≡ cond (ltb y low) y low → Scanning t time start keys from to (e + 1) limit' low' best' now'
   unfolding onBy
-  scanning-look {x} b x-is u f l g m n =
+  scanning-look {x} {now' = now'} b x-is u f l g m n y-is low-is =
       let c = capped-is time (h .small) in
       let k = on-look (delayBy t time) (keyBy t time) time (scanFrom start keys) from e x limit (h .from-le) x-is (h .limit-is) (h .best-is) (h .keys-are) u (g ∙ rw c at f) (n ∙ rw c at l) in
       let a = h .from-le in
-      record { small = h .small; from-le = omega arith; upto = omega arith; limit-is = m ∙ ap (limitOf time) (sym g); best-is = k .0; keys-are = k .1 }
+      let same : (i : ℕ) → i < e → getD now i 0 ≡ getD now' i 0 =
+      λ i d. sym (ap (λ t. getD t i 0) (n ∙ l) ∙ getD-set-other now e i _ 0 (λ q. omega arith)) in
+      record {
+        small = h .small;
+        from-le = omega arith;
+        upto = omega arith;
+        limit-is = m ∙ ap (limitOf time) (sym g);
+        best-is = k .0;
+        keys-are = k .1;
+        low-is = lowest-next from e now now' (h .from-le) same (h .low-is) y-is low-is;
+      }
 
   -- An edge that is passed over.
-  pub scanning-pass : {x limit' : ℕ} {best' : Winner} {now' : List ℕ} → e < to → x ≡ getD now e 0 → limit ≤ x → best' ≡ best → limit' ≡ limit → now' ≡ now
-      → Scanning t time start keys from to (e + 1) limit' best' now'
+  pub scanning-pass : {x limit' y low' : ℕ} {best' : Winner} {now' : List ℕ} → e < to → x ≡ getD now e 0 → limit ≤ x → best' ≡ best → limit' ≡ limit → now' ≡ now
+      → y ≡ getD now' e 0 → low' ≡ cond (ltb y low) y low → Scanning t time start keys from to (e + 1) limit' low' best' now'
   unfolding onBy
-  scanning-pass {x} b x-is u g m n =
+  scanning-pass {x} {now' = now'} b x-is u g m n y-is low-is =
       let k = on-pass (delayBy t time) (keyBy t time) time (scanFrom start keys) from e x limit (h .from-le) x-is (h .limit-is) (h .best-is) (h .keys-are) u in
       let a = h .from-le in
-      record { small = h .small; from-le = omega arith; upto = omega arith; limit-is = m ∙ h .limit-is ∙ ap (limitOf time) (sym g); best-is = g ∙ k .0; keys-are = n ∙ k .1 }
+      record {
+        small = h .small;
+        from-le = omega arith;
+        upto = omega arith;
+        limit-is = m ∙ h .limit-is ∙ ap (limitOf time) (sym g);
+        best-is = g ∙ k .0;
+        keys-are = n ∙ k .1;
+        low-is = lowest-next from e now now' (h .from-le) (λ i d. ap (λ t. getD t i 0) (sym n)) (h .low-is) y-is low-is;
+      }
+
+  pub scanning-low : to ≤ e → low ≡ lowestKey now from (to - from)
+  scanning-low b = lowest-end now from to e (h .from-le) (h .upto) b (h .low-is)
 
   pub scanning-long : length now ≡ length keys
   unfolding onBy
