@@ -1,6 +1,6 @@
 //! Holds an outside program against our own answers, byte by byte, on generated survey texts.
 //!
-//!     compare --program PATH [--count N] [--seed S] [--threads T] [--seconds W] [--preload L] [--argument A]..
+//!     compare --program PATH [--count N] [--seed S] [--threads T] [--seconds W] [--argument A]..
 //!     compare --program PATH --case C [--seed S]
 //!     compare --verifier PATH [--count N] [--seed S] [--case C]
 //!     compare --stp PATH [--count N] [--seed S] [--case C]
@@ -11,8 +11,7 @@
 //!
 //! `--verifier` hands surveys with printed plans behind them, sound and damaged, to a program that checks plans, `--stp` STP
 //! files to one that prints their surveys, `--why` survey texts, and a track as its last argument, to one that prints reasons.
-//! `--argument` is handed to the program, `--preload` names a library that it is started with (../../preload.c), except for
-//! the inputs that come in pieces. `--case` runs one case, `--emit` writes its input to standard output.
+//! `--argument` is handed to the program. `--case` runs one case, `--emit` writes its input to standard output.
 //! `--self` holds the fast planner against the plain one, with no program; `--native` does so with the planner that the
 //! feature `native` links.
 
@@ -43,7 +42,6 @@ struct Options {
     program: Option<String>,
     kind: Kind,
     arguments: Vec<String>,
-    preload: Option<String>,
     count: u64,
     seed: u64,
     threads: usize,
@@ -55,7 +53,7 @@ struct Options {
 }
 
 const USAGE: &str =
-    "compare --program PATH [--count N] [--seed S] [--threads T] [--seconds W] [--preload L] [--argument A].. [--case C]
+    "compare --program PATH [--count N] [--seed S] [--threads T] [--seconds W] [--argument A].. [--case C]
 compare --verifier PATH [--count N] [--seed S] [--case C]
 compare --stp PATH [--count N] [--seed S] [--case C]
 compare --why PATH [--count N] [--seed S] [--case C]
@@ -68,7 +66,6 @@ fn options() -> Result<Options, String> {
         program: None,
         kind: Kind::Plan,
         arguments: Vec::new(),
-        preload: None,
         count: 20_000,
         seed: 1,
         threads: 2,
@@ -89,10 +86,6 @@ fn options() -> Result<Options, String> {
         }
         if word == "--argument" {
             options.arguments.push(value);
-            continue;
-        }
-        if word == "--preload" {
-            options.preload = Some(value);
             continue;
         }
         let number: u64 = value.parse().map_err(|_| format!("{word} wants a number"))?;
@@ -129,19 +122,10 @@ fn feed(mut stdin: ChildStdin, input: &[u8], pieces: bool) {
     }
 }
 
-/// An outside program with its arguments, and the library that it is started with where its input comes whole.
-fn command(program: &str, arguments: &[String], preload: &Option<String>, pieces: bool) -> Command {
-    let mut command = Command::new(program);
-    command.args(arguments);
-    if let Some(library) = preload.as_ref().filter(|_| !pieces) {
-        command.env("LD_PRELOAD", library);
-    }
-    command
-}
-
 /// What an outside program printed, or why there is nothing to compare.
-fn outside(mut command: Command, input: &[u8], pieces: bool, slot: &Slot) -> Result<Vec<u8>, String> {
-    let mut child = command
+fn outside(program: &str, arguments: &[String], input: &[u8], pieces: bool, slot: &Slot) -> Result<Vec<u8>, String> {
+    let mut child = Command::new(program)
+        .args(arguments)
         .stdin(Stdio::piped())
         .stdout(Stdio::piped())
         .stderr(Stdio::null())
@@ -279,9 +263,7 @@ fn compare(options: &Options, program: &str) -> bool {
                     }
                     let (input, more, answer, expected) = case_of(options, case);
                     let arguments = [&options.arguments[..], &more].concat();
-                    let pieces = case % 16 == 15;
-                    let command = command(program, &arguments, &options.preload, pieces);
-                    let report = match outside(command, &input, pieces, slot) {
+                    let report = match outside(program, &arguments, &input, case % 16 == 15, slot) {
                         Ok(output) if output == expected.as_bytes() => None,
                         Ok(output) => Some(format!("printed:\n{}", shown(&output))),
                         Err(trouble) => Some(trouble),
