@@ -1,15 +1,10 @@
-// Prints what a check has found.
+// Prints what a check that passes has found.
 ghost use Rattle.base_buffer.specs.Lent.{old, new};
 ghost use mathlib.Core.Path.{_≡_};
-ghost use Prim.Native.Nat.{_≤_};
-ghost use lib.ListN.{length};
 ghost use Rattle.format_print.specs.Print.{printed, printedOut};
 ghost use Rattle.format_write.specs.Wrote.{Wrote};
-ghost use Rattle.check_text.specs.Answer.{verifiedOutcome};
-ghost use Rattle.api_verify_text.specs.Output.{passedText, findingsText, findingsRoom};
-use check_text::Verified;
+ghost use Rattle.api_verify_text.specs.Output.{passedText};
 use format_print::Printed;
-use format_print_lines::print_refusal;
 use format_put::put_bytes;
 use format_put::put_line;
 
@@ -24,7 +19,7 @@ fn put_passed(out: &mut [u8], at: usize, terminals: u64, cost: u64, bound: u64) 
 }
 
 // Prints them, where they fit.
-fn print_passed(terminals: u64, cost: u64, bound: u64, out: &mut [u8]) -> Printed
+pub fn print_passed(terminals: u64, cost: u64, bound: u64, out: &mut [u8]) -> Printed
     ensures { λ r. ⌜ r ≡ printed (passedText terminals cost bound) (old out) ⌝ }
     ensures { λ _. ⌜ new out ≡ printedOut (passedText terminals cost bound) (old out) ⌝ }
 {
@@ -36,20 +31,4 @@ fn print_passed(terminals: u64, cost: u64, bound: u64, out: &mut [u8]) -> Printe
         };
     }
     Printed::Length(put_passed(out, 0, terminals, cost, bound))
-}
-
-// Prints `passed`, sites, cost and bound, or the refusal's two lines.
-pub fn print_findings(found: Verified, out: &mut [u8]) -> Printed
-    ensures { λ r. ⌜ r ≡ printed (findingsText (verifiedOutcome found)) (old out) ⌝ }
-    ensures { λ _. ⌜ new out ≡ printedOut (findingsText (verifiedOutcome found)) (old out) ⌝ }
-    ensures fits { λ _. ⌜ length (findingsText (verifiedOutcome found)) ≤ findingsRoom ⌝ }
-{
-    match found {
-        Verified::Passed {
-            terminals,
-            cost,
-            bound,
-        } => print_passed(terminals, cost, bound, out),
-        Verified::Refused { number, place } => print_refusal(number, place, out),
-    }
 }
