@@ -1,9 +1,8 @@
 // Waking the edges that end at a vertex, block by block. Definitions in plan_wake.
 ghost use Rattle.base_buffer.specs.Lent.{old, new};
 ghost use mathlib.Core.Path.{_≡_};
-ghost use mathlib.Core.Bool.{_||_};
 ghost use Prim.Native.Nat.{_-_, _≤_};
-ghost use lib.ListN.{length};
+ghost use lib.ListN.{getD, length};
 ghost use lib.Dec.{eqb};
 ghost use Rattle.base_finite.specs.Below.{counted, anyBelow};
 ghost use Rattle.plan_wake.specs.Wake.{endsAt, notesFrom, wokenKey, lowered, wokenEdge, wokenOn};
@@ -26,21 +25,14 @@ fn same_number(x: u32, c: u32) -> u32
     0
 }
 
-// 1 if one of two numbers is c.
-fn either_number(x: u32, y: u32, c: u32) -> u32
-    ensures { λ r. ⌜ r ≡ counted (eqb x c || eqb y c) 1 ⌝ }
-{
-    same_number(x, c) | same_number(y, c)
-}
-
-// 1 if some of these edges ends at c. The loop runs to its end, so that several are compared at once.
-fn has_end(firsts: &[u32], seconds: &[u32], c: u32) -> u32
-    ensures { λ r. ⌜ r ≡ counted (anyBelow (length (old firsts)) (endsAt (old firsts) (old seconds) c)) 1 ⌝ }
+// 1 if some of these ends is c. The loop runs to its end, so that several are compared at once.
+fn has_end(ends: &[u32], c: u32) -> u32
+    ensures { λ r. ⌜ r ≡ counted (anyBelow (length (old ends)) (λ i. eqb (getD (old ends) i 0) c)) 1 ⌝ }
 {
     let mut found = 0;
     let mut i = 0;
-    while i < firsts.len() {
-        found = found | either_number(at32(firsts, i), at32(seconds, i), c);
+    while i < ends.len() {
+        found = found | same_number(at32(ends, i), c);
         i += 1;
     }
     found
@@ -139,7 +131,7 @@ fn wake_part(
         let woken = wokenOn (endsAt (old firsts) (old seconds) c) (wokenKey (old weights) behind) s from (to - from) in
         ⌜ notesFrom (new keys) (new floors) ≡ woken ⌝ }
 {
-    let found = has_end(&firsts[from..to], &seconds[from..to], c);
+    let found = has_end(&firsts[from..to], c) | has_end(&seconds[from..to], c);
     if 0 < found {
         wake_edges(firsts, seconds, weights, c, behind, keys, floors, from, to);
     }

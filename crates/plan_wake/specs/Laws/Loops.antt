@@ -28,23 +28,18 @@ or-counted true false = refl
 or-counted false true = refl
 or-counted false false = refl
 
--- One of two numbers.
-pub either-counted : (s t : Bool) {p q : ℕ} → p ≡ counted s 1 → q ≡ counted t 1 → bitOr p q ≡ counted (s || t) 1
-either-counted s t {q = q} h k = ap (λ n. bitOr n q) h ∙ ap (bitOr (counted s 1)) k ∙ or-counted s t
+pub found-more : (ends : List ℕ) (c i : ℕ) {x one found : ℕ} → x ≡ getD ends i 0 → one ≡ counted (eqb x c) 1 → found ≡ counted (anyBelow i (λ k. eqb (getD ends k 0) c)) 1
+    → bitOr found one ≡ counted (anyBelow (i + 1) (λ k. eqb (getD ends k 0) c)) 1
+unfolding anyBelow
+found-more ends c i {one = one} x-is one-is found-is =
+    ap (λ n. bitOr n one) found-is
+    ∙ ap (bitOr (counted (anyBelow i (λ k. eqb (getD ends k 0) c)) 1)) (one-is ∙ ap (λ z. counted (eqb z c) 1) x-is)
+    ∙ or-counted (anyBelow i (λ k. eqb (getD ends k 0) c)) (eqb (getD ends i 0) c)
+    ∙ ap (λ n. counted (anyBelow n (λ k. eqb (getD ends k 0) c)) 1) (sym (add-one i))
 
--- Whether some edge ends at c, edge by edge.
-module _ (firsts seconds : List ℕ) (c : ℕ) where
-  pub found-more : (i : ℕ) {x y one found : ℕ} → x ≡ getD firsts i 0 → y ≡ getD seconds i 0 → one ≡ counted (eqb x c || eqb y c) 1
-      → found ≡ counted (anyBelow i (endsAt firsts seconds c)) 1 → bitOr found one ≡ counted (anyBelow (i + 1) (endsAt firsts seconds c)) 1
-  unfolding anyBelow endsAt
-  found-more i {x} {y} x-is y-is one-is found-is =
-      either-counted (anyBelow i (endsAt firsts seconds c)) (eqb x c || eqb y c) found-is one-is
-      ∙ ap (λ z. counted (anyBelow i (endsAt firsts seconds c) || z) 1) (ap (λ z. eqb z c || eqb y c) x-is ∙ ap (λ z. eqb (getD firsts i 0) c || eqb z c) y-is)
-      ∙ ap (λ n. counted (anyBelow n (endsAt firsts seconds c)) 1) (sym (add-one i))
-
-  pub found-end : (i : ℕ) {found : ℕ} → i ≤ length firsts → length firsts ≤ i → found ≡ counted (anyBelow i (endsAt firsts seconds c)) 1
-      → found ≡ counted (anyBelow (length firsts) (endsAt firsts seconds c)) 1
-  found-end i a b h = let q : i ≡ length firsts = omega arith in h ∙ ap (λ n. counted (anyBelow n (endsAt firsts seconds c)) 1) q
+pub found-end : (ends : List ℕ) (c i : ℕ) {found : ℕ} → i ≤ length ends → length ends ≤ i → found ≡ counted (anyBelow i (λ k. eqb (getD ends k 0) c)) 1
+    → found ≡ counted (anyBelow (length ends) (λ k. eqb (getD ends k 0) c)) 1
+found-end ends c i a b h = let q : i ≡ length ends = omega arith in h ∙ ap (λ n. counted (anyBelow n (λ k. eqb (getD ends k 0) c)) 1) q
 
 -- ---- one edge
 
@@ -119,29 +114,35 @@ module _ (wakes : ℕ → Bool) (fresh : ℕ → ℕ) where
       ∙ ap (wokenEdge wakes fresh (wokenOn wakes fresh s from (a + b))) q
       ∙ ap (wokenOn wakes fresh s from) (sym (add-suc a b))
 
--- A part of a list of ends.
+-- A part of a list of ends, and whether some of it is c.
 abbrev part : List ℕ → (from to : ℕ) → List ℕ
 part l from to = take (to - from) (drop from l)
 
-part-at : (l : List ℕ) (from to k : ℕ) → k < to - from → getD (part l from to) k 0 ≡ getD l (from + k) 0
-part-at l from to k u = getD-take (to - from) (drop from l) k 0 (omega arith) ∙ getD-drop from l k 0
+abbrev partHas : List ℕ → (from to c : ℕ) → Bool
+partHas l from to c = anyBelow (length (part l from to)) (λ i. eqb (getD (part l from to) i 0) c)
 
-none-counted : (t : Bool) {p : ℕ} → p ≡ counted t 1 → p ≤ 0 → t ≡ false
-none-counted t h z = not-true-false t (λ y. let one = counted-true y 1 in omega arith)
+part-none : (l : List ℕ) (from to c : ℕ) → to ≤ length l → partHas l from to c ≡ false → (k : ℕ) → k < to - from → eqb (getD l (from + k) 0) c ≡ false
+part-none l from to c b h k u =
+    let long : length (part l from to) ≡ to - from = length-take-le (to - from) (drop from l) (omega (arith, length-drop from l)) in
+    let same : getD (part l from to) k 0 ≡ getD l (from + k) 0 = getD-take (to - from) (drop from l) k 0 (omega arith) ∙ getD-drop from l k 0 in
+    ap (λ x. eqb x c) (sym same) ∙ any-none (length (part l from to)) (λ i. eqb (getD (part l from to) i 0) c) h k (omega arith)
+
+none-counted : (s t : Bool) {p q : ℕ} → p ≡ counted s 1 → q ≡ counted t 1 → bitOr p q ≤ 0 → (s ≡ false) × (t ≡ false)
+none-counted s t {p} {q} h k z =
+    let both : bitOr p q ≡ counted (s || t) 1 = ap (λ n. bitOr n q) h ∙ ap (bitOr (counted s 1)) k ∙ or-counted s t in
+    let none : (s || t) ≡ false = not-true-false (s || t) (λ y. let one = counted-true y 1 in omega arith) in
+    (or-false-left s t none, or-false-right s t none)
 
 -- A part that has c at no end.
-pub part-left : (firsts seconds : List ℕ) (fresh : ℕ → ℕ) (from to c : ℕ) (s : KeyNotes) {p : ℕ} → to ≤ length firsts
-    → p ≡ counted (anyBelow (length (part firsts from to)) (endsAt (part firsts from to) (part seconds from to) c)) 1 → p ≤ 0
-    → s ≡ wokenOn (endsAt firsts seconds c) fresh s from (to - from)
+pub part-left : (firsts seconds : List ℕ) (fresh : ℕ → ℕ) (from to c : ℕ) (s : KeyNotes) {p q : ℕ} → to ≤ length firsts → to ≤ length seconds
+    → p ≡ counted (partHas firsts from to c) 1 → q ≡ counted (partHas seconds from to c) 1 → bitOr p q ≤ 0 → s ≡ wokenOn (endsAt firsts seconds c) fresh s from (to - from)
 unfolding endsAt
-part-left firsts seconds fresh from to c s a h z =
-    let long : length (part firsts from to) ≡ to - from = length-take-le (to - from) (drop from firsts) (omega (arith, length-drop from firsts)) in
-    let none = none-counted _ h z in
+part-left firsts seconds fresh from to c s a b h k z =
+    let none = none-counted (partHas firsts from to c) (partHas seconds from to c) h k z in
     on-skip (endsAt firsts seconds c) fresh s from (to - from)
     (λ i u.
-    ap (λ x. eqb x c || eqb (getD seconds (from + i) 0) c) (sym (part-at firsts from to i u))
-    ∙ ap (λ x. eqb (getD (part firsts from to) i 0) c || eqb x c) (sym (part-at seconds from to i u))
-    ∙ any-none (length (part firsts from to)) (endsAt (part firsts from to) (part seconds from to) c) none i (omega arith))
+    ap (λ t. t || eqb (getD seconds (from + i) 0) c) (part-none firsts from to c a (none .0) i u)
+    ∙ part-none seconds from to c b (none .1) i u)
 
 pub least-le : (m k : ℕ) {n : ℕ} → n ≡ leastOf m k → (n ≤ m) × (n ≤ k)
 unfolding leastOf

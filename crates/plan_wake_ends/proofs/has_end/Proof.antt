@@ -1,20 +1,20 @@
--- `has_end` meets its contract: one edge more is compared at each turn.
+-- `has_end` meets its contract: one end more is compared at each turn.
 use Prim.Native.Nat.{_-_, _≤_}
 use native.Mathlib.Omega.{arith}
 use mathlib.Core.Path.{_≡_, refl}
-use lib.ListN.{length}
+use lib.ListN.{length, getD}
+use lib.Dec.{eqb}
 use Rattle.base_finite.specs.Below.{counted, anyBelow}
-use Rattle.plan_wake.specs.Wake.{endsAt}
 use Rattle.plan_wake.specs.Laws.Loops.{found-more, found-end}
 use borrow.Author.Needs.{needs}
 use Rattle.plan_wake_ends.proofs.has_end.Statement.{statement}
 use Rattle.plan_wake_ends.proofs.has_end.Tie as tie
 
 abbrev Inv-loop : tie.InvT-loop
-Inv-loop firsts seconds c found₀ i₀ found i = (i ≤ length firsts) × (found ≡ counted (anyBelow i (endsAt firsts seconds c)) 1)
+Inv-loop ends c found₀ i₀ found i = (i ≤ length ends) × (found ≡ counted (anyBelow i (λ k. eqb (getD ends k 0) c)) 1)
 
 abbrev μ-loop : tie.MeasureT-loop
-μ-loop firsts seconds c found₀ i₀ found i = length firsts - i
+μ-loop ends c found₀ i₀ found i = length ends - i
 
 loop-holds : tie.Need-loop-holds Inv-loop μ-loop
 unfolding counted anyBelow
@@ -25,11 +25,11 @@ loop-less c = omega arith
 
 loop-again : tie.Need-loop-again Inv-loop μ-loop
 loop-again c =
-    let args = c .before .before .before .before .before .before .before .args in
-    (omega arith, found-more (args .firsts .now) (args .seconds .now) (args .c) _ (c .before .before .at32 .ensures) (c .before .at322 .ensures) (c .either-number .ensures) (c .before .before .before .before .loop .inv .1))
+    let args = c .before .before .before .before .before .args in
+    (omega arith, found-more (args .ends .now) (args .c) _ (c .before .at32 .ensures) (c .same-number .ensures) (c .before .before .before .loop .inv .1))
 
 returns : tie.Need-returns Inv-loop μ-loop
-returns c = let args = c .before .before .before .before .args in found-end (args .firsts .now) (args .seconds .now) (args .c) _ (c .before .loop .inv .0) (c .loop-test .left) (c .before .loop .inv .1)
+returns c = let args = c .before .before .before .args in found-end (args .ends .now) (args .c) _ (c .before .loop .inv .0) (c .loop-test .left) (c .before .loop .inv .1)
 
 pub has-end-spec : {M : Type 1} → statement M
 has-end-spec =
@@ -38,7 +38,6 @@ has-end-spec =
     Inv-loop
     μ-loop
     loop-holds
-    (λ c κs. search needs)
     (λ c κs. search needs)
     (λ c κs. search needs)
     (λ c. search needs)

@@ -18,8 +18,8 @@ returns c = c .before .before .before .before .wake-edges .ensures
 -- none
 returns-2 : tie.Need-returns-2
 returns-2 c =
-    let entry = c .before .before .before .before .before .before .before .before .before in
-    part-left (entry .args .firsts .now) (entry .args .seconds .now) (wokenKey (entry .args .weights .now) (entry .args .behind)) (entry .args .from) (entry .args .to) (entry .args .c) (notesFrom (entry .args .keys .now) (entry .args .floors .now)) (entry .pre .1 .0) (c .before .has-end .ensures) (c .if1 .left)
+    let entry = c .before .before .before .before .before .before .before .before .before .before in
+    part-left (entry .args .firsts .now) (entry .args .seconds .now) (wokenKey (entry .args .weights .now) (entry .args .behind)) (entry .args .from) (entry .args .to) (entry .args .c) (notesFrom (entry .args .keys .now) (entry .args .floors .now)) (entry .pre .1 .0) (entry .pre .1 .1) (c .before .before .before .has-end .ensures) (c .before .has-end2 .ensures) (c .if1 .left)
 
 pub wake-part-spec : {M : Type 1} → statement M
 wake-part-spec =
@@ -29,6 +29,7 @@ wake-part-spec =
     (λ c. search needs)
     (λ c. search needs)
     (λ c. search needs)
+    (λ c κs. search needs)
     (λ c. search needs)
     (λ c. search needs)
     (λ c. search needs)
