@@ -40,8 +40,8 @@ fn ended(text: &[u8], lines: Number) -> Number
     }
 }
 
-// How the lines after the counts end, and how many pairs there are: a pass over them that stores into groups of its own,
-// as many as there may be, and buffers of no length.
+// How the lines after the counts end, and how many pairs there are: a pass over them that stores into groups of its
+// own, as many as there may be, and buffers of no length.
 pub fn decided(text: &[u8], cursor: Cursor, vertices: usize, edges: usize, room: usize) -> Number
     ensures { λ r.
         let lines = linesWith maxVertices room (old text) vertices edges (cursor .at) in

@@ -1,5 +1,5 @@
 // Whether what two components become is active. Definitions in plan_active.
-ghost use Rattle.base_buffer.specs.Lent.{old, new};
+ghost use Rattle.base_buffer.specs.Lent.{old};
 ghost use mathlib.Core.Path.{_≡_};
 ghost use lib.ListN.{getD};
 ghost use Rattle.base_finite.specs.Below.{counted, anyBelow};

@@ -26,7 +26,7 @@ set-here : (l : List ℕ) (v w u : ℕ) → v < length l → u ≡ v → getD (s
 set-here l v w u b q = ap (λ t. getD (set l v w) t 0) q ∙ getD-set-same l v w 0 b
 
 -- Each of the first m numbers is a root and its own label, or hangs on a higher one with the same label.
-pub record Rising (m : ℕ) (label : ℕ → ℕ) (ups : List ℕ) : Type 0 where
+pub record Ascending (m : ℕ) (label : ℕ → ℕ) (ups : List ℕ) : Type 0 where
   pub fits : m ≤ length ups
   pub below : (v : ℕ) → v < m → getD ups v 0 < m
   pub rises : (v : ℕ) → v < m → v ≤ getD ups v 0
@@ -34,16 +34,16 @@ pub record Rising (m : ℕ) (label : ℕ → ℕ) (ups : List ℕ) : Type 0 wher
   pub root : (v : ℕ) → v < m → getD ups v 0 ≡ v → label v ≡ v
 
 -- What a climb from x comes to.
-pub record Found (m : ℕ) (label : ℕ → ℕ) (x : ℕ) (before : List ℕ) (c : Climbed) : Type 0 where
+pub record RootAbove (m : ℕ) (label : ℕ → ℕ) (x : ℕ) (before : List ℕ) (c : Climbed) : Type 0 where
   pub is : c .root ≡ label x
   pub root-below : c .root < m
   pub own : label (c .root) ≡ c .root
-  pub rising : Rising m label (c .parents)
+  pub rising : Ascending m label (c .parents)
   pub long : length (c .parents) ≡ length before
 
 module _ (m : ℕ) (label : ℕ → ℕ) where
   -- A number may hang on any higher one with the same label.
-  rehung : (p : List ℕ) → Rising m label p → (v w : ℕ) → v < w → w < m → label w ≡ label v → Rising m label (set p v w)
+  rehung : (p : List ℕ) → Ascending m label p → (v w : ℕ) → v < w → w < m → label w ≡ label v → Ascending m label (set p v w)
   rehung p h v w up bw is =
       record {
         fits = let l = length-set p v w in let f = h .fits in omega arith;
@@ -62,7 +62,7 @@ module _ (m : ℕ) (label : ℕ → ℕ) where
       moved : (u : ℕ) → u ≡ v → getD (set p v w) u 0 ≡ u → ⊥
       moved u q t = let e : w ≡ u = sym (here u q) ∙ t in omega arith
 
-  pub climb-rising : (k : ℕ) (p : List ℕ) → Rising m label p → (x : ℕ) → x < m → m ≤ x + k → Found m label x p (climbed k p x)
+  pub climb-rising : (k : ℕ) (p : List ℕ) → Ascending m label p → (x : ℕ) → x < m → m ≤ x + k → RootAbove m label x p (climbed k p x)
   unfolding climbed
   climb-rising zero p h x b t = absurd (omega arith)
   climb-rising (suc k) p h x b t = by (λ hh bb tt. climb-rising k (set p x (getD p (getD p x 0) 0)) hh (getD p (getD p x 0) 0) bb tt) (either (eqb (getD p x 0) x))
@@ -73,13 +73,13 @@ module _ (m : ℕ) (label : ℕ → ℕ) where
       above : ℕ
       above = getD p up 0
 
-      stays : getD p x 0 ≡ x → Found m label x p (climbedTo x p)
+      stays : getD p x 0 ≡ x → RootAbove m label x p (climbedTo x p)
       stays q = let own = h .root x b q in record { is = sym own; root-below = b; own = own; rising = h; long = refl }
 
       higher : (getD p x 0 ≡ x → ⊥) → x < above
       higher n = let one = h .rises x b in let two = h .rises up (h .below x b) in omega (arith, n)
 
-      goes : Found m label above (set p x above) (climbed k (set p x above) above) → Found m label x p (climbed k (set p x above) above)
+      goes : RootAbove m label above (set p x above) (climbed k (set p x above) above) → RootAbove m label x p (climbed k (set p x above) above)
       goes f =
           record {
             is = f .is ∙ h .same up (h .below x b) ∙ h .same x b;
@@ -89,9 +89,9 @@ module _ (m : ℕ) (label : ℕ → ℕ) where
             long = f .long ∙ length-set p x above;
           }
 
-      by : (Rising m label (set p x above) → above < m → m ≤ above + k → Found m label above (set p x above) (climbed k (set p x above) above))
+      by : (Ascending m label (set p x above) → above < m → m ≤ above + k → RootAbove m label above (set p x above) (climbed k (set p x above) above))
           → (eqb (getD p x 0) x ≡ true) ⊎ (eqb (getD p x 0) x ≡ false)
-          → Found m label x p (cond (eqb (getD p x 0) x) (climbedTo x p) (climbed k (set p x above) above))
+          → RootAbove m label x p (cond (eqb (getD p x 0) x) (climbedTo x p) (climbed k (set p x above) above))
       by rec (inl e) = rw e (stays (eqb-true (getD p x 0) x e))
       by rec (inr e) =
           let l : x < above = higher (eqb-false (getD p x 0) x e) in
@@ -103,7 +103,7 @@ unfolding hungOn
 length-hung x y c p = length-set (set (set p x c) y c) c c ∙ length-set (set p x c) y c ∙ length-set p x c
 
 -- Number c hangs on itself, and x and y on it; `next` is the label then.
-module _ (c x y : ℕ) (label next : ℕ → ℕ) (p : List ℕ) (h : Rising c label p) (room : c < length p) (bx : x ≤ c) (by : y ≤ c)
+module _ (c x y : ℕ) (label next : ℕ → ℕ) (p : List ℕ) (h : Ascending c label p) (room : c < length p) (bx : x ≤ c) (by : y ≤ c)
     (next-x : next x ≡ c) (next-y : next y ≡ c) (next-c : next c ≡ c) where
   -- A number that hangs on c.
   record Top (v : ℕ) : Type 0 where
@@ -153,7 +153,7 @@ module _ (c x y : ℕ) (label next : ℕ → ℕ) (p : List ℕ) (h : Rising c l
       at-x nc ny q = inl (record { at = past-c nc ∙ past-y ny ∙ set-here p x c v (omega arith) q; is = ap next q ∙ next-x; few = omega arith })
 
   pub one-more : ((u v : ℕ) → label u ≡ label v → next u ≡ next v) → ((v : ℕ) → (v ≡ x → ⊥) → (v ≡ y → ⊥) → label v ≡ v → next v ≡ v)
-      → Rising (c + 1) next (hungOn x y c p)
+      → Ascending (c + 1) next (hungOn x y c p)
   one-more joined kept =
       record {
         fits = omega (arith, length-hung x y c p);

@@ -24,7 +24,7 @@ use Rattle.plan_duals.specs.Trace.{Trace, labelAfter, partOf, hungOn, me
 use Rattle.plan_duals.specs.Members.{noMember, ored, withPart, unionOf, setsKept, SetsHold}
 use Rattle.plan_duals.specs.Laws.Drawing.{written-none, written-more, written-end, written-fits}
 use Rattle.plan_duals.specs.Laws.Members.{ored-records, no-member-record, put-dual, label-below, single-members, union-of-parts}
-use Rattle.plan_duals.specs.Laws.Rising.{Rising, Found, climb-rising, length-hung, one-more}
+use Rattle.plan_duals.specs.Laws.Rising.{Ascending, RootAbove, climb-rising, length-hung, one-more}
 
 -- ---- labels
 
@@ -52,7 +52,7 @@ label-next t r k c v e z a b = rw (e, z, a, b)
 -- ---- the trees when component c arises
 
 module _ (t : Trace) (c : ℕ) (below : c < t .vertices + t .rounds) (first-below : (r : ℕ) → r < t .rounds → t .first r < t .vertices)
-    (second-below : (r : ℕ) → r < t .rounds → t .second r < t .vertices) (ups : List ℕ) (h : Rising c (labelAfter t (c - t .vertices)) ups) where
+    (second-below : (r : ℕ) → r < t .rounds → t .second r < t .vertices) (ups : List ℕ) (h : Ascending c (labelAfter t (c - t .vertices)) ups) where
   abbrev r : ℕ
   r = c - t .vertices
 
@@ -65,10 +65,10 @@ module _ (t : Trace) (c : ℕ) (below : c < t .vertices + t .rounds) (first-belo
   abbrev two : Climbed
   two = climbed c (one .parents) (t .second r)
 
-  first-found : t .vertices ≤ c → Found c label (t .first r) ups one
+  first-found : t .vertices ≤ c → RootAbove c label (t .first r) ups one
   first-found l = climb-rising c label c ups h (t .first r) (let b = first-below r (omega arith) in omega arith) (omega arith)
 
-  second-found : t .vertices ≤ c → Found c label (t .second r) (one .parents) two
+  second-found : t .vertices ≤ c → RootAbove c label (t .second r) (one .parents) two
   second-found l =
       climb-rising c label c (one .parents) (first-found l .rising) (t .second r) (let b = second-below r (omega arith) in omega arith) (omega arith)
 
@@ -104,7 +104,7 @@ module _ (t : Trace) (few : t .vertices ≤ maxVertices) where
 
   -- The members of component c, when the components before it have arisen.
   set-held : (c : ℕ) (below : c < t .vertices + t .rounds) (a : (r : ℕ) → r < t .rounds → t .first r < t .vertices) (b : (r : ℕ) → r < t .rounds → t .second r < t .vertices)
-      (ups : List ℕ) {sets : List (List ℕ)} → Rising c (labelAfter t (c - t .vertices)) ups → SetsHold t (c - t .vertices) sets →
+      (ups : List ℕ) {sets : List (List ℕ)} → Ascending c (labelAfter t (c - t .vertices)) ups → SetsHold t (c - t .vertices) sets →
       unionOf sets (t .vertices) (partOf (t .first) (t .vertices) c ups .root) (partOf (t .second) (t .vertices) c (partOf (t .first) (t .vertices) c ups .parents) .root)
       ≡ recordOf 0 (memberOf t c)
   unfolding partOf
@@ -169,10 +169,10 @@ module _ (t : Trace) (few : t .vertices ≤ maxVertices) where
 
 -- Component c has arisen.
 arisen : (t : Trace) (c : ℕ) (below : c < t .vertices + t .rounds) (a : (r : ℕ) → r < t .rounds → t .first r < t .vertices)
-    (b : (r : ℕ) → r < t .rounds → t .second r < t .vertices) (ups : List ℕ) {after : List ℕ} → c < length ups → Rising c (labelAfter t (c - t .vertices)) ups →
+    (b : (r : ℕ) → r < t .rounds → t .second r < t .vertices) (ups : List ℕ) {after : List ℕ} → c < length ups → Ascending c (labelAfter t (c - t .vertices)) ups →
     after ≡ hungOn (partOf (t .first) (t .vertices) c ups .root) (partOf (t .second) (t .vertices) c (partOf (t .first) (t .vertices) c ups .parents) .root) c
     (partOf (t .second) (t .vertices) c (partOf (t .first) (t .vertices) c ups .parents) .parents) →
-    Rising (c + 1) (labelAfter t (c + 1 - t .vertices)) after × (length after ≡ length ups)
+    Ascending (c + 1) (labelAfter t (c + 1 - t .vertices)) after × (length after ≡ length ups)
 unfolding partOf
 arisen t c below a b ups {after} room h is = rw is (⊎-elim single made (lt-or-ge c n))
   where
@@ -191,7 +191,7 @@ arisen t c below a b ups {after} room h is = rw is (⊎-elim single made (lt-or-
     y : Climbed
     y = cond (ltb c n) (climbedTo c (x .parents)) (climbed c (x .parents) (t .second r))
 
-    single : c < n → Rising (c + 1) (labelAfter t k) (hungOn (x .root) (y .root) c (y .parents)) × (length (hungOn (x .root) (y .root) c (y .parents)) ≡ length ups)
+    single : c < n → Ascending (c + 1) (labelAfter t k) (hungOn (x .root) (y .root) c (y .parents)) × (length (hungOn (x .root) (y .root) c (y .parents)) ≡ length ups)
     single l =
         let next : (v : ℕ) → labelAfter t k v ≡ v = λ v. label-first t k v (omega arith) in
         let last : (v : ℕ) → labelAfter t r v ≡ v = λ v. label-first t r v (omega arith) in
@@ -202,7 +202,7 @@ arisen t c below a b ups {after} room h is = rw is (⊎-elim single made (lt-or-
           length-hung c c c ups,
         )
 
-    made : n ≤ c → Rising (c + 1) (labelAfter t k) (hungOn (x .root) (y .root) c (y .parents)) × (length (hungOn (x .root) (y .root) c (y .parents)) ≡ length ups)
+    made : n ≤ c → Ascending (c + 1) (labelAfter t k) (hungOn (x .root) (y .root) c (y .parents)) × (length (hungOn (x .root) (y .root) c (y .parents)) ≡ length ups)
     made l =
         let first = first-found t c below a b ups h l in
         let second = second-found t c below a b ups h l in
@@ -211,8 +211,8 @@ arisen t c below a b ups {after} room h is = rw is (⊎-elim single made (lt-or-
           length-hung _ _ c _ ∙ second .long ∙ first .long,
         )
       where
-        by : (one two : Climbed) → Found c (labelAfter t r) (t .first r) ups one → Found c (labelAfter t r) (t .second r) (one .parents) two
-            → Rising (c + 1) (labelAfter t k) (hungOn (one .root) (two .root) c (two .parents))
+        by : (one two : Climbed) → RootAbove c (labelAfter t r) (t .first r) ups one → RootAbove c (labelAfter t r) (t .second r) (one .parents) two
+            → Ascending (c + 1) (labelAfter t k) (hungOn (one .root) (two .root) c (two .parents))
         by one two f s =
             let own : labelAfter t r c ≡ c = label-past t r c (λ i l. a i (omega arith)) (λ i l. b i (omega arith)) (omega arith) in
             let x = one .root in
@@ -232,7 +232,7 @@ arisen t c below a b ups {after} room h is = rw is (⊎-elim single made (lt-or-
 
 pub record Replayed (t : Trace) (c : ℕ) (ups : List ℕ) (sets : List (List ℕ)) (old new : List ℕ) (count : ℕ) : Type 0 where
   pub places : length ups ≡ 2 * maxVertices
-  pub ups-rise : Rising c (labelAfter t (c - t .vertices)) ups
+  pub ups-rise : Ascending c (labelAfter t (c - t .vertices)) ups
   pub sets-hold : SetsHold t (c - t .vertices) sets
   pub duals-written : DualsWritten (dualsBelow (t .value) (memberOf t) c) old new count
 

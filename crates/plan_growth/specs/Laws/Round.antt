@@ -22,7 +22,6 @@ use Rattle.theory_steiner.specs.Growth.{State, active, numbers, load, slack, de
 use Rattle.theory_steiner.specs.Laws.Activity.{active-cong}
 use Rattle.theory_steiner.specs.Laws.Round.{stateAt-reached, pick-rounds, pick-label, pick-picked, pick-new}
 use Rattle.theory_steiner.specs.Laws.Rounds.{rounds-lt, stateAt-pick, delay-le}
-use Rattle.theory_steiner.specs.Laws.Winner.{Candidate}
 use Rattle.theory_steiner.specs.Laws.Partition.{label-below, winner-below, winner-candidate}
 use Rattle.survey_core.specs.Lists.{isPaired, inList, sameList}
 use Rattle.survey_core.specs.Survey.{Survey, surveyWith, groupsAlone, vertexCount, edgeCount, sameGroup, member, problemOf}

@@ -5,15 +5,14 @@ use Rattle.plan_winner.specs.Scan.{blocksOf}
 use Rattle.plan_winner.specs.Tables.{tablesFrom}
 use Rattle.plan_delay.specs.Between.{winnerIn}
 use Rattle.plan_winner.specs.Laws.Scan.{capped-small}
-use Rattle.plan_winner.specs.Laws.Loops.{Standing, next-less, passing-next, passing-start, block-starts, passing-look, passing-keys, passing-floors, passing-end}
+use Rattle.plan_winner.specs.Laws.Loops.{BeforeBlock, next-less, passing-next, passing-start, block-starts, passing-look, passing-keys, passing-floors, passing-end}
 use borrow.Author.Needs.{needs}
-use native.Mathlib.Omega.{arith}
 use Rattle.plan_search.proofs.find_winner.Statement.{statement}
 use Rattle.plan_search.proofs.find_winner.Tie as tie
 
 abbrev Inv-loop : tie.InvT-loop
 Inv-loop firsts seconds weights labels loads flags time keys₀ floors₀ capped best₀ limit₀ blocks b₀ keys floors best limit b =
-    Standing (tablesFrom firsts seconds weights labels loads flags) capped keys₀ floors₀ blocks b limit (winnerIn best) keys floors
+    BeforeBlock (tablesFrom firsts seconds weights labels loads flags) capped keys₀ floors₀ blocks b limit (winnerIn best) keys floors
 
 abbrev μ-loop : tie.MeasureT-loop
 μ-loop firsts seconds weights labels loads flags time keys₀ floors₀ capped best₀ limit₀ blocks b₀ keys floors best limit b =

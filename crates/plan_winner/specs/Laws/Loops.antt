@@ -165,25 +165,25 @@ module _ {t : Tables} {time : ℕ} {keys floors : List ℕ} {n b limit : ℕ} {b
       rw (sym e) (passes-end (delayBy t time) (keyBy t time) time (length (t .firsts)) keys floors n b (h .upto) c (h .best-is) (h .keys-are) (h .floors-are))
 
 -- Before a block that is not passed over, or behind the last.
-pub record Standing (t : Tables) (time : ℕ) (keys floors : List ℕ) (n b limit : ℕ) (best : Winner) (now low : List ℕ) : Type 0 where
+pub record BeforeBlock (t : Tables) (time : ℕ) (keys floors : List ℕ) (n b limit : ℕ) (best : Winner) (now low : List ℕ) : Type 0 where
   pub passing : PassingBlocks t time keys floors n b limit best now low
   pub below : b < n → getD low b 0 < limit
 
 -- The blocks up to the next whose floor is below the limit are passed over.
 pub passing-to : (k : ℕ) {t : Tables} {time : ℕ} {keys floors : List ℕ} {n b limit : ℕ} {best : Winner} {now low : List ℕ} → n - b ≡ k
-    → PassingBlocks t time keys floors n b limit best now low → Standing t time keys floors n (nextBlock low limit b k) limit best now low
+    → PassingBlocks t time keys floors n b limit best now low → BeforeBlock t time keys floors n (nextBlock low limit b k) limit best now low
 unfolding nextBlock
 passing-to zero q h = record { passing = h; below = λ l. absurd (omega arith) }
 passing-to (suc k) {t} {time} {keys} {floors} {n} {b} {limit} {best} {now} {low} q h =
     by (ltb (getD low b 0) limit) refl (λ p. passing-to k (omega arith) p)
   where
     by : (x : Bool) → ltb (getD low b 0) limit ≡ x
-        → (PassingBlocks t time keys floors n (suc b) limit best now low → Standing t time keys floors n (nextBlock low limit (suc b) k) limit best now low)
-        → Standing t time keys floors n (cond x b (nextBlock low limit (suc b) k)) limit best now low
+        → (PassingBlocks t time keys floors n (suc b) limit best now low → BeforeBlock t time keys floors n (nextBlock low limit (suc b) k) limit best now low)
+        → BeforeBlock t time keys floors n (cond x b (nextBlock low limit (suc b) k)) limit best now low
     by true x on = record { passing = h; below = λ l. ltb-true _ _ x }
     by false x on = on (subst (λ i. PassingBlocks t time keys floors n i limit best now low) (add-one b) (passing-over h (omega arith) (ltb-false _ _ x)))
 
 pub passing-next : {t : Tables} {time : ℕ} {keys floors : List ℕ} {n b limit r : ℕ} {best : Winner} {now low : List ℕ} → r ≡ nextBlock low limit b (n - b)
-    → PassingBlocks t time keys floors n b limit best now low → Standing t time keys floors n r limit best now low
+    → PassingBlocks t time keys floors n b limit best now low → BeforeBlock t time keys floors n r limit best now low
 passing-next {t} {time} {keys} {floors} {n} {b} {limit} {r} {best} {now} {low} q h =
-    subst (λ i. Standing t time keys floors n i limit best now low) (sym q) (passing-to (n - b) refl h)
+    subst (λ i. BeforeBlock t time keys floors n i limit best now low) (sym q) (passing-to (n - b) refl h)
