@@ -3,7 +3,7 @@ use Prim.Native.Nat.{ℕ, zero, suc}
 use mathlib.Core.Path.{_≡_}
 use mathlib.Core.Bool.{Bool, _||_, xor, not, cond}
 use mathlib.Core.List.{List}
-use lib.ListN.{getD, set, replicate}
+use lib.ListN.{length, getD, set, replicate}
 use lib.Dec.{eqb}
 use Rattle.base_finite.specs.Below.{counted, countBelow, anyBelow, tabulate}
 use Rattle.base_limits.specs.Limits.{maxVertices, maxDuals}
@@ -33,8 +33,8 @@ gathered t (suc v) l = cond (t v) (set (gathered t v l) (countBelow v t) v) (gat
 -- The mates of all vertices, and a list of those vertices that have one, with their number.
 pub record MatesListed (groups mates members : List ℕ) (count : ℕ) : Type 0 where
   pub mates-are : mates ≡ tabulate maxVertices (mateOf groups)
-  pub members-are : members ≡ gathered (hasMate mates) maxVertices (replicate maxVertices 0)
-  pub count-is : count ≡ countBelow maxVertices (hasMate mates)
+  pub members-are : members ≡ gathered (hasMate mates) (length groups) (replicate maxVertices 0)
+  pub count-is : count ≡ countBelow (length groups) (hasMate mates)
 
 -- The label is x or y.
 unfoldable pub ofEither : (x y label : ℕ) → Bool

@@ -5,7 +5,6 @@ ghost use mathlib.Core.Bool.{cond};
 ghost use Prim.Native.Nat.{_+_, _<_, _^_};
 ghost use lib.ListN.{set};
 ghost use Rattle.base_finite.specs.Below.{counted, countBelow};
-ghost use Rattle.base_limits.specs.Limits.{maxVertices};
 ghost use Rattle.plan_active.specs.Flags.{hasMate, gathered};
 use base_buffer::at32;
 use base_buffer::index32;
@@ -30,15 +29,15 @@ fn list_vertex(
     count + 1
 }
 
-// The vertices that have a mate other than themselves, rising; answers how many they are.
-pub fn list_members(mates: &[u32; MAX_VERTICES], members: &mut [u32; MAX_VERTICES]) -> usize
-    ensures { λ r. ⌜ r ≡ countBelow maxVertices (hasMate (old mates)) ⌝ }
-    ensures { λ r. ⌜ new members ≡ gathered (hasMate (old mates)) maxVertices (old members) ⌝ }
+// The vertices below n that have a mate other than themselves, rising; answers how many they are.
+pub fn list_members(mates: &[u32; MAX_VERTICES], members: &mut [u32; MAX_VERTICES], n: u32) -> usize
+    ensures { λ r. ⌜ r ≡ countBelow n (hasMate (old mates)) ⌝ }
+    ensures { λ r. ⌜ new members ≡ gathered (hasMate (old mates)) n (old members) ⌝ }
 {
     let mut count = 0;
     let mut v = 0;
-    while v < MAX_VERTICES {
-        count = list_vertex(mates, members, count, v as u32);
+    while v < n {
+        count = list_vertex(mates, members, count, v);
         v += 1;
     }
     count

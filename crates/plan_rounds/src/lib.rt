@@ -146,7 +146,7 @@ fn grow_rounds(groups: &[u8], firsts: &[u32], seconds: &[u32], weights: &[u32]) 
     survey_labels::own_labels(&mut labels);
     let mates = survey_mates::mates(groups);
     let mut members = [0u32; MAX_VERTICES];
-    let count = plan_mated::list_members(&mates, &mut members);
+    let count = plan_mated::list_members(&mates, &mut members, groups.len() as u32);
     let mut flags = plan_flags::active_flags(groups, &labels);
     plan_keys::start_keys(firsts, seconds, weights, &flags, &mut keys);
     let most = groups.len() - 1;

@@ -80,19 +80,18 @@ module _ (groups labels : List ℕ) {mates members : List ℕ} {count : ℕ} (fe
             (apart-is v b ∙ ap (λ w. xor (held v) (held w)) (mate-past groups v c) ∙ xor-same (held v))
 
     -- The list has them all.
-    listed-apart : anyBelow count (λ k. apartFromMate mates labels x y (getD members k 0)) ≡ anyBelow maxVertices (apartFromMate mates labels x y)
+    listed-apart : anyBelow count (λ k. apartFromMate mates labels x y (getD members k 0)) ≡ anyBelow (length groups) (apartFromMate mates labels x y)
     listed-apart =
         let room = length-replicate {A = ℕ} maxVertices 0 in
         rw (m .members-are, m .count-is)
-        (any-gathered (hasMate mates) (apartFromMate mates labels x y) maxVertices _ (omega arith)
-        ∙ any-cong maxVertices _ _ (λ v b. apart-mated mates labels x y v))
+        (any-gathered (hasMate mates) (apartFromMate mates labels x y) (length groups) _ (omega arith)
+        ∙ any-cong (length groups) _ _ (λ v b. apart-mated mates labels x y v))
 
-    separates-apart : separates (problemOf (groupsAlone groups)) held ≡ true → anyBelow maxVertices (apartFromMate mates labels x y) ≡ true
+    separates-apart : separates (problemOf (groupsAlone groups)) held ≡ true → anyBelow (length groups) (apartFromMate mates labels x y) ≡ true
     separates-apart h =
         let f = any-elim (length groups) (λ v. xor (held v) (held (mateOf groups v))) (sym (separates-mates groups held) ∙ h) in
         let b = f .below in
-        let c : f .at < maxVertices = omega arith in
-        any-intro maxVertices (apartFromMate mates labels x y) (f .at) c (apart-is (f .at) c ∙ f .passes)
+        any-intro (length groups) (apartFromMate mates labels x y) (f .at) b (apart-is (f .at) (omega arith) ∙ f .passes)
 
     -- Any two vertices may be tried first.
     tried : (u v : ℕ) → u < length groups → v < length groups
@@ -102,23 +101,23 @@ module _ (groups labels : List ℕ) {mates members : List ℕ} {count : ℕ} (fe
     tried u v bu bv =
         rw listed-apart
         (same-test
-        (apartFromMate mates labels x y u || (apartFromMate mates labels x y v || anyBelow maxVertices (apartFromMate mates labels x y)))
+        (apartFromMate mates labels x y u || (apartFromMate mates labels x y v || anyBelow (length groups) (apartFromMate mates labels x y)))
         (separates (problemOf (groupsAlone groups)) held)
         forth
         (λ h.
         or-right (apartFromMate mates labels x y u) _
-        (or-right (apartFromMate mates labels x y v) (anyBelow maxVertices (apartFromMate mates labels x y)) (separates-apart h))))
+        (or-right (apartFromMate mates labels x y v) (anyBelow (length groups) (apartFromMate mates labels x y)) (separates-apart h))))
       where
-        all : anyBelow maxVertices (apartFromMate mates labels x y) ≡ true → separates (problemOf (groupsAlone groups)) held ≡ true
-        all h = let f = any-elim maxVertices (apartFromMate mates labels x y) h in apart-separates (f .at) (f .below) (f .passes)
+        all : anyBelow (length groups) (apartFromMate mates labels x y) ≡ true → separates (problemOf (groupsAlone groups)) held ≡ true
+        all h = let f = any-elim (length groups) (apartFromMate mates labels x y) h in let b = f .below in apart-separates (f .at) (omega arith) (f .passes)
 
-        forth : (apartFromMate mates labels x y u || (apartFromMate mates labels x y v || anyBelow maxVertices (apartFromMate mates labels x y))) ≡ true
+        forth : (apartFromMate mates labels x y u || (apartFromMate mates labels x y v || anyBelow (length groups) (apartFromMate mates labels x y))) ≡ true
             → separates (problemOf (groupsAlone groups)) held ≡ true
         forth h =
             ⊎-elim
             (apart-separates u (omega arith))
-            (λ k. ⊎-elim (apart-separates v (omega arith)) all (or-cases (apartFromMate mates labels x y v) (anyBelow maxVertices (apartFromMate mates labels x y)) k))
-            (or-cases (apartFromMate mates labels x y u) (apartFromMate mates labels x y v || anyBelow maxVertices (apartFromMate mates labels x y)) h)
+            (λ k. ⊎-elim (apart-separates v (omega arith)) all (or-cases (apartFromMate mates labels x y v) (anyBelow (length groups) (apartFromMate mates labels x y)) k))
+            (or-cases (apartFromMate mates labels x y u) (apartFromMate mates labels x y v || anyBelow (length groups) (apartFromMate mates labels x y)) h)
 
   module _ (first second z : ℕ) (first-below : first < length groups) (second-below : second < length groups)
       (fresh : (v : ℕ) → v < length groups → getD labels v 0 ≡ z → ⊥) where

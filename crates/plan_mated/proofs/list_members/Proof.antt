@@ -6,18 +6,17 @@ use borrow.Author.Needs.{needs}
 use Rattle.base_finite.specs.Below.{sumBelow, countBelow}
 use Rattle.base_finite.specs.Laws.Below.{count-le}
 use Rattle.base_finite.specs.Laws.Count.{count-end}
-use Rattle.base_limits.specs.Limits.{maxVertices}
 use Rattle.plan_active.specs.Flags.{hasMate, gathered}
 use Rattle.plan_active.specs.Laws.Listed.{count-next, gathered-more, gathered-end}
 use Rattle.plan_mated.proofs.list_members.Statement.{statement}
 use Rattle.plan_mated.proofs.list_members.Tie as tie
 
 abbrev Inv-loop : tie.InvT-loop
-Inv-loop mates members₀ count₀ v₀ members count v =
-    (v ≤ maxVertices) × (count ≡ countBelow v (hasMate mates)) × (members ≡ gathered (hasMate mates) v members₀)
+Inv-loop mates members₀ n count₀ v₀ members count v =
+    (v ≤ n) × (count ≡ countBelow v (hasMate mates)) × (members ≡ gathered (hasMate mates) v members₀)
 
 abbrev μ-loop : tie.MeasureT-loop
-μ-loop mates members₀ count₀ v₀ members count v = maxVertices - v
+μ-loop mates members₀ n count₀ v₀ members count v = n - v
 
 loop-holds : tie.Need-loop-holds Inv-loop μ-loop
 unfolding countBelow sumBelow gathered
@@ -41,7 +40,7 @@ returns : tie.Need-returns Inv-loop μ-loop
 returns c =
     let turn = c .before in
     let t = hasMate (turn .before .args .mates .now) in
-    (count-end maxVertices (turn .loop .v) t (omega arith) (omega arith) (turn .loop .inv .1), gathered-end t _ maxVertices (turn .loop .v) (omega arith) (omega arith) (turn .loop .inv .2))
+    (count-end (turn .before .args .n) (turn .loop .v) t (omega arith) (omega arith) (turn .loop .inv .1), gathered-end t _ (turn .before .args .n) (turn .loop .v) (omega arith) (omega arith) (turn .loop .inv .2))
 
 pub list-members-spec : {M : Type 1} → statement M
 list-members-spec =
@@ -50,7 +49,6 @@ list-members-spec =
     Inv-loop
     μ-loop
     loop-holds
-    (λ c. search needs)
     list-vertex-requires
     (λ c. search needs)
     (λ c. search needs)

@@ -19,6 +19,9 @@ abbrev μ-loop : tie.MeasureT-loop
 μ-loop groups firsts seconds weights labels₀ loads₀ values₀ picked₀ order₀ keys₀ floors₀ mates members count flags₀ most time₀ r₀ labels loads values picked order keys floors flags time r =
     most - r
 
+cast-list-members : tie.Need-cast-list-members Inv-loop μ-loop
+cast-list-members c = let few = c .before .before .before .before .before .before .before .before .before .before .pre .few in record { fits = omega arith }
+
 loop-holds : tie.Need-loop-holds Inv-loop μ-loop
 loop-holds c =
     let flags = c .before .before .before .before in
@@ -91,6 +94,7 @@ grow-rounds-spec =
     (λ c. search needs)
     (λ c κs. search needs)
     (λ c κs. search needs)
+    cast-list-members
     (λ c κs. search needs)
     (λ c κs. search needs)
     (λ c. search needs)
