@@ -8,8 +8,15 @@ use Rattle.base_limits.specs.Limits.{maxVertices, maxEdges, maxDuals}
 use Rattle.theory_steiner.specs.Problem.{Problem}
 use Rattle.theory_steiner.specs.Growth.{stateAt}
 use Rattle.theory_steiner.specs.Pruning.{dualBound}
-use Rattle.plan_growth.specs.declared.Growth.{Growth}
 use Rattle.plan_growth.specs.Represents.{pickAt}
+
+-- A growth: how many rounds there were, the sum of all duals, the values of the component numbers, 1 for each picked edge, and the edges in the order of the rounds.
+pub record Growth : Type 0 where
+  pub rounds : ℕ
+  pub bound : ℕ
+  pub values : List ℕ
+  pub picked : List ℕ
+  pub order : List ℕ
 
 abbrev pub growthFrom : (rounds bound : ℕ) → (values picked order : List ℕ) → Growth
 growthFrom rounds bound values picked order =

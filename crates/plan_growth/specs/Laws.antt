@@ -1,4 +1,5 @@
 pub mod Loads
 pub mod Clock
+pub mod Arrays
 pub mod Round
 pub mod Rounds

@@ -7,9 +7,8 @@ use lib.ListN.{length}
 use lib.Dec.{ltb}
 use Rattle.base_finite.specs.Below.{counted, tabulate}
 use Rattle.base_limits.specs.Limits.{maxVertices, maxEdges, maxDuals}
-use Rattle.base_buffer.specs.Lent.{Buffer, new}
 use Rattle.theory_steiner.specs.Problem.{Problem}
-use Rattle.theory_steiner.specs.Growth.{State, Delay, never, after, Winner, nobody, edge, active, winner, load, stateAt}
+use Rattle.theory_steiner.specs.Growth.{State, Winner, nobody, edge, active, winner, load, stateAt}
 use Rattle.survey_core.specs.Survey.{Survey, problemOf}
 use Rattle.survey_core.specs.Sound.{SurveySound}
 use Rattle.plan_winner.specs.Scan.{Keyed, Floored}
@@ -47,19 +46,6 @@ pub record Arrays : Type 0 where
 abbrev pub arraysFrom : (labels loads values picked order keys floors flags : List ℕ) → Arrays
 arraysFrom labels loads values picked order keys floors flags =
     record { labels = labels; loads = loads; values = values; picked = picked; order = order; keys = keys; floors = floors; flags = flags }
-
--- The arrays that eight lent buffers hold when the call ends.
-abbrev pub newArrays : (labels loads values picked order keys floors flags : Buffer) → Arrays
-newArrays labels loads values picked order keys floors flags =
-    arraysFrom (new labels) (new loads) (new values) (new picked) (new order) (new keys) (new floors) (new flags)
-
-unfoldable pub roundsAfter : (r : ℕ) → Delay → ℕ
-roundsAfter r never = r
-roundsAfter r (after d) = r + 1
-
-unfoldable pub timeAfter : (time : ℕ) → Delay → ℕ
-timeAfter time never = time
-timeAfter time (after d) = time + d
 
 -- What holds before each round: r rounds, each with a winner, took so much time, the arrays are those of the definition after them, and no key or floor is too high.
 pub record Represents (s : Survey) (r time : ℕ) (a : Arrays) : Type 0 where

@@ -31,8 +31,3 @@ turnedComponent labels n time c loads = cond (ltb c n) (turnedAt time c loads) (
 -- The same if component c, which becomes part of one with this flag, had another.
 unfoldable pub turnedTo : (flag : ℕ) → (flags labels : List ℕ) → (n time c : ℕ) → (loads : List ℕ) → List ℕ
 turnedTo flag flags labels n time c loads = cond (eqb (getD flags c 0) flag) loads (turnedComponent labels n time c loads)
-
--- Sums of these values stay within 64 bits: no round raises a value by more than the largest that a dual can have.
-pub record SumFits (values : List ℕ) (count : ℕ) : Type 0 where
-  pub few : count ≤ 2 * maxVertices
-  pub low : (c : ℕ) → getD values c 0 ≤ maxVertices * maxValue

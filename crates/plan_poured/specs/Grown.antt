@@ -9,8 +9,7 @@ use Rattle.theory_steiner.specs.Problem.{terminals}
 use Rattle.theory_steiner.specs.Dual.{Dual}
 use Rattle.survey_core.specs.Survey.{Survey, groupsAlone, problemOf}
 use Rattle.survey_core.specs.Refusal.{surveyRefusal}
-use Rattle.plan_growth.specs.Grown.{GrownAfter}
-use Rattle.plan_growth.specs.declared.Growth.{Growth}
+use Rattle.plan_growth.specs.Grown.{Growth, GrownAfter}
 use Rattle.plan_duals.specs.Trace.{traceFrom, drawnDuals}
 use Rattle.plan_duals.specs.Drawing.{recordsOver}
 use Rattle.plan_rule.specs.Plan.{PlanCounts}

@@ -4,6 +4,9 @@ ghost use Rattle.base_buffer.specs.Lent.{old, new};
 ghost use Rattle.survey_core.specs.Survey.{lentSurvey};
 ghost use Rattle.plan_rule.specs.Answer.{plannedOutcome};
 ghost use Rattle.plan_poured.specs.Grown.{GrownInto};
+use base_limits::MAX_DUALS;
+use base_limits::MAX_EDGES;
+use base_limits::MAX_VERTICES;
 use plan_picks::copy_picks;
 use plan_rule::Planned;
 
@@ -20,16 +23,26 @@ pub fn grow_poured(
         let s = lentSurvey groups firsts seconds weights in
         ⌜ GrownInto s (old marks) (old records) (plannedOutcome r) (new marks) (new records) ⌝ }
 {
-    let grown = plan_rounds::grow(groups, firsts, seconds, weights);
-    let order = grown.order;
+    let mut values = [0u64; MAX_DUALS];
+    let mut picked = [0u8; MAX_EDGES];
+    let mut order = [0u32; MAX_VERTICES];
+    let grown = plan_rounds::grow(
+        groups,
+        firsts,
+        seconds,
+        weights,
+        &mut values,
+        &mut picked,
+        &mut order,
+    );
     let rounds = grown.rounds;
     let bound = grown.bound;
-    copy_picks(&grown.picked, marks, firsts.len());
+    copy_picks(&picked, marks, firsts.len());
     let duals = plan_draw::draw(
         groups.len(),
         firsts,
         seconds,
-        &grown.values,
+        &values,
         &order,
         rounds,
         records,

@@ -13,7 +13,9 @@ ghost use Rattle.why_rule.specs.Answer.{whyOutcome};
 ghost use Rattle.why_rule.specs.Promise.{WhyPromises};
 ghost use Rattle.why_core.specs.Asked.{Asked};
 use base_buffer::wide;
+use base_limits::MAX_DUALS;
 use base_limits::MAX_EDGES;
+use base_limits::MAX_VERTICES;
 use base_limits::Verdict;
 use why_kept::explain_kept;
 use why_rule::Why;
@@ -54,9 +56,18 @@ fn explain(
         let entries = routeIn (reasonOf s track) in
         ⌜ new route ≡ entries ++ drop (length entries) (old route) ⌝ }
 {
-    let grown = plan_rounds::grow(lists, firsts, seconds, weights);
-    let picked = grown.picked;
-    let order = grown.order;
+    let mut values = [0u64; MAX_DUALS];
+    let mut picked = [0u8; MAX_EDGES];
+    let mut order = [0u32; MAX_VERTICES];
+    let grown = plan_rounds::grow(
+        lists,
+        firsts,
+        seconds,
+        weights,
+        &mut values,
+        &mut picked,
+        &mut order,
+    );
     let rounds = grown.rounds;
     let m = firsts.len();
     let marks = plan_marks(lists, firsts, seconds, weights, &picked[0..m]);

@@ -22,8 +22,7 @@ use Rattle.survey_core.specs.Laws.Refusal.{survey-fine, survey-sound}
 use Rattle.base_buffer.specs.Store.{remade}
 use Rattle.base_buffer.specs.Laws.Store.{tabulate-cong, length-remade, remade-passed, remade-ahead}
 use Rattle.plan_growth.specs.Represents.{pickAt, winnerEdge}
-use Rattle.plan_growth.specs.Grown.{GrownAfter}
-use Rattle.plan_growth.specs.declared.Growth.{Growth}
+use Rattle.plan_growth.specs.Grown.{Growth, GrownAfter}
 use Rattle.plan_duals.specs.Trace.{Trace, traceFrom, drawnDuals, Drawable, TraceOf}
 use Rattle.plan_duals.specs.Laws.Drawable.{drawn-all}
 use Rattle.plan_duals.specs.Laws.Growth.{trace-duals, trace-drawable, traces-from}

@@ -1,6 +1,6 @@
 -- A round over the arrays is a round of the definition: the flags are the active components, the winner is the winner, and the arrays after it represent the next state
--- (001, Algorithm 22.3). `round` cites it.
-use Prim.Native.Nat.{ℕ, suc, _+_, _*_, _-_, _<_, _≤_, _^_}
+-- (001, Algorithm 22.3). `grow_rounds` cites it.
+use Prim.Native.Nat.{ℕ, suc, _+_, _*_, _-_, _%_, _<_, _≤_, _^_}
 use native.Mathlib.Omega.{arith}
 use native.Mathlib.Decide.{ℕ-discrete}
 use native.Mathlib.Numerals.{add-one}
@@ -18,6 +18,7 @@ use Rattle.base_finite.specs.Laws.Below.{length-tabulate, getD-tabulate, counte
 use Rattle.theory_graph.specs.Component.{merged}
 use Rattle.base_limits.specs.Limits.{maxVertices, maxEdges, maxWeight, maxDuals}
 use Rattle.theory_steiner.specs.Problem.{Problem, Sound, separates}
+use Rattle.theory_steiner.specs.Growth as theory
 use Rattle.theory_steiner.specs.Growth.{State, active, numbers, load, slack, delay, nobody, edge, winner, pick, stateAt, Reached}
 use Rattle.theory_steiner.specs.Laws.Activity.{active-cong}
 use Rattle.theory_steiner.specs.Laws.Round.{stateAt-reached, pick-rounds, pick-label, pick-picked, pick-new}
@@ -29,8 +30,7 @@ use Rattle.survey_core.specs.Laws.Refusal.{survey-sound}
 use Rattle.base_buffer.specs.Laws.Store.{set-table, remade-part}
 use Rattle.plan_delay.specs.Held.{heldValue, settledBy}
 use Rattle.plan_delay.specs.Laws.Held.{settled-off, held-settled}
-use Rattle.plan_delay.specs.Between.{delayIn, winnerIn, vertexEnd, slackBetween, delayBetween}
-use Rattle.plan_delay.specs.declared.Delay.the-variants.{Never, After}
+use Rattle.plan_delay.specs.Between.{winnerIn, vertexEnd, slackBetween, delayBetween}
 use Rattle.plan_delay.specs.declared.Winner.{Winner}
 use Rattle.plan_delay.specs.declared.Winner.the-variants.{Nobody, Edge}
 use Rattle.plan_winner.specs.Scan.{timeLimit, idleAlone, resting, reach, key, cappedTime, Scan, scanOf, Keyed, Pass, blocksOf, passOf, Floored}
@@ -44,8 +44,8 @@ use Rattle.plan_active.specs.Laws.Merged.{flags-merged}
 use Rattle.plan_growth.specs.Tables.{settledAt, turnedTo}
 use Rattle.plan_growth.specs.Laws.Loads.{label-own, turned-own, turned-other, length-turned, load-timely, load-joined, load-other}
 use Rattle.plan_growth.specs.Laws.Clock.{settled-next, timely-next}
-use Rattle.plan_growth.specs.Represents.{winnerEdge, pickAt, heldLabel, heldLoad, Arrays, arraysFrom, roundsAfter, timeAfter, Represents}
-use Rattle.theory_steiner.specs.Minima.{winnerDelay}
+use Rattle.plan_growth.specs.Round.{RoundArrays, roundArraysFrom, searchBy, roundBy}
+use Rattle.plan_growth.specs.Represents.{winnerEdge, pickAt, heldLabel, heldLoad, Arrays, arraysFrom, Represents}
 
 -- A flag of 1 stands for the test.
 flag-is : (t : Bool) → eqb (counted t 1) 1 ≡ t
@@ -576,9 +576,13 @@ module _ {s : Survey} {r time : ℕ} {a : Arrays} (h : Represents s r time a) wh
           rw (ap (λ (t : KeyNotes). t .keys) made, ap (λ (t : KeyNotes). t .floors) made)
           (woken-floored (tables (h .flags-are)) time n e (notesFrom keys floors) (length (s .firsts)) f)
 
-  -- ---- what `round` cites: the search has found x
+  -- ---- what `grow_rounds` cites: a round has answered x and left these arrays
 
-  module _ {x : Winner} (found : winnerIn x ≡ passBy (tables (h .flags-are)) (cappedTime time) (a .keys) (a .floors) (blocksOf (length (s .firsts))) .scanned .best) where
+  module _ (x : Winner) {mates members : List ℕ} {count : ℕ} (m : MatesListed (s .groups) mates members count)
+      (found : winnerIn x ≡ searchBy (tables (h .flags-are)) time (a .keys) (a .floors) .scanned .best) {labels loads values keys floors flags : List ℕ}
+      (made : roundArraysFrom labels loads values keys floors flags
+      ≡ roundBy (tables (h .flags-are)) mates members count n (n + r) time (a .values) (searchBy (tables (h .flags-are)) time (a .keys) (a .floors))
+      (searchBy (tables (h .flags-are)) time (a .keys) (a .floors) .scanned .best)) where
     over : x ≡ Nobody → winner p S ≡ nobody
     unfolding winnerIn
     over t = sym (winner-is (h .flags-are)) ∙ sym found ∙ ap winnerIn t
@@ -587,87 +591,85 @@ module _ {s : Survey} {r time : ℕ} {a : Arrays} (h : Represents s r time a) wh
     unfolding winnerIn
     won t = sym (winner-is (h .flags-are)) ∙ sym found ∙ ap winnerIn t
 
-    -- What the calls that pick edge e require.
-    module _ {e d : ℕ} (t : x ≡ Edge e d) where
-      pub won-later : time + d < 2 ^ 64
-      won-later = later-fits (won t)
+    -- The arrays, by the round's winner.
+    made-by : {w : theory.Winner} → winner p S ≡ w
+        → roundArraysFrom labels loads values keys floors flags
+        ≡ roundBy (tables (h .flags-are)) mates members count n (n + r) time (a .values) (searchBy (tables (h .flags-are)) time (a .keys) (a .floors)) w
+    made-by q = made ∙ ap (roundBy (tables (h .flags-are)) mates members count n (n + r) time (a .values) (searchBy (tables (h .flags-are)) time (a .keys) (a .floors))) (winner-is (h .flags-are) ∙ q)
 
+    -- No winner: the arrays stay, and the keys are better.
+    pub round-over : x ≡ Nobody → (winner p S ≡ nobody) × Represents s r time (arraysFrom labels loads values (a .picked) (a .order) keys floors flags)
+    unfolding roundBy
+    round-over t =
+        let is = made-by (over t) in (
+          over t,
+          rw (ap (λ (q : RoundArrays). q .labels) is, ap (λ (q : RoundArrays). q .loads) is, ap (λ (q : RoundArrays). q .values) is, ap (λ (q : RoundArrays). q .flags) is)
+              (record {
+                sound = h .sound;
+                plain = h .plain;
+                rounds-are = h .rounds-are;
+                labels-are = h .labels-are;
+                loads-are = h .loads-are;
+                loads-timely = h .loads-timely;
+                values-are = h .values-are;
+                values-timely = h .values-timely;
+                picked-are = h .picked-are;
+                order-is = h .order-is;
+                keyed = search-keyed (h .flags-are) (ap (λ (q : RoundArrays). q .keys) is) (ap (λ (q : RoundArrays). q .floors) is);
+                floored = search-floored (h .flags-are) (ap (λ (q : RoundArrays). q .keys) is) (ap (λ (q : RoundArrays). q .floors) is);
+                flags-are = h .flags-are;
+              }),
+        )
+
+    -- Edge e is picked, and noted.
+    module _ {e d : ℕ} (t : x ≡ Edge e d) where
       pub won-edge : e < 2 ^ 32
       won-edge = let few = h .sound .edges-few in let below = winner-edge (won t) in omega arith
 
-    module _ {keys floors : List ℕ}
-        (k : keys ≡ passBy (tables (h .flags-are)) (cappedTime time) (a .keys) (a .floors) (blocksOf (length (s .firsts))) .scanned .keys)
-        (l : floors ≡ passBy (tables (h .flags-are)) (cappedTime time) (a .keys) (a .floors) (blocksOf (length (s .firsts))) .floors) where
-      -- No winner: the arrays stay, and the keys are better.
-      pub round-over : x ≡ Nobody
-          → (delayIn Never ≡ winnerDelay (winner p S))
-          × Represents s (roundsAfter r (delayIn Never)) (timeAfter time (delayIn Never)) (arraysFrom (a .labels) (a .loads) (a .values) (a .picked) (a .order) keys floors (a .flags))
-      unfolding delayIn winnerDelay roundsAfter timeAfter
-      round-over t = (
-        sym (ap winnerDelay (over t)),
-        record {
-          sound = h .sound;
-          plain = h .plain;
-          rounds-are = h .rounds-are;
-          labels-are = h .labels-are;
-          loads-are = h .loads-are;
-          loads-timely = h .loads-timely;
-          values-are = h .values-are;
-          values-timely = h .values-timely;
-          picked-are = h .picked-are;
-          order-is = h .order-is;
-          keyed = search-keyed (h .flags-are) k l;
-          floored = search-floored (h .flags-are) k l;
-          flags-are = h .flags-are;
-        },
-      )
+      later-is : (time + d) % 2 ^ 64 ≡ time + d
+      later-is = let l = later-fits (won t) in omega arith
 
-      -- Edge e is picked: the arrays represent the next state.
-      pub round-won : {e d count : ℕ} {labels loads values picked order flags mates members after below : List ℕ} (u v : ℕ) → x ≡ Edge e d
-          → notesFrom after below ≡ wokenBy (tables (h .flags-are)) time n e (notesFrom keys floors)
-          → u ≡ getD (s .firsts) e 0
-          → v ≡ getD (s .seconds) e 0
-          → MatesListed (s .groups) mates members count
-          → (labels ≡ relabelledFirst n (getD (a .labels) u 0) (getD (a .labels) v 0) (n + r) (a .labels))
-          × (flags ≡ mergedFlags (getD (a .labels) u 0) (getD (a .labels) v 0) (n + r) (counted (joinedActive mates (a .labels) members count u v) 1) (a .flags))
-          → (values ≡ settledAt flags (time + d) (n + r)
-          (settledAt (a .flags) (time + d) (getD (a .labels) v 0) (settledAt (a .flags) (time + d) (getD (a .labels) u 0) (a .values))))
-          → (loads ≡ turnedTo (counted (joinedActive mates (a .labels) members count u v) 1) (a .flags) (a .labels) n (time + d) (getD (a .labels) v 0)
-          (turnedTo (counted (joinedActive mates (a .labels) members count u v) 1) (a .flags) (a .labels) n (time + d) (getD (a .labels) u 0) (a .loads)))
-          → (picked ≡ set (a .picked) e 1) × (order ≡ set (a .order) r e)
-          → (delayIn (After d) ≡ winnerDelay (winner p S))
-          × Represents s (roundsAfter r (delayIn (After d))) (timeAfter time (delayIn (After d))) (arraysFrom labels loads values picked order after below flags)
-      unfolding delayIn winnerDelay roundsAfter timeAfter problemOf
-      round-won {e} {d} {count} {labels} {flags = flags} {mates} {members} u v t woken u-is v-is mates-are made values-made loads-made noted =
+      abbrev u : ℕ
+      u = getD (s .firsts) e 0
+
+      abbrev v : ℕ
+      v = getD (s .seconds) e 0
+
+      -- The arrays represent the next state.
+      pub round-won : {picked order : List ℕ} → (picked ≡ set (a .picked) e 1) × (order ≡ set (a .order) r e)
+          → Represents s (r + 1) (time + d) (arraysFrom labels loads values picked order keys floors flags)
+      unfolding roundBy problemOf
+      round-won noted =
           let w = won t in
+          let is = made-by w in
           let ends = h .sound .edges e (winner-edge w) in
-          let labels-made : labels ≡ tabulate maxVertices (heldLabel p (stateAt p (r + 1))) = made .0 ∙ rw (u-is, v-is) (labels-next w) in
+          let labels-made : labels ≡ tabulate maxVertices (heldLabel p (stateAt p (r + 1))) = ap (λ (q : RoundArrays). q .labels) is ∙ labels-next w in
+          let flags-is = ap (λ (q : RoundArrays). q .flags) is in
           let flags-made : flags ≡ activeFlags (s .groups) labels =
           flags-merged (s .groups) (a .labels) (h .sound .few) (ap length (h .labels-are) ∙ length-tabulate maxVertices _)
-          mates-are
-          (rw u-is (ends .first-below))
-          (rw v-is (ends .second-below))
+          m
+          (ends .first-below)
+          (ends .second-below)
           (fresh w)
           (h .flags-are)
-          (made .0)
-          (made .1) in
-          let first-is = ap (λ i. getD (a .labels) i 0) u-is ∙ label-at (getD (s .firsts) e 0) (ends .first-below) in
-          let second-is = ap (λ i. getD (a .labels) i 0) v-is ∙ label-at (getD (s .seconds) e 0) (ends .second-below) in
-          let flag-made = flag-next w _ _ labels-made flags-made (made .1) in (
-            sym (ap winnerDelay w),
-            record {
-              sound = h .sound;
-              plain = h .plain;
-              rounds-are = rounds-next w;
-              labels-are = labels-made;
-              loads-are = loads-next w _ _ _ first-is second-is flag-made loads-made;
-              loads-timely = loads-timely-after w;
-              values-are = values-next w _ _ first-is second-is labels-made flags-made values-made;
-              values-timely = timely-after w;
-              picked-are = noted .0 ∙ picked-next w;
-              order-is = noted .1 ∙ order-next w;
-              keyed = woken-keyed w _ _ woken (search-keyed (h .flags-are) k l);
-              floored = woken-low w _ _ woken (search-floored (h .flags-are) k l);
-              flags-are = flags-made;
-            },
-          )
+          (ap (λ (q : RoundArrays). q .labels) is)
+          flags-is in
+          let first-is = label-at u (ends .first-below) in
+          let second-is = label-at v (ends .second-below) in
+          let flag-made = flag-next w _ _ labels-made flags-made flags-is in
+          record {
+            sound = h .sound;
+            plain = h .plain;
+            rounds-are = rounds-next w;
+            labels-are = labels-made;
+            loads-are = loads-next w _ _ _ first-is second-is flag-made (rw (← later-is) (ap (λ (q : RoundArrays). q .loads) is));
+            loads-timely = loads-timely-after w;
+            values-are =
+                values-next w _ _ first-is second-is labels-made flags-made (rw (← later-is, flags-is) (ap (λ (q : RoundArrays). q .values) is));
+            values-timely = timely-after w;
+            picked-are = noted .0 ∙ picked-next w;
+            order-is = noted .1 ∙ order-next w;
+            keyed = woken-keyed w _ _ (ap (λ (q : RoundArrays). notesFrom (q .keys) (q .floors)) is) (search-keyed (h .flags-are) refl refl);
+            floored = woken-low w _ _ (ap (λ (q : RoundArrays). notesFrom (q .keys) (q .floors)) is) (search-floored (h .flags-are) refl refl);
+            flags-are = flags-made;
+          }

@@ -1,6 +1,6 @@
 -- One round after another: what the arrays represent before the first and after each, and the growth that they are when no candidate is left (001, Algorithm 22.3).
--- `grow_rounds` and `no_rounds` cite it.
-use Prim.Native.Nat.{ℕ, suc, _+_, _*_, _-_, _<_, _≤_, _^_}
+-- `grow_rounds` and `grow` cite it.
+use Prim.Native.Nat.{ℕ, suc, _+_, _*_, _-_, _%_, _<_, _≤_, _^_}
 use native.Mathlib.Omega.{arith}
 use mathlib.Core.Path.{_≡_, refl, ap, sym, _∙_}
 use mathlib.Core.Logic.{_⊎_, inl, inr}
@@ -10,7 +10,7 @@ use lib.ListN.{length, getD, replicate, length-replicate, List·getD-eq-default}
 use lib.Dec.{eqb, ltb}
 use borrow.Author.Tests.{eq-eqb, lt-ltb, le-ltb}
 use Rattle.base_finite.specs.Below.{counted, sumBelow, tabulate}
-use Rattle.base_finite.specs.Laws.Below.{sum-cong, sum-zero, length-tabulate, getD-tabulate, counted-false, lt-or-ge}
+use Rattle.base_finite.specs.Laws.Below.{sum-cong, sum-zero, sum-limit, length-tabulate, getD-tabulate, counted-false, lt-or-ge}
 use Rattle.base_finite.specs.Laws.Test.{and-both, or-left, or-right, true-not-false, not-true-false}
 use Rattle.base_limits.specs.Limits.{maxVertices, maxEdges, maxWeight, maxValue, maxDuals}
 use Rattle.theory_steiner.specs.Problem.{Problem}
@@ -29,14 +29,10 @@ use Rattle.plan_active.specs.Flags.{activeFlags}
 use Rattle.plan_winner.specs.Scan.{noKey, idleAlone, resting, reach, maxBlocks}
 use Rattle.plan_winner.specs.Laws.Scan.{slack-reach, reach-lone, slack-start, keyed-start, floored-start}
 use Rattle.plan_keys.specs.Keys.{startKey, startKeyOf}
-use Rattle.plan_delay.specs.Between.{delayIn}
-use Rattle.plan_delay.specs.declared.Delay.{Delay}
-use Rattle.plan_delay.specs.declared.Delay.the-variants.{Never, After}
 use Rattle.plan_delay.specs.Held.{heldValue, settledBy}
 use Rattle.plan_delay.specs.Laws.Held.{held-off, held-settled}
-use Rattle.plan_growth.specs.Tables.{settledValues, SumFits}
-use Rattle.plan_growth.specs.Represents.{winnerEdge, pickAt, heldLabel, heldLoad, Arrays, arraysFrom, roundsAfter, timeAfter, Represents}
-use Rattle.theory_steiner.specs.Minima.{winnerDelay}
+use Rattle.plan_growth.specs.Tables.{settledValues}
+use Rattle.plan_growth.specs.Represents.{winnerEdge, pickAt, heldLabel, heldLoad, Arrays, arraysFrom, Represents}
 use Rattle.plan_growth.specs.Grown.{growthFrom, GrownAfter}
 use Rattle.plan_growth.specs.Laws.Round.{going, weights-light, flag-active, flag-at}
 
@@ -126,12 +122,13 @@ first-keys {s} {labels} {flags} {keys} sound plain h f k e b awake =
         (and-both _ _ (alone _ (sound .edges e b .first-below) i) (alone _ (sound .edges e b .second-below) j))
         awake)
 
-pub represents-start : {s : Survey} {labels keys flags : List ℕ} → SurveySound s → s .owners ≡ [] → labels ≡ remade (λ v x. v) maxVertices (replicate maxVertices 0)
+pub represents-start : {s : Survey} {labels keys flags values picked order : List ℕ} → SurveySound s → s .owners ≡ []
+    → (values ≡ replicate maxDuals 0) × (picked ≡ replicate maxEdges 0) × (order ≡ replicate maxVertices 0) → labels ≡ remade (λ v x. v) maxVertices (replicate maxVertices 0)
     → flags ≡ activeFlags (s .groups) labels
     → keys ≡ remade (λ e x. startKeyOf (s .firsts) (s .seconds) (s .weights) flags e) (length (s .firsts)) (replicate maxEdges 0)
-    → Represents s 0 0 (arraysFrom labels (replicate maxVertices 0) (replicate maxDuals 0) (replicate maxEdges 0) (replicate maxVertices 0) keys (replicate maxBlocks 0) flags)
+    → Represents s 0 0 (arraysFrom labels (replicate maxVertices 0) values picked order keys (replicate maxBlocks 0) flags)
 unfolding stateAt start
-represents-start {s} sound plain h f k =
+represents-start {s} sound plain empty h f k =
     let g = grown-start (problemOf s) in
     record {
       sound = sound;
@@ -141,25 +138,14 @@ represents-start {s} sound plain h f k =
       loads-are =
           replicate-table maxVertices 0 ∙ tabulate-cong maxVertices _ _ (λ v _. sym (none (ltb v (problemOf s .vertices)) (held-start (problemOf s) v)));
       loads-timely = λ v _. omega (arith, load-start (problemOf s) v);
-      values-are = replicate-table maxDuals 0 ∙ tabulate-cong maxDuals _ _ (λ c _. sym (held-zero (active (problemOf s) (λ v. v) c)));
+      values-are = empty .0 ∙ replicate-table maxDuals 0 ∙ tabulate-cong maxDuals _ _ (λ c _. sym (held-zero (active (problemOf s) (λ v. v) c)));
       values-timely = λ c. omega arith;
-      picked-are = g .picked-are;
-      order-is = g .order-is;
+      picked-are = empty .1 ∙ g .picked-are;
+      order-is = empty .2 ∙ g .order-is;
       keyed = keyed-start (problemOf s) (first-keys sound plain h f k);
       floored = floored-start (length (s .firsts)) maxBlocks _ (replicate-table maxBlocks 0);
       flags-are = f;
     }
-
--- ---- after a round, by what it answered
-
-module _ {s : Survey} (r time : ℕ) {a : Arrays} {x : Delay} (h : Represents s (roundsAfter r (delayIn x)) (timeAfter time (delayIn x)) a) where
-  pub represents-over : x ≡ Never → Represents s r time a
-  unfolding delayIn roundsAfter timeAfter
-  represents-over t = rw t at h
-
-  pub represents-won : {d : ℕ} → x ≡ After d → Represents s (r + 1) (time + d) a
-  unfolding delayIn roundsAfter timeAfter
-  represents-won t = rw t at h
 
 -- ---- when no candidate is left
 
@@ -174,18 +160,13 @@ last-picks p r k w b i = by (lt-or-ge i r)
         let z : pickAt p i ≡ 0 = ap winnerEdge (ap (winner p) (stateAt-last p r i w h) ∙ w) in
         none (ltb i r) z ∙ sym (none (ltb i k) z)
 
-no-win : (w : Winner) → never ≡ winnerDelay w → w ≡ nobody
-unfolding winnerDelay
-no-win nobody h = refl
-no-win (edge e d) h = let z : _≡_ {A = ℕ} 0 1 = cc in absurd (omega arith)
-
 module _ {s : Survey} {r time : ℕ} {a : Arrays} (h : Represents s r time a) where
   -- The time so far fits.
   pub time-fits : time < 2 ^ 64
   time-fits = let q = h .rounds-are in let g = going h in let t = h .keyed .early in let few = h .sound .few in omega arith
 
   -- After n - 1 rounds no candidate is left.
-  all-merged : length (s .groups) - 1 ≤ r → winner (problemOf s) (stateAt (problemOf s) r) ≡ nobody
+  pub all-merged : length (s .groups) - 1 ≤ r → winner (problemOf s) (stateAt (problemOf s) r) ≡ nobody
   unfolding problemOf vertexCount
   all-merged b = by (winner (problemOf s) (stateAt (problemOf s) r)) refl
     where
@@ -242,11 +223,13 @@ module _ {s : Survey} {r time : ℕ} {a : Arrays} (h : Represents s r time a) wh
     value-at : (c : ℕ) → c < maxDuals → getD values c 0 ≡ stateAt (problemOf s) r .value c
     value-at c b = ap (λ t. getD t c 0) values-settled ∙ getD-tabulate maxDuals _ c 0 b
 
-    pub sum-fits : SumFits values (length (s .groups) + r)
-    sum-fits =
+    -- Their sum fits: no round raises a value by more than the largest that a dual can have.
+    sum-whole : sumBelow (length (s .groups) + r) (λ c. getD values c 0) % 2 ^ 64 ≡ sumBelow (length (s .groups) + r) (λ c. getD values c 0)
+    sum-whole =
         let few = h .sound .few in
         let g = going h in
-        record { few = omega arith; low = λ c. by c (lt-or-ge c maxDuals) }
+        let b = sum-limit (length (s .groups) + r) (maxVertices * maxValue) (λ c. getD values c 0) (λ c _. by c (lt-or-ge c maxDuals)) in
+        omega arith
       where
         by : (c : ℕ) → (c < maxDuals) ⊎ (maxDuals ≤ c) → getD values c 0 ≤ maxVertices * maxValue
         by c (inl b) =
@@ -271,27 +254,16 @@ module _ {s : Survey} {r time : ℕ} {a : Arrays} (h : Represents s r time a) wh
         (sum-cong (length (s .groups) + r) (λ c. getD values c 0) (stateAt (problemOf s) r .value) (λ c k. value-at c (omega arith)))
 
     -- With no candidate left this is the growth.
-    grown-still : {bound : ℕ} {picked order : List ℕ} → picked ≡ a .picked → order ≡ a .order → winner (problemOf s) (stateAt (problemOf s) r) ≡ nobody
-        → bound ≡ sumBelow (length (s .groups) + r) (λ c. getD values c 0) → GrownAfter (problemOf s) (length (s .groups)) (growthFrom r bound values picked order)
-    grown-still picks in-order w summed =
+    pub grown-still : {rounds bound : ℕ} {picked order : List ℕ} → picked ≡ a .picked → order ≡ a .order → winner (problemOf s) (stateAt (problemOf s) r) ≡ nobody
+        → (rounds ≡ r) × (bound ≡ sumBelow (length (s .groups) + r) (λ c. getD values c 0) % 2 ^ 64)
+        → GrownAfter (problemOf s) (length (s .groups)) (growthFrom rounds bound values picked order)
+    grown-still picks in-order w counted-are =
         let p = problemOf s in
         let still = sym (stateAt-last p r (length (s .groups)) w (omega (arith, going h))) in
         record {
-          rounds-are = sym (h .rounds-are) ∙ ap (λ t. t .rounds) still;
-          bound-is = summed ∙ bound-at ∙ ap (dualBound p) still;
+          rounds-are = counted-are .0 ∙ sym (h .rounds-are) ∙ ap (λ t. t .rounds) still;
+          bound-is = counted-are .1 ∙ sum-whole ∙ bound-at ∙ ap (dualBound p) still;
           values-are = values-settled ∙ ap (λ t. tabulate maxDuals (t .value)) still;
           picked-are = picks ∙ h .picked-are ∙ ap (λ t. tabulate maxEdges (λ i. counted (t .picked i) 1)) still;
           order-is = in-order ∙ h .order-is ∙ tabulate-cong maxVertices _ _ (λ i _. last-picks p r (length (s .groups)) w (omega (arith, going h)) i);
         }
-
-    -- A round without a winner was the last.
-    pub grown-end : {x : Delay} {bound : ℕ} {picked order : List ℕ} → picked ≡ a .picked → order ≡ a .order
-        → delayIn x ≡ winnerDelay (winner (problemOf s) (stateAt (problemOf s) r)) → x ≡ Never
-        → bound ≡ sumBelow (length (s .groups) + r) (λ c. getD values c 0) → GrownAfter (problemOf s) (length (s .groups)) (growthFrom r bound values picked order)
-    unfolding delayIn
-    grown-end picks in-order delays t =
-        grown-still picks in-order (no-win (winner (problemOf s) (stateAt (problemOf s) r)) (sym (ap delayIn t) ∙ delays))
-
-    pub grown-full : {bound : ℕ} {picked order : List ℕ} → picked ≡ a .picked → order ≡ a .order → length (s .groups) - 1 ≤ r
-        → bound ≡ sumBelow (length (s .groups) + r) (λ c. getD values c 0) → GrownAfter (problemOf s) (length (s .groups)) (growthFrom r bound values picked order)
-    grown-full picks in-order b = grown-still picks in-order (all-merged b)

@@ -36,9 +36,8 @@ use Rattle.survey_forest.specs.Laws.Forest.{forest-fine}
 use Rattle.survey_lists.specs.Pouring.{pouredSurvey}
 use Rattle.survey_lists.specs.Laws.Pouring.{length-poured}
 use Rattle.survey_lists.specs.Laws.Plan.{poured-sound, poured-states, poured-kept, poured-joins}
-use Rattle.plan_growth.specs.Grown.{GrownAfter}
+use Rattle.plan_growth.specs.Grown.{Growth, GrownAfter}
 use Rattle.plan_growth.specs.Represents.{pickAt}
-use Rattle.plan_growth.specs.declared.Growth.{Growth}
 use Rattle.plan_drop.specs.Judge.{prunedMarks, marksPruned}
 use Rattle.why_rule.specs.Reason.{reasonOf, roundOf, spared, passed}
 use Rattle.why_rule.specs.Why.{whyCounts, routeIn}
