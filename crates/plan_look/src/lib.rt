@@ -5,8 +5,7 @@ ghost use Prim.Native.Nat.{_<_};
 ghost use lib.ListN.{set};
 ghost use Rattle.theory_steiner.specs.Growth.{better};
 ghost use Rattle.plan_winner.specs.Scan.{timeLimit, cappedTime};
-ghost use Rattle.plan_winner.specs.Tables.{tablesIn, delayBy, aloneAt, restsBetween};
-ghost use Rattle.plan_winner.specs.Tables.{reachBetween, keyBetween, keyBy};
+ghost use Rattle.plan_winner.specs.Tables.{tablesIn, delayBy, reachBetween, keyBetween, keyBy};
 ghost use Rattle.plan_delay.specs.Between.{winnerIn, delayBetween};
 use base_buffer::put64;
 use plan_better::better_of;
@@ -16,6 +15,8 @@ use plan_delay::End;
 use plan_delay::Winner;
 use plan_delay::edge_slack;
 use plan_delay::end_at;
+use plan_rest::alone_at;
+use plan_rest::rests_between;
 use plan_winner::NO_KEY;
 use plan_winner::TIME_LIMIT;
 
@@ -29,26 +30,6 @@ pub fn capped_time(time: u64) -> u64
         return time;
     }
     LAST_TIME
-}
-
-// Whether the end at vertex v is not active, and a component of its own.
-fn alone_at(v: usize, end: End) -> bool
-    ensures { λ r. ⌜ r ≡ aloneAt v end ⌝ }
-{
-    if end.flag == 1 {
-        return false;
-    }
-    base_buffer::index32(end.label) == v
-}
-
-// Whether an edge between vertices u and v rests.
-fn rests_between(u: usize, v: usize, first: End, second: End) -> bool
-    ensures { λ r. ⌜ r ≡ restsBetween u v first second ⌝ }
-{
-    if alone_at(u, first) {
-        return alone_at(v, second);
-    }
-    false
 }
 
 // What has to be grown over of an edge of which so much remains: twice that where an end is idle and alone.

@@ -1,8 +1,8 @@
 -- `rests_between` meets its contract: the one end, and then the other.
 use Rattle.plan_winner.specs.Laws.Tables.{rests-second, rests-not}
 use borrow.Author.Needs.{needs}
-use Rattle.plan_look.proofs.rests_between.Statement.{statement}
-use Rattle.plan_look.proofs.rests_between.Tie as tie
+use Rattle.plan_rest.proofs.rests_between.Statement.{statement}
+use Rattle.plan_rest.proofs.rests_between.Tie as tie
 
 returns : tie.Need-returns
 returns c = rests-second _ _ _ _ (c .before .before .alone-at .ensures) (c .before .if1 .taken) (c .alone-at2 .ensures)

@@ -1,8 +1,8 @@
 -- `alone_at` meets its contract: the flag decides, and then the number.
 use Rattle.plan_winner.specs.Laws.Tables.{alone-active, alone-idle}
 use borrow.Author.Needs.{needs}
-use Rattle.plan_look.proofs.alone_at.Statement.{statement}
-use Rattle.plan_look.proofs.alone_at.Tie as tie
+use Rattle.plan_rest.proofs.alone_at.Statement.{statement}
+use Rattle.plan_rest.proofs.alone_at.Tie as tie
 
 -- active
 returns : tie.Need-returns
