@@ -15,22 +15,10 @@ use plan_delay::End;
 use plan_delay::Winner;
 use plan_delay::edge_slack;
 use plan_delay::end_at;
+use plan_limit::capped_time;
 use plan_rest::alone_at;
 use plan_rest::rests_between;
 use plan_winner::NO_KEY;
-use plan_winner::TIME_LIMIT;
-
-const LAST_TIME: u64 = TIME_LIMIT - 1;
-
-// The time that the search goes by: a later one is taken for the last whose sums fit.
-pub fn capped_time(time: u64) -> u64
-    ensures { λ r. ⌜ r ≡ cappedTime time ⌝ }
-{
-    if time < TIME_LIMIT {
-        return time;
-    }
-    LAST_TIME
-}
 
 // What has to be grown over of an edge of which so much remains: twice that where an end is idle and alone.
 fn reach_between(u: usize, v: usize, first: End, second: End, slack: u64) -> u64

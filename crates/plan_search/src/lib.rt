@@ -1,49 +1,25 @@
 // The search for a round's winner, edge by edge and block by block. Definitions in plan_winner.
 ghost use Rattle.base_buffer.specs.Lent.{old, new};
 ghost use mathlib.Core.Path.{_≡_};
-ghost use mathlib.Core.Bool.{cond};
 ghost use Prim.Native.Nat.{_-_, _*_, _<_, _≤_};
 ghost use lib.ListN.{set, length};
-ghost use lib.Dec.{ltb};
-ghost use Rattle.plan_winner.specs.Scan.{timeLimit, limitOf, cappedTime};
-ghost use Rattle.plan_winner.specs.Scan.{blockEdges, blockSize, blocksOf, lowestKey, nextBlock};
+ghost use Rattle.plan_winner.specs.Scan.{timeLimit, cappedTime};
+ghost use Rattle.plan_winner.specs.Scan.{blockEdges, blockSize, blocksOf, lowestKey};
 ghost use Rattle.plan_winner.specs.Tables.{tablesIn, onBy, passBy, scanFrom};
 ghost use Rattle.plan_delay.specs.Between.{winnerIn};
 use base_buffer::at64;
 use base_buffer::put64;
 use plan_delay::Winner;
+use plan_limit::limit_of;
+use plan_limit::lower_of;
+use plan_limit::next_block;
 use plan_winner::BLOCK_EDGES;
 use plan_winner::NO_KEY;
-use plan_winner::TIME_LIMIT;
-
-// Twice the time of the best so far.
-fn limit_of(time: u64, best: Winner) -> u64
-    requires { ⌜ time < timeLimit ⌝ }
-    ensures { λ r. ⌜ r ≡ limitOf time (winnerIn best) ⌝ }
-{
-    let Winner::Edge { e: _, d } = best else {
-        return NO_KEY;
-    };
-    if d < TIME_LIMIT {
-        return 2 * (time + d);
-    }
-    NO_KEY
-}
 
 // What the edges of a block leave: the best so far, and the lowest of their keys.
 struct Passed {
     best: Winner,
     low: u64,
-}
-
-// The lower of two keys.
-fn lower_of(x: u64, y: u64) -> u64
-    ensures { λ r. ⌜ r ≡ cond (ltb y x) y x ⌝ }
-{
-    if y < x {
-        return y;
-    }
-    x
 }
 
 // Looks at the edges of a block whose noted keys do not say that they come later than the best so far.
@@ -154,20 +130,6 @@ fn pass_block(
     passed.best
 }
 
-// The first block from `from` on whose floor is below the limit.
-fn next_block(floors: &[u64], from: usize, to: usize, limit: u64) -> usize
-    ensures { λ r. ⌜ r ≡ nextBlock (old floors) limit from (to - from) ⌝ }
-{
-    let mut b = from;
-    while b < to {
-        if at64(floors, b) < limit {
-            return b;
-        }
-        b += 1;
-    }
-    b
-}
-
 // The smallest delay, and among equals the lowest edge. Blocks whose floors say that all their edges come later are
 // passed over.
 pub fn find_winner(
@@ -194,7 +156,7 @@ pub fn find_winner(
         let blocks = blocksOf (length (old firsts)) in
         ⌜ new floors ≡ passBy t (cappedTime time) (old keys) (old floors) blocks .floors ⌝ }
 {
-    let capped = plan_look::capped_time(time);
+    let capped = plan_limit::capped_time(time);
     let mut best = Winner::Nobody;
     let mut limit = NO_KEY;
     let blocks = firsts.len() / BLOCK_EDGES + 1;

@@ -52,7 +52,7 @@ fn ends_at(firsts: &[u32], seconds: &[u32], c: u32, e: usize) -> bool
 fn woken_key(weights: &[u32], behind: u64, e: usize) -> u64
     ensures { λ r. ⌜ r ≡ wokenKey (old weights) behind e ⌝ }
 {
-    plan_look::capped_time(behind) + 2 * base_buffer::wide32(at32(weights, e))
+    plan_limit::capped_time(behind) + 2 * base_buffer::wide32(at32(weights, e))
 }
 
 // The floor of block b becomes the key if it is above it.

@@ -4,7 +4,7 @@ use mathlib.Core.Path.{refl}
 use Rattle.plan_winner.specs.Scan.{blocksOf}
 use Rattle.plan_winner.specs.Tables.{tablesFrom}
 use Rattle.plan_delay.specs.Between.{winnerIn}
-use Rattle.plan_winner.specs.Laws.Scan.{capped-small}
+use Rattle.plan_winner.specs.Laws.Scan.{capped-is, capped-small}
 use Rattle.plan_winner.specs.Laws.Loops.{BeforeBlock, next-less, passing-next, passing-start, block-starts, passing-look, passing-keys, passing-floors, passing-end}
 use borrow.Author.Needs.{needs}
 use Rattle.plan_search.proofs.find_winner.Statement.{statement}
@@ -25,9 +25,6 @@ loop-holds c = passing-next (c .next-block .ensures) (passing-start _ _ _ _ _)
 pass-block-requires : tie.Need-pass-block-requires Inv-loop μ-loop
 pass-block-requires c κs = (capped-small _ (c .before .before .before .before .before .before .capped-time .ensures), block-starts _ _ (c .before .before .loop-test .taken))
 
-limit-of-requires : tie.Need-limit-of-requires Inv-loop μ-loop
-limit-of-requires c κs = capped-small _ (c .before .before .before .before .before .before .before .before .before .before .before .capped-time .ensures)
-
 add-next-block : tie.Need-add-next-block Inv-loop μ-loop
 add-next-block c = search needs
 
@@ -39,9 +36,10 @@ loop-again c =
     let passed = c .before .before .before .before .before .before .before in
     let turn = passed .before .before .before .before in
     let taken = passed .before .before .before .loop-test .taken in
+    let capped = capped-is _ (capped-small _ (turn .before .before .before .capped-time .ensures)) in
     passing-next
     (c .next-block2 .ensures)
-    (passing-look (turn .loop .inv .passing) taken refl (turn .loop .inv .below taken) (passed .pass-block .ensures .0) (passed .pass-block .ensures .1 .0) (passed .pass-block .ensures .1 .1) refl (c .before .before .limit-of .ensures) refl)
+    (passing-look (turn .loop .inv .passing) taken refl (turn .loop .inv .below taken) (passed .pass-block .ensures .0) (passed .pass-block .ensures .1 .0) (passed .pass-block .ensures .1 .1) refl (rw capped at (c .before .before .limit-of .ensures)) refl)
 
 -- keys
 same-length : tie.Need-same-length Inv-loop μ-loop
@@ -66,7 +64,7 @@ find-winner-spec =
     (λ c κs. search needs)
     loop-holds
     pass-block-requires
-    limit-of-requires
+    (λ c κs. search needs)
     add-next-block
     (λ c κs. search needs)
     loop-less

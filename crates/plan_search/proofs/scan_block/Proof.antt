@@ -4,6 +4,7 @@ use mathlib.Core.Path.{ap, _∙_}
 use mathlib.Core.Logic.{⊎-elim}
 use Rattle.plan_winner.specs.Tables.{tablesFrom}
 use Rattle.plan_delay.specs.Between.{winnerIn}
+use Rattle.plan_winner.specs.Laws.Scan.{capped-is}
 use Rattle.plan_winner.specs.Laws.Loops.{Scanning, scanning-start, scanning-look, scanning-pass, scanning-long, scanning-low, scanning-end}
 use borrow.Author.Needs.{needs}
 use native.Mathlib.Omega.{arith}
@@ -19,7 +20,9 @@ abbrev μ-loop : tie.MeasureT-loop
     to - e
 
 loop-holds : tie.Need-loop-holds Inv-loop μ-loop
-loop-holds c = scanning-start _ _ _ _ _ _ (c .before .before .before .before .before .before .before .before .pre) (c .limit-of .ensures)
+loop-holds c =
+    let small = c .before .before .before .before .before .before .before .before .pre in
+    scanning-start _ _ _ _ _ _ small (rw (capped-is _ small) at (c .limit-of .ensures))
 
 loop-less : tie.Need-loop-less Inv-loop μ-loop
 loop-less c = omega arith
@@ -32,8 +35,9 @@ loop-again c =
     let read = looked .before .at64 .ensures in
     let again = c .before .at642 .ensures in
     let low = c .lower-of .ensures in
+    let capped = capped-is _ (turn .loop .inv .small) in
     ⊎-elim
-    (λ w. scanning-look (turn .loop .inv) taken read (w .0 .taken) (w .2 .ensures .0) (w .2 .ensures .1) (ap winnerIn (w .7)) (w .8 ∙ w .5 .ensures) (w .6) again low)
+    (λ w. scanning-look (turn .loop .inv) taken read (w .0 .taken) (w .2 .ensures .0) (w .2 .ensures .1) (ap winnerIn (w .7)) (w .8 ∙ rw capped at (w .5 .ensures)) (w .6) again low)
     (λ w. scanning-pass (turn .loop .inv) taken read (w .0 .left) (ap winnerIn (w .2)) (w .3) (w .1) again low)
     (looked .if1 .came)
 

@@ -1,8 +1,8 @@
 -- `capped_time` meets its contract: each return by the test that led there.
 use borrow.Author.Tests.{lt-ltb, le-ltb}
 use Rattle.plan_winner.specs.Scan.{cappedTime}
-use Rattle.plan_look.proofs.capped_time.Statement.{statement}
-use Rattle.plan_look.proofs.capped_time.Tie as tie
+use Rattle.plan_limit.proofs.capped_time.Statement.{statement}
+use Rattle.plan_limit.proofs.capped_time.Tie as tie
 
 -- below the limit
 returns : tie.Need-returns

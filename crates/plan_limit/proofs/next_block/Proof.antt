@@ -5,8 +5,8 @@ use Rattle.plan_winner.specs.Scan.{nextBlock}
 use Rattle.plan_winner.specs.Laws.Loops.{next-here, next-on, next-end}
 use borrow.Author.Needs.{needs}
 use native.Mathlib.Omega.{arith}
-use Rattle.plan_search.proofs.next_block.Statement.{statement}
-use Rattle.plan_search.proofs.next_block.Tie as tie
+use Rattle.plan_limit.proofs.next_block.Statement.{statement}
+use Rattle.plan_limit.proofs.next_block.Tie as tie
 
 abbrev Inv-loop : tie.InvT-loop
 Inv-loop floors from to limit b₀ b = nextBlock floors limit from (to - from) ≡ nextBlock floors limit b (to - b)

@@ -2,8 +2,8 @@
 use mathlib.Core.Path.{ap, sym}
 use mathlib.Core.Bool.{cond}
 use borrow.Author.Tests.{lt-ltb, le-ltb}
-use Rattle.plan_search.proofs.lower_of.Statement.{statement}
-use Rattle.plan_search.proofs.lower_of.Tie as tie
+use Rattle.plan_limit.proofs.lower_of.Statement.{statement}
+use Rattle.plan_limit.proofs.lower_of.Tie as tie
 
 returns : tie.Need-returns
 returns c = let a = c .before .args in sym (ap (λ t. cond t (a .y) (a .x)) (lt-ltb (a .y) (a .x) (c .if1 .taken)))
