@@ -5,11 +5,12 @@ ghost use Prim.Native.Nat.{_-_, _≤_};
 ghost use lib.ListN.{getD, length};
 ghost use lib.Dec.{eqb};
 ghost use Rattle.base_finite.specs.Below.{counted, anyBelow};
-ghost use Rattle.plan_wake.specs.Wake.{endsAt, notesFrom, wokenKey, lowered, wokenEdge, wokenOn};
-ghost use Rattle.plan_wake.specs.Wake.{leastOf, partEnd};
+ghost use Rattle.plan_wake.specs.Wake.{endsAt, notesFrom, wokenKey, wokenEdge, wokenOn, leastOf, partEnd};
 use base_buffer::at32;
-use base_buffer::at64;
 use base_buffer::put64;
+use plan_wake_key::ends_at;
+use plan_wake_key::lower_floor;
+use plan_wake_key::woken_key;
 use plan_winner::BLOCK_EDGES;
 
 // So many edges are compared with a vertex at once (`wakeEdges`).
@@ -36,32 +37,6 @@ fn has_end(ends: &[u32], c: u32) -> u32
         i += 1;
     }
     found
-}
-
-// Whether edge e has vertex c as an end.
-fn ends_at(firsts: &[u32], seconds: &[u32], c: u32, e: usize) -> bool
-    ensures { λ r. ⌜ r ≡ endsAt (old firsts) (old seconds) c e ⌝ }
-{
-    if at32(firsts, e) == c {
-        return true;
-    }
-    at32(seconds, e) == c
-}
-
-// The key of edge e, woken at a vertex that is so far behind.
-fn woken_key(weights: &[u32], behind: u64, e: usize) -> u64
-    ensures { λ r. ⌜ r ≡ wokenKey (old weights) behind e ⌝ }
-{
-    plan_limit::capped_time(behind) + 2 * base_buffer::wide32(at32(weights, e))
-}
-
-// The floor of block b becomes the key if it is above it.
-fn lower_floor(floors: &mut [u64], b: usize, key: u64)
-    ensures { λ r. ⌜ new floors ≡ lowered (old floors) b key ⌝ }
-{
-    if key < at64(floors, b) {
-        put64(floors, b, key);
-    }
 }
 
 // Edge e is woken if it ends at c.

@@ -1,8 +1,8 @@
 -- `lower_floor` meets its contract: the key is stored where it is lower.
 use Rattle.plan_wake.specs.Laws.Wake.{lowered-falls, lowered-stays}
 use borrow.Author.Needs.{needs}
-use Rattle.plan_wake_ends.proofs.lower_floor.Statement.{statement}
-use Rattle.plan_wake_ends.proofs.lower_floor.Tie as tie
+use Rattle.plan_wake_key.proofs.lower_floor.Statement.{statement}
+use Rattle.plan_wake_key.proofs.lower_floor.Tie as tie
 
 same-length : tie.Need-same-length
 same-length c = c .before .floors .given

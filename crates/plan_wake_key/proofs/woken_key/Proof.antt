@@ -2,8 +2,8 @@
 use Rattle.plan_winner.specs.Laws.Scan.{capped-small}
 use Rattle.plan_wake.specs.Wake.{wokenKey}
 use borrow.Author.Needs.{needs}
-use Rattle.plan_wake_ends.proofs.woken_key.Statement.{statement}
-use Rattle.plan_wake_ends.proofs.woken_key.Tie as tie
+use Rattle.plan_wake_key.proofs.woken_key.Statement.{statement}
+use Rattle.plan_wake_key.proofs.woken_key.Tie as tie
 
 add-result : tie.Need-add-result
 add-result c = let small = capped-small _ (c .before .before .capped-time .ensures) in search needs

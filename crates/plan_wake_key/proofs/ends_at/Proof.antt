@@ -1,8 +1,8 @@
 -- `ends_at` meets its contract: the first end decides, and then the second.
 use Rattle.plan_wake.specs.Laws.Loops.{ends-first, ends-second}
 use borrow.Author.Needs.{needs}
-use Rattle.plan_wake_ends.proofs.ends_at.Statement.{statement}
-use Rattle.plan_wake_ends.proofs.ends_at.Tie as tie
+use Rattle.plan_wake_key.proofs.ends_at.Statement.{statement}
+use Rattle.plan_wake_key.proofs.ends_at.Tie as tie
 
 returns : tie.Need-returns
 returns c = ends-first _ _ _ _ (c .before .at32 .ensures) (c .if1 .taken)
