@@ -1,7 +1,7 @@
 -- The sets of edges that are joined, and the labels of the components that they make.
 use Prim.Native.Nat.{ℕ}
 use mathlib.Core.Path.{_≡_}
-use mathlib.Core.Bool.{Bool, true, not, cond}
+use mathlib.Core.Bool.{Bool, true, not}
 use mathlib.Core.List.{List}
 use lib.ListN.{length, getD}
 use lib.Dec.{eqb}
@@ -12,7 +12,6 @@ use Rattle.survey_components.specs.declared.Chosen.{Chosen}
 use Rattle.survey_components.specs.declared.Chosen.the-variants.{All, Kept}
 use Rattle.survey_core.specs.Survey.{Survey}
 use Rattle.survey_labels.specs.Labels.{EndsWithin}
-use Rattle.survey_labels.specs.Roots.{endsHung}
 
 -- All tracks, or those marked 2.
 unfoldable pub chosenMark : Chosen → ℕ → Bool
@@ -25,10 +24,6 @@ chosen set marks e = chosenMark set (getD marks e 0)
 -- The edges that a buffer of marks picks: those with anything but 0.
 unfoldable pub pickedIn : (marks : List ℕ) → ℕ → Bool
 pickedIn marks e = not (eqb (getD marks e 0) 0)
-
--- Two vertices come into one tree; nothing is written where both hang on one vertex, for they are in one already (law `trees-met`).
-unfoldable pub endsMet : (k a b : ℕ) → List ℕ → List ℕ
-endsMet k a b parents = cond (eqb (getD parents a 0) (getD parents b 0)) parents (endsHung k a b parents)
 
 -- Every vertex of the buffer is its own component, and every end has a label there.
 pub record EndsFit (firsts seconds labels : List ℕ) : Type 0 where

@@ -4,19 +4,19 @@ ghost use mathlib.Core.Path.{_≡_};
 ghost use Prim.Native.Nat.{ℕ};
 ghost use mathlib.Core.Bool.{cond};
 ghost use lib.ListN.{getD, length, replicate};
-ghost use lib.Dec.{eqb};
 ghost use Rattle.base_finite.specs.Below.{tabulate};
 ghost use Rattle.theory_graph.specs.Component.{components};
 ghost use Rattle.base_limits.specs.Limits.{maxVertices};
 ghost use Rattle.base_limits.specs.Verdict.{written};
 ghost use Rattle.survey_core.specs.Survey.{lentSurvey};
 ghost use Rattle.survey_core.specs.Refusal.{surveyRefusal};
-ghost use Rattle.survey_components.specs.Labels.{chosenMark, chosen, pickedIn, endsMet, EndsFit, labelsOf};
+ghost use Rattle.survey_components.specs.Labels.{chosenMark, chosen, pickedIn, EndsFit, labelsOf};
+ghost use Rattle.survey_join.specs.Met.{endsMet};
 use base_buffer::at32;
-use base_buffer::index32;
 use base_limits::MAX_VERTICES;
 use base_limits::Verdict;
-use survey_hang::hang_ends;
+use survey_join::is_kept;
+use survey_join::join_ends;
 use survey_labels::own_labels;
 
 // A set of edges: all of a survey's, or those that are marked kept.
@@ -34,17 +34,6 @@ fn is_chosen(set: Chosen, mark: u8) -> bool
     }
 }
 
-fn is_kept(mark: u8) -> bool
-    ensures { λ r. ⌜ r ≡ eqb mark 2 ⌝ }
-{
-    match mark {
-        0 => false,
-        1 => false,
-        2 => true,
-        _ => false,
-    }
-}
-
 // Whether the mark of edge e is that of a picked one.
 pub fn is_picked(marks: &[u8], e: usize) -> bool
     ensures { λ r. ⌜ r ≡ pickedIn (old marks) e ⌝ }
@@ -55,17 +44,6 @@ pub fn is_picked(marks: &[u8], e: usize) -> bool
         2 => true,
         _ => true,
     }
-}
-
-// Two vertices come into one tree. Those that hang on one vertex are in one already, and nothing is written.
-fn join_ends(labels: &mut [u32], first: u32, second: u32, steps: usize)
-    ensures { λ r. ⌜ new labels ≡ endsMet steps first second (old labels) ⌝ }
-{
-    let up = at32(labels, index32(first));
-    if up == at32(labels, index32(second)) {
-        return;
-    }
-    hang_ends(labels, first, second, steps);
 }
 
 // The ends of edge e come into one tree, if it is in the set.

@@ -2,8 +2,8 @@
 use native.Mathlib.Omega.{arith}
 use mathlib.Core.Path.{sym}
 use borrow.Author.Tests.{eq-eqb, ne-eqb}
-use Rattle.survey_components.proofs.is_kept.Statement.{statement}
-use Rattle.survey_components.proofs.is_kept.Tie as tie
+use Rattle.survey_join.proofs.is_kept.Statement.{statement}
+use Rattle.survey_join.proofs.is_kept.Tie as tie
 
 -- 0
 returns : tie.Need-returns

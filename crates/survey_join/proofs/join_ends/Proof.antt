@@ -1,8 +1,8 @@
 -- `join_ends` meets its contract: a branch on what the two vertices hang on.
-use Rattle.survey_components.specs.Laws.Met.{met-one, met-hung}
+use Rattle.survey_join.specs.Laws.Met.{met-one, met-hung}
 use borrow.Author.Needs.{needs}
-use Rattle.survey_components.proofs.join_ends.Statement.{statement}
-use Rattle.survey_components.proofs.join_ends.Tie as tie
+use Rattle.survey_join.proofs.join_ends.Statement.{statement}
+use Rattle.survey_join.proofs.join_ends.Tie as tie
 
 returns : tie.Need-returns
 returns c =

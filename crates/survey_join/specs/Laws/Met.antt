@@ -14,7 +14,7 @@ use Rattle.theory_graph.specs.Component.{merged, components}
 use Rattle.survey_labels.specs.Roots.{endsHung}
 use Rattle.survey_labels.specs.Laws.Labels.{components-suc}
 use Rattle.survey_labels.specs.Laws.Roots.{Hung, Trees, trees-more}
-use Rattle.survey_components.specs.Labels.{endsMet}
+use Rattle.survey_join.specs.Met.{endsMet}
 
 -- A component that is joined with itself stays as it is.
 merged-self : (x y : ℕ) (label : ℕ → ℕ) (v : ℕ) → x ≡ y → merged x y x label v ≡ label v
