@@ -6,7 +6,7 @@ ghost use Rattle.format_number.specs.Answer.{numberStep};
 ghost use Rattle.format_survey_lines.specs.Answer.{countsStep};
 ghost use Rattle.format_survey_lines.specs.Line.{firstsOf, secondsOf, weightsOf};
 ghost use Rattle.format_survey.specs.Reading.{filled};
-ghost use Rattle.format_stp_rule.specs.StpReading.{stpTests, stpOutcome, stpReading, stpNumber};
+ghost use Rattle.format_stp_rule.specs.StpReading.{stpTests, stpOutcome, stpReading};
 ghost use Rattle.format_stp.specs.Parts.{stpCounts, stpLines, storedBy};
 ghost use Rattle.format_stp.specs.Answer.{stpAnswer, stpCountsOf};
 use format_number::Cursor;
@@ -14,6 +14,7 @@ use format_number::Number;
 use format_stp_head::head;
 use format_stp_head::skip;
 use format_stp_lines::edge_lines;
+use format_stp_refusal::stp_number;
 use format_stp_terminals::terminals;
 use format_survey_counts::edges_line;
 use format_survey_counts::stopped_head;
@@ -94,16 +95,6 @@ fn read_lines(
     };
     edge_lines(text, cursor, vertices, edges, firsts, seconds, weights);
     last
-}
-
-// A text of another form is refused with 20.
-fn stp_number(number: u64) -> u64
-    ensures { λ r. ⌜ r ≡ stpNumber number ⌝ }
-{
-    if number == 16 {
-        return 20;
-    }
-    number
 }
 
 // Refused counts, as the answer of reading.

@@ -1,9 +1,9 @@
--- `format_stp::stp_number` meets its contract, by its two cases.
+-- `format_stp_refusal::stp_number` meets its contract, by its two cases.
 use mathlib.Core.Path.{refl}
 use borrow.Author.Tests.{eq-eqb, ne-eqb}
 use Rattle.format_stp_rule.specs.StpReading.{stpNumber}
-use Rattle.format_stp.proofs.stp_number.Statement.{statement}
-use Rattle.format_stp.proofs.stp_number.Tie as tie
+use Rattle.format_stp_refusal.proofs.stp_number.Statement.{statement}
+use Rattle.format_stp_refusal.proofs.stp_number.Tie as tie
 
 returns : tie.Need-returns
 unfolding stpNumber
