@@ -7,11 +7,9 @@ ghost use Prim.Native.Nat.{_≤_};
 ghost use lib.ListN.{length, drop};
 ghost use Rattle.format_print.specs.Print.{printed, printedOut};
 ghost use Rattle.api_verify_text.specs.Output.{findingsRoom, verifyOutput};
-use api_findings::print_passed;
+use api_verify_print::print_findings;
 use base_limits::WORD_DIGITS;
-use check_text::Verified;
 use format_print::Printed;
-use format_print_lines::print_refusal;
 
 // Bytes that hold whatever is printed: 24 for `passed`, its newline and three keys, and three numbers with their
 // newlines.
@@ -24,14 +22,8 @@ pub fn verify_text(text: &[u8], out: &mut [u8]) -> Printed
     ensures { λ _. ⌜ new out ≡ printedOut (verifyOutput (old text)) (old out) ⌝ }
     ensures fits { λ _. ⌜ length (verifyOutput (old text)) ≤ findingsRoom ⌝ }
 {
-    match check_printed::verify(text) {
-        Verified::Passed {
-            terminals,
-            cost,
-            bound,
-        } => print_passed(terminals, cost, bound, out),
-        Verified::Refused { number, place } => print_refusal(number, place, out),
-    }
+    let found = check_printed::verify(text);
+    print_findings(found, out)
 }
 
 // The same into a buffer that always holds it: the number of bytes printed, and no refusal. 7 cannot come, so that 0 is

@@ -1,4 +1,4 @@
--- Laws of what `verify` prints: by the outcome of the check, and that `findingsRoom` bytes hold it; and what is cut off a long text.
+-- Laws of what `verify` prints: that `findingsRoom` bytes hold it; and what is cut off a long text.
 use Prim.Native.Nat.{ℕ, _+_, _^_, _≤_, _<_}
 use native.Mathlib.Omega.{arith}
 use mathlib.Core.Path.{_≡_, ap, sym, _∙_}
@@ -8,7 +8,7 @@ use lib.ListN.{length, take, length-append}
 use lib.Seq.{length-take-le, take-all}
 use Rattle.base_finite.specs.Laws.Below.{lt-or-ge}
 use Rattle.base_limits.specs.Limits.{verifyRoom}
-use Rattle.base_limits.specs.Verdict.{Outcome, refusal, answer}
+use Rattle.base_limits.specs.Verdict.{answer}
 use Rattle.format_key.specs.Key.{terminalsKey, costKey, boundKey}
 use Rattle.format_write.specs.Decimal.{decimal}
 use Rattle.format_write.specs.Text.{lineOf, refusalText}
@@ -16,18 +16,7 @@ use Rattle.format_print.specs.Laws.Room.{refusal-text-le, word-digits, length-l
 use Rattle.check_rule.specs.Check.{Checked}
 use Rattle.check_text.specs.Verify.{verifying}
 use Rattle.check_text.specs.Laws.Length.{verified-length}
-use Rattle.api_verify_text.specs.Output.{passedLine, passedText, findingsText, findingsRoom, verifyOutput}
-
--- ---- by the outcome of the check
-
-module _ (t : List ℕ) {found : Outcome Checked} (checked : found ≡ verifying t) where
-  pub refused-findings : {n p : ℕ} → found ≡ refusal n p → refusalText n p ≡ verifyOutput t
-  unfolding verifyOutput findingsText
-  refused-findings told = ap findingsText (sym told ∙ checked)
-
-  pub passed-findings : {k c b : ℕ} → found ≡ answer (record { terminals = k; cost = c; bound = b }) → passedText k c b ≡ verifyOutput t
-  unfolding verifyOutput findingsText
-  passed-findings told = ap findingsText (sym told ∙ checked)
+use Rattle.api_verify_text.specs.Output.{passedLine, passedText, findingsRoom}
 
 -- ---- room
 
