@@ -15,10 +15,6 @@ plannedText (refusal number place) edges marks records = refusalText number plac
 plannedText (answer c) edges marks records =
     planText (c .terminals) (c .cost) (c .bound) (c .rounds) (take edges marks) (take (recordBytes * c .duals) records)
 
--- As much as is wanted of a buffer, or all of it.
-unfoldable pub atMost : (wanted room : ℕ) → ℕ
-atMost wanted room = cond (ltb room wanted) room wanted
-
 -- As many bytes as these moats have records, or all.
 unfoldable pub recordsHeld : (duals room : ℕ) → ℕ
 recordsHeld duals room = cond (ltb (room / recordBytes) duals) room (recordBytes * duals)

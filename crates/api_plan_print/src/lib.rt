@@ -3,20 +3,11 @@ ghost use Rattle.base_buffer.specs.Lent.{old, new};
 ghost use mathlib.Core.Path.{_≡_};
 ghost use Rattle.format_print.specs.Print.{printed, printedOut};
 ghost use Rattle.plan_rule.specs.Answer.{plannedOutcome};
-ghost use Rattle.api_plan_print.specs.Planned.{atMost, recordsHeld, plannedText, WordsIn};
+ghost use Rattle.api_plan_print.specs.Planned.{recordsHeld, plannedText, WordsIn};
+use api_part::at_most;
 use base_limits::RECORD_BYTES;
 use format_print::Printed;
 use plan_rule::Planned;
-
-// As much as is wanted of a buffer, or all of it.
-fn at_most(wanted: usize, room: usize) -> usize
-    ensures { λ r. ⌜ r ≡ atMost wanted room ⌝ }
-{
-    if room < wanted {
-        return room;
-    }
-    wanted
-}
 
 // As many bytes as these moats have records, or all.
 fn record_bytes(duals: u64, room: usize) -> usize

@@ -7,10 +7,9 @@ ghost use Rattle.base_limits.specs.Limits.{whyRoom};
 ghost use Rattle.survey_core.specs.Survey.{lentWith};
 ghost use Rattle.format_print.specs.Print.{printed, printedOut};
 ghost use Rattle.api_why_text.specs.Output.{surveyLines};
+use api_why_print::print_why;
 use base_limits::MAX_ROUTE;
 use format_print::Printed;
-use format_why_print::print_reason;
-use why_rule::Why;
 
 // Prints why a track of a survey has its mark, or the refusal's two lines.
 pub fn why_survey(
@@ -35,7 +34,7 @@ pub fn why_survey(
 {
     let mut route = [0u32; MAX_ROUTE];
     let asked = base_buffer::wide(track);
-    match why_core::why(
+    let told = why_core::why(
         groups,
         firsts,
         seconds,
@@ -44,18 +43,6 @@ pub fn why_survey(
         others,
         track,
         &mut route,
-    ) {
-        Why::Kept {
-            group,
-            smaller,
-            larger,
-            entries,
-        } => {
-            let size = entries as usize;
-            print_reason(asked, 2, group, smaller, larger, 0, &route[0..size], out)
-        }
-        Why::Dropped => print_reason(asked, 1, 0, 0, 0, 0, &route[0..0], out),
-        Why::Passed { round } => print_reason(asked, 0, 0, 0, 0, round, &route[0..0], out),
-        Why::Refused { number, place } => format_print_lines::print_refusal(number, place, out),
-    }
+    );
+    print_why(told, asked, &route, out)
 }

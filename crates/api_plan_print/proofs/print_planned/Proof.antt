@@ -3,7 +3,8 @@ use native.Mathlib.Omega.{arith}
 use mathlib.Core.Path.{ap}
 use borrow.Author.Needs.{needs}
 use Rattle.plan_rule.specs.Answer.{plannedOutcome}
-use Rattle.api_plan_print.specs.Laws.Planned.{most-le, held-le, refused-printed, finished-printed}
+use Rattle.api_part.specs.Laws.Part.{most-le}
+use Rattle.api_plan_print.specs.Laws.Planned.{held-le, refused-printed, finished-printed}
 use Rattle.api_plan_print.proofs.print_planned.Statement.{statement}
 use Rattle.api_plan_print.proofs.print_planned.Tie as tie
 

@@ -7,7 +7,6 @@ use mathlib.Core.Bool.{cond}
 use mathlib.Core.Logic.{⊎-elim}
 use mathlib.Core.List.{List}
 use lib.ListN.{length, take}
-use lib.Seq.{take-all}
 use borrow.Author.Tests.{lt-ltb, le-ltb}
 use Rattle.base_finite.specs.Laws.Below.{lt-or-ge}
 use Rattle.base_limits.specs.Limits.{recordBytes}
@@ -16,15 +15,9 @@ use Rattle.format_write.specs.Text.{planText, refusalText}
 use Rattle.format_print.specs.declared.Printed.{Printed}
 use Rattle.format_print.specs.Print.{printed, printedOut}
 use Rattle.plan_rule.specs.Plan.{PlanCounts}
-use Rattle.api_plan_print.specs.Planned.{plannedText, atMost, recordsHeld, WordsIn, refusedWords, finishedWords}
-
-pub most-room : (wanted room : ℕ) → room < wanted → room ≡ atMost wanted room
-unfolding atMost
-most-room wanted room b = sym (ap (λ t. cond t room wanted) (lt-ltb room wanted b))
-
-pub most-wanted : (wanted room : ℕ) → wanted ≤ room → wanted ≡ atMost wanted room
-unfolding atMost
-most-wanted wanted room b = sym (ap (λ t. cond t room wanted) (le-ltb room wanted b))
+use Rattle.api_part.specs.Part.{atMost}
+use Rattle.api_part.specs.Laws.Part.{whole-part, most-part}
+use Rattle.api_plan_print.specs.Planned.{plannedText, recordsHeld, WordsIn, refusedWords, finishedWords}
 
 pub held-room : (duals room : ℕ) → room / recordBytes < duals → room ≡ recordsHeld duals room
 unfolding recordsHeld
@@ -33,24 +26,6 @@ held-room duals room b = sym (ap (λ t. cond t room (recordBytes * duals)) (lt-l
 pub held-wanted : (duals room : ℕ) → duals ≤ room / recordBytes → recordBytes * duals ≡ recordsHeld duals room
 unfolding recordsHeld
 held-wanted duals room b = sym (ap (λ t. cond t room (recordBytes * duals)) (le-ltb (room / recordBytes) duals b))
-
--- A part up to a place, or the whole of a list that ends before it.
-cut : (wanted : ℕ) (l : List ℕ) {n : ℕ} → n ≡ length l → length l ≤ wanted → take (n - 0) l ≡ take wanted l
-cut wanted l {n} n-is b = take-all (n - 0) l (omega arith) ∙ sym (take-all wanted l b)
-
-pub most-le : (wanted room : ℕ) {n : ℕ} → n ≡ atMost wanted room → n ≤ room
-most-le wanted room is =
-    ⊎-elim
-    (λ b. let h = most-room wanted room b in omega arith)
-    (λ b. let h = most-wanted wanted room b in omega arith)
-    (lt-or-ge room wanted)
-
-pub most-part : (wanted : ℕ) (l : List ℕ) {n : ℕ} → n ≡ atMost wanted (length l) → take (n - 0) l ≡ take wanted l
-most-part wanted l {n} is =
-    ⊎-elim
-    (λ b. cut wanted l (is ∙ sym (most-room wanted (length l) b)) (omega arith))
-    (λ b. ap (λ (k : ℕ). take k l) (sub-zero n ∙ is ∙ sym (most-wanted wanted (length l) b)))
-    (lt-or-ge (length l) wanted)
 
 pub held-le : (duals room : ℕ) {n : ℕ} → n ≡ recordsHeld duals room → n ≤ room
 held-le duals room is =
@@ -62,7 +37,7 @@ held-le duals room is =
 pub held-part : (duals : ℕ) (l : List ℕ) {n : ℕ} → n ≡ recordsHeld duals (length l) → take (n - 0) l ≡ take (recordBytes * duals) l
 held-part duals l {n} is =
     ⊎-elim
-    (λ b. cut (recordBytes * duals) l (is ∙ sym (held-room duals (length l) b)) (omega arith))
+    (λ b. whole-part (recordBytes * duals) l (is ∙ sym (held-room duals (length l) b)) (omega arith))
     (λ b. ap (λ (k : ℕ). take k l) (sub-zero n ∙ is ∙ sym (held-wanted duals (length l) b)))
     (lt-or-ge (length l / recordBytes) duals)
 

@@ -1,7 +1,7 @@
 -- `at_most` meets its contract.
-use Rattle.api_plan_print.specs.Laws.Planned.{most-room, most-wanted}
-use Rattle.api_plan_print.proofs.at_most.Statement.{statement}
-use Rattle.api_plan_print.proofs.at_most.Tie as tie
+use Rattle.api_part.specs.Laws.Part.{most-room, most-wanted}
+use Rattle.api_part.proofs.at_most.Statement.{statement}
+use Rattle.api_part.proofs.at_most.Tie as tie
 
 returns : tie.Need-returns
 returns c = most-room _ _ (c .if1 .taken)
