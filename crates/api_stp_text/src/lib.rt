@@ -8,11 +8,11 @@ ghost use lib.ListN.{length, drop};
 ghost use Rattle.base_limits.specs.Limits.{surveyRoom};
 ghost use Rattle.format_print.specs.Print.{printed, printedOut};
 ghost use Rattle.api_stp_text.specs.StpOutput.{stpOutput};
+use api_stp_print::print_read;
 use base_limits::MAX_EDGES;
 use base_limits::MAX_VERTICES;
 use base_limits::SURVEY_ROOM;
 use format_print::Printed;
-use format_stp::StpRead;
 
 // Bytes of a text that is read, at most: a comment of 1 MiB, which is sixteen times a survey's room, and once that room
 // for the rest.
@@ -35,18 +35,8 @@ pub fn stp_text(text: &[u8], out: &mut [u8]) -> Printed
     let mut firsts = [0u32; MAX_EDGES];
     let mut seconds = [0u32; MAX_EDGES];
     let mut weights = [0u32; MAX_EDGES];
-    match format_stp::read_stp(text, &mut groups, &mut firsts, &mut seconds, &mut weights) {
-        StpRead::Refused { number, place } => format_print_lines::print_refusal(number, place, out),
-        StpRead::Survey { vertices, edges } => format_survey_out::print_survey(
-            &groups[0..vertices],
-            &firsts[0..edges],
-            &seconds[0..edges],
-            &weights[0..edges],
-            &[],
-            &[],
-            out,
-        ),
-    }
+    let read = format_stp::read_stp(text, &mut groups, &mut firsts, &mut seconds, &mut weights);
+    print_read(read, &groups, &firsts, &seconds, &weights, out)
 }
 
 // The same into a buffer that always holds it: the number of bytes printed, and no refusal. 7 cannot come, so that 0 is

@@ -1,8 +1,7 @@
 -- Laws of what `stp` prints: what is printed by the outcome of reading; that `surveyRoom` bytes hold it; that a printed survey is read back; that a
 -- text too long is known by its first bytes.
-use Prim.Native.Nat.{ℕ, _+_, _-_, _^_, _≤_, _<_}
+use Prim.Native.Nat.{ℕ, _+_, _^_, _≤_, _<_}
 use native.Mathlib.Omega.{arith}
-use native.Mathlib.Nat.{sub-zero}
 use mathlib.Core.List.{List, [], map}
 use mathlib.Core.Logic.{_⊎_, inl, inr}
 use mathlib.Core.Path.{_≡_, refl, ap, sym, _∙_, subst}
@@ -14,6 +13,7 @@ use Rattle.base_finite.specs.Laws.Below.{lt-or-ge, length-tabulate, getD-tabula
 use Rattle.base_limits.specs.Limits.{maxVertices, maxEdges, surveyRoom}
 use Rattle.base_limits.specs.Verdict.{Outcome, refusal, answer}
 use Rattle.format_print.specs.Laws.Room.{refusal-text-le}
+use Rattle.format_print.specs.declared.Printed.{Printed}
 use Rattle.format_print.specs.Print.{printed, printedOut}
 use Rattle.format_write.specs.Text.{refusalText}
 use Rattle.format_also.specs.Render.{pairsFrom}
@@ -24,10 +24,11 @@ use Rattle.format_survey.specs.Reading.{SurveyText, reading, filled}
 use Rattle.format_survey.specs.Render.{render}
 use Rattle.format_survey.specs.WellFormed.{WithinCounts, surveyOfText}
 use Rattle.format_survey_print.specs.Laws.Print.{whole-answer, whole-out}
-use Rattle.format_survey_print.specs.Print.{edgeAt, edgesFrom, surveyOfLists, surveyText, surveyPrinted, surveyPrintedOut}
+use Rattle.format_survey_print.specs.Print.{edgeAt, edgesFrom, surveyText, surveyPrinted, surveyPrintedOut}
 use Rattle.format_stp_rule.specs.StpReading.{StpContent, stpReading}
 use Rattle.format_stp.specs.Answer.{stpCountsOf}
 use Rattle.format_stp.specs.Laws.Within.{stp-within, stp-sizes}
+use Rattle.api_stp_print.specs.Stored.{storedSurvey, storedPrinted, storedPrintedOut, StoredWords, unreadWords, readWords}
 use Rattle.api_stp_text.specs.StpOutput.{stpRoom, stpRead, stpText, stpOutput}
 
 -- ---- reading
@@ -105,14 +106,14 @@ tracks-of es =
 
 -- The first n of a filled buffer.
 part-read : {o : Outcome StpContent} {x : StpContent} (values : StpContent → List ℕ) (old : List ℕ) (n : ℕ) {new : List ℕ} → o ≡ answer x → length (values x) ≡ n → new ≡ filled o values old
-    → take (n - 0) new ≡ values x
+    → take n new ≡ values x
 unfolding filled
-part-read {x = x} values old n {new} is long e =
-    ap (λ (k : ℕ). take k new) (sub-zero n) ∙ ap (take n) (e ∙ ap (λ (o : Outcome StpContent). filled o values old) is) ∙ take-at (values x) (drop (length (values x)) old) n long
+part-read {x = x} values old n is long e =
+    ap (take n) (e ∙ ap (λ (o : Outcome StpContent). filled o values old) is) ∙ take-at (values x) (drop (length (values x)) old) n long
 
 -- `counts` is what reading answers.
 module _ (t : List ℕ) (short : length t ≤ stpRoom) {counts : Outcome SurveyCounts} (told-counts : counts ≡ stpCountsOf (readWhole t)) where
-  pub refused-output : {n p : ℕ} → counts ≡ refusal n p → refusalText n p ≡ stpOutput t
+  refused-output : {n p : ℕ} → counts ≡ refusal n p → refusalText n p ≡ stpOutput t
   unfolding stpText
   refused-output told = sym (output-read t short ∙ ap stpText (counts-refused (readWhole t) (sym told-counts ∙ told)))
 
@@ -132,34 +133,31 @@ module _ (t : List ℕ) (short : length t ≤ stpRoom) {counts : Outcome SurveyC
     long : length (x .lines) ≡ m
     long = stp-sizes t _ _ _ _ x (found .is) .1 ∙ found .edges
 
-    pub few-counts : (n ≤ maxVertices) × (m ≤ maxEdges)
-    few-counts = (subst (λ (k : ℕ). k ≤ maxVertices) many (within .fewGroups), subst (λ (k : ℕ). k ≤ maxEdges) long (within .fewEdges))
-
     output-is : render (x .groups) [] (x .lines) ≡ stpOutput t
     unfolding stpText
     output-is = sym (output-read t short ∙ ap stpText (found .is))
 
-    pub output-room : length (stpOutput t) ≤ surveyRoom
+    output-room : length (stpOutput t) ≤ surveyRoom
     output-room = let l = longest-within within in omega (arith, ap length output-is)
 
     -- The survey of the parts of the buffers that were filled.
     module _ {groups firsts seconds weights : List ℕ} (gb fb sb wb : List ℕ) (g : groups ≡ filled (readWhole t) (λ x. x .groups) gb) (f : firsts ≡ filled (readWhole t) (λ x. firstsOf (x .lines)) fb)
         (s : seconds ≡ filled (readWhole t) (λ x. secondsOf (x .lines)) sb) (w : weights ≡ filled (readWhole t) (λ x. weightsOf (x .lines)) wb) where
-      abbrev pub part : SurveyText
-      part = surveyOfLists (take (n - 0) groups) (take (m - 0) firsts) (take (m - 0) seconds) (take (m - 0) weights) [] []
+      abbrev part : SurveyText
+      part = storedSurvey (record { vertices = n; edges = m }) groups firsts seconds weights
 
-      gs : take (n - 0) groups ≡ x .groups
+      gs : take n groups ≡ x .groups
       gs = part-read (λ x. x .groups) gb n (found .is) many g
 
-      fs : take (m - 0) firsts ≡ firstsOf (x .lines)
+      fs : take m firsts ≡ firstsOf (x .lines)
       unfolding firstsOf
       fs = part-read (λ x. firstsOf (x .lines)) fb m (found .is) (length-map (x .lines) (λ e. e .first) ∙ long) f
 
-      ss : take (m - 0) seconds ≡ secondsOf (x .lines)
+      ss : take m seconds ≡ secondsOf (x .lines)
       unfolding secondsOf
       ss = part-read (λ x. secondsOf (x .lines)) sb m (found .is) (length-map (x .lines) (λ e. e .second) ∙ long) s
 
-      ws : take (m - 0) weights ≡ weightsOf (x .lines)
+      ws : take m weights ≡ weightsOf (x .lines)
       unfolding weightsOf
       ws = part-read (λ x. weightsOf (x .lines)) wb m (found .is) (length-map (x .lines) (λ e. e .weight) ∙ long) w
 
@@ -167,19 +165,38 @@ module _ (t : List ℕ) (short : length t ≤ stpRoom) {counts : Outcome SurveyC
       unfolding surveyText pairsFrom tabulate
       text = rw (gs, fs, ss, ws) (ap (λ (es : List Edge). render (x .groups) [] es) (tracks-of (x .lines)) ∙ output-is)
 
-      seconds-long : length (take (m - 0) firsts) ≡ length (take (m - 0) seconds)
+      seconds-long : length (take m firsts) ≡ length (take m seconds)
       unfolding firstsOf secondsOf
       seconds-long = ap length fs ∙ length-map (x .lines) (λ e. e .first) ∙ sym (ap length ss ∙ length-map (x .lines) (λ e. e .second))
 
-      weights-long : length (take (m - 0) firsts) ≡ length (take (m - 0) weights)
+      weights-long : length (take m firsts) ≡ length (take m weights)
       unfolding firstsOf weightsOf
       weights-long = ap length fs ∙ length-map (x .lines) (λ e. e .first) ∙ sym (ap length ws ∙ length-map (x .lines) (λ e. e .weight))
 
-      pub survey-prints : (out : List ℕ) → (surveyPrinted part out ≡ printed (stpOutput t) out) × ((surveyPrintedOut part out ≡ printedOut (stpOutput t) out) × (length (stpOutput t) ≤ surveyRoom))
+      survey-prints : (out : List ℕ) → (surveyPrinted part out ≡ printed (stpOutput t) out) × ((surveyPrintedOut part out ≡ printedOut (stpOutput t) out) × (length (stpOutput t) ≤ surveyRoom))
       survey-prints out = (
         sym (whole-answer part out seconds-long weights-long refl) ∙ ap (λ (l : List ℕ). printed l out) text,
         (sym (whole-out part out seconds-long weights-long refl) ∙ ap (λ (l : List ℕ). printedOut l out) text, output-room),
       )
+
+-- What is printed of the answer of reading and of the buffers that it filled.
+module _ (t : List ℕ) (short : length t ≤ stpRoom) {groups firsts seconds weights : List ℕ} (gb fb sb wb : List ℕ) (g : groups ≡ filled (readWhole t) (λ x. x .groups) gb) (f : firsts ≡ filled (readWhole t) (λ x. firstsOf (x .lines)) fb)
+    (s : seconds ≡ filled (readWhole t) (λ x. secondsOf (x .lines)) sb) (w : weights ≡ filled (readWhole t) (λ x. weightsOf (x .lines)) wb) (out : List ℕ) where
+  by-words : (o : Outcome SurveyCounts) → StoredWords o → o ≡ stpCountsOf (readWhole t)
+      → (storedPrinted o groups firsts seconds weights out ≡ printed (stpOutput t) out)
+      × ((storedPrintedOut o groups firsts seconds weights out ≡ printedOut (stpOutput t) out) × (length (stpOutput t) ≤ surveyRoom))
+  unfolding storedPrinted storedPrintedOut
+  by-words o (unreadWords {number} {place} hn hp) told =
+      let text = refused-output t short told refl in (
+        ap (λ (l : List ℕ). printed l out) text,
+        (ap (λ (l : List ℕ). printedOut l out) text, subst (λ (l : List ℕ). length l ≤ surveyRoom) text (refusal-room number place hn hp)),
+      )
+  by-words o readWords told = survey-prints t short told refl gb fb sb wb g f s w out
+
+  pub read-printed : {o : Outcome SurveyCounts} {r : Printed} {new : List ℕ} → o ≡ stpCountsOf (readWhole t)
+      → (r ≡ storedPrinted o groups firsts seconds weights out) × ((new ≡ storedPrintedOut o groups firsts seconds weights out) × StoredWords o)
+      → (r ≡ printed (stpOutput t) out) × ((new ≡ printedOut (stpOutput t) out) × (length (stpOutput t) ≤ surveyRoom))
+  read-printed {o} told p = let q = by-words o (p .1 .1) told in (p .0 ∙ q .0, (p .1 .0 ∙ q .1 .0, q .1 .1))
 
 -- ---- what is printed
 
