@@ -19,7 +19,8 @@ pub fn print_read(
     ensures { λ r.
         ⌜ r ≡ storedPrinted (stpAnswer read) (old groups) (old firsts) (old seconds) (old weights) (old out) ⌝ }
     ensures { λ _.
-        ⌜ new out ≡ storedPrintedOut (stpAnswer read) (old groups) (old firsts) (old seconds) (old weights) (old out) ⌝ }
+        let answer = stpAnswer read in
+        ⌜ new out ≡ storedPrintedOut answer (old groups) (old firsts) (old seconds) (old weights) (old out) ⌝ }
     ensures words { λ _. ⌜ StoredWords (stpAnswer read) ⌝ }
 {
     match read {

@@ -44,7 +44,8 @@ fn grow_rounds(
         × (now order ≡ replicate maxVertices 0) ⌝ }
     ensures { λ r.
         let p = problemOf (lentSurvey groups firsts seconds weights) in
-        ⌜ GrownAfter p (length (old groups)) (growthFrom (r .rounds) (r .bound) (new values) (new picked) (new order)) ⌝ }
+        let g = growthFrom (r .rounds) (r .bound) (new values) (new picked) (new order) in
+        ⌜ GrownAfter p (length (old groups)) g ⌝ }
 {
     let mut labels = [0u32; MAX_VERTICES];
     let mut loads = [0u64; MAX_VERTICES];

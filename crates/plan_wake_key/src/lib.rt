@@ -1,4 +1,5 @@
-// What waking an edge asks and notes: whether it ends at a vertex, its key, and the floor of its block. Definitions in plan_wake.
+// What waking an edge asks and notes: whether it ends at a vertex, its key, and the floor of its block. Definitions in
+// plan_wake.
 ghost use Rattle.base_buffer.specs.Lent.{old, new};
 ghost use mathlib.Core.Path.{_≡_};
 ghost use Rattle.plan_wake.specs.Wake.{endsAt, wokenKey, lowered};

@@ -1,4 +1,5 @@
-// What joining the ends of one edge takes: whether its mark is that of a kept one, and two vertices brought into one tree.
+// What joining the ends of one edge takes: whether its mark is that of a kept one, and two vertices brought into one
+// tree.
 ghost use Rattle.base_buffer.specs.Lent.{old, new};
 ghost use mathlib.Core.Path.{_≡_};
 ghost use lib.Dec.{eqb};
