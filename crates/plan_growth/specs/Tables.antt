@@ -1,10 +1,9 @@
 -- How a round turns what is held for values and loads, where the flag of a component changes.
-use Prim.Native.Nat.{ℕ, _*_, _≤_}
+use Prim.Native.Nat.{ℕ}
 use mathlib.Core.Bool.{true, cond}
 use mathlib.Core.List.{List}
 use lib.ListN.{getD, set}
 use lib.Dec.{eqb, ltb}
-use Rattle.base_limits.specs.Limits.{maxVertices, maxValue}
 use Rattle.base_buffer.specs.Store.{remade}
 use Rattle.plan_delay.specs.Held.{settledBy}
 

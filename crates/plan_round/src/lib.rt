@@ -1,5 +1,5 @@
 // One round of growth over arrays, whatever they hold. Definitions in plan_growth.
-ghost use Rattle.base_buffer.specs.Lent.{old, new};
+ghost use Rattle.base_buffer.specs.Lent.{old};
 ghost use mathlib.Core.Path.{_≡_};
 ghost use Rattle.plan_delay.specs.Between.{winnerIn};
 ghost use Rattle.plan_winner.specs.Tables.{tablesIn};

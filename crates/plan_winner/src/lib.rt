@@ -1,5 +1,5 @@
 // The search for a round's winner over arrays: edges that cannot win yet are passed over by their keys, and blocks by
-// their floors. Definitions in specs/; plan_look and plan_search are the code.
+// their floors. Definitions in specs/; the functions stand in the crates above.
 use base_limits::MAX_EDGES;
 
 // The key of an edge inside a component or at rest (`noKey`).

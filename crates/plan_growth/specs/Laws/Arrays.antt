@@ -4,7 +4,6 @@ use mathlib.Core.Path.{_≡_, ap, sym, _∙_}
 use mathlib.Core.List.{List}
 use lib.ListN.{getD}
 use Rattle.base_finite.specs.Below.{counted}
-use Rattle.theory_steiner.specs.Growth.{nobody, edge}
 use Rattle.plan_delay.specs.Between.{winnerIn}
 use Rattle.plan_delay.specs.declared.Winner.{Winner}
 use Rattle.plan_delay.specs.declared.Winner.the-variants.{Nobody, Edge}

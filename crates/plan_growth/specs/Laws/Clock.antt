@@ -4,14 +4,14 @@ use Prim.Native.Nat.{ℕ, _+_, _-_, _<_, _≤_}
 use native.Mathlib.Omega.{arith}
 use native.Mathlib.Decide.{ℕ-discrete}
 use mathlib.Core.Path.{_≡_, refl, ap, sym, _∙_}
-use mathlib.Core.Logic.{_⊎_, inl, inr, ⊎-elim}
+use mathlib.Core.Logic.{_⊎_, inl, inr}
 use mathlib.Core.Bool.{Bool, true, false, cond}
 use mathlib.Core.List.{List}
-use lib.ListN.{length, getD, set}
+use lib.ListN.{getD, set}
 use lib.Seq.{set-out}
 use lib.Dec.{eqb}
 use borrow.Author.Tests.{eq-eqb, ne-eqb}
-use Rattle.base_finite.specs.Below.{counted, tabulate}
+use Rattle.base_finite.specs.Below.{tabulate}
 use Rattle.base_finite.specs.Laws.Below.{counted-true, counted-false, counted-le, length-tabulate, getD-tabulate, lt-or-ge}
 use Rattle.base_finite.specs.Laws.Test.{either, not-true-false}
 use Rattle.base_buffer.specs.Laws.Store.{tabulate-cong, set-table}

@@ -2,18 +2,16 @@
 -- if they get another flag, and for no other vertex (001, Algorithm 22.3).
 use Prim.Native.Nat.{ℕ, _+_, _<_, _≤_}
 use native.Mathlib.Omega.{arith}
-use native.Mathlib.Decide.{ℕ-discrete}
 use mathlib.Core.Path.{_≡_, refl, ap, sym, _∙_}
 use mathlib.Core.Logic.{_⊎_, inl, inr}
 use mathlib.Core.Bool.{Bool, true, false, not, cond}
 use mathlib.Core.List.{List}
-use lib.ListN.{length, getD, set, length-set}
+use lib.ListN.{length, getD, length-set}
 use lib.Seq.{set-getD, getD-set-same, getD-set-other}
 use lib.Dec.{eqb, ltb}
 use borrow.Author.Tests.{eq-eqb, ne-eqb, lt-ltb, le-ltb}
 use Rattle.base_finite.specs.Below.{counted}
 use Rattle.base_finite.specs.Laws.Below.{counted-le, lt-or-ge}
-use Rattle.base_finite.specs.Laws.Test.{either}
 use Rattle.base_buffer.specs.Laws.Store.{length-remade, remade-ahead, remade-passed, remade-more}
 use Rattle.theory_graph.specs.Component.{merged}
 use Rattle.theory_graph.specs.Laws.Component.{Merging, inside, outside, merged-in, merged-out}
@@ -25,7 +23,7 @@ use Rattle.theory_steiner.specs.Laws.Weighed.{load-pick}
 use Rattle.theory_steiner.specs.Laws.Activity.{active-cong, active-other}
 use Rattle.plan_active.specs.Flags.{relabelledFirst, mergedFlags}
 use Rattle.plan_delay.specs.Held.{heldValue, settledBy}
-use Rattle.plan_delay.specs.Laws.Held.{settled-on, settled-off}
+use Rattle.plan_delay.specs.Laws.Held.{settled-off}
 use Rattle.plan_growth.specs.Tables.{turnedAt, turnedMembers, turnedComponent, turnedTo}
 use Rattle.plan_growth.specs.Represents.{heldLoad}
 

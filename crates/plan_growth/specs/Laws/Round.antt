@@ -39,7 +39,7 @@ use Rattle.plan_winner.specs.Laws.Scan.{capped-is, idle-elim, scan-wins, keyed-
 use Rattle.plan_winner.specs.Laws.Blocks.{passes-scan, passes-cong}
 use Rattle.plan_wake.specs.Wake.{endsAt, idleVertex, KeyNotes, notesFrom, behindBy, wokenKey, wokenBy}
 use Rattle.plan_wake.specs.Laws.Wake.{woken-keys, woken-floored}
-use Rattle.plan_active.specs.Flags.{activeFlags, MatesListed, joinedActive, relabelledFirst, mergedFlags}
+use Rattle.plan_active.specs.Flags.{activeFlags, MatesListed, relabelledFirst, mergedFlags}
 use Rattle.plan_active.specs.Laws.Merged.{flags-merged}
 use Rattle.plan_growth.specs.Tables.{settledAt, turnedTo}
 use Rattle.plan_growth.specs.Laws.Loads.{label-own, turned-own, turned-other, length-turned, load-timely, load-joined, load-other}

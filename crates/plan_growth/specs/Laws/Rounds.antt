@@ -14,7 +14,7 @@ use Rattle.base_finite.specs.Laws.Below.{sum-cong, sum-zero, sum-limit, length-
 use Rattle.base_finite.specs.Laws.Test.{and-both, or-left, or-right, true-not-false, not-true-false}
 use Rattle.base_limits.specs.Limits.{maxVertices, maxEdges, maxWeight, maxValue, maxDuals}
 use Rattle.theory_steiner.specs.Problem.{Problem}
-use Rattle.theory_steiner.specs.Growth.{Winner, nobody, edge, never, active, slack, winner, numbers, start, stateAt}
+use Rattle.theory_steiner.specs.Growth.{Winner, nobody, edge, active, slack, winner, numbers, start, stateAt}
 use Rattle.theory_steiner.specs.Pruning.{dualBound}
 use Rattle.theory_steiner.specs.Laws.Round.{stateAt-reached, pick-rounds}
 use Rattle.theory_steiner.specs.Laws.Rounds.{rounds-lt, stateAt-pick, stateAt-last, value-bounded}
