@@ -1,7 +1,7 @@
 -- A walk of the kept forest: what a call of it leaves, and where it is refused.
 use Prim.Native.Nat.{ℕ, _+_, _-_, _<_, _≤_}
 use mathlib.Core.Path.{_≡_}
-use mathlib.Core.Bool.{Bool, true, _&&_, cond}
+use mathlib.Core.Bool.{Bool, true, cond}
 use mathlib.Core.List.{List, [], _∷_}
 use lib.ListN.{length, getD, set}
 use lib.Dec.{eqb, ltb}
@@ -21,18 +21,10 @@ unfoldable pub unvisited : List ℕ → ℕ
 unvisited [] = 0
 unvisited (x ∷ xs) = cond (eqb x 0) 1 0 + unvisited xs
 
--- v is a vertex that is not visited yet.
-unfoldable pub isUnvisited : List ℕ → ℕ → Bool
-isUnvisited visited v = ltb v (length visited) && eqb (getD visited v 0) 0
-
 -- The entries from place i on, the last one stored first.
 unfoldable pub storedAt : List ℕ → (i : ℕ) → (entries : List ℕ) → List ℕ
 storedAt route i [] = route
 storedAt route i (e ∷ es) = set (storedAt route (i + 1) es) i e
-
--- The end of edge e, by a buffer of ends.
-abbrev pub endIn : List ℕ → ℕ → ℕ
-endIn ends e = getD ends e 0
 
 -- What a walk asks: edges of the forest are surveyed ones, their ends are vertices, and so many steps can be counted.
 pub record Walkable (firsts seconds kept visited : List ℕ) (depth : ℕ) : Type 0 where

@@ -2,16 +2,14 @@
 // An entry is stored on the way back from the goal, so that nothing is written past the route.
 ghost use Rattle.base_buffer.specs.Lent.{old, new};
 ghost use mathlib.Core.Path.{_≡_};
-ghost use Prim.Native.Nat.{ℕ};
-ghost use mathlib.Core.Bool.{cond, _&&_, _||_};
 ghost use mathlib.Core.List.{_++_};
-ghost use lib.ListN.{getD, length, drop, set};
-ghost use lib.Dec.{eqb};
+ghost use lib.ListN.{length, drop};
 ghost use Rattle.base_limits.specs.Verdict.{written};
 ghost use Rattle.survey_core.specs.Survey.{lentSurvey, problemOf};
 ghost use Rattle.survey_components.specs.Labels.{pickedIn};
-ghost use Rattle.theory_route.specs.Route.{isEnd, farEnd, routeOf};
-ghost use Rattle.why_route.specs.Walk.{isUnvisited, endIn, Walkable, WalkEnds, routeRefusal};
+ghost use Rattle.theory_route.specs.Route.{farEnd, routeOf};
+ghost use Rattle.why_visit.specs.Visit.{endIn};
+ghost use Rattle.why_route.specs.Walk.{Walkable, WalkEnds, routeRefusal};
 use base_buffer::at32;
 use base_buffer::index32;
 use base_limits::MAX_VERTICES;
@@ -21,35 +19,6 @@ use base_limits::Verdict;
 enum Walked {
     Arrived { entries: usize },
     Lost,
-}
-
-// Visits v; whether it is a vertex that was not visited yet.
-fn visit(visited: &mut [u8], v: usize) -> bool
-    ensures { λ r. ⌜ r ≡ isUnvisited (old visited) v ⌝ }
-    ensures { λ _. ⌜ new visited ≡ cond (isUnvisited (old visited) v) (set (old visited) v 1) (old visited) ⌝ }
-{
-    if visited.len() <= v {
-        return false;
-    }
-    if base_buffer::at8(visited, v) != 0 {
-        return false;
-    }
-    base_buffer::put8(visited, v, 1);
-    true
-}
-
-// Whether edge e is of the forest and has v for an end.
-fn is_at(firsts: &[u32], seconds: &[u32], kept: &[u8], e: usize, v: usize) -> bool
-    ensures { λ r.
-        ⌜ r ≡ (pickedIn (old kept) e && isEnd (endIn (old firsts)) (endIn (old seconds)) e v) ⌝ }
-{
-    if !survey_components::is_picked(kept, e) {
-        return false;
-    }
-    if index32(at32(firsts, e)) == v {
-        return true;
-    }
-    index32(at32(seconds, e)) == v
 }
 
 // The other end of edge e.
@@ -78,7 +47,7 @@ fn walk(
     ensures { λ r. ⌜ WalkEnds (endIn (old firsts)) (endIn (old seconds)) (pickedIn (old kept)) v goal depth
         (old visited) (new visited) (old route) (new route) r ⌝ }
 {
-    if !visit(visited, v) {
+    if !why_visit::visit(visited, v) {
         return Walked::Lost;
     }
     if v == goal {
@@ -86,7 +55,7 @@ fn walk(
     }
     let mut e = 0;
     while e < firsts.len() {
-        if is_at(firsts, seconds, kept, e, v) {
+        if why_visit::is_at(firsts, seconds, kept, e, v) {
             let next = far_end(firsts, seconds, e, v);
             let walked = walk(firsts, seconds, kept, visited, route, next, goal, depth + 1);
             if let Walked::Arrived { entries } = walked {

@@ -4,10 +4,11 @@ use native.Mathlib.Omega.{arith}
 use Prim.Native.Nat.{ℕ, _<_, _-_}
 use mathlib.Core.Path.{_≡_, refl, ap, sym, _∙_, subst}
 use mathlib.Core.Logic.{⊎-elim}
-use lib.ListN.{length, set, length-set}
+use lib.ListN.{length}
 use borrow.Author.Tests.{not-true, not-false}
 use Rattle.survey_components.specs.Labels.{pickedIn}
-use Rattle.why_route.specs.Walk.{unvisited, endIn}
+use Rattle.why_visit.specs.Visit.{endIn}
+use Rattle.why_route.specs.Walk.{unvisited}
 use Rattle.why_route.specs.Laws.Walk.{
   Walking,
   is-free,
@@ -30,8 +31,8 @@ use Rattle.why_route.proofs.walk.Kinds as walk-kinds
 use Rattle.why_route.proofs.+walk.Lts-walk as walk-lts
 use Rattle.base_buffer.proofs.put32.Reads as put32-reads
 use Rattle.why_route.proofs.far_end.Reads as far-end-reads
-use Rattle.why_route.proofs.is_at.Reads as is-at-reads
-use Rattle.why_route.proofs.visit.Reads as visit-reads
+use Rattle.why_visit.proofs.is_at.Reads as is-at-reads
+use Rattle.why_visit.proofs.visit.Reads as visit-reads
 use Rattle.why_route.proofs.+walk.{statement}
 use Rattle.why_route.proofs.+walk.Tie.{close}
 
@@ -51,7 +52,7 @@ walk-Inv-loop firsts seconds kept visited₀ route₀ v goal depth e₀ visited 
 abbrev walk-μ-loop : walk-lts.MeasureT-loop
 walk-μ-loop firsts seconds kept visited₀ route₀ v goal depth e₀ visited route e = length firsts - e
 
--- src/lib.rt:81:9
+-- src/lib.rt:50:9
 walk-visit-requires : (t : ℕ) → walk-lts.Need-visit-requires (
   visit-reads.Asked,
   visit-reads.Learnt,
@@ -66,7 +67,7 @@ walk-visit-requires : (t : ℕ) → walk-lts.Need-visit-requires (
 ) (walk-at t) walk.Post walk-Inv-loop walk-μ-loop
 walk-visit-requires t c κs = search needs
 
--- src/lib.rt:82:9
+-- src/lib.rt:51:9
 walk-same-length : (t : ℕ) → walk-lts.Need-same-length (
   visit-reads.Asked,
   visit-reads.Learnt,
@@ -81,7 +82,7 @@ walk-same-length : (t : ℕ) → walk-lts.Need-same-length (
 ) (walk-at t) walk.Post walk-Inv-loop walk-μ-loop
 walk-same-length t c = c .before .before .before .visit .kept .0
 
--- src/lib.rt:82:9
+-- src/lib.rt:51:9
 walk-returns : (t : ℕ) → walk-lts.Need-returns (
   visit-reads.Asked,
   visit-reads.Learnt,
@@ -96,7 +97,7 @@ walk-returns : (t : ℕ) → walk-lts.Need-returns (
 ) (walk-at t) walk.Post walk-Inv-loop walk-μ-loop
 walk-returns t c = walk-refused (c .before .before .before .before .before .before .before .before .before .before .args .visited .now) (c .before .before .before .before .before .before .before .before .before .before .args .v) (c .before .before .before .visit .ensures .0) (c .before .before .before .visit .ensures .1) (not-true _ (c .if1 .taken))
 
--- src/lib.rt:85:9
+-- src/lib.rt:54:9
 walk-same-length-2 : (t : ℕ) → walk-lts.Need-same-length-2 (
   visit-reads.Asked,
   visit-reads.Learnt,
@@ -111,7 +112,7 @@ walk-same-length-2 : (t : ℕ) → walk-lts.Need-same-length-2 (
 ) (walk-at t) walk.Post walk-Inv-loop walk-μ-loop
 walk-same-length-2 t c = c .before .before .before .before .visit .kept .0
 
--- src/lib.rt:85:9
+-- src/lib.rt:54:9
 walk-returns-2 : (t : ℕ) → walk-lts.Need-returns-2 (
   visit-reads.Asked,
   visit-reads.Learnt,
@@ -126,7 +127,7 @@ walk-returns-2 : (t : ℕ) → walk-lts.Need-returns-2 (
 ) (walk-at t) walk.Post walk-Inv-loop walk-μ-loop
 walk-returns-2 t c = walk-here (c .before .before .before .before .before .before .before .before .before .before .before .args .v) (is-free (c .before .before .before .before .before .before .before .before .before .before .before .args .visited .now) (c .before .before .before .before .before .before .before .before .before .before .before .args .v) (c .before .before .before .before .visit .ensures .0) (c .before .before .before .before .visit .ensures .1) (not-false _ (c .before .if1 .left))) (c .if2 .taken)
 
--- src/lib.rt:88:5
+-- src/lib.rt:57:5
 walk-loop-holds : (t : ℕ) → walk-lts.Need-loop-holds (
   visit-reads.Asked,
   visit-reads.Learnt,
@@ -141,7 +142,7 @@ walk-loop-holds : (t : ℕ) → walk-lts.Need-loop-holds (
 ) (walk-at t) walk.Post walk-Inv-loop walk-μ-loop
 walk-loop-holds t c = (walking-start _, refl)
 
--- src/lib.rt:89:12
+-- src/lib.rt:58:12
 walk-is-at-requires : (t : ℕ) → walk-lts.Need-is-at-requires (
   visit-reads.Asked,
   visit-reads.Learnt,
@@ -156,7 +157,7 @@ walk-is-at-requires : (t : ℕ) → walk-lts.Need-is-at-requires (
 ) (walk-at t) walk.Post walk-Inv-loop walk-μ-loop
 walk-is-at-requires t c κs = search needs
 
--- src/lib.rt:90:17
+-- src/lib.rt:59:17
 walk-far-end-requires : (t : ℕ) → walk-lts.Need-far-end-requires (
   visit-reads.Asked,
   visit-reads.Learnt,
@@ -171,7 +172,7 @@ walk-far-end-requires : (t : ℕ) → walk-lts.Need-far-end-requires (
 ) (walk-at t) walk.Post walk-Inv-loop walk-μ-loop
 walk-far-end-requires t c κs = search needs
 
--- src/lib.rt:91:82
+-- src/lib.rt:60:82
 walk-add-walk : (t : ℕ) → walk-lts.Need-add-walk (
   visit-reads.Asked,
   visit-reads.Learnt,
@@ -186,7 +187,7 @@ walk-add-walk : (t : ℕ) → walk-lts.Need-add-walk (
 ) (walk-at t) walk.Post walk-Inv-loop walk-μ-loop
 walk-add-walk t c = let k = walk-falls (c .before .before .before .before .before .before .before .before .before .before .before .before .before .before .before .before .before .before .args .visited .now) (c .before .before .before .before .before .before .before .before .before .before .before .before .before .before .before .before .before .before .args .v) (is-free (c .before .before .before .before .before .before .before .before .before .before .before .before .before .before .before .before .before .before .args .visited .now) (c .before .before .before .before .before .before .before .before .before .before .before .before .before .before .before .before .before .before .args .v) (c .before .before .before .before .before .before .before .before .before .before .before .visit .ensures .0) (c .before .before .before .before .before .before .before .before .before .before .before .visit .ensures .1) (not-false _ (c .before .before .before .before .before .before .before .before .if1 .left))) (visit-made (c .before .before .before .before .before .before .before .before .before .before .before .before .before .before .before .before .before .before .args .visited .now) (c .before .before .before .before .before .before .before .before .before .before .before .before .before .before .before .before .before .before .args .v) (c .before .before .before .before .before .before .before .before .before .before .before .visit .ensures .0) (c .before .before .before .before .before .before .before .before .before .before .before .visit .ensures .1) (not-false _ (c .before .before .before .before .before .before .before .before .if1 .left))) (c .before .before .before .before .before .before .loop .inv .0 .explored) in let f = c .before .before .before .before .before .before .before .before .before .before .before .before .before .before .before .before .before .before .pre .1 .fits in omega arith
 
--- src/lib.rt:91:17
+-- src/lib.rt:60:17
 walk-walk-requires : (t : ℕ) → walk-lts.Need-walk-requires (
   visit-reads.Asked,
   visit-reads.Learnt,
@@ -205,7 +206,7 @@ walk-walk-requires t c κs = (
   walk-next (c .before .before .before .before .before .before .before .before .before .before .before .before .before .before .before .before .before .before .args .visited .now) (c .before .before .before .before .before .before .before .before .before .before .before .before .before .before .before .before .before .before .args .v) (is-free (c .before .before .before .before .before .before .before .before .before .before .before .before .before .before .before .before .before .before .args .visited .now) (c .before .before .before .before .before .before .before .before .before .before .before .before .before .before .before .before .before .before .args .v) (c .before .before .before .before .before .before .before .before .before .before .before .visit .ensures .0) (c .before .before .before .before .before .before .before .before .before .before .before .visit .ensures .1) (not-false _ (c .before .before .before .before .before .before .before .before .if1 .left))) (visit-made (c .before .before .before .before .before .before .before .before .before .before .before .before .before .before .before .before .before .before .args .visited .now) (c .before .before .before .before .before .before .before .before .before .before .before .before .before .before .before .before .before .before .args .v) (c .before .before .before .before .before .before .before .before .before .before .before .visit .ensures .0) (c .before .before .before .before .before .before .before .before .before .before .before .visit .ensures .1) (not-false _ (c .before .before .before .before .before .before .before .before .if1 .left))) (c .before .before .before .before .before .before .loop .inv .0 .explored) (c .before .before .before .before .before .before .before .before .before .before .before .before .before .before .before .before .before .before .pre .1),
 )
 
--- src/lib.rt:92:38
+-- src/lib.rt:61:38
 walk-enum-known-walked : (t : ℕ) → walk-lts.Need-enum-known-walked (
   visit-reads.Asked,
   visit-reads.Learnt,
@@ -220,7 +221,7 @@ walk-enum-known-walked : (t : ℕ) → walk-lts.Need-enum-known-walked (
 ) (walk-at t) walk.Post walk-Inv-loop walk-μ-loop
 walk-enum-known-walked t c = search needs
 
--- src/lib.rt:93:50
+-- src/lib.rt:62:50
 walk-cast-put32 : (t : ℕ) → walk-lts.Need-cast-put32 (
   visit-reads.Asked,
   visit-reads.Learnt,
@@ -235,7 +236,7 @@ walk-cast-put32 : (t : ℕ) → walk-lts.Need-cast-put32 (
 ) (walk-at t) walk.Post walk-Inv-loop walk-μ-loop
 walk-cast-put32 t c = let few = c .before .before .before .before .before .before .before .before .before .before .before .before .before .before .before .before .before .before .before .before .before .before .before .before .before .before .before .pre .1 .few in let more = c .before .before .before .before .before .before .before .before .before .before .before .before .before .before .loop-test .taken in omega arith
 
--- src/lib.rt:93:17
+-- src/lib.rt:62:17
 walk-put32-requires : (t : ℕ) → walk-lts.Need-put32-requires (
   visit-reads.Asked,
   visit-reads.Learnt,
@@ -250,7 +251,7 @@ walk-put32-requires : (t : ℕ) → walk-lts.Need-put32-requires (
 ) (walk-at t) walk.Post walk-Inv-loop walk-μ-loop
 walk-put32-requires t c κs = search needs
 
--- src/lib.rt:94:17
+-- src/lib.rt:63:17
 walk-same-length-3 : (t : ℕ) → walk-lts.Need-same-length-3 (
   visit-reads.Asked,
   visit-reads.Learnt,
@@ -265,7 +266,7 @@ walk-same-length-3 : (t : ℕ) → walk-lts.Need-same-length-3 (
 ) (walk-at t) walk.Post walk-Inv-loop walk-μ-loop
 walk-same-length-3 t c = c .before .before .before .before .before .before .before .before .before .before .before .walk .kept .1 .1 .1 .0 ∙ c .before .before .before .before .before .before .before .before .before .before .before .before .before .before .before .before .before .before .loop .inv .0 .explored .long ∙ c .before .before .before .before .before .before .before .before .before .before .before .before .before .before .before .before .before .before .before .before .before .before .before .visit .kept .0
 
--- src/lib.rt:94:17
+-- src/lib.rt:63:17
 walk-same-length-4 : (t : ℕ) → walk-lts.Need-same-length-4 (
   visit-reads.Asked,
   visit-reads.Learnt,
@@ -280,7 +281,7 @@ walk-same-length-4 : (t : ℕ) → walk-lts.Need-same-length-4 (
 ) (walk-at t) walk.Post walk-Inv-loop walk-μ-loop
 walk-same-length-4 t c = c .before .before .put32 .kept .0 ∙ c .before .before .before .before .before .before .before .before .before .before .before .walk .kept .1 .1 .1 .1 .0 ∙ ap length (c .before .before .before .before .before .before .before .before .before .before .before .before .before .before .before .before .before .before .loop .inv .1)
 
--- src/lib.rt:94:17
+-- src/lib.rt:63:17
 walk-returns-3 : (t : ℕ) → walk-lts.Need-returns-3 (
   visit-reads.Asked,
   visit-reads.Learnt,
@@ -311,7 +312,7 @@ walk-enum-told : (t : ℕ) → walk-lts.Need-enum-told (
 ) (walk-at t) walk.Post walk-Inv-loop walk-μ-loop
 walk-enum-told t c = search needs
 
--- src/lib.rt:97:9
+-- src/lib.rt:66:9
 walk-add-e : (t : ℕ) → walk-lts.Need-add-e (
   visit-reads.Asked,
   visit-reads.Learnt,
@@ -326,7 +327,7 @@ walk-add-e : (t : ℕ) → walk-lts.Need-add-e (
 ) (walk-at t) walk.Post walk-Inv-loop walk-μ-loop
 walk-add-e t c = search needs
 
--- src/lib.rt:88:5
+-- src/lib.rt:57:5
 walk-loop-less : (t : ℕ) → walk-lts.Need-loop-less (
   visit-reads.Asked,
   visit-reads.Learnt,
@@ -341,7 +342,7 @@ walk-loop-less : (t : ℕ) → walk-lts.Need-loop-less (
 ) (walk-at t) walk.Post walk-Inv-loop walk-μ-loop
 walk-loop-less t c = search needs
 
--- src/lib.rt:88:5
+-- src/lib.rt:57:5
 walk-loop-again : (t : ℕ) → walk-lts.Need-loop-again (
   visit-reads.Asked,
   visit-reads.Learnt,
@@ -362,7 +363,7 @@ walk-loop-again t c =
     (λ w. (rw (w .1) (walking-skip (c .before .before .before .loop .inv .0) (c .before .before .loop-test .taken) (c .before .is-at .ensures) (w .0 .left)), w .2 ∙ c .before .before .before .loop .inv .1))
     (c .if3 .came)
 
--- src/lib.rt:67:1
+-- src/lib.rt:36:1
 walk-same-length-5 : (t : ℕ) → walk-lts.Need-same-length-5 (
   visit-reads.Asked,
   visit-reads.Learnt,
@@ -377,7 +378,7 @@ walk-same-length-5 : (t : ℕ) → walk-lts.Need-same-length-5 (
 ) (walk-at t) walk.Post walk-Inv-loop walk-μ-loop
 walk-same-length-5 t c = c .before .loop .inv .0 .explored .long ∙ c .before .before .before .before .before .before .visit .kept .0
 
--- src/lib.rt:67:1
+-- src/lib.rt:36:1
 walk-same-length-6 : (t : ℕ) → walk-lts.Need-same-length-6 (
   visit-reads.Asked,
   visit-reads.Learnt,
@@ -392,7 +393,7 @@ walk-same-length-6 : (t : ℕ) → walk-lts.Need-same-length-6 (
 ) (walk-at t) walk.Post walk-Inv-loop walk-μ-loop
 walk-same-length-6 t c = ap length (c .before .loop .inv .1)
 
--- src/lib.rt:67:1
+-- src/lib.rt:36:1
 walk-returns-4 : (t : ℕ) → walk-lts.Need-returns-4 (
   visit-reads.Asked,
   visit-reads.Learnt,

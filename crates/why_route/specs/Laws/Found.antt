@@ -5,34 +5,33 @@ use native.Mathlib.Numerals.{add-one}
 use native.Mathlib.Nat.{sub-zero, add-zero}
 use native.Mathlib.Decide.{ℕ-discrete}
 use mathlib.Core.Path.{_≡_, refl, ap, sym, _∙_, subst}
-use mathlib.Core.Logic.{_⊎_, inl, inr, ⊎-elim}
+use mathlib.Core.Logic.{⊎-elim}
 use mathlib.Core.Bool.{Bool, true, false, not}
 use mathlib.Core.List.{List, [], _∷_, _++_, append-assoc}
 use lib.ListN.{length, getD, set, take, drop, replicate, length-replicate, take-append-drop}
-use lib.Seq.{set-append-left, take-set-lt, take-suc-set, length-take-le, getD-take}
-use lib.Dec.{eqb, ltb}
+use lib.Seq.{set-append-left, take-set-lt, take-suc-set, length-take-le}
+use lib.Dec.{eqb}
 use borrow.Author.Tests.{eqb-true, eq-eqb, ne-eqb, lt-ltb, le-ltb, not-false}
-use Rattle.base_finite.specs.Laws.Test.{either, true-not-false, not-of-false}
+use Rattle.base_finite.specs.Laws.Test.{true-not-false}
 use Rattle.base_finite.specs.Laws.Below.{lt-or-ge}
 use Rattle.base_limits.specs.Limits.{maxVertices}
-use Rattle.base_limits.specs.Verdict.{refuseIf, _before_, written}
 use Rattle.base_limits.specs.declared.Verdict.{Verdict}
 use Rattle.base_limits.specs.declared.Verdict.the-variants.{Fine, Refused}
 use Rattle.base_limits.specs.Laws.Verdict.{before-fine, before-refused, fine-left, fine-right, refuse-true, refuse-false, fine-refuse}
 use Rattle.theory_graph.specs.Path.{Leads, forth, back, Linked, here, step, Forest, crosses}
 use Rattle.theory_graph.specs.Laws.Linked.{side-kept, crosses-elim}
-use Rattle.theory_steiner.specs.Problem.{Problem, Bounded}
+use Rattle.theory_steiner.specs.Problem.{Bounded}
 use Rattle.survey_core.specs.Survey.{Survey, vertexCount, edgeCount, problemOf}
-use Rattle.survey_core.specs.Refusal.{surveyRefusal}
 use Rattle.survey_core.specs.Sound.{SurveySound}
 use Rattle.survey_core.specs.Laws.Refusal.{fine-survey}
 use Rattle.survey_components.specs.Labels.{pickedIn}
 use Rattle.survey_forest.specs.Forest.{forestRefusal}
 use Rattle.survey_components.specs.Laws.Picked.{picked-below}
 use Rattle.survey_forest.specs.Laws.Forest.{fine-forest}
-use Rattle.theory_route.specs.Route.{occurs, Route, arrived, routeOf}
+use Rattle.theory_route.specs.Route.{Route, routeOf}
 use Rattle.theory_route.specs.Laws.Route.{route-is, route-none, route-here}
-use Rattle.why_route.specs.Walk.{unvisited, storedAt, endIn, Walkable, Explored, WalkEnds, arrives, fails, routeRefusal}
+use Rattle.why_visit.specs.Visit.{endIn}
+use Rattle.why_route.specs.Walk.{unvisited, storedAt, Walkable, Explored, WalkEnds, arrives, fails, routeRefusal}
 use Rattle.why_route.specs.declared.Walked.{Walked}
 use Rattle.why_route.specs.declared.Walked.the-variants.{Arrived, Lost}
 

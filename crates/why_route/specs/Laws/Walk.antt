@@ -1,53 +1,29 @@
 -- Laws of a walk: what visiting a vertex does, what holds before each turn of the loop over its edges, and how the loop ends. A search that fails leaves a set of visited
 -- vertices that no edge leaves, so that it has not missed the goal.
-use Prim.Native.Nat.{ℕ, zero, suc, _+_, _-_, _<_, _≤_}
+use Prim.Native.Nat.{ℕ, zero, suc, _+_, _<_, _≤_}
 use native.Mathlib.Omega.{arith}
 use native.Mathlib.Numerals.{add-one}
 use native.Mathlib.Decide.{ℕ-discrete}
 use mathlib.Core.Path.{_≡_, refl, ap, sym, _∙_, subst}
 use mathlib.Core.Logic.{_⊎_, inl, inr, ⊎-elim}
-use mathlib.Core.Bool.{Bool, true, false, _&&_, not, cond}
-use mathlib.Core.List.{List, [], _∷_, _++_}
+use mathlib.Core.Bool.{Bool, true, false, _&&_, cond}
+use mathlib.Core.List.{List, [], _∷_}
 use lib.ListN.{length, getD, set, length-set}
 use lib.Seq.{getD-set-same, getD-set-other}
-use lib.Dec.{eqb, ltb}
-use borrow.Author.Tests.{eqb-true, eqb-false, eq-eqb, ne-eqb, lt-ltb, le-ltb, ltb-true, not-true}
+use lib.Dec.{eqb}
 use Rattle.base_finite.specs.Laws.Test.{either, and-left, and-right, and-both, true-not-false, not-true-false}
 use Rattle.base_finite.specs.Laws.Below.{below-suc}
 use Rattle.theory_graph.specs.Path.{Leads}
 use Rattle.survey_components.specs.Labels.{pickedIn}
 use Rattle.theory_route.specs.Route.{occurs, Route, arrived, onward, isEnd, farEnd}
 use Rattle.theory_route.specs.Laws.Route.{occurs-cases, none-occurs, end-at, far-end-is, is-end, leads-far}
-use Rattle.why_route.specs.Walk.{unvisited, isUnvisited, storedAt, endIn, Walkable, Explored, WalkEnds, arrives, fails}
+use Rattle.why_visit.specs.Visit.{isUnvisited, endIn}
+use Rattle.why_visit.specs.Laws.Visit.{free-below, free-zero, free-is}
+use Rattle.why_route.specs.Walk.{unvisited, storedAt, Walkable, Explored, WalkEnds, arrives, fails}
 use Rattle.why_route.specs.declared.Walked.{Walked}
 use Rattle.why_route.specs.declared.Walked.the-variants.{Arrived, Lost}
 
--- ---- edges
-
--- An edge that is not of the forest is at no vertex of it.
-pub not-of-forest : (kept : List ℕ) (e : ℕ) (t : Bool) {r : Bool} → r ≡ pickedIn kept e → not r ≡ true → false ≡ (pickedIn kept e && t)
-not-of-forest kept e t {r} is h = rw (sym is ∙ not-true r h)
-
 -- ---- visiting
-
-module _ (l : List ℕ) (v : ℕ) where
-  pub free-below : isUnvisited l v ≡ true → v < length l
-  unfolding isUnvisited
-  free-below h = ltb-true v (length l) (and-left (ltb v (length l)) (eqb (getD l v 0) 0) h)
-
-  pub free-zero : isUnvisited l v ≡ true → getD l v 0 ≡ 0
-  unfolding isUnvisited
-  free-zero h = eqb-true (getD l v 0) 0 (and-right (ltb v (length l)) (eqb (getD l v 0) 0) h)
-
-  pub free-is : v < length l → getD l v 0 ≡ 0 → isUnvisited l v ≡ true
-  unfolding isUnvisited
-  free-is b h = and-both (ltb v (length l)) (eqb (getD l v 0) 0) (lt-ltb v (length l) b) (eq-eqb (getD l v 0) 0 h)
-
-  pub free-out : length l ≤ v → isUnvisited l v ≡ false
-  free-out h = not-true-false (isUnvisited l v) (λ k. let b = free-below k in omega arith)
-
-  pub free-visited : (getD l v 0 ≡ 0 → ⊥) → isUnvisited l v ≡ false
-  free-visited h = not-true-false (isUnvisited l v) (λ k. h (free-zero k))
 
 pub set-unvisited : (l : List ℕ) (i : ℕ) → i < length l → getD l i 0 ≡ 0 → unvisited (set l i 1) + 1 ≡ unvisited l
 unfolding unvisited

@@ -1,9 +1,9 @@
 -- `visit` meets its contract: past the end, visited, free.
 use mathlib.Core.Path.{sym, _∙_}
 use borrow.Author.Needs.{needs}
-use Rattle.why_route.specs.Laws.Walk.{free-out, free-visited, free-is}
-use Rattle.why_route.proofs.visit.Statement.{statement}
-use Rattle.why_route.proofs.visit.Tie as tie
+use Rattle.why_visit.specs.Laws.Visit.{free-out, free-visited, free-is}
+use Rattle.why_visit.proofs.visit.Statement.{statement}
+use Rattle.why_visit.proofs.visit.Tie as tie
 
 returns : tie.Need-returns
 returns c = let taken = free-out (c .before .before .args .visited .now) (c .before .before .args .v) (c .if1 .taken) in (rw taken, rw taken)

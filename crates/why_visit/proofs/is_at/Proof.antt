@@ -1,12 +1,11 @@
 -- `is_at` meets its contract.
 use mathlib.Core.Path.{sym, _∙_}
-use mathlib.Core.Bool.{_&&_, _||_}
 use borrow.Author.Needs.{needs}
 use borrow.Author.Tests.{eq-eqb, ne-eqb, not-false}
 use Rattle.theory_route.specs.Route.{isEnd}
-use Rattle.why_route.specs.Laws.Walk.{not-of-forest}
-use Rattle.why_route.proofs.is_at.Statement.{statement}
-use Rattle.why_route.proofs.is_at.Tie as tie
+use Rattle.why_visit.specs.Laws.Visit.{not-of-forest}
+use Rattle.why_visit.proofs.is_at.Statement.{statement}
+use Rattle.why_visit.proofs.is_at.Tie as tie
 
 -- not of the forest
 returns : tie.Need-returns
