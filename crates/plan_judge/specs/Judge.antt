@@ -1,10 +1,9 @@
 -- What judging a batch of edges, as many as a word has bits, makes of their marks.
-use Prim.Native.Nat.{ℕ, zero, suc, _+_, _-_}
+use Prim.Native.Nat.{ℕ, _+_, _-_}
 use mathlib.Core.Path.{_≡_}
 use mathlib.Core.Bool.{Bool, _&&_, cond}
 use mathlib.Core.List.{List}
 use lib.ListN.{getD, set}
-use lib.Bits.{bitOr, bitXor}
 use Rattle.base_finite.specs.Below.{counted, countBelow}
 use Rattle.format_record.specs.Bits.{bitAt}
 use Rattle.plan_cuts.specs.Word.{inBatch}
@@ -12,11 +11,6 @@ use Rattle.plan_cuts.specs.Word.{inBatch}
 -- A set of vertices: those whose word has bit k.
 unfoldable pub sideIn : (words : List ℕ) → (k v : ℕ) → Bool
 sideIn words k v = bitAt (getD words v 0) k
-
--- All groups and all edges of a batch at once: bit k is set where some vertex below n and its mate differ in bit k of their words.
-unfoldable pub partedBelow : (words mates : List ℕ) → (n : ℕ) → ℕ
-partedBelow words mates zero = 0
-partedBelow words mates (suc v) = bitOr (partedBelow words mates v) (bitXor (getD words v 0) (getD words (getD mates v 0) 0))
 
 -- The edge with index i is of this batch, and its bit is set.
 unfoldable pub judged : (bits base i : ℕ) → Bool

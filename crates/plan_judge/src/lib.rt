@@ -5,26 +5,12 @@ ghost use mathlib.Core.Path.{_≡_};
 ghost use Prim.Native.Nat.{_+_, _^_, _<_};
 ghost use Rattle.base_buffer.specs.Store.{remade};
 ghost use Rattle.survey_components.specs.Labels.{pickedIn};
-ghost use Rattle.plan_judge.specs.Judge.{partedBelow, judged, raised, MarkStep};
-use base_buffer::at64;
+ghost use Rattle.plan_bits.specs.Parted.{partedBelow};
+ghost use Rattle.plan_judge.specs.Judge.{judged, raised, MarkStep};
 use base_buffer::put8;
 use base_limits::MAX_VERTICES;
 use plan_cuts::WORD_BITS;
 use survey_components::is_picked;
-
-// The bits in which some vertex below n and its mate differ.
-fn parted(words: &[u64; MAX_VERTICES], mates: &[u32; MAX_VERTICES], n: usize) -> u64
-    ensures { λ r. ⌜ r ≡ partedBelow (old words) (old mates) n ⌝ }
-{
-    let mut bits = 0;
-    let mut v = 0;
-    while v < n {
-        let mate = base_buffer::index32(base_buffer::at32(mates, v));
-        bits = bits | (at64(words, v) ^ at64(words, mate));
-        v += 1;
-    }
-    bits
-}
 
 // Whether the edge with index i is of this batch and its bit is set.
 fn is_needed(bits: u64, base: usize, i: usize) -> bool
@@ -67,7 +53,7 @@ pub fn judge_edges(
     ensures { λ r. let judgement = judged (partedBelow (old words) (old mates) n) base in
         ⌜ new marks ≡ remade (raised (pickedIn (old picked)) judgement) m (old marks) ⌝ }
 {
-    let bits = parted(words, mates, n);
+    let bits = plan_bits::parted(words, mates, n);
     let mut i = 0;
     let mut e = 0;
     while e < m {

@@ -27,7 +27,8 @@ use Rattle.plan_cuts.specs.Word.{wordBits, inBatch, Alone, CutEndsBelow}
 use Rattle.plan_cuts.specs.Tried.{triedWords}
 use Rattle.plan_cuts.specs.Laws.Tried.{tried-words-alone}
 use Rattle.plan_drop.specs.Prunable.{Prunable, unweighted}
-use Rattle.plan_judge.specs.Judge.{sideIn, partedBelow, judged, raised}
+use Rattle.plan_bits.specs.Parted.{partedBelow}
+use Rattle.plan_judge.specs.Judge.{sideIn, judged, raised}
 use Rattle.plan_judge.specs.Laws.Judge.{batch-before, batch-after, batch-in, parted-bit}
 use Rattle.plan_drop.specs.Judge.{prunedMarks, droppedMarks, batchMarks}
 use Rattle.plan_cuts.specs.Laws.Word.{count-lt}

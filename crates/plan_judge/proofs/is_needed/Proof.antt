@@ -1,7 +1,7 @@
 -- `is_needed` meets its contract: each return by the law of its case.
 use Rattle.format_record.specs.Bits.{bitAt}
 use Rattle.plan_judge.specs.Laws.Judge.{judged-before, judged-after, judged-in}
-use mathlib.Core.Path.{sym, _∙_}
+use mathlib.Core.Path.{sym}
 use native.Mathlib.Omega.{arith}
 use borrow.Author.Needs.{needs}
 use Rattle.plan_judge.proofs.is_needed.Statement.{statement}

@@ -1,13 +1,12 @@
 -- Laws of judging: one edge, a batch, and all groups at once.
 use Prim.Native.Nat.{ℕ, zero, suc, _+_, _-_, _<_, _≤_}
 use native.Mathlib.Omega.{arith}
-use native.Mathlib.Numerals.{add-one}
 use mathlib.Core.Path.{_≡_, refl, ap, sym, _∙_}
 use mathlib.Core.Bool.{Bool, true, false, _&&_, xor, cond}
 use mathlib.Core.List.{List, [], _∷_}
 use lib.ListN.{getD, set}
 use lib.Dec.{ltb, leb}
-use lib.Bits.{bitOr, bitXor}
+use lib.Bits.{bitXor}
 use borrow.Author.Tests.{lt-ltb, le-leb, lt-leb, le-ltb}
 use Rattle.base_finite.specs.Below.{countBelow, anyBelow}
 use Rattle.base_finite.specs.Laws.Below.{counted-true, counted-false}
@@ -18,7 +17,8 @@ use Rattle.base_buffer.specs.Store.{remade}
 use Rattle.base_buffer.specs.Laws.Store.{remade-more}
 use Rattle.plan_cuts.specs.Word.{wordBits, inBatch}
 use Rattle.plan_cuts.specs.Laws.Word.{bit-xor}
-use Rattle.plan_judge.specs.Judge.{sideIn, partedBelow, judged, raised, MarkStep}
+use Rattle.plan_bits.specs.Parted.{partedBelow}
+use Rattle.plan_judge.specs.Judge.{sideIn, judged, raised, MarkStep}
 
 -- ---- one edge
 
@@ -74,19 +74,6 @@ judged-in bits base i l h = rw (batch-in base i l h)
 -- ---- all groups at once
 
 module _ (words mates : List ℕ) where
-  pub parted-none : 0 ≡ partedBelow words mates 0
-  unfolding partedBelow
-  parted-none = refl
-
-  -- One more vertex, as calls read it.
-  pub parted-more : (v : ℕ) {bits w x y : ℕ} → bits ≡ partedBelow words mates v → w ≡ getD mates v 0 → x ≡ getD words v 0 → y ≡ getD words w 0
-      → bitOr bits (bitXor x y) ≡ partedBelow words mates (v + 1)
-  unfolding partedBelow
-  parted-more v h m a b = rw (add-one v, h, a, b, m)
-
-  pub parted-end : (n v : ℕ) {bits : ℕ} → v ≤ n → n ≤ v → bits ≡ partedBelow words mates v → bits ≡ partedBelow words mates n
-  parted-end n v b c h = let e : n ≡ v = omega arith in rw e h
-
   pub parted-bit : (n k : ℕ) → bitAt (partedBelow words mates n) k ≡ anyBelow n (λ v. xor (sideIn words k v) (sideIn words k (getD mates v 0)))
   unfolding partedBelow anyBelow sideIn
   parted-bit zero k = bit-of-zero k

@@ -3,10 +3,10 @@ use Prim.Native.Nat.{_≤_, _-_}
 use mathlib.Core.Path.{_≡_, _∙_}
 use native.Mathlib.Omega.{arith}
 use borrow.Author.Needs.{needs}
-use Rattle.plan_judge.specs.Judge.{partedBelow}
-use Rattle.plan_judge.specs.Laws.Judge.{parted-none, parted-more, parted-end}
-use Rattle.plan_judge.proofs.parted.Statement.{statement}
-use Rattle.plan_judge.proofs.parted.Tie as tie
+use Rattle.plan_bits.specs.Parted.{partedBelow}
+use Rattle.plan_bits.specs.Laws.Parted.{parted-none, parted-more, parted-end}
+use Rattle.plan_bits.proofs.parted.Statement.{statement}
+use Rattle.plan_bits.proofs.parted.Tie as tie
 
 abbrev Inv-loop : tie.InvT-loop
 Inv-loop words mates n bits₀ v₀ bits v = (v ≤ n) × (bits ≡ partedBelow words mates v)
