@@ -1,6 +1,6 @@
 -- Document 01, 'What a plan holds': the marks, and what judging a batch of edges, as many as a word has bits, makes of them.
 use Prim.Native.Nat.{ℕ}
-use mathlib.Core.Bool.{Bool, false, _&&_, cond}
+use mathlib.Core.Bool.{Bool, _&&_, cond}
 use mathlib.Core.List.{List}
 use Rattle.base_finite.specs.Below.{countBelow}
 use Rattle.theory_steiner.specs.Problem.{Problem}
@@ -20,10 +20,6 @@ prunedMarks p F m marks = remade (λ e mark. markOf (F e) (needed p F e)) m mark
 unfoldable pub marksPruned : Survey → (picked marks : List ℕ) → List ℕ
 marksPruned s picked marks =
     written (forestRefusal s picked) (prunedMarks (problemOf s) (pickedIn picked) (edgeCount s) marks) marks
-
--- The first marks: every edge of F is dropped.
-unfoldable pub droppedMarks : (ℕ → Bool) → (m : ℕ) → List ℕ → List ℕ
-droppedMarks F m marks = remade (λ e mark. markOf (F e) false) m marks
 
 -- A batch's marks, where the edges' needs are known.
 unfoldable pub batchMarks : Problem → (ℕ → Bool) → (base m : ℕ) → List ℕ → List ℕ

@@ -1,56 +1,17 @@
 // Pruning: which picked edges are kept. Definitions in specs/.
 ghost use Rattle.base_buffer.specs.Lent.{old, new};
 ghost use mathlib.Core.Path.{_≡_};
-ghost use mathlib.Core.Bool.{false};
-ghost use Prim.Native.Nat.{_≤_};
 ghost use lib.ListN.{length};
-ghost use Rattle.base_finite.specs.Below.{countBelow, tabulate};
-ghost use Rattle.base_limits.specs.Limits.{maxVertices, maxEdges};
-ghost use Rattle.theory_steiner.specs.Pruning.{markOf};
+ghost use Rattle.base_finite.specs.Below.{tabulate};
+ghost use Rattle.base_limits.specs.Limits.{maxVertices};
 ghost use Rattle.survey_core.specs.Survey.{lentSurvey};
 ghost use Rattle.survey_mates.specs.Mate.{mateOf};
 ghost use Rattle.survey_components.specs.Labels.{pickedIn};
 ghost use Rattle.survey_forest.specs.Forest.{forestRefusal};
 ghost use Rattle.plan_drop.specs.Prunable.{Prunable, unweighted};
-ghost use Rattle.plan_drop.specs.Judge.{droppedMarks, batchMarks, prunedMarks, marksPruned};
-use base_buffer::put8;
+ghost use Rattle.plan_drop.specs.Judge.{batchMarks, prunedMarks, marksPruned};
 use base_limits::MAX_VERTICES;
 use base_limits::Verdict;
-
-// 1 for a picked edge, else 0.
-fn dropped_mark(picked: &[u8], e: usize) -> u8
-    ensures { λ r. ⌜ r ≡ markOf (pickedIn (old picked) e) false ⌝ }
-{
-    if survey_components::is_picked(picked, e) {
-        return 1;
-    }
-    0
-}
-
-// The marks before any edge is judged needed.
-fn drop_all(picked: &[u8], marks: &mut [u8], m: usize)
-    ensures { λ r. ⌜ new marks ≡ droppedMarks (pickedIn (old picked)) m (old marks) ⌝ }
-{
-    let mut e = 0;
-    while e < m {
-        put8(marks, e, dropped_mark(picked, e));
-        e += 1;
-    }
-}
-
-// How many edges below m are picked.
-fn count_picked(picked: &[u8], m: usize) -> usize
-    requires { ⌜ m ≤ maxEdges ⌝ }
-    ensures { λ r. ⌜ r ≡ countBelow m (pickedIn (old picked)) ⌝ }
-{
-    let mut count = 0;
-    let mut e = 0;
-    while e < m {
-        count += base_buffer::index8(dropped_mark(picked, e));
-        e += 1;
-    }
-    count
-}
 
 // The 64 picked edges from index base on, by an order in which vertices may hang on others by their links.
 fn prune_batch(
@@ -90,14 +51,14 @@ fn prune_forest(groups: &[u8], firsts: &[u32], seconds: &[u32], picked: &[u8], m
     ensures { λ r. let p = unweighted (old groups) (old firsts) (old seconds) in
         ⌜ new marks ≡ prunedMarks p (pickedIn (old picked)) (length (old firsts)) (old marks) ⌝ }
 {
-    drop_all(picked, marks, firsts.len());
+    plan_dropped::drop_all(picked, marks, firsts.len());
     let mates = survey_mates::mates(groups);
     let guess = plan_peel::peel(firsts, seconds, picked, groups.len() as u32);
     let order = guess.order;
     let others = guess.others;
     let links = guess.marks;
     let hung = guess.count;
-    let count = count_picked(picked, firsts.len());
+    let count = plan_dropped::count_picked(picked, firsts.len());
     let mut base = 0;
     while base < count {
         prune_batch(

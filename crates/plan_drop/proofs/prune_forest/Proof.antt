@@ -1,5 +1,6 @@
 -- `prune_forest` meets its contract: after each batch the marks are those of the batches below base.
-use Rattle.plan_drop.specs.Laws.Judge.{marksBelow, length-dropped, length-below, below-start, below-more, below-end}
+use Rattle.plan_dropped.specs.Laws.Dropped.{length-dropped}
+use Rattle.plan_drop.specs.Laws.Judge.{marksBelow, length-below, below-start, below-more, below-end}
 use Rattle.plan_drop.specs.Prunable.{unweighted}
 use Rattle.survey_components.specs.Labels.{pickedIn}
 use Rattle.base_finite.specs.Laws.Below.{count-le}
@@ -18,10 +19,6 @@ Inv-loop groups firsts seconds picked marks₀ mates order others links hung cou
 abbrev μ-loop : tie.MeasureT-loop
 μ-loop groups firsts seconds picked marks₀ mates order others links hung count base₀ marks base =
     count - base
-
-count-picked-requires : tie.Need-count-picked-requires Inv-loop μ-loop
-count-picked-requires c κs =
-    let start = c .before .before .before .before .before .before .before .before .before .before .before .before .before .before in start .pre .edges-few
 
 loop-holds : tie.Need-loop-holds Inv-loop μ-loop
 loop-holds c =
@@ -64,7 +61,7 @@ prune-forest-spec =
     (λ c κs. search needs)
     (λ c. search needs)
     (λ c κs. search needs)
-    count-picked-requires
+    (λ c κs. search needs)
     loop-holds
     prune-batch-requires
     add-base

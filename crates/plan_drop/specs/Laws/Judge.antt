@@ -8,7 +8,7 @@ use mathlib.Core.List.{List, [], _∷_}
 use lib.ListN.{length, getD}
 use lib.Dec.{eqb, ltb, leb}
 use borrow.Author.Tests.{eq-eqb, eqb-true, lt-ltb, ltb-true, leb-true, le-ltb}
-use Rattle.base_finite.specs.Below.{counted, countBelow, tabulate}
+use Rattle.base_finite.specs.Below.{countBelow, tabulate}
 use Rattle.base_finite.specs.Laws.Below.{any-cong, lt-or-ge, getD-tabulate}
 use Rattle.base_finite.specs.Laws.Test.{either, and-left, and-right}
 use Rattle.base_limits.specs.Limits.{maxVertices}
@@ -30,7 +30,8 @@ use Rattle.plan_drop.specs.Prunable.{Prunable, unweighted}
 use Rattle.plan_bits.specs.Parted.{partedBelow}
 use Rattle.plan_judge.specs.Judge.{sideIn, judged, raised}
 use Rattle.plan_judge.specs.Laws.Judge.{batch-before, batch-after, batch-in, parted-bit}
-use Rattle.plan_drop.specs.Judge.{prunedMarks, droppedMarks, batchMarks}
+use Rattle.plan_dropped.specs.Dropped.{droppedMarks}
+use Rattle.plan_drop.specs.Judge.{prunedMarks, batchMarks}
 use Rattle.plan_cuts.specs.Laws.Word.{count-lt}
 
 -- ---- stores at rising places
@@ -47,21 +48,6 @@ unfolding remade
 remade-twice f g zero l = refl
 remade-twice f g (suc n) [] = refl
 remade-twice f g (suc n) (x ∷ l) = ap (λ t. g 0 (f 0 x) ∷ t) (remade-twice (λ k. f (suc k)) (λ k. g (suc k)) n l)
-
--- ---- one edge
-
-pub dropped-picked : {in-set : Bool} → in-set ≡ true → markOf in-set false ≡ 1
-unfolding markOf
-dropped-picked t = rw t
-
-pub dropped-other : {in-set : Bool} → in-set ≡ false → markOf in-set false ≡ 0
-unfolding markOf
-dropped-other t = rw t
-
-pub dropped-counts : (in-set : Bool) → markOf in-set false ≡ counted in-set 1
-unfolding markOf counted
-dropped-counts true = refl
-dropped-counts false = refl
 
 -- ---- a batch
 
@@ -159,10 +145,6 @@ module _ (groups firsts seconds picked : List ℕ) (ok : Prunable groups firsts 
 -- The marks after the batches below base.
 unfoldable pub marksBelow : Problem → (ℕ → Bool) → (base m : ℕ) → List ℕ → List ℕ
 marksBelow p F base m marks = remade (λ e mark. markOf (F e) (ltb (countBelow e F) base && needed p F e)) m marks
-
-pub length-dropped : (F : ℕ → Bool) (m : ℕ) (marks : List ℕ) → length (droppedMarks F m marks) ≡ length marks
-unfolding droppedMarks
-length-dropped F m marks = length-remade _ m marks
 
 unraised : (f k n : Bool) → cond (f && (false && n)) 2 (markOf f k) ≡ markOf f k
 unraised true k n = refl

@@ -1,15 +1,14 @@
 -- `count_picked` meets its contract: it counts upwards.
-use Rattle.plan_drop.specs.Laws.Judge.{dropped-counts}
-use Rattle.plan_cuts.specs.Laws.Word.{count-start}
+use Rattle.plan_dropped.specs.Laws.Dropped.{dropped-counts}
 use Rattle.survey_components.specs.Labels.{pickedIn}
 use Rattle.base_finite.specs.Laws.Count.{count-more, count-end, count-bound}
-use Rattle.base_finite.specs.Below.{countBelow}
-use mathlib.Core.Path.{_≡_, _∙_}
+use Rattle.base_finite.specs.Below.{countBelow, sumBelow}
+use mathlib.Core.Path.{_≡_, refl, _∙_}
 use Prim.Native.Nat.{_≤_, _-_}
 use borrow.Author.Needs.{needs}
 use native.Mathlib.Omega.{arith}
-use Rattle.plan_drop.proofs.count_picked.Statement.{statement}
-use Rattle.plan_drop.proofs.count_picked.Tie as tie
+use Rattle.plan_dropped.proofs.count_picked.Statement.{statement}
+use Rattle.plan_dropped.proofs.count_picked.Tie as tie
 
 abbrev Inv-loop : tie.InvT-loop
 Inv-loop picked m count₀ e₀ count e =
@@ -20,12 +19,12 @@ abbrev μ-loop : tie.MeasureT-loop
     m - e
 
 loop-holds : tie.Need-loop-holds Inv-loop μ-loop
+unfolding countBelow sumBelow
 loop-holds c =
-    (omega arith, count-start _)
+    (omega arith, refl)
 
 add-count : tie.Need-add-count Inv-loop μ-loop
 add-count c =
-    let few = c .before .before .before .before .before .pre in
     let b = count-bound _ _ (c .before .before .before .loop .inv .1) (c .index8 .ensures ∙ c .before .dropped-mark .ensures ∙ dropped-counts _) in omega arith
 
 loop-again : tie.Need-loop-again Inv-loop μ-loop

@@ -1,9 +1,9 @@
 -- `dropped_mark` meets its contract: each return by its test.
-use Rattle.plan_drop.specs.Laws.Judge.{dropped-picked, dropped-other}
+use Rattle.plan_dropped.specs.Laws.Dropped.{dropped-picked, dropped-other}
 use mathlib.Core.Path.{sym, _∙_}
 use borrow.Author.Needs.{needs}
-use Rattle.plan_drop.proofs.dropped_mark.Statement.{statement}
-use Rattle.plan_drop.proofs.dropped_mark.Tie as tie
+use Rattle.plan_dropped.proofs.dropped_mark.Statement.{statement}
+use Rattle.plan_dropped.proofs.dropped_mark.Tie as tie
 
 returns : tie.Need-returns
 returns c =

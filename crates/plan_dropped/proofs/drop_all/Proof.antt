@@ -1,5 +1,5 @@
 -- `drop_all` meets its contract: it stores at rising places.
-use Rattle.plan_drop.specs.Judge.{droppedMarks}
+use Rattle.plan_dropped.specs.Dropped.{droppedMarks}
 use Rattle.survey_components.specs.Labels.{pickedIn}
 use Rattle.base_buffer.specs.Store.{remade}
 use Rattle.base_buffer.specs.Laws.Store.{length-remade, remade-more, remade-end}
@@ -10,8 +10,8 @@ use mathlib.Core.Path.{_≡_, refl, ap, _∙_}
 use Prim.Native.Nat.{_≤_, _-_}
 use borrow.Author.Needs.{needs}
 use native.Mathlib.Omega.{arith}
-use Rattle.plan_drop.proofs.drop_all.Statement.{statement}
-use Rattle.plan_drop.proofs.drop_all.Tie as tie
+use Rattle.plan_dropped.proofs.drop_all.Statement.{statement}
+use Rattle.plan_dropped.proofs.drop_all.Tie as tie
 
 abbrev Inv-loop : tie.InvT-loop
 Inv-loop picked marks₀ m e₀ marks e =
