@@ -14,8 +14,8 @@ ghost use Rattle.plan_cuts.specs.Tried.{triedWords};
 use base_buffer::at64;
 use base_buffer::put64;
 use base_limits::MAX_VERTICES;
-use plan_taken::own_word;
 use plan_taken::taken_words;
+use plan_word::own_word;
 
 // Vertex v gets the word of the one that it hangs on, turned in the bit of the edge between them.
 fn hang(

@@ -3,55 +3,22 @@ ghost use Rattle.base_buffer.specs.Lent.{old, new};
 ghost use mathlib.Core.Path.{_≡_};
 ghost use Prim.Native.Nat.{ℕ, _+_, _<_, _^_};
 ghost use lib.ListN.{getD, length};
-ghost use lib.Dec.{eqb};
-ghost use Rattle.base_finite.specs.Below.{counted};
 ghost use Rattle.base_limits.specs.Limits.{maxVertices};
 ghost use Rattle.survey_components.specs.Labels.{pickedIn};
 ghost use Rattle.survey_labels.specs.Labels.{endsJoined};
-ghost use Rattle.plan_cuts.specs.Word.{ownWord, turned, turnedAll, edgeTaken};
+ghost use Rattle.plan_cuts.specs.Word.{turnedAll, edgeTaken};
 ghost use Rattle.plan_cuts.specs.Taken.{EdgeStep, takenBelow};
 use base_buffer::at64;
 use base_buffer::put64;
 use base_limits::MAX_VERTICES;
-use plan_cuts::WORD_BITS;
 
-// The bit of the edge with index i, among the 64 from base on.
-pub fn own_word(base: usize, i: usize) -> u64
-    ensures { λ r. ⌜ r ≡ ownWord base i ⌝ }
-{
-    if i < base {
-        return 0;
-    }
-    if WORD_BITS <= i - base {
-        return 0;
-    }
-    1u64 << (i - base)
-}
-
-// The word for the vertices of component x, and 0 for others.
-fn word_at(label: u32, x: u32, word: u64) -> u64
-    ensures { λ r. ⌜ r ≡ counted (eqb label x) word ⌝ }
-{
-    if label == x {
-        return word;
-    }
-    0
-}
-
-// What a new edge between the components x and y makes of one vertex's word.
-fn turn(x: u32, y: u32, delta: u64, own: u64, label: u32, word: u64) -> u64
-    ensures { λ r. ⌜ r ≡ turned x y delta own label word ⌝ }
-{
-    word ^ word_at(label, y, delta) ^ word_at(label, x, own)
-}
-
-// And of all words.
+// What a new edge between the components x and y makes of all words.
 fn turn_all(x: u32, y: u32, delta: u64, own: u64, labels: &[u32], words: &mut [u64])
     ensures { λ r. ⌜ new words ≡ turnedAll x y delta own (old labels) (old words) ⌝ }
 {
     let mut w = 0;
     while w < words.len() {
-        let word = turn(
+        let word = plan_word::turn(
             x,
             y,
             delta,
@@ -98,7 +65,7 @@ fn take_edge(
         take_ends(
             base_buffer::at32(firsts, e),
             base_buffer::at32(seconds, e),
-            own_word(base, i),
+            plan_word::own_word(base, i),
             labels,
             words,
         );

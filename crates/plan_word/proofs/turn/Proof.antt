@@ -1,8 +1,8 @@
 -- `turn` meets its contract: the two exclusive ors of the definition.
 use Rattle.plan_cuts.specs.Word.{turned}
 use borrow.Author.Needs.{needs}
-use Rattle.plan_taken.proofs.turn.Statement.{statement}
-use Rattle.plan_taken.proofs.turn.Tie as tie
+use Rattle.plan_word.proofs.turn.Statement.{statement}
+use Rattle.plan_word.proofs.turn.Tie as tie
 
 returns : tie.Need-returns
 unfolding turned

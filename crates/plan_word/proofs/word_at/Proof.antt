@@ -2,8 +2,8 @@
 use Rattle.base_finite.specs.Laws.Below.{counted-true, counted-false}
 use borrow.Author.Tests.{eq-eqb, ne-eqb}
 use mathlib.Core.Path.{sym}
-use Rattle.plan_taken.proofs.word_at.Statement.{statement}
-use Rattle.plan_taken.proofs.word_at.Tie as tie
+use Rattle.plan_word.proofs.word_at.Statement.{statement}
+use Rattle.plan_word.proofs.word_at.Tie as tie
 
 returns : tie.Need-returns
 returns c =

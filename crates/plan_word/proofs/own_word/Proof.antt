@@ -7,8 +7,8 @@ use native.Mathlib.Nat.{one-mul}
 use mathlib.Core.Path.{sym, _∙_}
 use native.Mathlib.Omega.{arith}
 use borrow.Author.Needs.{needs}
-use Rattle.plan_taken.proofs.own_word.Statement.{statement}
-use Rattle.plan_taken.proofs.own_word.Tie as tie
+use Rattle.plan_word.proofs.own_word.Statement.{statement}
+use Rattle.plan_word.proofs.own_word.Tie as tie
 
 -- before the batch
 returns : tie.Need-returns
