@@ -3,93 +3,15 @@ ghost use Rattle.base_buffer.specs.Lent.{old};
 ghost use mathlib.Core.Path.{_≡_};
 ghost use Prim.Native.Nat.{_≤_};
 ghost use lib.ListN.{length, getD};
-ghost use lib.Dec.{eqb, ltb, leb};
 ghost use Rattle.base_finite.specs.Below.{counted, anyBelow};
-ghost use Rattle.base_limits.specs.Limits.{maxVertices, maxWeight};
+ghost use Rattle.base_limits.specs.Limits.{maxVertices};
 ghost use Rattle.base_limits.specs.Verdict.{lowestBelow};
 ghost use Rattle.survey_core.specs.Survey.{lentSurvey, edgeCount};
 ghost use Rattle.survey_core.specs.Refusal.{edgeRefusal, surveyRefusal};
-ghost use Rattle.survey_refusal.specs.Fault.{faulty};
+ghost use Rattle.survey_fault.specs.Fault.{faulty};
 use base_limits::MAX_EDGES;
 use base_limits::MAX_VERTICES;
-use base_limits::MAX_WEIGHT;
 use base_limits::Verdict;
-
-// What is wrong with one track: 4, 5 or 6.
-fn edge_refusal(
-    groups: &[u8],
-    firsts: &[u32],
-    seconds: &[u32],
-    weights: &[u32],
-    e: usize,
-) -> Verdict
-    ensures { λ r. ⌜ r ≡ edgeRefusal (lentSurvey groups firsts seconds weights) e ⌝ }
-{
-    let first = base_buffer::at32(firsts, e);
-    let second = base_buffer::at32(seconds, e);
-    if groups.len() <= base_buffer::index32(first) {
-        return Verdict::Refused {
-            number: 4,
-            place: e,
-        };
-    }
-    if groups.len() <= base_buffer::index32(second) {
-        return Verdict::Refused {
-            number: 4,
-            place: e,
-        };
-    }
-    if first == second {
-        return Verdict::Refused {
-            number: 5,
-            place: e,
-        };
-    }
-    if MAX_WEIGHT < base_buffer::at32(weights, e) {
-        return Verdict::Refused {
-            number: 6,
-            place: e,
-        };
-    }
-    Verdict::Fine
-}
-
-// 1 if vertex v is none of n.
-fn is_outside(v: u32, n: u32) -> u32
-    ensures { λ r. ⌜ r ≡ counted (leb n v) 1 ⌝ }
-{
-    if n <= v {
-        return 1;
-    }
-    0
-}
-
-// 1 if an edge ends where it begins.
-fn is_loop(first: u32, second: u32) -> u32
-    ensures { λ r. ⌜ r ≡ counted (eqb first second) 1 ⌝ }
-{
-    if first == second {
-        return 1;
-    }
-    0
-}
-
-// 1 if a weight is above the limit.
-fn is_heavy(weight: u32) -> u32
-    ensures { λ r. ⌜ r ≡ counted (ltb maxWeight weight) 1 ⌝ }
-{
-    if MAX_WEIGHT < weight {
-        return 1;
-    }
-    0
-}
-
-// 1 if something is wrong with an edge.
-fn edge_fault(n: u32, first: u32, second: u32, weight: u32) -> u32
-    ensures { λ r. ⌜ r ≡ counted (faulty n first second weight) 1 ⌝ }
-{
-    is_outside(first, n) | is_outside(second, n) | is_loop(first, second) | is_heavy(weight)
-}
 
 // 1 if something is wrong with some track. The loop runs to its end, so that several are tested at once.
 fn edges_fault(n: u32, firsts: &[u32], seconds: &[u32], weights: &[u32]) -> u32
@@ -100,7 +22,7 @@ fn edges_fault(n: u32, firsts: &[u32], seconds: &[u32], weights: &[u32]) -> u32
     let mut e = 0;
     while e < firsts.len() {
         found = found
-            | edge_fault(
+            | survey_fault::edge_fault(
                 n,
                 base_buffer::at32(firsts, e),
                 base_buffer::at32(seconds, e),
@@ -118,7 +40,7 @@ fn lowest_refusal(groups: &[u8], firsts: &[u32], seconds: &[u32], weights: &[u32
 {
     let mut e = 0;
     while e < firsts.len() {
-        let found = edge_refusal(groups, firsts, seconds, weights, e);
+        let found = survey_track::edge_refusal(groups, firsts, seconds, weights, e);
         let Verdict::Fine = found else {
             return found;
         };

@@ -4,7 +4,7 @@ use native.Mathlib.Omega.{arith}
 use mathlib.Core.Path.{_≡_, refl}
 use lib.ListN.{length, getD}
 use Rattle.base_finite.specs.Below.{counted, anyBelow}
-use Rattle.survey_refusal.specs.Fault.{faulty}
+use Rattle.survey_fault.specs.Fault.{faulty}
 use Rattle.survey_refusal.specs.Laws.Fault.{faults-more, faults-end}
 use borrow.Author.Needs.{needs}
 use Rattle.survey_refusal.proofs.edges_fault.Statement.{statement}

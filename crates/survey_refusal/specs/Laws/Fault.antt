@@ -18,19 +18,10 @@ use Rattle.base_limits.specs.Laws.Verdict.{lowest-none}
 use Rattle.survey_core.specs.Survey.{Survey, edgeCount}
 use Rattle.survey_core.specs.Refusal.{edgeRefusal}
 use Rattle.survey_core.specs.Laws.Refusal.{edge-fine}
-use Rattle.survey_refusal.specs.Fault.{faulty}
+use Rattle.survey_fault.specs.Fault.{faulty}
+use Rattle.survey_fault.specs.Laws.Fault.{or-counted}
 
 -- ---- tests as numbers
-
-both-counted : (s t : Bool) → bitOr (counted s 1) (counted t 1) ≡ counted (s || t) 1
-unfolding counted
-both-counted true true = refl
-both-counted true false = refl
-both-counted false true = refl
-both-counted false false = refl
-
-pub or-counted : (s t : Bool) {x y : ℕ} → x ≡ counted s 1 → y ≡ counted t 1 → bitOr x y ≡ counted (s || t) 1
-or-counted s t x-is y-is = rw (x-is, y-is) (both-counted s t)
 
 none-counted : (t : Bool) {x : ℕ} → x ≡ counted t 1 → x ≡ 0 → t ≡ false
 unfolding counted

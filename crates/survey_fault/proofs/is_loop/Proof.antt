@@ -2,8 +2,8 @@
 use mathlib.Core.Path.{sym}
 use borrow.Author.Tests.{eq-eqb, ne-eqb}
 use Rattle.base_finite.specs.Laws.Below.{counted-true, counted-false}
-use Rattle.survey_refusal.proofs.is_loop.Statement.{statement}
-use Rattle.survey_refusal.proofs.is_loop.Tie as tie
+use Rattle.survey_fault.proofs.is_loop.Statement.{statement}
+use Rattle.survey_fault.proofs.is_loop.Tie as tie
 
 returns : tie.Need-returns
 returns c = sym (counted-true (eq-eqb (c .before .args .first) (c .before .args .second) (c .if1 .taken)) 1)

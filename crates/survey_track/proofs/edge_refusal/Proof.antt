@@ -3,8 +3,8 @@ use native.Mathlib.Omega.{arith}
 use mathlib.Core.Path.{sym}
 use borrow.Author.Needs.{needs}
 use Rattle.survey_core.specs.Laws.Refusal.{edge-first-out, edge-second-out, edge-loop, edge-heavy, edge-fine}
-use Rattle.survey_refusal.proofs.edge_refusal.Statement.{statement}
-use Rattle.survey_refusal.proofs.edge_refusal.Tie as tie
+use Rattle.survey_track.proofs.edge_refusal.Statement.{statement}
+use Rattle.survey_track.proofs.edge_refusal.Tie as tie
 
 -- 4: the first end
 returns : tie.Need-returns

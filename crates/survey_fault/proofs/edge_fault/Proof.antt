@@ -1,9 +1,9 @@
 -- `edge_fault` meets its contract: its four tests, one after the other.
-use Rattle.survey_refusal.specs.Fault.{faulty}
-use Rattle.survey_refusal.specs.Laws.Fault.{or-counted}
+use Rattle.survey_fault.specs.Fault.{faulty}
+use Rattle.survey_fault.specs.Laws.Fault.{or-counted}
 use borrow.Author.Needs.{needs}
-use Rattle.survey_refusal.proofs.edge_fault.Statement.{statement}
-use Rattle.survey_refusal.proofs.edge_fault.Tie as tie
+use Rattle.survey_fault.proofs.edge_fault.Statement.{statement}
+use Rattle.survey_fault.proofs.edge_fault.Tie as tie
 
 returns : tie.Need-returns
 unfolding faulty

@@ -2,8 +2,8 @@
 use mathlib.Core.Path.{sym}
 use borrow.Author.Tests.{le-leb, lt-leb}
 use Rattle.base_finite.specs.Laws.Below.{counted-true, counted-false}
-use Rattle.survey_refusal.proofs.is_outside.Statement.{statement}
-use Rattle.survey_refusal.proofs.is_outside.Tie as tie
+use Rattle.survey_fault.proofs.is_outside.Statement.{statement}
+use Rattle.survey_fault.proofs.is_outside.Tie as tie
 
 returns : tie.Need-returns
 returns c = sym (counted-true (le-leb (c .before .args .n) (c .before .args .v) (c .if1 .taken)) 1)

@@ -3,8 +3,8 @@ use mathlib.Core.Path.{sym}
 use borrow.Author.Tests.{lt-ltb, le-ltb}
 use Rattle.base_finite.specs.Laws.Below.{counted-true, counted-false}
 use Rattle.base_limits.specs.Limits.{maxWeight}
-use Rattle.survey_refusal.proofs.is_heavy.Statement.{statement}
-use Rattle.survey_refusal.proofs.is_heavy.Tie as tie
+use Rattle.survey_fault.proofs.is_heavy.Statement.{statement}
+use Rattle.survey_fault.proofs.is_heavy.Tie as tie
 
 returns : tie.Need-returns
 returns c = sym (counted-true (lt-ltb maxWeight (c .before .args .weight) (c .if1 .taken)) 1)
