@@ -6,7 +6,7 @@ use Rattle.base_limits.specs.Verdict.{Outcome, refusal, answer}
 use Rattle.format_write.specs.Text.{refusalText}
 use Rattle.format_why.specs.ReasonText.{reasonText}
 use Rattle.why_rule.specs.Why.{WhyCounts}
-use Rattle.api_why_text.specs.Laws.Output.{ReasonCountsFit}
+use Rattle.api_why_text.specs.Output.{ReasonCountsFit}
 
 -- The reason, with the first entries of the buffer as its route, or the refusal's lines.
 unfoldable pub toldText : Outcome WhyCounts → (track : ℕ) → (route : List ℕ) → List ℕ

@@ -11,7 +11,7 @@ use Rattle.theory_steiner.specs.Pruning.{needed, picked, kept}
 use Rattle.theory_route.specs.First.{firstBelow}
 use Rattle.theory_route.specs.Route.{areLinked, isEnd, farEnd, leadsOn, stepsTo, routeOf}
 use Rattle.survey_core.specs.Lists.{isPaired, inList, sameList}
-use Rattle.survey_core.specs.Pairs.{isRising, pairRefusal, pairsRefusal}
+use Rattle.survey_core.specs.Pairs.{pairsRefusal}
 use Rattle.survey_core.specs.Survey.{vertexCount, edgeCount, member, sameGroup, problemOf, groupJoined, componentsOf}
 use Rattle.survey_core.specs.Refusal.{edgeRefusal, surveyRefusal, groupRefusal}
 use Rattle.why_rule.specs.Reason.{placeOf, partedList, isParted, lowMember, highMember, keptReason, joinedAfter, firstOrZero, roundOf, reasonOf}

@@ -1,5 +1,5 @@
 -- What the program `why` prints for a text and a track number (document 02, No. 3): reading, asking and printing, one after the other, for every text and number.
-use Prim.Native.Nat.{ℕ}
+use Prim.Native.Nat.{ℕ, _<_, _^_}
 use mathlib.Core.List.{List}
 use Rattle.base_limits.specs.Limits.{countDigits, maxRoute}
 use Rattle.base_limits.specs.Verdict.{Outcome, refusal, answer, outcome}
@@ -11,7 +11,7 @@ use Rattle.format_write.specs.Text.{refusalText}
 use Rattle.format_why.specs.ReasonText.{reasonText}
 use Rattle.survey_core.specs.Survey.{Survey, surveyWith}
 use Rattle.why_rule.specs.Reason.{Reason, reasonOf}
-use Rattle.why_rule.specs.Why.{whyRefusal, whyCounts, routeIn}
+use Rattle.why_rule.specs.Why.{WhyCounts, whyRefusal, whyCounts, routeIn}
 use Rattle.api_plan_text.specs.Output.{surveyRead}
 
 -- A word that is a number of at most as many digits as a count has, and nothing else.
@@ -26,6 +26,14 @@ surveyReason s e = outcome (whyRefusal s maxRoute e) (reasonOf s e)
 unfoldable pub readReason : Outcome SurveyText → (e : ℕ) → Outcome Reason
 readReason (refusal number place) e = refusal number place
 readReason (answer s) e = surveyReason (surveyWith (s .groups) (s .firsts) (s .seconds) (s .weights) (s .owners) (s .others)) e
+
+-- The numbers of a reason that 64 bits hold.
+pub record ReasonCountsFit (c : WhyCounts) : Type 0 where
+  pub kind-fits : c .kind < 2 ^ 64
+  pub group-fits : c .group < 2 ^ 64
+  pub low-fits : c .low < 2 ^ 64
+  pub high-fits : c .high < 2 ^ 64
+  pub round-fits : c .round < 2 ^ 64
 
 -- What is printed: the reason in the numbers of a call, or 'for a refusal two lines' (document 01).
 unfoldable pub reasonLines : (e : ℕ) → Outcome Reason → List ℕ

@@ -9,7 +9,7 @@ use Rattle.format_print.specs.declared.Printed.{Printed}
 use Rattle.format_print.specs.Print.{printed, printedOut}
 use Rattle.format_why.specs.ReasonText.{reasonText}
 use Rattle.why_rule.specs.Why.{WhyCounts}
-use Rattle.api_why_text.specs.Laws.Output.{ReasonCountsFit}
+use Rattle.api_why_text.specs.Output.{ReasonCountsFit}
 use Rattle.api_why_print.specs.Told.{toldText, ToldWords, refusalWords, reasonWords}
 
 module _ (track : ℕ) (route out : List ℕ) where

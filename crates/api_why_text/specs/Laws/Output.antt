@@ -2,9 +2,9 @@
 use Prim.Native.Nat.{ℕ, zero, suc, _+_, _-_, _^_, _≤_, _<_}
 use native.Mathlib.Omega.{arith}
 use native.Mathlib.Nat.{sub-zero}
-use mathlib.Core.Path.{_≡_, refl, ap, ap₂, sym, _∙_, subst}
+use mathlib.Core.Path.{_≡_, refl, ap, sym, _∙_, subst}
 use mathlib.Core.Bool.{Bool, true}
-use mathlib.Core.List.{List, [], _∷_, _++_}
+use mathlib.Core.List.{List, _++_}
 use lib.ListN.{length, getD, take, drop, length-append, length-drop, replicate, length-replicate}
 use lib.Seq.{take-at}
 use Rattle.base_limits.specs.Limits.{maxEdges, maxRoute, whyRoom}
@@ -30,7 +30,7 @@ use Rattle.why_rule.specs.Laws.Promise.{fine-explainable}
 use Rattle.why_rule.specs.Laws.Reason.{reason-true}
 use Rattle.api_plan_text.specs.Output.{surveyRead}
 use Rattle.api_plan_text.specs.Laws.Read.{SaidBy}
-use Rattle.api_why_text.specs.Output.{surveyReason, readReason, reasonLines, surveyLines, whyOutput}
+use Rattle.api_why_text.specs.Output.{surveyReason, readReason, reasonLines, surveyLines, whyOutput, ReasonCountsFit}
 
 -- ---- reading
 
@@ -67,14 +67,6 @@ unfolding whyCounts routeIn
 entries-are (needs g u w route) = refl
 entries-are spared = refl
 entries-are (passed round) = refl
-
--- The numbers of a reason that 64 bits hold.
-pub record ReasonCountsFit (c : WhyCounts) : Type 0 where
-  pub kind-fits : c .kind < 2 ^ 64
-  pub group-fits : c .group < 2 ^ 64
-  pub low-fits : c .low < 2 ^ 64
-  pub high-fits : c .high < 2 ^ 64
-  pub round-fits : c .round < 2 ^ 64
 
 -- A buffer of the limit's size for a route, as of zeros.
 pub record RouteBuffer (route : List ℕ) : Type 0 where

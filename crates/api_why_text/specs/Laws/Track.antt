@@ -1,17 +1,16 @@
 -- A word says a track number exactly if it is the number's decimal digits, of which there are no more than a count has.
 use Prim.Native.Nat.{ℕ, _+_, _^_, _≤_, _<_}
 use native.Mathlib.Omega.{arith}
-use mathlib.Core.Path.{_≡_, refl, ap, sym, _∙_}
+use mathlib.Core.Path.{_≡_, ap, sym, _∙_}
 use mathlib.Core.Logic.{⊎-elim}
 use mathlib.Core.Bool.{false}
-use mathlib.Core.List.{List, []}
-use lib.ListN.{length, getD, take, List·getD-eq-default}
+use mathlib.Core.List.{List}
+use lib.ListN.{length, getD, List·getD-eq-default}
 use lib.Seq.{take-all}
 use Rattle.base_finite.specs.Laws.Below.{lt-or-ge}
 use Rattle.base_limits.specs.Limits.{countDigits}
 use Rattle.format_write.specs.Decimal.{decimal}
 use Rattle.format_grammar.specs.Step.{found, refused, _then_}
-use Rattle.format_grammar.specs.Bytes.{endAt}
 use Rattle.format_grammar.specs.Stands.{Stands}
 use Rattle.format_grammar.specs.Laws.Step.{then-found, then-refused}
 use Rattle.format_grammar.specs.Laws.Bytes.{end-here, end-later}
