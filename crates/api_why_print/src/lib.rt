@@ -3,7 +3,7 @@ ghost use Rattle.base_buffer.specs.Lent.{old, new};
 ghost use mathlib.Core.Path.{_≡_};
 ghost use Rattle.format_print.specs.Print.{printed, printedOut};
 ghost use Rattle.why_rule.specs.Answer.{whyOutcome};
-ghost use Rattle.api_why_print.specs.Told.{toldText, ToldWords};
+ghost use Rattle.api_why_print.specs.WhyAnswer.{whyAnswerText, WhyAnswerWords};
 use api_part::at_most;
 use format_print::Printed;
 use format_why_print::print_reason;
@@ -12,9 +12,9 @@ use why_rule::Why;
 // Prints the answer for the track that was asked about: the reason, with the first entries of the route, or the
 // refusal's two lines.
 pub fn print_why(told: Why, asked: u64, route: &[u32], out: &mut [u8]) -> Printed
-    ensures { λ r. ⌜ r ≡ printed (toldText (whyOutcome told) asked (old route)) (old out) ⌝ }
-    ensures { λ _. ⌜ new out ≡ printedOut (toldText (whyOutcome told) asked (old route)) (old out) ⌝ }
-    ensures words { λ _. ⌜ ToldWords (whyOutcome told) ⌝ }
+    ensures { λ r. ⌜ r ≡ printed (whyAnswerText (whyOutcome told) asked (old route)) (old out) ⌝ }
+    ensures { λ _. ⌜ new out ≡ printedOut (whyAnswerText (whyOutcome told) asked (old route)) (old out) ⌝ }
+    ensures words { λ _. ⌜ WhyAnswerWords (whyOutcome told) ⌝ }
 {
     match told {
         Why::Kept {

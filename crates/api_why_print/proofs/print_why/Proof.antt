@@ -4,7 +4,7 @@ use mathlib.Core.Path.{refl, ap}
 use borrow.Author.Needs.{needs}
 use Rattle.why_rule.specs.Answer.{whyOutcome}
 use Rattle.api_part.specs.Laws.Part.{most-le, most-part}
-use Rattle.api_why_print.specs.Laws.Told.{unasked-printed, reason-printed}
+use Rattle.api_why_print.specs.Laws.WhyAnswer.{unasked-printed, reason-printed}
 use Rattle.api_why_print.proofs.print_why.Statement.{statement}
 use Rattle.api_why_print.proofs.print_why.Tie as tie
 

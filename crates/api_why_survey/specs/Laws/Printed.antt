@@ -15,12 +15,12 @@ use Rattle.survey_core.specs.Sound.{ByteGroups}
 use Rattle.why_rule.specs.Why.{WhyCounts, reasoning, routeAfter}
 use Rattle.api_why_text.specs.Output.{surveyLines}
 use Rattle.api_why_text.specs.Laws.Output.{RouteBuffer, why-refusal-fits, unasked-lines, given-lines, given-fits}
-use Rattle.api_why_print.specs.Told.{toldText, ToldWords, refusalWords, reasonWords}
+use Rattle.api_why_print.specs.WhyAnswer.{whyAnswerText, WhyAnswerWords, refusalWords, reasonWords}
 
 module _ (s : Survey) (e : ℕ) (numbered : ByteGroups s) (small : e < 2 ^ 64) {was : List ℕ} (buffer : RouteBuffer was) {after : List ℕ}
     (wrote : after ≡ routeAfter s e was) (long : length after ≡ maxRoute) where
-  text-is : (o : Outcome WhyCounts) → ToldWords o → o ≡ reasoning s (length was) e → (toldText o e after ≡ surveyLines s e) × (length (surveyLines s e) ≤ whyRoom)
-  unfolding toldText
+  text-is : (o : Outcome WhyCounts) → WhyAnswerWords o → o ≡ reasoning s (length was) e → (whyAnswerText o e after ≡ surveyLines s e) × (length (surveyLines s e) ≤ whyRoom)
+  unfolding whyAnswerText
   text-is o (refusalWords {number} {place} hn hp) told =
       let text = unasked-lines s e buffer told refl in
       (text, subst (λ (w : List ℕ). length w ≤ whyRoom) text (why-refusal-fits number place hn hp))
@@ -30,7 +30,7 @@ module _ (s : Survey) (e : ℕ) (numbered : ByteGroups s) (small : e < 2 ^ 64) {
   )
 
   pub why-printed : (out : List ℕ) {o : Outcome WhyCounts} {r : Printed} {new : List ℕ} → o ≡ reasoning s (length was) e
-      → (r ≡ printed (toldText o e after) out) × ((new ≡ printedOut (toldText o e after) out) × ToldWords o)
+      → (r ≡ printed (whyAnswerText o e after) out) × ((new ≡ printedOut (whyAnswerText o e after) out) × WhyAnswerWords o)
       → (r ≡ printed (surveyLines s e) out) × ((new ≡ printedOut (surveyLines s e) out) × (length (surveyLines s e) ≤ whyRoom))
   why-printed out {o} told p =
       let text = text-is o (p .1 .1) told in

@@ -10,23 +10,23 @@ use Rattle.format_print.specs.Print.{printed, printedOut}
 use Rattle.format_why.specs.ReasonText.{reasonText}
 use Rattle.why_rule.specs.Why.{WhyCounts}
 use Rattle.api_why_text.specs.Output.{ReasonCountsFit}
-use Rattle.api_why_print.specs.Told.{toldText, ToldWords, refusalWords, reasonWords}
+use Rattle.api_why_print.specs.WhyAnswer.{whyAnswerText, WhyAnswerWords, refusalWords, reasonWords}
 
 module _ (track : ℕ) (route out : List ℕ) where
   -- What printing an answer answers and leaves.
   abbrev Printing : Printed → (new : List ℕ) → Outcome WhyCounts → Type 0
-  Printing r new o = (r ≡ printed (toldText o track route) out) × ((new ≡ printedOut (toldText o track route) out) × ToldWords o)
+  Printing r new o = (r ≡ printed (whyAnswerText o track route) out) × ((new ≡ printedOut (whyAnswerText o track route) out) × WhyAnswerWords o)
 
   pub unasked-printed : {o : Outcome WhyCounts} {r : Printed} {new : List ℕ} {number place : ℕ} → o ≡ refusal number place
       → (r ≡ printed (refusalText number place) out) × (new ≡ printedOut (refusalText number place) out) → number < 2 ^ 64 → place < 2 ^ 64 → Printing r new o
-  unfolding toldText
+  unfolding whyAnswerText
   unasked-printed {r = r} {new = new} told p hn hp = subst (Printing r new) (sym told) (p .0, (p .1, refusalWords hn hp))
 
   pub reason-printed : {o : Outcome WhyCounts} {r : Printed} {new : List ℕ} {c : WhyCounts} {part : List ℕ} → o ≡ answer c → part ≡ take (c .entries) route
       → (r ≡ printed (reasonText track (c .kind) (c .group) (c .low) (c .high) (c .round) part) out)
       × (new ≡ printedOut (reasonText track (c .kind) (c .group) (c .low) (c .high) (c .round) part) out)
       → ReasonCountsFit c → Printing r new o
-  unfolding toldText
+  unfolding whyAnswerText
   reason-printed {r = r} {new = new} {c = c} told part-is p words =
       let text = ap (λ (a : List ℕ). reasonText track (c .kind) (c .group) (c .low) (c .high) (c .round) a) part-is in
       let q = subst (λ (w : List ℕ). (r ≡ printed w out) × (new ≡ printedOut w out)) text p in
