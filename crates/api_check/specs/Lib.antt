@@ -1,2 +1,3 @@
 pub mod Call
+pub mod VerifyCall
 pub mod Laws

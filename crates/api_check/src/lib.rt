@@ -6,6 +6,10 @@ ghost use Rattle.api_code.specs.Code.{codeOf};
 ghost use Rattle.api_check.specs.Call.{checkCall, checkCounts};
 use check_core::Checking;
 
+mod verify;
+
+pub use verify::verify_call;
+
 // Entries of the counts.
 pub const CHECK_FIGURES: usize = 3;
 
@@ -47,7 +51,7 @@ pub fn check_call(
             cost,
             bound,
         } => {
-            api_store::store_three(counts, terminals, cost, bound);
+            api_code::store_three(counts, terminals, cost, bound);
             0
         }
         Checking::Refused { number, place } => api_code::code(number, place),

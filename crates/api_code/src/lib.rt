@@ -9,6 +9,12 @@ ghost use Rattle.survey_core.specs.Refusal.{surveyRefusal};
 ghost use Rattle.api_code.specs.Code.{placeUnit, codeOf, capped, lentOn};
 use base_limits::Verdict;
 
+mod store;
+
+pub use store::store_five;
+pub use store::store_three;
+pub use store::store_two;
+
 // A refusal's place counts this many times.
 const PLACE_UNIT: u64 = 256;
 
@@ -45,7 +51,7 @@ pub fn short_counts(
         let s = lentWith groups firsts seconds weights owners others in
         ⌜ r ≡ codeOf (surveyRefusal s before Refused 7 0) ⌝ }
 {
-    let found = survey_pairs::survey_refusal(groups, firsts, seconds, weights, owners, others);
+    let found = survey_refusal::survey_refusal(groups, firsts, seconds, weights, owners, others);
     match found {
         Verdict::Refused { number, place } => code(number, place),
         Verdict::Fine => 7,

@@ -11,8 +11,8 @@ use Rattle.plan_rule.specs.Plan.{planRefusal}
 use Rattle.api_code.specs.Code.{withCounts}
 use Rattle.api_plan.specs.Call.{planFigures, drawnMarks, drawnRecords, drawnFigures}
 use Rattle.api_check.specs.Call.{checkFigures, checkFiguresOf}
-use Rattle.api_words.specs.Words.{figureBytes, spelledCounts}
-use Rattle.api_lengths.specs.Slices.{Slices, surveySpelled, raggedRefusal}
+use Rattle.api_handset.specs.Words.{figureBytes, spelledCounts}
+use Rattle.api_handset.specs.Slices.{Slices, surveySpelled, raggedRefusal}
 
 -- bytes of the counts of planning and of checking
 abbrev pub planBytes : ℕ

@@ -4,8 +4,8 @@ use mathlib.Core.List.{List, [], _∷_, _++_}
 use lib.ListN.{getD}
 use Rattle.format_record.specs.Bits.{lowBytes}
 use Rattle.survey_core.specs.Survey.{Survey}
-use Rattle.api_words.specs.Words.{wordBytes}
-use Rattle.api_lengths.specs.Slices.{Slices}
+use Rattle.api_handset.specs.Words.{wordBytes}
+use Rattle.api_handset.specs.Slices.{Slices}
 
 -- Numbers one after the other.
 unfoldable pub inBytes : List ℕ → List ℕ

@@ -1,3 +1,5 @@
+pub mod Words
+pub mod Slices
 pub mod Call
 pub mod Crossing
 pub mod Laws

@@ -5,7 +5,7 @@ use lib.ListN.{length, drop}
 use Rattle.base_limits.specs.Verdict.{written}
 use Rattle.base_limits.specs.declared.Verdict.{Verdict}
 use Rattle.survey_core.specs.Survey.{Survey, edgeCount, problemOf}
-use Rattle.plan_duals.specs.Drawing.{recordsOver}
+use Rattle.plan_draw.specs.Drawing.{recordsOver}
 use Rattle.plan_rule.specs.Plan.{PlanCounts, planRefusal, planOf, planCountsOf}
 use Rattle.api_code.specs.Code.{withCounts, countsAfter}
 

@@ -6,6 +6,12 @@ ghost use Rattle.api_code.specs.Code.{codeOf};
 ghost use Rattle.api_plan.specs.Call.{planCall, planMarks, planRecords, planCounts};
 use plan_rule::Planned;
 
+mod drop;
+mod grow;
+
+pub use drop::drop_call;
+pub use grow::grow_call;
+
 // Entries of the counts.
 pub const PLAN_FIGURES: usize = 5;
 
@@ -55,7 +61,7 @@ pub fn plan_call(
             rounds,
             duals,
         } => {
-            api_store::store_five(counts, terminals, cost, bound, rounds, duals);
+            api_code::store_five(counts, terminals, cost, bound, rounds, duals);
             0
         }
         Planned::Refused { number, place } => api_code::code(number, place),

@@ -5,7 +5,13 @@ ghost use Rattle.api_code.specs.Code.{codeOf, capped};
 ghost use Rattle.api_print.specs.Call.{printedCode, printedCounts, dualCall, dualOut, dualCounts};
 use base_buffer::put64;
 use format_print::Printed;
-use format_print_lines::print_dual;
+use format_print::print_dual;
+
+mod plan;
+mod survey;
+
+pub use plan::print_plan_call;
+pub use survey::print_survey_call;
 
 // Entries of the counts.
 pub const PRINT_FIGURES: usize = 1;

@@ -2,7 +2,7 @@
 use Prim.Native.Nat.{ℕ}
 use mathlib.Core.List.{List, [], _∷_}
 use Rattle.base_limits.specs.Verdict.{Outcome}
-use Rattle.format_survey_lines.specs.Line.{Lengths}
+use Rattle.format_survey.specs.Line.{Lengths}
 use Rattle.format_survey.specs.Reading.{SurveyText, reading}
 use Rattle.format_survey.specs.Answer.{TextCounts}
 use Rattle.api_code.specs.Code.{lentOn}

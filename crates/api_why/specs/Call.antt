@@ -8,7 +8,7 @@ use Rattle.survey_core.specs.Survey.{Survey}
 use Rattle.why_rule.specs.Reason.{reasonOf}
 use Rattle.why_rule.specs.Why.{whyCounts, routeIn, whyRefusal}
 use Rattle.api_code.specs.Code.{withCounts, countsAfter}
-use Rattle.api_why_store.specs.Stored.{whyFiguresOf}
+use Rattle.api_why.specs.Stored.{whyFiguresOf}
 
 -- entries of the counts: kind, list, smaller, larger, entries of the route, round
 abbrev pub whyFigures : ℕ

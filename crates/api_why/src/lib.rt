@@ -6,6 +6,8 @@ ghost use Rattle.survey_core.specs.Survey.{lentWith};
 ghost use Rattle.api_code.specs.Code.{codeOf};
 ghost use Rattle.api_why.specs.Call.{whyCall, whyRoute, whyFigured};
 
+mod store;
+
 // Entries of the counts: kind, list, smaller, larger, entries of the route, round.
 pub const WHY_FIGURES: usize = 6;
 
@@ -46,5 +48,5 @@ pub fn why_call(
         asked,
         route,
     );
-    api_why_store::store_answer(answer, counts)
+    crate::store::store_answer(answer, counts)
 }

@@ -1,3 +1,4 @@
 pub mod Lent
 pub mod Store
+pub mod Part
 pub mod Laws

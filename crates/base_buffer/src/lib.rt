@@ -4,6 +4,10 @@ ghost use mathlib.Core.Path.{_≡_};
 ghost use lib.ListN.{getD, set};
 ghost use Rattle.base_buffer.specs.Lent.{old, new};
 
+mod part;
+
+pub use part::at_most;
+
 // The byte at i, or 0 past the end.
 pub fn at8(s: &[u8], i: usize) -> u8
     ensures { λ r. ⌜ r ≡ getD (old s) i 0 ⌝ }

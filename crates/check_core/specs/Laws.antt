@@ -1,2 +1,4 @@
+pub mod Sides
+pub mod Duals
 pub mod Counts
 pub mod Stage

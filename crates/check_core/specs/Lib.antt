@@ -1,2 +1,5 @@
+pub mod Cost
+pub mod Duals
+pub mod Moats
 pub mod Stage
 pub mod Laws

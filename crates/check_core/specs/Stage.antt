@@ -12,7 +12,7 @@ use Rattle.theory_steiner.specs.Dual.{total}
 use Rattle.survey_core.specs.Survey.{Survey, surveyFrom, groupsAlone, edgeCount, problemOf}
 use Rattle.survey_core.specs.Refusal.{surveyRefusal}
 use Rattle.check_rule.specs.Check.{Checked, dualsIn, keptBy, shapeRefusal}
-use Rattle.check_duals.specs.Duals.{DualsFit}
+use Rattle.check_core.specs.Moats.{DualsFit}
 use Rattle.check_core.specs.declared.Checking.{Checking}
 use Rattle.check_core.specs.declared.Checking.the-variants.{Passed, Refused}
 

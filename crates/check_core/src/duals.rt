@@ -3,7 +3,7 @@ ghost use Rattle.base_buffer.specs.Lent.{old};
 ghost use mathlib.Core.Path.{_≡_};
 ghost use Rattle.theory_steiner.specs.Dual.{total};
 ghost use Rattle.check_rule.specs.Check.{dualsIn};
-ghost use Rattle.check_duals.specs.Duals.{DualsFit};
+ghost use Rattle.check_core.specs.Moats.{DualsFit};
 use base_limits::RECORD_BYTES;
 
 // The sum of all values: the bound.

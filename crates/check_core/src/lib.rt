@@ -11,8 +11,15 @@ ghost use Rattle.check_core.specs.Stage.{inputRefusal, PlanFits, checked
 use base_limits::Verdict;
 use survey_components::Chosen;
 
+mod cost;
+mod cuts;
 mod duals;
+mod marks;
+mod moats;
 mod rule;
+mod values;
+
+pub use cost::kept_cost;
 
 // k, kept cost and bound of a plan that passes; or a refusal's number and place.
 pub enum Checking {
@@ -41,15 +48,15 @@ fn input_refusal(
     ensures { λ r. let s = lentWith groups firsts seconds weights owners others in
         ⌜ r ≡ inputRefusal s (old marks) (old records) ⌝ }
 {
-    let unsound = survey_pairs::survey_refusal(groups, firsts, seconds, weights, owners, others);
+    let unsound = survey_refusal::survey_refusal(groups, firsts, seconds, weights, owners, others);
     let Verdict::Fine = unsound else {
         return unsound;
     };
-    let unshaped = check_marks::shape_refusal(firsts, marks, records);
+    let unshaped = crate::marks::shape_refusal(firsts, marks, records);
     let Verdict::Fine = unshaped else {
         return unshaped;
     };
-    check_marks::marks_refusal(firsts.len(), marks)
+    crate::marks::marks_refusal(firsts.len(), marks)
 }
 
 // The counts, if the accuracy rule's premise holds of them; else 15.
@@ -59,8 +66,8 @@ fn judge(groups: &[u8], firsts: &[u32], weights: &[u32], marks: &[u8], records: 
         let counts = checkedOf s (old marks) (old records) in
         ⌜ checkedOutcome r ≡ outcome (ruleRefusal counts) counts ⌝ }
 {
-    let terminals = survey_terminals::terminals(groups);
-    let cost = check_cost::kept_cost(firsts, weights, marks);
+    let terminals = survey_groups::terminals::terminals(groups);
+    let cost = crate::cost::kept_cost(firsts, weights, marks);
     let bound = duals::bound(records);
     let found = rule::rule_refusal(terminals, cost, bound);
     match found {
@@ -107,13 +114,13 @@ pub fn check(
     if let Verdict::Refused { number, place } = unfit {
         return Checking::Refused { number, place };
     }
-    let poured = survey_pour::pour(groups, owners, others);
+    let poured = survey_lists::pour::pour(groups, owners, others);
     let n = groups.len();
-    let unsound = check_duals::duals_refusal(&poured[0..n], firsts, seconds, weights, records);
+    let unsound = crate::moats::duals_refusal(&poured[0..n], firsts, seconds, weights, records);
     if let Verdict::Refused { number, place } = unsound {
         return Checking::Refused { number, place };
     }
-    let apart = survey_split::group_refusal(
+    let apart = survey_lists::group_refusal(
         groups,
         firsts,
         seconds,

@@ -1,29 +1,45 @@
+// A survey text with a printed plan behind it: what a check of both answers, definitions and laws in specs/. No
+// functions.
 // Checks a survey text with a printed plan behind it: the survey is read, then the plan, then the checker looks at
-// both, and at last the claimed counts are held against what it finds. Definitions in check_text.
+// both, and at last the claimed counts are held against what it finds. Definitions in check_printed.
 ghost use Rattle.base_buffer.specs.Lent.{old};
 ghost use mathlib.Core.Path.{_≡_};
 ghost use Prim.Native.Nat.{_≤_};
 ghost use lib.ListN.{length};
 ghost use Rattle.base_limits.specs.Limits.{maxVertices, maxEdges, maxPairs};
-ghost use Rattle.format_grammar.specs.Step.{stopped};
-ghost use Rattle.format_number.specs.Answer.{numberStep};
-ghost use Rattle.format_survey_lines.specs.Answer.{countsStep};
+ghost use Rattle.format_read.specs.Step.{stopped};
+ghost use Rattle.format_read.specs.Answer.{numberStep};
+ghost use Rattle.format_survey.specs.LinesAnswer.{countsStep};
 ghost use Rattle.format_survey.specs.Reading.{stepOutcome};
 ghost use Rattle.format_plan.specs.Answer.{planOutcome};
 ghost use Rattle.survey_core.specs.Survey.{lentWith};
-ghost use Rattle.check_text.specs.Verify.{surveyLinesAt, planVerified, planFrom, verifiedFrom, verifying};
-ghost use Rattle.check_text.specs.Answer.{verifiedOutcome, refusedOnly};
+ghost use Rattle.check_printed.specs.Verify.{surveyLinesAt, planVerified, planFrom, verifiedFrom, verifying};
+ghost use Rattle.check_printed.specs.Answer.{verifiedOutcome, refusedOnly};
+use crate::claims::judge;
 use base_limits::MAX_EDGES;
 use base_limits::MAX_PAIRS;
 use base_limits::MAX_VERTICES;
 use base_limits::RECORD_BYTES;
 use base_limits::RECORDS_ROOM;
-use check_claims::judge;
-use check_text::Verified;
-use format_number::Cursor;
-use format_number::Number;
 use format_plan::PlanText;
-use format_survey_lines::Head;
+use format_read::Cursor;
+use format_read::Number;
+use format_survey::Head;
+
+mod claims;
+
+// k, kept cost and bound as the checker finds them; or a refusal's number and place.
+pub enum Verified {
+    Passed {
+        terminals: u64,
+        cost: u64,
+        bound: u64,
+    },
+    Refused {
+        number: u64,
+        place: usize,
+    },
+}
 
 // Refused counts, as the answer of the check.
 fn stopped_counts(head: Head) -> Verified
@@ -93,7 +109,7 @@ fn verify_plan(
     let mut marks = [0u8; MAX_EDGES];
     let mut records = [0u8; RECORDS_ROOM];
     let edges = firsts.len();
-    let plan = format_plan_read::read_plan(text, at, edges, &mut marks, &mut records);
+    let plan = format_plan::read_plan(text, at, edges, &mut marks, &mut records);
     let PlanText::Plan {
         terminals,
         cost,
@@ -133,7 +149,7 @@ fn verify_lines(text: &[u8], cursor: Cursor, vertices: usize, edges: usize) -> V
     let mut weights = [0u32; MAX_EDGES];
     let mut owners = [0u32; MAX_PAIRS];
     let mut others = [0u8; MAX_PAIRS];
-    let step = format_survey_tail::survey_lines(
+    let step = format_survey::survey_lines(
         text,
         cursor,
         vertices,
@@ -167,7 +183,7 @@ fn verify_lines(text: &[u8], cursor: Cursor, vertices: usize, edges: usize) -> V
 pub fn verify(text: &[u8]) -> Verified
     ensures { λ r. ⌜ verifiedOutcome r ≡ verifying (old text) ⌝ }
 {
-    let head = format_survey_counts::counts(text, MAX_VERTICES, MAX_EDGES, MAX_EDGES, MAX_EDGES);
+    let head = format_survey::counts::counts(text, MAX_VERTICES, MAX_EDGES, MAX_EDGES, MAX_EDGES);
     let Head::Counts {
         vertices,
         edges,

@@ -6,22 +6,22 @@ ghost use Rattle.base_buffer.specs.Lent.{old, new};
 ghost use Rattle.survey_core.specs.Survey.{lentWith};
 ghost use Rattle.format_write.specs.Text.{planText};
 ghost use lib.ListN.{length};
-ghost use Rattle.format_survey_lines.specs.Line.{lentLengths, firstsOf, secondsOf, weightsOf};
+ghost use Rattle.format_survey.specs.Line.{lentLengths, firstsOf, secondsOf, weightsOf};
 ghost use Rattle.format_survey_print.specs.Print.{surveyLent};
 ghost use Rattle.format_survey.specs.Reading.{filled};
 ghost use Rattle.format_survey.specs.Answer.{countsOf};
 ghost use Rattle.api_code.specs.Code.{codeOf, capped, verdictOf, countsFor};
 ghost use Rattle.api_read.specs.Call.{readFiguresOf, readCall};
 ghost use Rattle.format_stp.specs.Answer.{stpCountsOf};
-ghost use Rattle.api_stp.specs.Call.{stpFiguresOf, stpCall};
+ghost use Rattle.api_read.specs.StpCall.{stpFiguresOf, stpCall};
 ghost use Rattle.api_plan.specs.Call.{planCall, planMarks, planRecords, planCounts};
-ghost use Rattle.api_grow.specs.Call.{growMarks, growCounts, dropCall, dropMarks, droppedCounts};
+ghost use Rattle.api_plan.specs.GrowCall.{growMarks, growCounts, dropCall, dropMarks, droppedCounts};
 ghost use Rattle.api_why.specs.Call.{whyCall, whyRoute, whyFigured};
 ghost use Rattle.api_check.specs.Call.{checkFiguresOf, checkCall, checkCounts};
 ghost use Rattle.api_print.specs.Call.{dualCall, dualOut, dualCounts};
 ghost use Rattle.api_print.specs.Call.{textCall, textOut, textCounts, surveyCall, surveyOut, surveyCounts};
-ghost use Rattle.api_verify.specs.Call.{verifyCall};
-ghost use Rattle.api_lengths.specs.Slices.{lentSlices};
+ghost use Rattle.api_check.specs.VerifyCall.{verifyCall};
+ghost use Rattle.api_handset.specs.Slices.{lentSlices};
 ghost use Rattle.api_handset.specs.Call.{handsetPlan, handsetMarks, handsetRecords, handsetPlanResult};
 ghost use Rattle.api_handset.specs.Call.{handsetCheck, handsetCheckResult};
 
@@ -70,7 +70,7 @@ pub extern "C" fn foamsickle_read(
         let read = readCall (old text) lent (length (old counts)) in
         ⌜ new counts ≡ countsFor (countsOf read) readFiguresOf (old counts) ⌝ }
 {
-    api_read_call::read_call(
+    api_read::read_call(
         text,
         groups,
         firsts,
@@ -111,7 +111,7 @@ pub extern "C" fn foamsickle_read_stp(
         let read = stpCall (old text) (old groups) (old firsts) (old seconds) (old weights) (length (old counts)) in
         ⌜ new counts ≡ countsFor (stpCountsOf read) stpFiguresOf (old counts) ⌝ }
 {
-    api_stp::stp_call(text, groups, firsts, seconds, weights, counts)
+    api_read::stp_call(text, groups, firsts, seconds, weights, counts)
 }
 
 // Plans a survey with pairs (owners, others). `counts` gets k, cost, bound, rounds and the number of moats.
@@ -179,7 +179,7 @@ pub extern "C" fn foamsickle_grow(
         let s = lentWith groups firsts seconds weights owners others in
         ⌜ new counts ≡ growCounts s (old marks) (old records) (old counts) ⌝ }
 {
-    api_grow::grow_call(
+    api_plan::grow_call(
         groups,
         firsts,
         seconds,
@@ -214,7 +214,7 @@ pub extern "C" fn foamsickle_drop(
         let s = lentWith groups firsts seconds weights owners others in
         ⌜ new counts ≡ droppedCounts s (old marks) (old counts) ⌝ }
 {
-    api_drop::drop_call(
+    api_plan::drop_call(
         groups,
         firsts,
         seconds,
@@ -328,7 +328,7 @@ pub extern "C" fn foamsickle_print_plan(
         let text = planText terminals cost bound rounds (old marks) (old records) in
         ⌜ new counts ≡ textCounts text (old out) (old counts) ⌝ }
 {
-    api_print_plan::print_plan_call(terminals, cost, bound, rounds, marks, records, out, counts)
+    api_print::print_plan_call(terminals, cost, bound, rounds, marks, records, out, counts)
 }
 
 // Prints a survey's text. `counts` gets its length.
@@ -353,7 +353,7 @@ pub extern "C" fn foamsickle_print_survey(
         let s = surveyLent groups firsts seconds weights owners others in
         ⌜ new counts ≡ surveyCounts s (old out) (old counts) ⌝ }
 {
-    api_print_survey::print_survey_call(
+    api_print::print_survey_call(
         groups,
         firsts,
         seconds,
@@ -371,7 +371,7 @@ pub extern "C" fn foamsickle_verify(text: &[u8], counts: &mut [u64]) -> u64
     ensures code { λ r. ⌜ r ≡ capped (codeOf (verdictOf (verifyCall (old text) (old counts)))) ⌝ }
     ensures counts { λ _. ⌜ new counts ≡ countsFor (verifyCall (old text) (old counts)) checkFiguresOf (old counts) ⌝ }
 {
-    api_verify::verify_call(text, counts)
+    api_check::verify_call(text, counts)
 }
 
 // Plans a survey. `result` gets k, cost, bound, rounds and the number of moats.
@@ -400,7 +400,7 @@ pub extern "C" fn foamsickle_handset_plan(
         let b = lentSlices groups firsts seconds weights owners others in
         ⌜ new result ≡ handsetPlanResult b (old marks) (old records) (old result) ⌝ }
 {
-    api_handset_plan::handset_plan(
+    api_handset::handset_plan(
         groups,
         firsts,
         seconds,
@@ -433,7 +433,7 @@ pub extern "C" fn foamsickle_handset_check(
         let b = lentSlices groups firsts seconds weights owners others in
         ⌜ new result ≡ handsetCheckResult b (old marks) (old records) (old result) ⌝ }
 {
-    api_handset_check::handset_check(
+    api_handset::handset_check(
         groups,
         firsts,
         seconds,

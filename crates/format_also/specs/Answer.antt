@@ -1,5 +1,5 @@
 -- What the answers of the code say in the terms of the definitions: an also line.
-use Rattle.format_grammar.specs.Step.{Step, found, refused}
+use Rattle.format_read.specs.Step.{Step, found, refused}
 use Rattle.format_also.specs.Pair.{Pair, pairOf}
 use Rattle.format_also.specs.declared.PairLine.{PairLine}
 use Rattle.format_also.specs.declared.PairLine.the-variants.{Pair as PairRead, Refused as PairRefused}

@@ -3,13 +3,13 @@ use Prim.Native.Nat.{ℕ}
 use mathlib.Core.Path.{_≡_, refl}
 use mathlib.Core.List.{List, [], _∷_}
 use Rattle.base_limits.specs.Verdict.{refuseIf, _before_}
-use Rattle.format_key.specs.Key.{ascii}
+use Rattle.format_write.specs.Key.{ascii}
 use Rattle.format_write.specs.Decimal.{spelledAfter}
-use Rattle.format_number.specs.Number.{classOf, isDigit, digitsEnd, numeralEnd, numeralAt, numberAt, numberTo}
-use Rattle.format_grammar.specs.Bytes.{byteIs, fixedAt}
-use Rattle.format_grammar.specs.Items.{itemsFrom}
-use Rattle.format_grammar.specs.Lines.{following}
-use Rattle.format_grammar.specs.Step.{Step, found, refused, _then_, checked}
+use Rattle.format_read.specs.Number.{classOf, isDigit, digitsEnd, numeralEnd, numeralAt, numberAt, numberTo}
+use Rattle.format_read.specs.Bytes.{byteIs, fixedAt}
+use Rattle.format_read.specs.Items.{itemsFrom}
+use Rattle.format_read.specs.Lines.{following}
+use Rattle.format_read.specs.Step.{Step, found, refused, _then_, checked}
 use Rattle.format_also.specs.Pair.{rank, pairAt, alsoTest, alsoLine, alsoReader, alsoAt, pairsCounted}
 
 -- What the lines of a text answer.

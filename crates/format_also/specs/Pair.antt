@@ -8,12 +8,12 @@ use lib.Dec.{eqb, leb}
 use Rattle.base_limits.specs.Limits.{groupNumbers, maxPairs, alsoDigits}
 use Rattle.base_limits.specs.Verdict.{refuseIf, _before_}
 use Rattle.base_limits.specs.declared.Verdict.{Verdict}
-use Rattle.format_key.specs.Key.{alsoKey, comma, newline}
-use Rattle.format_grammar.specs.Step.{Step, found, refused, _then_, checked}
-use Rattle.format_grammar.specs.Lines.{Lines}
-use Rattle.format_grammar.specs.Bytes.{byteIs, fixedAt}
-use Rattle.format_grammar.specs.Items.{ItemReader, itemsFrom}
-use Rattle.format_number.specs.Number.{alsoLetter, numberTo, OfDigits}
+use Rattle.format_write.specs.Key.{alsoKey, comma, newline}
+use Rattle.format_read.specs.Step.{Step, found, refused, _then_, checked}
+use Rattle.format_read.specs.Lines.{Lines}
+use Rattle.format_read.specs.Bytes.{byteIs, fixedAt}
+use Rattle.format_read.specs.Items.{ItemReader, itemsFrom}
+use Rattle.format_read.specs.Number.{alsoLetter, numberTo, OfDigits}
 
 -- A junction and a further group of it.
 pub record Pair : Type 0 where

@@ -4,9 +4,9 @@ use mathlib.Core.List.{List, _++_}
 use lib.ListN.{length, getD}
 use Rattle.base_finite.specs.Below.{tabulate}
 use Rattle.base_limits.specs.Limits.{alsoDigits}
-use Rattle.format_key.specs.Key.{comma, newline, alsoKey}
-use Rattle.format_number.specs.Number.{numberText}
-use Rattle.format_grammar.specs.Lines.{textOf}
+use Rattle.format_write.specs.Key.{comma, newline, alsoKey}
+use Rattle.format_read.specs.Number.{numberText}
+use Rattle.format_read.specs.Lines.{textOf}
 use Rattle.format_also.specs.Pair.{Pair, pairOf}
 
 unfoldable pub pairText : Pair → List ℕ

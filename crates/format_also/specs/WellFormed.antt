@@ -6,9 +6,9 @@ use mathlib.Core.Logic.{_⊎_}
 use mathlib.Core.List.{List, [], _∷_}
 use lib.ListN.{length, getD}
 use Rattle.base_limits.specs.Limits.{groupNumbers, maxPairs}
-use Rattle.format_grammar.specs.Bytes.{byteIs}
-use Rattle.format_grammar.specs.Language.{Each}
-use Rattle.format_number.specs.Number.{alsoLetter}
+use Rattle.format_read.specs.Bytes.{byteIs}
+use Rattle.format_read.specs.Language.{Each}
+use Rattle.format_read.specs.Number.{alsoLetter}
 use Rattle.format_also.specs.Pair.{Pair, PairDigits, rank}
 
 -- Pairs that well-formed also lines say, whether or not they pass their tests.

@@ -2,7 +2,7 @@
 use Prim.Native.Nat.{ℕ}
 use lib.ListN.{length}
 use Rattle.base_limits.specs.Verdict.{Outcome, refusal, answer}
-use Rattle.format_grammar.specs.Step.{Step, found, refused}
+use Rattle.format_read.specs.Step.{Step, found, refused}
 use Rattle.format_plan.specs.Plan.{Claims, PrintedPlan}
 use Rattle.format_plan.specs.declared.PlanText.{PlanText}
 use Rattle.format_plan.specs.declared.PlanText.the-variants.{Plan as PlanFound, Refused as PlanRefused}

@@ -5,16 +5,16 @@ use mathlib.Core.List.{[], _∷_, _++_}
 use lib.Dec.{eqb}
 use Rattle.base_limits.specs.Verdict.{refuseIf, _before_}
 use Rattle.format_record.specs.Record.{recordOf}
-use Rattle.format_key.specs.Key.{ascii, terminalsKey, costKey, boundKey, roundsKey, keptKey, dualKey}
+use Rattle.format_write.specs.Key.{ascii, terminalsKey, costKey, boundKey, roundsKey, keptKey, dualKey}
 use Rattle.format_write.specs.Text.{planText}
 use Rattle.format_print.specs.Examples.{p3-printed}
-use Rattle.format_grammar.specs.Step.{found, checked, _then_}
-use Rattle.format_grammar.specs.Lines.{linesAfter, following}
+use Rattle.format_read.specs.Step.{found, checked, _then_}
+use Rattle.format_read.specs.Lines.{linesAfter, following}
 use Rattle.format_write.specs.Decimal.{spelledAfter}
-use Rattle.format_number.specs.Number.{classOf, isDigit, digitsEnd, numeralEnd, numeralAt, numberAt, numberTo, numberLine}
-use Rattle.format_grammar.specs.Bytes.{byteIs, fixedAt}
-use Rattle.format_grammar.specs.Items.{itemsFrom}
-use Rattle.format_plan_lines.specs.Lines.{keptTest, keepLine, keepReader, keptAt, separator, memberStep, risen, memberReader, membersAt, dualTest, dualHead, dualLineAt, dualReader, dualsAt}
+use Rattle.format_read.specs.Number.{classOf, isDigit, digitsEnd, numeralEnd, numeralAt, numberAt, numberTo, numberLine}
+use Rattle.format_read.specs.Bytes.{byteIs, fixedAt}
+use Rattle.format_read.specs.Items.{itemsFrom}
+use Rattle.format_plan.specs.Lines.{keptTest, keepLine, keepReader, keptAt, separator, memberStep, risen, memberReader, membersAt, dualTest, dualHead, dualLineAt, dualReader, dualsAt}
 use Rattle.format_plan.specs.Plan.{PrintedPlan, claimsAt, planLinesAt, planAt}
 
 -- What P3's plan says.

@@ -1,3 +1,6 @@
+pub mod Tests
+pub mod Puts
+pub mod Lines
 pub mod Fill
 pub mod Reading
 pub mod Room

@@ -1,3 +1,5 @@
+pub mod Lines
+pub mod LinesAnswer
 pub mod Plan
 pub mod WellFormed
 pub mod Examples

@@ -5,15 +5,15 @@ use mathlib.Core.Bool.{_||_, cond}
 use mathlib.Core.List.{List, [], _∷_, _++_}
 use lib.ListN.{length, set, drop}
 use lib.Dec.{ltb}
-use Rattle.format_number.specs.Number.{numberLine}
+use Rattle.format_read.specs.Number.{numberLine}
 use Rattle.base_finite.specs.Below.{tabulate}
 use Rattle.base_limits.specs.Limits.{recordBytes, figureDigits}
 use Rattle.base_limits.specs.Verdict.{refuseIf, Outcome, refusal, answer, outcome}
 use Rattle.base_limits.specs.declared.Verdict.{Verdict}
-use Rattle.format_key.specs.Key.{terminalsKey, costKey, boundKey, roundsKey}
-use Rattle.format_grammar.specs.Step.{Step, found, refused, _then_, checked}
-use Rattle.format_grammar.specs.Lines.{linesAfter}
-use Rattle.format_plan_lines.specs.Lines.{keptAt, PrintedDual, dualsAt, isIn, dualRecord}
+use Rattle.format_write.specs.Key.{terminalsKey, costKey, boundKey, roundsKey}
+use Rattle.format_read.specs.Step.{Step, found, refused, _then_, checked}
+use Rattle.format_read.specs.Lines.{linesAfter}
+use Rattle.format_plan.specs.Lines.{keptAt, PrintedDual, dualsAt, isIn, dualRecord}
 
 -- The counts that a plan claims: sites, cost and bound; and its rounds, which nothing decides.
 pub record Claims : Type 0 where

@@ -7,12 +7,12 @@ use lib.Dec.{eqb}
 use lib.ListN.{length, take, getD}
 use Rattle.base_finite.specs.Below.{thoseBelow, tabulate}
 use Rattle.base_limits.specs.Limits.{maxDuals, valueDigits, memberDigits, figureDigits, keptDigits, recordBytes, maxEdges}
-use Rattle.format_grammar.specs.Language.{Each}
-use Rattle.format_grammar.specs.Lines.{textOf}
-use Rattle.format_grammar.specs.Stands.{Stands}
-use Rattle.format_key.specs.Key.{newline, colon, dualKey, keptKey}
-use Rattle.format_number.specs.Number.{OfDigits}
-use Rattle.format_plan_lines.specs.Lines.{memberNumbers, PrintedDual}
+use Rattle.format_read.specs.Language.{Each}
+use Rattle.format_read.specs.Lines.{textOf}
+use Rattle.format_read.specs.Stands.{Stands}
+use Rattle.format_write.specs.Key.{newline, colon, dualKey, keptKey}
+use Rattle.format_read.specs.Number.{OfDigits}
+use Rattle.format_plan.specs.Lines.{memberNumbers, PrintedDual}
 use Rattle.format_plan.specs.Plan.{Claims, PrintedPlan}
 use Rattle.format_record.specs.Record.{valueIn, recordAt}
 use Rattle.format_write.specs.Decimal.{decimal}

@@ -9,7 +9,7 @@ use Rattle.base_finite.specs.Below.{counted, sumBelow, thoseBelow, tabulate}
 use Rattle.base_limits.specs.Limits.{longestDual}
 use Rattle.format_record.specs.Bits.{bitAt, byteOf, bytesOf, memberAt, lowBytes, numberOf}
 use Rattle.format_record.specs.Record.{recordOf, valueIn, memberIn, recordAt}
-use Rattle.format_key.specs.Key.{ascii, terminalsKey, costKey, boundKey, roundsKey, keptKey, dualKey}
+use Rattle.format_write.specs.Key.{ascii, terminalsKey, costKey, boundKey, roundsKey, keptKey, dualKey}
 use Rattle.format_write.specs.Decimal.{digitsWithin, decimal}
 use Rattle.format_write.specs.Text.{lineOf, listed, membersOf, dualLine, textBelow, keptLine, keptLines, dualLines, countLines, planText}
 

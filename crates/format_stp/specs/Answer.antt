@@ -1,7 +1,7 @@
 -- What the answer of reading an STP text says in the terms of the definitions: n and m, or a refusal.
 use Rattle.base_limits.specs.Verdict.{Outcome, refusal, answer}
-use Rattle.format_survey_lines.specs.Line.{SurveyCounts}
-use Rattle.format_stp_rule.specs.StpReading.{StpContent}
+use Rattle.format_survey.specs.Line.{SurveyCounts}
+use Rattle.format_stp.specs.StpReading.{StpContent}
 use Rattle.format_stp.specs.declared.StpRead.{StpRead}
 use Rattle.format_stp.specs.declared.StpRead.the-variants.{Survey as SurveyRead, Refused as ReadRefused}
 

@@ -1,3 +1,17 @@
+pub mod ByByte
+pub mod EmptyLines
+pub mod Joined
+pub mod Comment
+pub mod Number
+pub mod RuleLines
+pub mod File
+pub mod Only
+pub mod Accepted
+pub mod Turn
+pub mod NumberTurn
+pub mod HeadTurn
+pub mod EdgeBound
+pub mod TerminalTurn
 pub mod Lines
 pub mod StpParts
 pub mod Within

@@ -1,3 +1,11 @@
+pub mod StpKey
+pub mod StpWord
+pub mod StpNumber
+pub mod StpReading
+pub mod Subset
+pub mod Section
+pub mod TerminalsAnswer
+pub mod Terminals
 pub mod Parts
 pub mod Answer
 pub mod Laws

@@ -2,13 +2,13 @@
 use Prim.Native.Nat.{ℕ}
 use mathlib.Core.List.{List}
 use lib.Seq.{sets}
-use Rattle.format_grammar.specs.Lines.{whole}
-use Rattle.format_grammar.specs.Step.{Step, found, refused, _then_}
-use Rattle.format_survey_lines.specs.Line.{SurveyCounts, countLine}
-use Rattle.format_stp_rule.specs.StpKey.{nodesWord, edgesWord}
-use Rattle.format_stp_rule.specs.StpReading.{StpContent, StpTests, stpHead, stpEdges}
-use Rattle.format_stp_rule.specs.StpWord.{afterEmpty}
-use Rattle.format_stp_terminals.specs.Terminals.{terminalsToEnd}
+use Rattle.format_read.specs.Lines.{whole}
+use Rattle.format_read.specs.Step.{Step, found, refused, _then_}
+use Rattle.format_survey.specs.Line.{SurveyCounts, countLine}
+use Rattle.format_stp.specs.StpKey.{nodesWord, edgesWord}
+use Rattle.format_stp.specs.StpReading.{StpContent, StpTests, stpHead, stpEdges}
+use Rattle.format_stp.specs.StpWord.{afterEmpty}
+use Rattle.format_stp.specs.Terminals.{terminalsToEnd}
 
 unfoldable pub stpCounts : StpTests → List ℕ → Step SurveyCounts
 stpCounts tests t =

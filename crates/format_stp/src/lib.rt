@@ -1,25 +1,36 @@
+// SteinLib STP texts, the undirected subset: which texts belong to it, and how one is read. Definitions and laws in
+// specs/, no functions.
 // Reads an STP text into the lent buffers of a survey: the counts, then the lines behind them.
 ghost use Rattle.base_buffer.specs.Lent.{old, new};
 ghost use mathlib.Core.Path.{_≡_};
-ghost use Rattle.format_grammar.specs.Step.{found, stopped, _then_};
-ghost use Rattle.format_number.specs.Answer.{numberStep};
-ghost use Rattle.format_survey_lines.specs.Answer.{countsStep};
-ghost use Rattle.format_survey_lines.specs.Line.{firstsOf, secondsOf, weightsOf};
+ghost use Rattle.format_read.specs.Step.{found, stopped, _then_};
+ghost use Rattle.format_read.specs.Answer.{numberStep};
+ghost use Rattle.format_survey.specs.LinesAnswer.{countsStep};
+ghost use Rattle.format_survey.specs.Line.{firstsOf, secondsOf, weightsOf};
 ghost use Rattle.format_survey.specs.Reading.{filled};
-ghost use Rattle.format_stp_rule.specs.StpReading.{stpTests, stpOutcome, stpReading};
+ghost use Rattle.format_stp.specs.StpReading.{stpTests, stpOutcome, stpReading};
 ghost use Rattle.format_stp.specs.Parts.{stpCounts, stpLines, storedBy};
 ghost use Rattle.format_stp.specs.Answer.{stpAnswer, stpCountsOf};
-use format_number::Cursor;
-use format_number::Number;
-use format_stp_head::head;
-use format_stp_head::skip;
-use format_stp_lines::edge_lines;
-use format_stp_refusal::stp_number;
-use format_stp_terminals::terminals;
-use format_survey_counts::edges_line;
-use format_survey_counts::stopped_head;
-use format_survey_counts::vertices_line;
-use format_survey_lines::Head;
+use crate::head::head;
+use crate::head::skip;
+use crate::lines::edge_lines;
+use crate::refusal::stp_number;
+use crate::terminals::terminals;
+use format_read::Cursor;
+use format_read::Number;
+use format_survey::Head;
+use format_survey::counts::edges_line;
+use format_survey::counts::stopped_head;
+use format_survey::counts::vertices_line;
+
+mod free;
+mod head;
+mod line;
+mod lines;
+mod number;
+mod refusal;
+mod sections;
+mod terminals;
 
 const NODES: [u8; 6] = *b"Nodes ";
 

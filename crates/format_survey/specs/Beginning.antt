@@ -6,15 +6,15 @@ use mathlib.Core.Logic.{_⊎_}
 use mathlib.Core.List.{List, _++_}
 use lib.ListN.{length}
 use Rattle.base_limits.specs.Limits.{maxVertices, maxEdges, maxPairs, groupNumbers, countDigits, groupDigits}
-use Rattle.format_grammar.specs.Language.{EachFrom}
-use Rattle.format_grammar.specs.Lines.{textOf}
-use Rattle.format_key.specs.Key.{nodesKey, linksKey, nodeKey}
-use Rattle.format_number.specs.Number.{OfDigits}
+use Rattle.format_read.specs.Language.{EachFrom}
+use Rattle.format_read.specs.Lines.{textOf}
+use Rattle.format_write.specs.Key.{nodesKey, linksKey, nodeKey}
+use Rattle.format_read.specs.Number.{OfDigits}
 use Rattle.format_write.specs.Text.{lineOf}
 use Rattle.format_also.specs.Pair.{Pair, PairDigits}
 use Rattle.format_also.specs.Render.{pairText, pairsText}
 use Rattle.format_also.specs.WellFormed.{PairInOrder, PairOutOfOrder, PairsPass, lastRank}
-use Rattle.format_survey_lines.specs.Line.{Lengths, pairRoom}
+use Rattle.format_survey.specs.Line.{Lengths, pairRoom}
 
 -- The text t begins with the bytes w.
 pub record BeginsWith (w t : List ℕ) : Type 0 where

@@ -1,3 +1,6 @@
+pub mod Tests
+pub mod LinesContent
+pub mod LinesBody
 pub mod Body
 pub mod Reading
 pub mod Content
@@ -8,3 +11,4 @@ pub mod Cause
 pub mod Beginning
 pub mod Longest
 pub mod Cut
+pub mod Storing

@@ -1,3 +1,6 @@
+pub mod Line
+pub mod LinesRender
+pub mod LinesAnswer
 pub mod Reading
 pub mod Render
 pub mod WellFormed

@@ -5,9 +5,9 @@ use lib.ListN.{length, drop}
 use Rattle.base_limits.specs.Verdict.{Outcome, refusal, answer}
 use Rattle.base_limits.specs.declared.Verdict.{Verdict}
 use Rattle.format_also.specs.Pair.{Pair, ownersOf, othersOf}
-use Rattle.format_survey_lines.specs.Line.{Lengths, Tests, groupTest, testsFor, Edge, firstsOf, secondsOf, weightsOf, SurveyCounts, countsAt, SurveyLines, linesOf}
-use Rattle.format_grammar.specs.Bytes.{endAt}
-use Rattle.format_grammar.specs.Step.{Step, found, refused, _then_}
+use Rattle.format_survey.specs.Line.{Lengths, Tests, groupTest, testsFor, Edge, firstsOf, secondsOf, weightsOf, SurveyCounts, countsAt, SurveyLines, linesOf}
+use Rattle.format_read.specs.Bytes.{endAt}
+use Rattle.format_read.specs.Step.{Step, found, refused, _then_}
 
 -- The lines after the counts, to the end of the text.
 unfoldable pub bodyAt : (ℕ → ℕ → Verdict) → (room : ℕ) → List ℕ → SurveyCounts → (at : ℕ) → SurveyLines

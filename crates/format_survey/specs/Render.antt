@@ -2,15 +2,15 @@
 use Prim.Native.Nat.{ℕ, _+_, _*_}
 use mathlib.Core.List.{List, _++_}
 use lib.ListN.{length}
-use Rattle.format_number.specs.Number.{lineBytes}
+use Rattle.format_read.specs.Number.{lineBytes}
 use Rattle.base_limits.specs.Limits.{maxVertices, maxEdges, maxPairs, groupDigits, endpointDigits, weightDigits}
 use Rattle.format_write.specs.Text.{lineOf}
-use Rattle.format_key.specs.Key.{nodesKey, linksKey, nodeKey, linkKey}
+use Rattle.format_write.specs.Key.{nodesKey, linksKey, nodeKey, linkKey}
 use Rattle.format_also.specs.Pair.{Pair}
 use Rattle.format_also.specs.Render.{pairsText, pairBytes}
-use Rattle.format_survey_lines.specs.Line.{Edge}
-use Rattle.format_survey_lines.specs.Render.{edgeText}
-use Rattle.format_grammar.specs.Lines.{textOf}
+use Rattle.format_survey.specs.Line.{Edge}
+use Rattle.format_survey.specs.LinesRender.{edgeText}
+use Rattle.format_read.specs.Lines.{textOf}
 
 unfoldable pub render : (groups : List ℕ) (pairs : List Pair) (edges : List Edge) → List ℕ
 render groups pairs edges =

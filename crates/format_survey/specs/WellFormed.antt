@@ -4,11 +4,11 @@ use mathlib.Core.List.{List, _++_}
 use mathlib.Core.Path.{_≡_}
 use lib.ListN.{length, take}
 use Rattle.base_limits.specs.Limits.{maxVertices, maxEdges, maxPairs, groupNumbers, countDigits, groupDigits}
-use Rattle.format_grammar.specs.Language.{EachFrom}
-use Rattle.format_number.specs.Number.{OfDigits}
+use Rattle.format_read.specs.Language.{EachFrom}
+use Rattle.format_read.specs.Number.{OfDigits}
 use Rattle.format_also.specs.Pair.{Pair}
 use Rattle.format_also.specs.WellFormed.{FewPairs, PairsPass}
-use Rattle.format_survey_lines.specs.Line.{Edge, EdgeDigits, Lengths}
+use Rattle.format_survey.specs.Line.{Edge, EdgeDigits, Lengths}
 use Rattle.format_survey.specs.Reading.{SurveyText, surveyOf}
 use Rattle.format_survey.specs.Render.{render}
 

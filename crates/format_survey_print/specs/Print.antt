@@ -13,7 +13,7 @@ use Rattle.format_print.specs.declared.Printed.{Printed}
 use Rattle.format_print.specs.Print.{printRefusal, answerOf, outAfter}
 use Rattle.format_also.specs.Pair.{Pair}
 use Rattle.format_also.specs.Render.{pairsFrom}
-use Rattle.format_survey_lines.specs.Line.{Edge}
+use Rattle.format_survey.specs.Line.{Edge}
 use Rattle.format_survey.specs.Reading.{SurveyText}
 use Rattle.format_survey.specs.Render.{render}
 

@@ -1,7 +1,7 @@
 -- A reason of each kind, by computation.
 use mathlib.Core.Path.{_≡_, refl}
 use mathlib.Core.List.{[], _∷_}
-use Rattle.format_key.specs.Key.{ascii, trackKey, markKey, groupKey, fromKey, toKey, routeKey, roundKey}
+use Rattle.format_write.specs.Key.{ascii, trackKey, markKey, groupKey, fromKey, toKey, routeKey, roundKey}
 use Rattle.format_write.specs.Decimal.{digitsWithin, decimal}
 use Rattle.format_write.specs.Text.{lineOf, listed}
 use Rattle.format_why.specs.ReasonText.{routeLine, keptText, markText, reasonText}

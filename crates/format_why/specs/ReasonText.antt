@@ -3,7 +3,7 @@ use Prim.Native.Nat.{ℕ}
 use mathlib.Core.Bool.{cond}
 use mathlib.Core.List.{List, [], _∷_, _++_}
 use lib.Dec.{eqb}
-use Rattle.format_key.specs.Key.{trackKey, markKey, groupKey, fromKey, toKey, routeKey, roundKey, newline}
+use Rattle.format_write.specs.Key.{trackKey, markKey, groupKey, fromKey, toKey, routeKey, roundKey, newline}
 use Rattle.format_write.specs.Text.{lineOf, listed}
 
 -- The tracks of a route in walking order.

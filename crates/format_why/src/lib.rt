@@ -4,6 +4,11 @@ ghost use lib.ListN.{length};
 ghost use Rattle.base_limits.specs.Limits.{whyRoom};
 use base_limits::WHY_ROOM;
 
+mod kept;
+mod print;
+
+pub use print::print_reason;
+
 // A buffer that holds every reason within the limits (`reason-room`).
 pub fn why_buffer() -> [u8; WHY_ROOM]
     ensures { λ r. ⌜ length r ≡ whyRoom ⌝ }

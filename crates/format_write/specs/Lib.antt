@@ -1,3 +1,4 @@
+pub mod Key
 pub mod Decimal
 pub mod Text
 pub mod Wrote

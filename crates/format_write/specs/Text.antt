@@ -7,7 +7,7 @@ use lib.Dec.{eqb}
 use Rattle.base_finite.specs.Below.{thoseBelow}
 use Rattle.base_limits.specs.Limits.{memberBytes, recordBytes}
 use Rattle.format_record.specs.Record.{valueIn, memberIn, recordAt}
-use Rattle.format_key.specs.Key.{
+use Rattle.format_write.specs.Key.{
   terminalsKey,
   costKey,
   boundKey,

@@ -8,7 +8,7 @@ use lib.ListN.{length, getD}
 use lib.Dec.{eqb}
 use lib.Seq.{sets}
 use Rattle.base_limits.specs.Limits.{valueBytes}
-use Rattle.format_key.specs.Key.{comma}
+use Rattle.format_write.specs.Key.{comma}
 use Rattle.format_write.specs.Decimal.{decimal}
 
 abbrev pub farthest : ℕ

@@ -1,5 +1,5 @@
 // Reads a survey text on standard input and prints its plan, or the two lines of a refusal. All between reading and
-// writing is `api_plan_whole::plan_whole`; a text longer than the buffer has the output of its first bytes
+// writing is `text_plan::plan_whole`; a text longer than the buffer has the output of its first bytes
 // (`output-first-bytes`).
 ghost use mathlib.Core.Path.{_≡_};
 ghost use lib.ListN.{length};
@@ -16,7 +16,7 @@ fn room() -> [u8; SURVEY_ROOM]
 fn main() {
     let mut input = room();
     let got = io::read_full(0, &mut input);
-    let mut out = format_print_plan::plan_buffer();
-    let printed = api_plan_whole::plan_whole(&input[..got], &mut out);
+    let mut out = format_print::plan_buffer();
+    let printed = text_plan::plan_whole(&input[..got], &mut out);
     io::write_all(1, &out[..printed]);
 }

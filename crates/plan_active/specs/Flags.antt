@@ -11,7 +11,7 @@ use Rattle.base_buffer.specs.Store.{remade}
 use Rattle.theory_graph.specs.Component.{merged}
 use Rattle.theory_steiner.specs.Growth.{active}
 use Rattle.survey_core.specs.Survey.{groupsAlone, problemOf}
-use Rattle.survey_mates.specs.Mate.{mateOf}
+use Rattle.survey_groups.specs.Mate.{mateOf}
 
 -- The flags after a vertex with this label, of a group with this summary (1: split).
 unfoldable pub flagged : (flags : List ℕ) → (summary label : ℕ) → List ℕ

@@ -6,8 +6,20 @@ ghost use Rattle.survey_core.specs.Survey.{lentWith};
 ghost use Rattle.plan_rule.specs.Plan.{counting, marksAfter, recordsAfter};
 ghost use Rattle.plan_rule.specs.Answer.{plannedOutcome};
 ghost use Rattle.plan_rule.specs.Promise.{Promises};
-use plan_counts::both;
+use crate::counts::both;
 use plan_rule::Planned;
+
+mod counts;
+mod grow;
+mod lists;
+mod marks;
+mod picks;
+mod poured;
+mod prune;
+mod refusal;
+
+pub use grow::grow_plan;
+pub use prune::prune_plan;
 
 // Plans a survey into lent buffers for marks and moat records. Finished exactly if none of 1 to 8 and 18 applies; 8
 // exactly if no set of tracks joins some group, and then the lowest; a finished plan passes the checker and is within
@@ -35,7 +47,7 @@ pub fn plan(
         let s = lentWith groups firsts seconds weights owners others in
         ⌜ Promises s (old marks) (old records) (plannedOutcome r) ⌝ }
 {
-    let grown = plan_grow::grow_plan(
+    let grown = crate::grow::grow_plan(
         groups,
         firsts,
         seconds,
@@ -49,7 +61,7 @@ pub fn plan(
         return Planned::Refused { number, place };
     }
     let m = firsts.len();
-    let dropped = plan_prune::prune_plan(
+    let dropped = crate::prune::prune_plan(
         groups,
         firsts,
         seconds,

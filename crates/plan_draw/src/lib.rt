@@ -1,15 +1,24 @@
+// Duals as records, and the trace of a growth that they follow from: definitions and laws in specs/, no functions.
 // Drawing: the duals of a finished growth as records, single vertices first, then merged components as they arose.
 ghost use Rattle.base_buffer.specs.Lent.{old, new};
 ghost use mathlib.Core.Path.{_≡_};
 ghost use lib.ListN.{length};
-ghost use Rattle.plan_duals.specs.Drawing.{recordsOver};
-ghost use Rattle.plan_duals.specs.Trace.{traceFrom, lentTrace, traceDuals, Drawable, drawnDuals};
+ghost use Rattle.plan_draw.specs.Drawing.{recordsOver};
+ghost use Rattle.plan_draw.specs.Trace.{traceFrom, lentTrace, traceDuals, Drawable, drawnDuals};
+use crate::append::write_dual;
+use crate::arise::arise;
+use crate::drawable::is_drawable;
+use crate::trees::NUMBERS;
 use base_limits::MAX_VERTICES;
 use base_limits::RECORD_BYTES;
-use plan_append::write_dual;
-use plan_arise::arise;
-use plan_drawable::is_drawable;
-use plan_trees::NUMBERS;
+
+mod append;
+mod arise;
+mod drawable;
+mod members;
+mod record;
+mod sets;
+mod trees;
 
 // The duals of a trace that can be replayed.
 fn draw_trace(

@@ -8,9 +8,9 @@ use Rattle.theory_steiner.specs.Pruning.{needed, markOf}
 use Rattle.base_limits.specs.Verdict.{written}
 use Rattle.survey_core.specs.Survey.{Survey, edgeCount, problemOf}
 use Rattle.survey_components.specs.Labels.{pickedIn}
-use Rattle.survey_forest.specs.Forest.{forestRefusal}
+use Rattle.survey_components.specs.Forest.{forestRefusal}
 use Rattle.base_buffer.specs.Store.{remade}
-use Rattle.plan_cuts.specs.Word.{inBatch}
+use Rattle.plan_drop.specs.Word.{inBatch}
 
 -- The marks of the edges of F below m with 2 for the needed ones; what lies past them stays.
 unfoldable pub prunedMarks : Problem → (ℕ → Bool) → (m : ℕ) → List ℕ → List ℕ

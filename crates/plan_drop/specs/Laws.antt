@@ -1,2 +1,11 @@
+pub mod Side
+pub mod Word
+pub mod Taken
+pub mod Alone
+pub mod Tried
+pub mod Parted
+pub mod Needed
+pub mod Dropped
+pub mod Peel
 pub mod Judge
 pub mod Prunable

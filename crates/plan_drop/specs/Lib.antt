@@ -1,3 +1,11 @@
+pub mod Side
+pub mod Word
+pub mod Taken
+pub mod Tried
+pub mod Parted
+pub mod Needed
+pub mod Dropped
+pub mod Peel
 pub mod Prunable
 pub mod Judge
 pub mod Laws

@@ -1,3 +1,4 @@
+// The two sides of each picked edge, as words of up to 64: definitions and laws in specs/. No functions.
 // Pruning: which picked edges are kept. Definitions in specs/.
 ghost use Rattle.base_buffer.specs.Lent.{old, new};
 ghost use mathlib.Core.Path.{_≡_};
@@ -5,13 +6,24 @@ ghost use lib.ListN.{length};
 ghost use Rattle.base_finite.specs.Below.{tabulate};
 ghost use Rattle.base_limits.specs.Limits.{maxVertices};
 ghost use Rattle.survey_core.specs.Survey.{lentSurvey};
-ghost use Rattle.survey_mates.specs.Mate.{mateOf};
+ghost use Rattle.survey_groups.specs.Mate.{mateOf};
 ghost use Rattle.survey_components.specs.Labels.{pickedIn};
-ghost use Rattle.survey_forest.specs.Forest.{forestRefusal};
+ghost use Rattle.survey_components.specs.Forest.{forestRefusal};
 ghost use Rattle.plan_drop.specs.Prunable.{Prunable, unweighted};
 ghost use Rattle.plan_drop.specs.Judge.{batchMarks, prunedMarks, marksPruned};
 use base_limits::MAX_VERTICES;
 use base_limits::Verdict;
+
+mod bits;
+mod dropped;
+mod judge;
+mod peel;
+mod sides;
+mod taken;
+mod word;
+
+// Edges of one batch.
+pub const WORD_BITS: usize = 64;
 
 // The 64 picked edges from index base on, by an order in which vertices may hang on others by their links.
 fn prune_batch(
@@ -32,8 +44,17 @@ fn prune_batch(
     ensures { λ r. let p = unweighted (old groups) (old firsts) (old seconds) in
         ⌜ new marks ≡ batchMarks p (pickedIn (old picked)) base (length (old firsts)) (old marks) ⌝ }
 {
-    let words = plan_sides::side_words(firsts, seconds, picked, order, others, links, count, base);
-    plan_judge::judge_edges(
+    let words = crate::sides::side_words(
+        firsts,
+        seconds,
+        picked,
+        order,
+        others,
+        links,
+        count,
+        base,
+    );
+    crate::judge::judge_edges(
         &words,
         mates,
         groups.len(),
@@ -51,14 +72,14 @@ fn prune_forest(groups: &[u8], firsts: &[u32], seconds: &[u32], picked: &[u8], m
     ensures { λ r. let p = unweighted (old groups) (old firsts) (old seconds) in
         ⌜ new marks ≡ prunedMarks p (pickedIn (old picked)) (length (old firsts)) (old marks) ⌝ }
 {
-    plan_dropped::drop_all(picked, marks, firsts.len());
-    let mates = survey_mates::mates(groups);
-    let guess = plan_peel::peel(firsts, seconds, picked, groups.len() as u32);
+    crate::dropped::drop_all(picked, marks, firsts.len());
+    let mates = survey_groups::mates::mates(groups);
+    let guess = crate::peel::peel(firsts, seconds, picked, groups.len() as u32);
     let order = guess.order;
     let others = guess.others;
     let links = guess.marks;
     let hung = guess.count;
-    let count = plan_dropped::count_picked(picked, firsts.len());
+    let count = crate::dropped::count_picked(picked, firsts.len());
     let mut base = 0;
     while base < count {
         prune_batch(
@@ -74,7 +95,7 @@ fn prune_forest(groups: &[u8], firsts: &[u32], seconds: &[u32], picked: &[u8], m
             marks,
             base,
         );
-        base += plan_cuts::WORD_BITS;
+        base += crate::WORD_BITS;
     }
 }
 
@@ -92,7 +113,7 @@ pub fn prune(
     ensures { λ r. ⌜ r ≡ forestRefusal (lentSurvey groups firsts seconds weights) (old picked) ⌝ }
     ensures { λ _. ⌜ new marks ≡ marksPruned (lentSurvey groups firsts seconds weights) (old picked) (old marks) ⌝ }
 {
-    let found = survey_forest::forest_refusal(groups, firsts, seconds, weights, picked);
+    let found = survey_components::forest_refusal(groups, firsts, seconds, weights, picked);
     let Verdict::Fine = found else {
         return found;
     };

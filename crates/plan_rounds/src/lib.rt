@@ -1,4 +1,5 @@
-// Growth over arrays: rounds until no candidate is left. Definitions in plan_growth.
+// What growing answers; how duals grow over arrays is defined in specs/.
+// Growth over arrays: rounds until no candidate is left. Definitions in plan_rounds.
 ghost use Rattle.base_buffer.specs.Lent.{old, new};
 ghost use mathlib.Core.Path.{_≡_};
 ghost use Prim.Native.Nat.{_<_, _^_};
@@ -7,7 +8,7 @@ ghost use Rattle.base_limits.specs.Limits.{maxVertices, maxEdges, maxDuals};
 ghost use Rattle.base_limits.specs.Verdict.{written};
 ghost use Rattle.survey_core.specs.Refusal.{surveyRefusal};
 ghost use Rattle.survey_core.specs.Survey.{surveyFrom, lentSurvey, problemOf};
-ghost use Rattle.plan_growth.specs.Grown.{growthFrom, GrownAfter};
+ghost use Rattle.plan_rounds.specs.Grown.{growthFrom, GrownAfter};
 ghost use Rattle.survey_core.specs.Sound.{SurveySound};
 use base_buffer::put8;
 use base_buffer::put32;
@@ -15,9 +16,21 @@ use base_limits::MAX_DUALS;
 use base_limits::MAX_EDGES;
 use base_limits::MAX_VERTICES;
 use base_limits::Verdict;
-use plan_delay::Winner;
-use plan_growth::Grown;
-use plan_winner::MAX_BLOCKS;
+use plan_search::MAX_BLOCKS;
+use plan_search::Winner;
+
+mod both;
+mod bound;
+mod join;
+mod round;
+mod settle;
+mod turn;
+
+// What growing answers: how many rounds there were, and the sum of all duals.
+pub struct Grown {
+    pub rounds: usize,
+    pub bound: u64,
+}
 
 // Edge e is the pick of round r.
 fn note_pick(picked: &mut [u8; MAX_EDGES], order: &mut [u32; MAX_VERTICES], e: usize, r: usize)
@@ -51,18 +64,18 @@ fn grow_rounds(
     let mut loads = [0u64; MAX_VERTICES];
     let mut keys = [0u64; MAX_EDGES];
     let mut floors = [0u64; MAX_BLOCKS];
-    survey_labels::own_labels(&mut labels);
-    let mates = survey_mates::mates(groups);
+    survey_components::own_labels(&mut labels);
+    let mates = survey_groups::mates::mates(groups);
     let mut members = [0u32; MAX_VERTICES];
     let n = groups.len();
-    let count = plan_mated::list_members(&mates, &mut members, n as u32);
-    let mut flags = plan_flags::active_flags(groups, &labels);
-    plan_keys::start_keys(firsts, seconds, weights, &flags, &mut keys);
+    let count = plan_active::list_members(&mates, &mut members, n as u32);
+    let mut flags = plan_active::active_flags(groups, &labels);
+    plan_search::start_keys(firsts, seconds, weights, &flags, &mut keys);
     let most = n - 1;
     let mut time = 0;
     let mut r = 0;
     while r < most {
-        let found = plan_round::round(
+        let found = crate::round::round(
             firsts,
             seconds,
             weights,
@@ -86,7 +99,7 @@ fn grow_rounds(
         time += d;
         r += 1;
     }
-    plan_bound::settle_bound(values, &flags, n + r, r, time)
+    crate::bound::settle_bound(values, &flags, n + r, r, time)
 }
 
 // Growth to its end, whatever the arrays held; a refused survey has no round.
@@ -107,7 +120,7 @@ pub fn grow(
     *values = [0u64; MAX_DUALS];
     *picked = [0u8; MAX_EDGES];
     *order = [0u32; MAX_VERTICES];
-    let found = survey_refusal::survey_refusal(groups, firsts, seconds, weights);
+    let found = survey_refusal::edges::survey_refusal(groups, firsts, seconds, weights);
     let Verdict::Fine = found else {
         return Grown {
             rounds: 0,

@@ -12,7 +12,7 @@ use Rattle.theory_steiner.specs.Pruning.{needed, markOf}
 use Rattle.survey_core.specs.Survey.{Survey, edgeCount, problemOf}
 use Rattle.survey_core.specs.Refusal.{surveyRefusal, groupRefusal}
 use Rattle.survey_components.specs.Labels.{pickedIn}
-use Rattle.survey_forest.specs.Forest.{loopRefusal}
+use Rattle.survey_components.specs.Forest.{loopRefusal}
 
 -- 1 to 6 and 18, then 9 for marks not m long, 10 for a mark above 1, 21 for a picked track that closes a loop with picked ones of lower number, 14 for a list that the picked tracks leave apart.
 unfoldable pub dropRefusal : Survey → (marks : List ℕ) → Verdict

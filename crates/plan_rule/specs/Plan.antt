@@ -13,7 +13,7 @@ use Rattle.theory_steiner.specs.Growth.{grown}
 use Rattle.theory_steiner.specs.Dual.{Dual}
 use Rattle.theory_steiner.specs.Dual.{dualsOf as grownDuals}
 use Rattle.theory_steiner.specs.Pruning.{kept, mark, dualBound}
-use Rattle.plan_duals.specs.Drawing.{recordsOver}
+use Rattle.plan_draw.specs.Drawing.{recordsOver}
 use Rattle.survey_core.specs.Survey.{Survey, vertexCount, edgeCount, problemOf}
 use Rattle.survey_core.specs.Refusal.{surveyRefusal, groupRefusal}
 

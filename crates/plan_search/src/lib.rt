@@ -1,20 +1,43 @@
-// The search for a round's winner, edge by edge and block by block. Definitions in plan_winner.
+// The search for a round's winner over arrays: edges that cannot win yet are passed over by their keys, and blocks by
+// their floors. Definitions in specs/; the functions stand in the crates above.
+// The search for a round's winner, edge by edge and block by block. Definitions in plan_search.
 ghost use Rattle.base_buffer.specs.Lent.{old, new};
 ghost use mathlib.Core.Path.{_≡_};
 ghost use Prim.Native.Nat.{_-_, _*_, _<_, _≤_};
 ghost use lib.ListN.{set, length};
-ghost use Rattle.plan_winner.specs.Scan.{timeLimit, cappedTime};
-ghost use Rattle.plan_winner.specs.Scan.{blockEdges, blockSize, blocksOf, lowestKey};
-ghost use Rattle.plan_winner.specs.Tables.{tablesIn, onBy, passBy, scanFrom};
-ghost use Rattle.plan_delay.specs.Between.{winnerIn};
+ghost use Rattle.plan_search.specs.Scan.{timeLimit, cappedTime, blockEdges, blockSize, blocksOf, lowestKey};
+ghost use Rattle.plan_search.specs.Tables.{tablesIn, onBy, passBy, scanFrom};
+ghost use Rattle.plan_search.specs.Between.{winnerIn};
+use crate::limit::limit_of;
+use crate::limit::lower_of;
+use crate::limit::next_block;
 use base_buffer::at64;
 use base_buffer::put64;
-use plan_delay::Winner;
-use plan_limit::limit_of;
-use plan_limit::lower_of;
-use plan_limit::next_block;
-use plan_winner::BLOCK_EDGES;
-use plan_winner::NO_KEY;
+use base_limits::MAX_EDGES;
+
+mod better;
+mod delay;
+mod keys;
+mod limit;
+mod look;
+mod rest;
+
+pub use delay::Winner;
+pub use delay::settled;
+pub use keys::start_keys;
+pub use limit::capped_time;
+
+// The key of an edge inside a component or at rest (`noKey`).
+pub const NO_KEY: u64 = 18446744073709551615;
+
+// The search goes by times below 2^62, whose sums fit (`timeLimit`).
+pub const TIME_LIMIT: u64 = 4611686018427387904;
+
+// Edges of a whole block (`blockEdges`).
+pub const BLOCK_EDGES: usize = 8;
+
+// Blocks, at most (`maxBlocks`).
+pub const MAX_BLOCKS: usize = MAX_EDGES / BLOCK_EDGES + 1;
 
 // What the edges of a block leave: the best so far, and the lowest of their keys.
 struct Passed {
@@ -51,7 +74,7 @@ fn scan_block(
     let mut e = from;
     while e < to {
         if at64(keys, e) < limit {
-            winner = plan_look::look(
+            winner = crate::look::look(
                 firsts,
                 seconds,
                 weights,
@@ -156,7 +179,7 @@ pub fn find_winner(
         let blocks = blocksOf (length (old firsts)) in
         ⌜ new floors ≡ passBy t (cappedTime time) (old keys) (old floors) blocks .floors ⌝ }
 {
-    let capped = plan_limit::capped_time(time);
+    let capped = crate::limit::capped_time(time);
     let mut best = Winner::Nobody;
     let mut limit = NO_KEY;
     let blocks = firsts.len() / BLOCK_EDGES + 1;

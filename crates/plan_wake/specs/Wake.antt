@@ -1,12 +1,12 @@
 -- Waking: a round that joins an idle single vertex gives the edges at it keys again, and lowers the floors of their blocks to these, so that the next searches look at
--- them in time (`plan_winner: Scan`; law `woken-keys` says that these are the keys that the next round needs).
+-- them in time (`plan_search: Scan`; law `woken-keys` says that these are the keys that the next round needs).
 use Prim.Native.Nat.{ℕ, zero, suc, _+_, _*_, _-_, _/_}
 use mathlib.Core.Bool.{Bool, _&&_, _||_, not, cond}
 use mathlib.Core.List.{List}
 use lib.ListN.{length, getD, set}
 use lib.Dec.{eqb, ltb}
-use Rattle.plan_winner.specs.Scan.{cappedTime, blockEdges}
-use Rattle.plan_winner.specs.Tables.{Tables}
+use Rattle.plan_search.specs.Scan.{cappedTime, blockEdges}
+use Rattle.plan_search.specs.Tables.{Tables}
 
 -- Edge e has vertex c as an end.
 unfoldable pub endsAt : (firsts seconds : List ℕ) → (c e : ℕ) → Bool

@@ -11,7 +11,7 @@ use Rattle.base_limits.specs.Limits.{maxVertices}
 use Rattle.survey_components.specs.declared.Chosen.{Chosen}
 use Rattle.survey_components.specs.declared.Chosen.the-variants.{All, Kept}
 use Rattle.survey_core.specs.Survey.{Survey}
-use Rattle.survey_labels.specs.Labels.{EndsWithin}
+use Rattle.survey_components.specs.Buffer.{EndsWithin}
 
 -- All tracks, or those marked 2.
 unfoldable pub chosenMark : Chosen → ℕ → Bool

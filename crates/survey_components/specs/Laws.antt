@@ -1,2 +1,7 @@
+pub mod Front
+pub mod Buffer
+pub mod Roots
+pub mod Met
 pub mod Labels
 pub mod Picked
+pub mod Forest

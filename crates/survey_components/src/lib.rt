@@ -11,13 +11,24 @@ ghost use Rattle.base_limits.specs.Verdict.{written};
 ghost use Rattle.survey_core.specs.Survey.{lentSurvey};
 ghost use Rattle.survey_core.specs.Refusal.{surveyRefusal};
 ghost use Rattle.survey_components.specs.Labels.{chosenMark, chosen, pickedIn, EndsFit, labelsOf};
-ghost use Rattle.survey_join.specs.Met.{endsMet};
+ghost use Rattle.survey_components.specs.Met.{endsMet};
+use crate::join::is_kept;
+use crate::join::join_ends;
 use base_buffer::at32;
 use base_limits::MAX_VERTICES;
 use base_limits::Verdict;
-use survey_join::is_kept;
-use survey_join::join_ends;
-use survey_labels::own_labels;
+
+mod forest;
+mod hang;
+mod join;
+mod labels;
+mod level;
+
+pub use forest::forest_refusal;
+pub use labels::climb;
+pub use labels::merge;
+pub use labels::own_labels;
+pub use labels::relabel;
 
 // A set of edges: all of a survey's, or those that are marked kept.
 pub enum Chosen {
@@ -77,7 +88,7 @@ fn label_components(set: Chosen, firsts: &[u32], seconds: &[u32], marks: &[u8], 
         join_edge(set, firsts, seconds, marks, labels, e);
         e += 1;
     }
-    survey_level::level(labels, firsts.len());
+    crate::level::level(labels, firsts.len());
 }
 
 // The labels of the components that the edges of the set make; zeros where one of 1 to 6 comes.
@@ -93,7 +104,7 @@ pub fn set_labels(
         ⌜ r ≡ written (surveyRefusal s) (labelsOf s (chosen set (old marks))) (replicate maxVertices 0) ⌝ }
 {
     let mut labels = [0u32; MAX_VERTICES];
-    let found = survey_refusal::survey_refusal(groups, firsts, seconds, weights);
+    let found = survey_refusal::edges::survey_refusal(groups, firsts, seconds, weights);
     let Verdict::Fine = found else {
         return labels;
     };

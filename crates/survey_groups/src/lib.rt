@@ -11,6 +11,14 @@ use base_buffer::at64;
 use base_buffer::put64;
 use base_limits::GROUP_NUMBERS;
 
+pub mod mates;
+mod separating;
+pub mod terminals;
+
+pub use separating::first_split;
+pub use separating::is_separating;
+pub use separating::split_refusal;
+
 // What one more member's label makes of a group's summary.
 fn noted_label(summary: u64, label: u64) -> u64
     requires { ⌜ label + 2 < 2 ^ 64 ⌝ }

@@ -2,3 +2,4 @@ pub mod Home
 pub mod Pouring
 pub mod Plan
 pub mod Room
+pub mod Split

@@ -1,3 +1,4 @@
 pub mod Pouring
 pub mod Examples
+pub mod Split
 pub mod Laws

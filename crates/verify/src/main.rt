@@ -1,6 +1,6 @@
 // Reads a survey text and the printed plan behind it on standard input, and prints what the plan is worth: `passed`,
 // terminals, cost and bound as the checker finds them, or the refusal. All between reading and writing is
-// `api_verify_whole::verify_whole`; a text longer than the buffer does not pass (`passed-cut`).
+// `text_verify::verify_whole`; a text longer than the buffer does not pass (`passed-cut`).
 ghost use mathlib.Core.Path.{_≡_};
 ghost use lib.ListN.{length};
 ghost use Rattle.base_limits.specs.Limits.{verifyRoom};
@@ -16,7 +16,7 @@ fn room() -> [u8; VERIFY_ROOM]
 fn main() {
     let mut text = room();
     let got = io::read_full(0, &mut text);
-    let mut out = api_verify_whole::findings_buffer();
-    let printed = api_verify_whole::verify_whole(&text[..got], &mut out);
+    let mut out = text_verify::findings_buffer();
+    let printed = text_verify::verify_whole(&text[..got], &mut out);
     io::write_all(1, &out[..printed]);
 }

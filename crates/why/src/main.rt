@@ -1,5 +1,5 @@
 // Reads a survey text on standard input and a track number as its argument, and prints why the track has its mark, or
-// the two lines of a refusal. All between reading and writing is `api_why_whole::why_whole`; a text longer than the
+// the two lines of a refusal. All between reading and writing is `text_why::why_whole`; a text longer than the
 // buffer has the output of its first bytes (`why-first-bytes`). Where the argument is no track number nothing is
 // printed.
 ghost use mathlib.Core.Path.{_≡_};
@@ -7,7 +7,7 @@ ghost use lib.ListN.{length};
 ghost use Rattle.base_limits.specs.Limits.{surveyRoom};
 use base_limits::COUNT_DIGITS;
 use base_limits::SURVEY_ROOM;
-use format_number::Number;
+use format_read::Number;
 
 // What is said on standard error where the argument is no track number.
 const USAGE: [u8; 64] = *b"why: give a track number as the one argument, a survey as input\n";
@@ -24,7 +24,7 @@ fn answer(track: usize) {
     let mut input = room();
     let got = io::read_full(0, &mut input);
     let mut out = format_why::why_buffer();
-    let printed = api_why_whole::why_whole(&input[..got], track, &mut out);
+    let printed = text_why::why_whole(&input[..got], track, &mut out);
     io::write_all(1, &out[..printed]);
 }
 
@@ -32,7 +32,7 @@ fn answer(track: usize) {
 fn main() {
     let mut word = [0u8; COUNT_DIGITS];
     let got = os::arg(1, &mut word);
-    let said = api_why_track::track_number(&word[..got]);
+    let said = text_why::track_number(&word[..got]);
     let Number::Value { value, next: _ } = said else {
         io::write_all(2, &USAGE);
         return;

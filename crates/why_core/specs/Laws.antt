@@ -1,3 +1,12 @@
+pub mod Visit
+pub mod Walk
+pub mod Found
+pub mod Member
+pub mod Replay
+pub mod Stages
+pub mod PartedFound
+pub mod Held
+pub mod Answer
 pub mod Round
 pub mod Grown
 pub mod Kept

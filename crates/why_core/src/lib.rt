@@ -12,13 +12,21 @@ ghost use Rattle.why_rule.specs.Why.{whyCounts, routeIn, reasoning, routeAfter}
 ghost use Rattle.why_rule.specs.Answer.{whyOutcome};
 ghost use Rattle.why_rule.specs.Promise.{WhyPromises};
 ghost use Rattle.why_core.specs.Asked.{Asked};
+use crate::kept::explain_kept;
 use base_buffer::wide;
 use base_limits::MAX_DUALS;
 use base_limits::MAX_EDGES;
 use base_limits::MAX_VERTICES;
 use base_limits::Verdict;
-use why_kept::explain_kept;
 use why_rule::Why;
+
+mod kept;
+mod pair;
+mod parted;
+mod refusal;
+mod round;
+mod route;
+mod visit;
 
 // The marks of a plan, from what growing picked.
 fn plan_marks(
@@ -74,7 +82,7 @@ fn explain(
     match base_buffer::at8(&marks, track) {
         0 => {
             let picks = &order[0..rounds];
-            let round = why_round::join_round(lists, firsts, seconds, weights, picks, track);
+            let round = crate::round::join_round(lists, firsts, seconds, weights, picks, track);
             Why::Passed { round: wide(round) }
         }
         1 => Why::Dropped,
@@ -118,7 +126,7 @@ pub fn why(
         let s = lentWith groups firsts seconds weights owners others in
         ⌜ WhyPromises s track (old route) (new route) (whyOutcome r) ⌝ }
 {
-    let found = why_refusal::why_refusal(
+    let found = crate::refusal::why_refusal(
         groups,
         firsts,
         seconds,
@@ -131,7 +139,7 @@ pub fn why(
     if let Verdict::Refused { number, place } = found {
         return Why::Refused { number, place };
     }
-    let poured = survey_pour::pour(groups, owners, others);
+    let poured = survey_lists::pour::pour(groups, owners, others);
     let n = groups.len();
     let lists = &poured[0..n];
     explain(

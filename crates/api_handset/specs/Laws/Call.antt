@@ -20,10 +20,10 @@ use Rattle.api_plan.specs.Call.{planFigures, planFiguresOf, planCall, drawnMark
 use Rattle.api_plan.specs.Laws.Call.{plan-encodable}
 use Rattle.api_check.specs.Call.{checkFigures, checkFiguresOf, checkCall, checkCounts}
 use Rattle.api_check.specs.Laws.Call.{check-encodable}
-use Rattle.api_words.specs.Words.{spelledCounts, withSpelled}
-use Rattle.api_lengths.specs.Slices.{Slices, surveySpelled, sizeRefusal, lengthsRefusal, raggedRefusal}
-use Rattle.api_lengths.specs.Laws.Lengths.{slicesRefusal, lengths-refused, lengths-whole}
-use Rattle.api_lengths.specs.Laws.Pairs.{Seen, seen-call, seen-written}
+use Rattle.api_handset.specs.Words.{spelledCounts, withSpelled}
+use Rattle.api_handset.specs.Slices.{Slices, surveySpelled, sizeRefusal, lengthsRefusal, raggedRefusal}
+use Rattle.api_handset.specs.Laws.Lengths.{slicesRefusal, lengths-refused, lengths-whole}
+use Rattle.api_handset.specs.Laws.Pairs.{Seen, seen-call, seen-written}
 use Rattle.api_handset.specs.Call.{planBytes, checkBytes, resultAfter, checkWith, handsetCheck, handsetCheckResult}
 use Rattle.api_handset.specs.Call.{planWith, handsetPlan, handsetMarks, handsetRecords, handsetPlanResult}
 

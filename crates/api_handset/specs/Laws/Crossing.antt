@@ -17,9 +17,9 @@ use Rattle.base_limits.specs.declared.Verdict.the-variants.{Fine, Refused}
 use Rattle.base_limits.specs.Laws.Verdict.{before-none, refuse-false}
 use Rattle.survey_core.specs.Survey.{Survey, vertexCount}
 use Rattle.survey_core.specs.Refusal.{surveyRefusal}
-use Rattle.api_words.specs.Words.{wordBytes, wordAt, wordsIn}
+use Rattle.api_handset.specs.Words.{wordBytes, wordAt, wordsIn}
 use Rattle.api_code.specs.Code.{withCounts}
-use Rattle.api_lengths.specs.Slices.{surveySpelled, isRagged, sizeRefusal, anyRagged, raggedRefusal}
+use Rattle.api_handset.specs.Slices.{surveySpelled, isRagged, sizeRefusal, anyRagged, raggedRefusal}
 use Rattle.api_handset.specs.Call.{planWith, handsetPlan, checkWith, handsetCheck}
 use Rattle.api_handset.specs.Crossing.{inBytes, Fit, crossingOf}
 

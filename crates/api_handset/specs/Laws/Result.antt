@@ -20,7 +20,7 @@ use Rattle.api_code.specs.Code.{codeOf, withCounts, countsAfter, lentOn}
 use Rattle.api_code.specs.Laws.Encodable.{Encodable, code-zero, zero-code}
 use Rattle.api_code.specs.Laws.Lending.{lent-part, lent-rest}
 use Rattle.api_code.specs.Laws.Ends.{counts-encodable}
-use Rattle.api_words.specs.Words.{figureBytes, spelledCounts, withSpelled}
+use Rattle.api_handset.specs.Words.{figureBytes, spelledCounts, withSpelled}
 use Rattle.api_handset.specs.Call.{resultAfter}
 
 -- The entries that are lent on of n zeros, and how many they are.

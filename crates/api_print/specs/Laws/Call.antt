@@ -12,15 +12,15 @@ use Rattle.base_limits.specs.Verdict.{refuseIf, _before_, written}
 use Rattle.base_limits.specs.declared.Verdict.{Verdict}
 use Rattle.base_limits.specs.declared.Verdict.the-variants.{Fine, Refused}
 use Rattle.base_limits.specs.Laws.Verdict.{before-none, before-assoc}
-use Rattle.format_key.specs.Key.{terminalsKey, costKey, boundKey, roundsKey, dualKey, nodesKey, linksKey, nodeKey, colon, newline}
+use Rattle.format_write.specs.Key.{terminalsKey, costKey, boundKey, roundsKey, dualKey, nodesKey, linksKey, nodeKey, colon, newline}
 use Rattle.format_record.specs.Record.{valueIn}
 use Rattle.format_write.specs.Decimal.{decimal}
 use Rattle.format_write.specs.Text.{lineOf, listed, membersOf, dualLine, keptLines, dualLines, countLines, planText}
-use Rattle.format_grammar.specs.Lines.{textOf}
+use Rattle.format_read.specs.Lines.{textOf}
 use Rattle.format_print.specs.Print.{answerOf, outAfter, printRefusal, printed, printedOut, dualPrintRefusal, dualPrinted, dualPrintedOut}
 use Rattle.format_print.specs.declared.Printed.{Printed}
 use Rattle.format_print.specs.declared.Printed.the-variants.{Length, Refused as PrintRefused}
-use Rattle.format_survey_lines.specs.Render.{edgeText}
+use Rattle.format_survey.specs.LinesRender.{edgeText}
 use Rattle.format_survey.specs.Render.{render}
 use Rattle.format_also.specs.Render.{pairsText}
 use Rattle.format_survey.specs.Reading.{SurveyText}

@@ -12,12 +12,12 @@ use borrow.Author.Tests.{lt-ltb}
 use Rattle.base_limits.specs.Limits.{maxVertices, countDigits}
 use Rattle.base_limits.specs.Verdict.{Outcome, refusal, answer}
 use Rattle.base_limits.specs.declared.Verdict.{Verdict}
-use Rattle.format_key.specs.Key.{nodesKey}
-use Rattle.format_grammar.specs.Step.{found, refused, checked}
-use Rattle.format_grammar.specs.Laws.Step.{then-found, then-refused}
-use Rattle.format_number.specs.Number.{numberLine}
-use Rattle.format_survey_lines.specs.Line.{Lengths, lengthsOf, testsFor, verticesTest, countLine, countsAt}
-use Rattle.format_survey_lines.specs.Laws.Tests.{vertices-short}
+use Rattle.format_write.specs.Key.{nodesKey}
+use Rattle.format_read.specs.Step.{found, refused, checked}
+use Rattle.format_read.specs.Laws.Step.{then-found, then-refused}
+use Rattle.format_read.specs.Number.{numberLine}
+use Rattle.format_survey.specs.Line.{Lengths, lengthsOf, testsFor, verticesTest, countLine, countsAt}
+use Rattle.format_survey.specs.Laws.Tests.{vertices-short}
 use Rattle.format_survey.specs.Reading.{SurveyText, reading, filled}
 use Rattle.format_survey.specs.Answer.{TextCounts, countsOf, countsOutcome}
 use Rattle.format_survey.specs.Laws.Reading.{reading-refused}

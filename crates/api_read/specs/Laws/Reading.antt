@@ -13,20 +13,20 @@ use Rattle.base_limits.specs.Limits.{maxVertices, maxPairs, countDigits, groupD
 use Rattle.base_limits.specs.Verdict.{refusal}
 use Rattle.base_limits.specs.declared.Verdict.{Verdict}
 use Rattle.base_limits.specs.declared.Verdict.the-variants.{Fine, Refused}
-use Rattle.format_key.specs.Key.{nodesKey, linksKey, nodeKey, alsoKey, linkKey, comma, newline}
-use Rattle.format_grammar.specs.Step.{Step, found, refused, _then_, checked}
-use Rattle.format_grammar.specs.Bytes.{byteIs, fixedAt, endAt}
-use Rattle.format_grammar.specs.Items.{itemsFrom}
-use Rattle.format_grammar.specs.Lines.{following, linesFrom, whole}
-use Rattle.format_grammar.specs.Laws.Step.{Stops, early, late, then-stops}
-use Rattle.format_grammar.specs.Laws.Lines.{lines-unfold}
+use Rattle.format_write.specs.Key.{nodesKey, linksKey, nodeKey, alsoKey, linkKey, comma, newline}
+use Rattle.format_read.specs.Step.{Step, found, refused, _then_, checked}
+use Rattle.format_read.specs.Bytes.{byteIs, fixedAt, endAt}
+use Rattle.format_read.specs.Items.{itemsFrom}
+use Rattle.format_read.specs.Lines.{following, linesFrom, whole}
+use Rattle.format_read.specs.Laws.Step.{Stops, early, late, then-stops}
+use Rattle.format_read.specs.Laws.Lines.{lines-unfold}
 use Rattle.format_write.specs.Decimal.{spelledAfter}
-use Rattle.format_number.specs.Number.{alsoLetter, numeralAt, numberAt, numberTo, numberLine}
-use Rattle.format_number.specs.Laws.Near.{local-tested}
+use Rattle.format_read.specs.Number.{alsoLetter, numeralAt, numberAt, numberTo, numberLine}
+use Rattle.format_read.specs.Laws.Near.{local-tested}
 use Rattle.format_also.specs.Pair.{Pair, PairDigits, rank, pairAt, alsoTest, alsoLine, alsoReader, alsoTurns, alsoAt}
 use Rattle.format_also.specs.Laws.Tests.{pair-digits, line-past, line-read}
-use Rattle.format_survey_lines.specs.Line.{Lengths, pairRoom, testsFor, verticesTest, edgesTest, groupTest, countLine, groupLine, groupLines, edgeLine, edgeLines}
-use Rattle.format_survey_lines.specs.Laws.Tests.{vertices-passed}
+use Rattle.format_survey.specs.Line.{Lengths, pairRoom, testsFor, verticesTest, edgesTest, groupTest, countLine, groupLine, groupLines, edgeLine, edgeLines}
+use Rattle.format_survey.specs.Laws.Tests.{vertices-passed}
 use Rattle.format_survey.specs.Reading.{surveyAt, stepOutcome, reading}
 use Rattle.format_survey.specs.Laws.Content.{contentAt, content-survey}
 use Rattle.format_survey.specs.Laws.WellFormed.{malformed-begins}

@@ -16,7 +16,7 @@ use Rattle.api_code.specs.Code.{placeUnit, codeOf, capped, countsAfter}
 use Rattle.api_code.specs.Laws.Encodable.{Encodable, encodable-before, encodable-refuse, at-zero, at-place, survey-encodable, group-encodable}
 use Rattle.api_code.specs.Laws.Ends.{counts-long, counts-short, counts-encodable}
 use Rattle.api_code.specs.Laws.Ends.{short-code, short-kept, finished-code, finished-counts, refused-code, refused-counts}
-use Rattle.api_why_store.specs.Stored.{whyFiguresOf, answerCode, answerStored}
+use Rattle.api_why.specs.Stored.{whyFiguresOf, answerCode, answerStored}
 use Rattle.api_why.specs.Call.{whyFigures, whyCall, whyRoute, whyFigured}
 
 -- The track number has 32 bits, so that 19 can be told with it.

@@ -4,7 +4,7 @@ use Rattle.base_limits.specs.Verdict.{outcome}
 use Rattle.survey_lists.specs.Laws.Room.{part-poured}
 use Rattle.check_rule.specs.Check.{ruleRefusal}
 use Rattle.check_rule.specs.Laws.Accuracy.{promises}
-use Rattle.check_duals.specs.Laws.Duals.{few-duals}
+use Rattle.check_core.specs.Laws.Duals.{few-duals}
 use Rattle.check_core.specs.Stage.{checkedOutcome}
 use Rattle.check_core.specs.Laws.Stage.{input-sound, input-few, input-stops, group-found, duals-stop, groups-stop, rule-decides, duals-poured, poured-fits, checked-poured}
 use native.Mathlib.Omega.{arith}

@@ -6,7 +6,7 @@ use Rattle.survey_core.specs.Survey.{surveyFrom, vertexCount, edgeCount, member
 use Rattle.check_core.specs.Stage.{checkedOutcome}
 use Rattle.check_rule.specs.Check.{checkedOf}
 use Rattle.check_core.specs.Laws.Stage.{judged-passed, judged-refused}
-use Rattle.check_cost.specs.Cost.{kept-cost-all}
+use Rattle.check_core.specs.Cost.{kept-cost-all}
 use Rattle.check_core.proofs.judge.Statement.{statement}
 use Rattle.check_core.proofs.judge.Tie as tie
 

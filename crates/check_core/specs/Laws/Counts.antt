@@ -13,8 +13,8 @@ use Rattle.theory_steiner.specs.Dual.{total}
 use Rattle.survey_core.specs.Survey.{Survey, vertexCount, edgeCount, problemOf}
 use Rattle.survey_core.specs.Sound.{SurveySound}
 use Rattle.check_rule.specs.Check.{dualsIn, keptBy}
-use Rattle.check_duals.specs.Duals.{DualsFit}
-use Rattle.check_duals.specs.Laws.Duals.{weigh-limit}
+use Rattle.check_core.specs.Moats.{DualsFit}
+use Rattle.check_core.specs.Laws.Duals.{weigh-limit}
 use Rattle.check_core.specs.Stage.{CountsFit}
 
 -- 1 to 11 leave counts whose products fit 64 bits.

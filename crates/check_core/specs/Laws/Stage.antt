@@ -24,8 +24,8 @@ use Rattle.survey_lists.specs.Pouring.{pouredGroups, pouredSurvey}
 use Rattle.survey_lists.specs.Laws.Pouring.{length-poured}
 use Rattle.survey_lists.specs.Laws.Plan.{poured-sound, poured-separates, poured-plan}
 use Rattle.check_rule.specs.Check.{Checked, dualAt, dualsIn, keptBy, shapeRefusal, dualRefusal, ruleRefusal, checkedOf, checkRefusal, checking}
-use Rattle.check_duals.specs.Duals.{dualsRefusal}
-use Rattle.check_duals.specs.Laws.Duals.{duals-fit}
+use Rattle.check_core.specs.Moats.{dualsRefusal}
+use Rattle.check_core.specs.Laws.Duals.{duals-fit}
 use Rattle.check_core.specs.Stage.{checkedAs, inputRefusal, PlanFits}
 use Rattle.check_rule.specs.Laws.Meaning.{fine-shape}
 use Rattle.check_core.specs.Laws.Counts.{counts-fit}

@@ -2,10 +2,10 @@
 use borrow.Author.Needs.{needs}
 use mathlib.Core.Path.{sym, ap}
 use Rattle.check_rule.specs.Check.{Checked}
-use Rattle.format_grammar.specs.Step.{stopped}
+use Rattle.format_read.specs.Step.{stopped}
 use Rattle.format_survey.specs.Reading.{stepOutcome}
-use Rattle.format_survey_lines.specs.Answer.{countsStep}
-use Rattle.check_text.specs.Answer.{verifiedOutcome}
+use Rattle.format_survey.specs.LinesAnswer.{countsStep}
+use Rattle.check_printed.specs.Answer.{verifiedOutcome}
 use Rattle.check_printed.proofs.stopped_counts.Statement.{statement}
 use Rattle.check_printed.proofs.stopped_counts.Tie as tie
 

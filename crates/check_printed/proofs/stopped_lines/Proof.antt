@@ -2,10 +2,10 @@
 use borrow.Author.Needs.{needs}
 use mathlib.Core.Path.{sym, ap}
 use Rattle.check_rule.specs.Check.{Checked}
-use Rattle.format_grammar.specs.Step.{stopped}
+use Rattle.format_read.specs.Step.{stopped}
 use Rattle.format_survey.specs.Reading.{stepOutcome}
-use Rattle.format_number.specs.Answer.{numberStep}
-use Rattle.check_text.specs.Answer.{verifiedOutcome}
+use Rattle.format_read.specs.Answer.{numberStep}
+use Rattle.check_printed.specs.Answer.{verifiedOutcome}
 use Rattle.check_printed.proofs.stopped_lines.Statement.{statement}
 use Rattle.check_printed.proofs.stopped_lines.Tie as tie
 

@@ -3,7 +3,7 @@ use borrow.Author.Needs.{needs}
 use mathlib.Core.Path.{sym, ap}
 use Rattle.check_rule.specs.Check.{Checked}
 use Rattle.format_plan.specs.Answer.{planOutcome}
-use Rattle.check_text.specs.Answer.{verifiedOutcome, refusedOnly}
+use Rattle.check_printed.specs.Answer.{verifiedOutcome, refusedOnly}
 use Rattle.check_printed.proofs.stopped_plan.Statement.{statement}
 use Rattle.check_printed.proofs.stopped_plan.Tie as tie
 

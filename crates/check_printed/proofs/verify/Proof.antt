@@ -1,12 +1,12 @@
 -- `check_printed::verify` meets its contract, by the cases of the counts.
 use borrow.Author.Needs.{needs}
 use mathlib.Core.Path.{ap, _∙_}
-use Rattle.format_grammar.specs.Step.{stopped}
-use Rattle.format_survey_lines.specs.Line.{testsFor, verticesTest, edgesTest}
-use Rattle.format_survey_lines.specs.Answer.{countsStep}
+use Rattle.format_read.specs.Step.{stopped}
+use Rattle.format_survey.specs.Line.{testsFor, verticesTest, edgesTest}
+use Rattle.format_survey.specs.LinesAnswer.{countsStep}
 use Rattle.format_survey.specs.Reading.{stepOutcome}
 use Rattle.check_rule.specs.Check.{Checked}
-use Rattle.check_text.specs.Laws.Verify.{verified-uncounted, verified-counted, counted-few}
+use Rattle.check_printed.specs.Laws.Verify.{verified-uncounted, verified-counted, counted-few}
 use Rattle.check_printed.proofs.verify.Statement.{statement}
 use Rattle.check_printed.proofs.verify.Tie as tie
 

@@ -4,11 +4,11 @@ use Prim.Native.Nat.{ℕ}
 use mathlib.Core.Path.{ap, _∙_}
 use lib.ListN.{replicate}
 use Rattle.base_limits.specs.Limits.{maxEdges, maxVertices, maxPairs}
-use Rattle.format_grammar.specs.Step.{stopped}
-use Rattle.format_number.specs.Answer.{numberStep}
+use Rattle.format_read.specs.Step.{stopped}
+use Rattle.format_read.specs.Answer.{numberStep}
 use Rattle.format_survey.specs.Reading.{stepOutcome}
 use Rattle.check_rule.specs.Check.{Checked}
-use Rattle.check_text.specs.Laws.Verify.{part-few, survey-lines-refused, lines-pairs, lines-verified}
+use Rattle.check_printed.specs.Laws.Verify.{part-few, survey-lines-refused, lines-pairs, lines-verified}
 use Rattle.check_printed.proofs.verify_lines.Statement.{statement}
 use Rattle.check_printed.proofs.verify_lines.Tie as tie
 

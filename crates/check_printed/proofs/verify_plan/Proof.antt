@@ -6,11 +6,11 @@ use lib.ListN.{replicate}
 use Rattle.base_limits.specs.Limits.{maxEdges, recordsRoom}
 use Rattle.survey_core.specs.Survey.{surveyWith, edgeCount}
 use Rattle.format_plan.specs.Plan.{planReading}
-use Rattle.check_text.specs.Verify.{planFrom}
+use Rattle.check_printed.specs.Verify.{planFrom}
 use Rattle.format_plan.specs.Answer.{planOutcome}
 use Rattle.check_rule.specs.Check.{Checked}
-use Rattle.check_text.specs.Answer.{refusedOnly}
-use Rattle.check_text.specs.Laws.Verify.{plan-refused, plan-judged, plan-read-room}
+use Rattle.check_printed.specs.Answer.{refusedOnly}
+use Rattle.check_printed.specs.Laws.Verify.{plan-refused, plan-judged, plan-read-room}
 use Rattle.check_printed.proofs.verify_plan.Statement.{statement}
 use Rattle.check_printed.proofs.verify_plan.Tie as tie
 

@@ -9,15 +9,15 @@ use lib.ListN.{length}
 use Rattle.base_limits.specs.Limits.{maxPairs, alsoDigits}
 use Rattle.base_limits.specs.declared.Verdict.{Verdict}
 use Rattle.base_limits.specs.declared.Verdict.the-variants.{Fine, Refused}
-use Rattle.format_key.specs.Key.{alsoKey, comma, newline}
-use Rattle.format_grammar.specs.Step.{Step, found, refused, _then_, checked}
-use Rattle.format_grammar.specs.Lines.{textOf, whole}
-use Rattle.format_grammar.specs.Items.{Broken, here, later}
-use Rattle.format_grammar.specs.Stands.{Stands}
-use Rattle.format_grammar.specs.Laws.Language.{bound, text-stands}
-use Rattle.format_grammar.specs.Laws.Stands.{stands-append, stands-first, stands-second}
-use Rattle.format_grammar.specs.Laws.Step.{Stops, early, late, then-stops}
-use Rattle.format_number.specs.Laws.OnlyMalformed.{OnlyMalformed, only-found, only-then, only-fixed, only-number-to}
+use Rattle.format_write.specs.Key.{alsoKey, comma, newline}
+use Rattle.format_read.specs.Step.{Step, found, refused, _then_, checked}
+use Rattle.format_read.specs.Lines.{textOf, whole}
+use Rattle.format_read.specs.Items.{Broken, here, later}
+use Rattle.format_read.specs.Stands.{Stands}
+use Rattle.format_read.specs.Laws.Language.{bound, text-stands}
+use Rattle.format_read.specs.Laws.Stands.{stands-append, stands-first, stands-second}
+use Rattle.format_read.specs.Laws.Step.{Stops, early, late, then-stops}
+use Rattle.format_read.specs.Laws.OnlyMalformed.{OnlyMalformed, only-found, only-then, only-fixed, only-number-to}
 use Rattle.format_also.specs.Pair.{Pair, pairOf, PairDigits, rank, pairAt, alsoTest, alsoReader, alsoAt}
 use Rattle.format_also.specs.Render.{pairText, pairsText}
 use Rattle.format_also.specs.WellFormed.{PairsPass, noPair, nextPair, lastRank}

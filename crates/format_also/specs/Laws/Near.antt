@@ -8,18 +8,18 @@ use lib.ListN.{length, take}
 use lib.Dec.{leb}
 use borrow.Author.Tests.{leb-true, leb-false}
 use Rattle.base_limits.specs.Limits.{maxPairs, alsoDigits}
-use Rattle.format_key.specs.Key.{alsoKey, comma, newline}
-use Rattle.format_grammar.specs.Step.{Step, found, refused, _then_}
-use Rattle.format_grammar.specs.Bytes.{byteIs}
-use Rattle.format_grammar.specs.Lines.{Lines, following, whole}
-use Rattle.format_grammar.specs.Items.{itemsFrom}
-use Rattle.format_grammar.specs.Language.{LooksWithin, Any}
-use Rattle.format_grammar.specs.Laws.Bytes.{byte-alike}
-use Rattle.format_grammar.specs.Laws.Local.{local-value, local-checked, local-then, local-as, local-fixed}
-use Rattle.format_grammar.specs.Laws.Stands.{take-less}
-use Rattle.format_grammar.specs.Laws.Step.{then-value}
-use Rattle.format_number.specs.Number.{alsoLetter}
-use Rattle.format_number.specs.Laws.Near.{local-number}
+use Rattle.format_write.specs.Key.{alsoKey, comma, newline}
+use Rattle.format_read.specs.Step.{Step, found, refused, _then_}
+use Rattle.format_read.specs.Bytes.{byteIs}
+use Rattle.format_read.specs.Lines.{Lines, following, whole}
+use Rattle.format_read.specs.Items.{itemsFrom}
+use Rattle.format_read.specs.Language.{LooksWithin, Any}
+use Rattle.format_read.specs.Laws.Bytes.{byte-alike}
+use Rattle.format_read.specs.Laws.Local.{local-value, local-checked, local-then, local-as, local-fixed}
+use Rattle.format_read.specs.Laws.Stands.{take-less}
+use Rattle.format_read.specs.Laws.Step.{then-value}
+use Rattle.format_read.specs.Number.{alsoLetter}
+use Rattle.format_read.specs.Laws.Near.{local-number}
 use Rattle.format_also.specs.Pair.{Pair, pairOf, rank, pairAt, alsoTest, alsoLine, alsoReader, alsoTurns, alsoAt}
 use Rattle.format_also.specs.Render.{pairBytes}
 use Rattle.format_also.specs.Laws.Tests.{line-past, line-read}

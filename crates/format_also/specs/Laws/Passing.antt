@@ -6,10 +6,10 @@ use mathlib.Core.Bool.{Bool, true, false, cond}
 use mathlib.Core.List.{List, [], _∷_}
 use lib.ListN.{length}
 use Rattle.base_limits.specs.Limits.{maxPairs}
-use Rattle.format_grammar.specs.Step.{Step, found, refused}
-use Rattle.format_grammar.specs.Lines.{following}
-use Rattle.format_grammar.specs.Items.{itemsFrom}
-use Rattle.format_grammar.specs.Language.{Each, none, more}
+use Rattle.format_read.specs.Step.{Step, found, refused}
+use Rattle.format_read.specs.Lines.{following}
+use Rattle.format_read.specs.Items.{itemsFrom}
+use Rattle.format_read.specs.Language.{Each, none, more}
 use Rattle.format_also.specs.Pair.{Pair, PairDigits, rank, alsoLine, alsoReader, alsoTurns, alsoAt}
 use Rattle.format_also.specs.WellFormed.{PairsPass, noPair, nextPair, FewPairs}
 use Rattle.format_also.specs.Laws.Tests.{line-passed}

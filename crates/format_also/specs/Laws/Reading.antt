@@ -7,19 +7,19 @@ use mathlib.Core.Bool.{Bool, true, false, not, cond}
 use mathlib.Core.List.{List, [], _∷_, _++_, append-assoc, append-nil}
 use lib.ListN.{length, take, length-append}
 use Rattle.base_limits.specs.Limits.{maxPairs}
-use Rattle.format_grammar.specs.Step.{Step, found, refused, checked}
-use Rattle.format_grammar.specs.Bytes.{byteIs}
-use Rattle.format_grammar.specs.Lines.{Lines, following, textOf, whole}
-use Rattle.format_grammar.specs.Items.{itemsFrom, Standing, stop, item, Broken, here, later}
-use Rattle.format_grammar.specs.Language.{ReadsBefore, Word, Extends, Text, Each, none, more, NotMalformed, read, otherwise}
-use Rattle.format_grammar.specs.Stands.{Stands}
-use Rattle.format_grammar.specs.Laws.Bytes.{byte-is}
-use Rattle.format_grammar.specs.Laws.Items.{items-reads-back, items-stop}
-use Rattle.format_grammar.specs.Laws.Language.{bound}
-use Rattle.format_grammar.specs.Laws.Listing.{items-standing, standing-words, standing-same, broken-place, broken-same, broken-items, text-from, ItemsMet, all-read, one-refused, Tested, met-lines}
-use Rattle.format_grammar.specs.Laws.Stands.{stands-first, stands-second, stands-head}
-use Rattle.format_grammar.specs.Laws.Step.{then-found, then-refused, then-value, Stops, early, late, then-stops}
-use Rattle.format_number.specs.Number.{alsoLetter}
+use Rattle.format_read.specs.Step.{Step, found, refused, checked}
+use Rattle.format_read.specs.Bytes.{byteIs}
+use Rattle.format_read.specs.Lines.{Lines, following, textOf, whole}
+use Rattle.format_read.specs.Items.{itemsFrom, Standing, stop, item, Broken, here, later}
+use Rattle.format_read.specs.Language.{ReadsBefore, Word, Extends, Text, Each, none, more, NotMalformed, read, otherwise}
+use Rattle.format_read.specs.Stands.{Stands}
+use Rattle.format_read.specs.Laws.Bytes.{byte-is}
+use Rattle.format_read.specs.Laws.Items.{items-reads-back, items-stop}
+use Rattle.format_read.specs.Laws.Language.{bound}
+use Rattle.format_read.specs.Laws.Listing.{items-standing, standing-words, standing-same, broken-place, broken-same, broken-items, text-from, ItemsMet, all-read, one-refused, Tested, met-lines}
+use Rattle.format_read.specs.Laws.Stands.{stands-first, stands-second, stands-head}
+use Rattle.format_read.specs.Laws.Step.{then-found, then-refused, then-value, Stops, early, late, then-stops}
+use Rattle.format_read.specs.Number.{alsoLetter}
 use Rattle.format_also.specs.Pair.{Pair, PairDigits, rank, alsoTest, alsoLine, alsoReader, alsoTurns, alsoAt}
 use Rattle.format_also.specs.Render.{pairText, pairsText}
 use Rattle.format_also.specs.WellFormed.{PairsPass, noPair, nextPair, FewPairs, NoAlso}

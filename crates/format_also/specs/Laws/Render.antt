@@ -7,10 +7,10 @@ use lib.ListN.{length, getD}
 use lib.Seq.{ext-getD}
 use Rattle.base_finite.specs.Below.{tabulate}
 use Rattle.base_finite.specs.Laws.Below.{length-tabulate, getD-tabulate}
-use Rattle.format_key.specs.Key.{alsoKey, comma, newline}
+use Rattle.format_write.specs.Key.{alsoKey, comma, newline}
 use Rattle.format_write.specs.Decimal.{decimal}
-use Rattle.format_number.specs.Number.{numberText}
-use Rattle.format_grammar.specs.Lines.{textOf}
+use Rattle.format_read.specs.Number.{numberText}
+use Rattle.format_read.specs.Lines.{textOf}
 use Rattle.format_also.specs.Pair.{Pair, pairOf, ownersOf, othersOf}
 use Rattle.format_also.specs.Render.{pairText, pairsText, pairIn, pairsFrom}
 

@@ -13,12 +13,12 @@ use Rattle.base_limits.specs.Verdict.{refuseIf, _before_}
 use Rattle.base_limits.specs.declared.Verdict.{Verdict}
 use Rattle.base_limits.specs.declared.Verdict.the-variants.{Fine, Refused}
 use Rattle.base_limits.specs.Laws.Verdict.{fine-left, fine-right, fine-refuse, no-refusal}
-use Rattle.format_key.specs.Key.{alsoKey, comma, newline}
-use Rattle.format_grammar.specs.Step.{Step, found, refused, _then_, checked}
-use Rattle.format_grammar.specs.Bytes.{fixedAt}
-use Rattle.format_grammar.specs.Laws.Step.{then-found, then-refused, then-value, checked-fine, checked-value, checked-next}
-use Rattle.format_number.specs.Number.{numberTo}
-use Rattle.format_number.specs.Laws.Digits.{number-to-below}
+use Rattle.format_write.specs.Key.{alsoKey, comma, newline}
+use Rattle.format_read.specs.Step.{Step, found, refused, _then_, checked}
+use Rattle.format_read.specs.Bytes.{fixedAt}
+use Rattle.format_read.specs.Laws.Step.{then-found, then-refused, then-value, checked-fine, checked-value, checked-next}
+use Rattle.format_read.specs.Number.{numberTo}
+use Rattle.format_read.specs.Laws.Digits.{number-to-below}
 use Rattle.format_also.specs.Pair.{Pair, pairOf, PairDigits, rank, pairAt, alsoTest, alsoLine}
 use Rattle.format_also.specs.WellFormed.{PairInOrder, PairOutOfOrder, PairPasses}
 

@@ -8,12 +8,12 @@ use mathlib.Core.Bool.{true, false}
 use mathlib.Core.List.{List, [], _∷_, map}
 use lib.ListN.{length, set, length-set}
 use lib.Seq.{sets}
-use Rattle.format_grammar.specs.Step.{Step, found, refused}
-use Rattle.format_grammar.specs.Lines.{Lines, following}
-use Rattle.format_grammar.specs.Items.{ItemReader, itemsFrom, puts, Ends}
-use Rattle.format_grammar.specs.Laws.Step.{then-found, then-refused}
-use Rattle.format_grammar.specs.Laws.Lines.{one-less}
-use Rattle.format_grammar.specs.Laws.Items.{ItemsLeft, left-start, left-more, left-stop, left-refused, left-out, left-length}
+use Rattle.format_read.specs.Step.{Step, found, refused}
+use Rattle.format_read.specs.Lines.{Lines, following}
+use Rattle.format_read.specs.Items.{ItemReader, itemsFrom, puts, Ends}
+use Rattle.format_read.specs.Laws.Step.{then-found, then-refused}
+use Rattle.format_read.specs.Laws.Lines.{one-less}
+use Rattle.format_read.specs.Laws.Items.{ItemsLeft, left-start, left-more, left-stop, left-refused, left-out, left-length}
 use Rattle.format_also.specs.Pair.{Pair, alsoReader, alsoTurns, alsoAt, pairsCounted, ownersOf, othersOf, putOwner, putOther}
 
 -- Stores one after another are stores of a list.

@@ -11,15 +11,15 @@ use Rattle.base_limits.specs.Limits.{maxPairs, alsoDigits}
 use Rattle.base_limits.specs.Verdict.{refuseIf, _before_}
 use Rattle.base_limits.specs.declared.Verdict.{Verdict}
 use Rattle.base_limits.specs.declared.Verdict.the-variants.{Fine, Refused}
-use Rattle.format_key.specs.Key.{alsoKey, comma, newline}
-use Rattle.format_number.specs.Number.{alsoLetter, numberText}
-use Rattle.format_number.specs.Laws.NumberWord.{NumberWord, reads-number, number-most}
-use Rattle.format_number.specs.Laws.Keyed.{newline-no-digit, comma-no-digit}
-use Rattle.format_grammar.specs.Step.{Step, found, refused, _then_, checked}
-use Rattle.format_grammar.specs.Items.{ListsItems}
-use Rattle.format_grammar.specs.Language.{Reads, Word, Extends, Seq, Empty, Fixed, Text}
-use Rattle.format_grammar.specs.Laws.Bytes.{reads-fixed, byte-alike}
-use Rattle.format_grammar.specs.Laws.Language.{reads-then, reads-as, reads-value, reads-checked, read-again}
+use Rattle.format_write.specs.Key.{alsoKey, comma, newline}
+use Rattle.format_read.specs.Number.{alsoLetter, numberText}
+use Rattle.format_read.specs.Laws.NumberWord.{NumberWord, reads-number, number-most}
+use Rattle.format_read.specs.Laws.Keyed.{newline-no-digit, comma-no-digit}
+use Rattle.format_read.specs.Step.{Step, found, refused, _then_, checked}
+use Rattle.format_read.specs.Items.{ListsItems}
+use Rattle.format_read.specs.Language.{Reads, Word, Extends, Seq, Empty, Fixed, Text}
+use Rattle.format_read.specs.Laws.Bytes.{reads-fixed, byte-alike}
+use Rattle.format_read.specs.Laws.Language.{reads-then, reads-as, reads-value, reads-checked, read-again}
 use Rattle.format_also.specs.Pair.{Pair, pairOf, PairDigits, pairAt, alsoTest, alsoLine, alsoReader}
 use Rattle.format_also.specs.Render.{pairText, pairBytes}
 use Rattle.format_also.specs.Laws.Tests.{line-past, line-read, line-passed}

@@ -9,30 +9,30 @@ use lib.ListN.{length, take, length-append}
 use lib.Seq.{take-all}
 use lib.Dec.{leb}
 use borrow.Author.Tests.{leb-true, leb-false}
-use Rattle.format_number.specs.Number.{numberLine, OfDigits}
+use Rattle.format_read.specs.Number.{numberLine, OfDigits}
 use Rattle.base_limits.specs.Limits.{maxDuals, keptDigits, figureDigits}
 use Rattle.base_limits.specs.Verdict.{answer, outcome}
-use Rattle.format_key.specs.Key.{keptKey, terminalsKey, costKey, boundKey, roundsKey}
+use Rattle.format_write.specs.Key.{keptKey, terminalsKey, costKey, boundKey, roundsKey}
 use Rattle.format_write.specs.Text.{lineOf, countLines}
-use Rattle.format_grammar.specs.Step.{Step, found, refused, _then_}
-use Rattle.format_grammar.specs.Lines.{linesAfter, textOf}
-use Rattle.format_grammar.specs.Laws.Step.{then-value, then-refused}
-use Rattle.format_grammar.specs.Laws.Bytes.{fixed-short}
-use Rattle.format_grammar.specs.Stands.{Stands}
-use Rattle.format_grammar.specs.Laws.Stands.{stands-append}
-use Rattle.format_grammar.specs.Language.{Reads, Word, Seq, Empty, Text, Each, none, more}
-use Rattle.format_grammar.specs.Laws.Language.{bound, reads-then, reads-as, reads-value, append-four, text-stands}
-use Rattle.format_number.specs.Laws.Keyed.{reads-line}
-use Rattle.format_grammar.specs.Items.{ItemReader, Standing, stop, item, ListsItems}
-use Rattle.format_plan_lines.specs.Lines.{keepReader, keptAt, memberReader, membersAt, memberNumbers, PrintedDual, dualLineAt, dualReader, dualsAt}
+use Rattle.format_read.specs.Step.{Step, found, refused, _then_}
+use Rattle.format_read.specs.Lines.{linesAfter, textOf}
+use Rattle.format_read.specs.Laws.Step.{then-value, then-refused}
+use Rattle.format_read.specs.Laws.Bytes.{fixed-short}
+use Rattle.format_read.specs.Stands.{Stands}
+use Rattle.format_read.specs.Laws.Stands.{stands-append}
+use Rattle.format_read.specs.Language.{Reads, Word, Seq, Empty, Text, Each, none, more}
+use Rattle.format_read.specs.Laws.Language.{bound, reads-then, reads-as, reads-value, append-four, text-stands}
+use Rattle.format_read.specs.Laws.Keyed.{reads-line}
+use Rattle.format_read.specs.Items.{ItemReader, Standing, stop, item, ListsItems}
+use Rattle.format_plan.specs.Lines.{keepReader, keptAt, memberReader, membersAt, memberNumbers, PrintedDual, dualLineAt, dualReader, dualsAt}
 use Rattle.format_plan.specs.Plan.{Claims, claimsAt, PrintedPlan, planLinesAt, planAt, withRoom, planReading}
-use Rattle.format_plan_lines.specs.Laws.Tests.{risen-next}
-use Rattle.format_plan_lines.specs.Laws.Lines.{keep-passed, risen-rises}
-use Rattle.format_grammar.specs.Laws.Items.{items-stop}
+use Rattle.format_plan.specs.Laws.Tests.{risen-next}
+use Rattle.format_plan.specs.Laws.Lines.{keep-passed, risen-rises}
+use Rattle.format_read.specs.Laws.Items.{items-stop}
 use Rattle.format_plan.specs.Laws.Reading.{room-fine}
 use Rattle.format_plan.specs.Laws.Room.{room-answer, dual-passed}
 use Rattle.format_plan.specs.Laws.RoundTrip.{plan-reads-back}
-use Rattle.format_grammar.specs.Laws.Listing.{standing-words, items-standing, text-from}
+use Rattle.format_read.specs.Laws.Listing.{standing-words, items-standing, text-from}
 use Rattle.format_plan.specs.Laws.Listed.{lists-kept, lists-duals, dual-parts-read}
 use Rattle.format_plan.specs.WellFormed.{Rising, ended, rising, DualDigits, Printed, ClaimDigits, dualText, claimsText, planWords, Rendering, RoomFor, FewParts}
 

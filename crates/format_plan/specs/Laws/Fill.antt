@@ -12,15 +12,15 @@ use borrow.Author.Tests.{ltb-true, ltb-false, eqb-true, eqb-false, ne-eqb, lt-lt
 use Rattle.base_finite.specs.Below.{tabulate}
 use Rattle.base_finite.specs.Laws.Below.{length-tabulate, getD-tabulate}
 use Rattle.base_limits.specs.Limits.{recordBytes}
-use Rattle.format_grammar.specs.Step.{Step, found, refused}
-use Rattle.format_grammar.specs.Items.{itemsFrom, puts}
-use Rattle.format_grammar.specs.Language.{Each, none, more}
-use Rattle.format_grammar.specs.Lines.{following}
-use Rattle.format_plan_lines.specs.Lines.{keepReader, keptAt, dualReader, dualsAt, PrintedDual, isIn, dualRecord, putMark, putDual}
+use Rattle.format_read.specs.Step.{Step, found, refused}
+use Rattle.format_read.specs.Items.{itemsFrom, puts}
+use Rattle.format_read.specs.Language.{Each, none, more}
+use Rattle.format_read.specs.Lines.{following}
+use Rattle.format_plan.specs.Lines.{keepReader, keptAt, dualReader, dualsAt, PrintedDual, isIn, dualRecord, putMark, putDual}
 use Rattle.format_plan.specs.Plan.{marksOf, dualRecords, cleared}
-use Rattle.format_grammar.specs.Laws.Items.{puts-length}
-use Rattle.format_plan_lines.specs.Laws.Puts.{mark-length}
-use Rattle.format_plan_lines.specs.Laws.Lines.{keep-passed, length-dual-record, dual-put}
+use Rattle.format_read.specs.Laws.Items.{puts-length}
+use Rattle.format_plan.specs.Laws.Puts.{mark-length}
+use Rattle.format_plan.specs.Laws.Lines.{keep-passed, length-dual-record, dual-put}
 
 -- ---- what the lines hold
 

@@ -4,18 +4,18 @@ use native.Mathlib.Omega.{arith}
 use mathlib.Core.Path.{_≡_}
 use mathlib.Core.List.{List, [], _∷_}
 use lib.ListN.{length}
-use Rattle.format_key.specs.Key.{newline, colon, keptKey, dualKey}
+use Rattle.format_write.specs.Key.{newline, colon, keptKey, dualKey}
 use Rattle.base_limits.specs.Limits.{keptDigits, memberDigits, valueDigits}
-use Rattle.format_number.specs.Number.{numberAt, numberTo, numberLine}
-use Rattle.format_plan_lines.specs.Lines.{keepLine, keepReader, separator, memberStep, memberReader, membersAt, PrintedDual, dualHead, dualLineAt, dualReader}
-use Rattle.format_plan_lines.specs.Laws.Lines.{members-end}
-use Rattle.format_grammar.specs.Bytes.{fixedAt}
-use Rattle.format_grammar.specs.Items.{itemsFrom, Goes}
-use Rattle.format_grammar.specs.Laws.Bytes.{fixed-goes}
-use Rattle.format_grammar.specs.Laws.Items.{items-fuel, items-forward}
-use Rattle.format_grammar.specs.Laws.Step.{then-value, checked-next}
-use Rattle.format_grammar.specs.Step.{found}
-use Rattle.format_number.specs.Laws.Near.{number-goes}
+use Rattle.format_read.specs.Number.{numberAt, numberTo, numberLine}
+use Rattle.format_plan.specs.Lines.{keepLine, keepReader, separator, memberStep, memberReader, membersAt, PrintedDual, dualHead, dualLineAt, dualReader}
+use Rattle.format_plan.specs.Laws.Lines.{members-end}
+use Rattle.format_read.specs.Bytes.{fixedAt}
+use Rattle.format_read.specs.Items.{itemsFrom, Goes}
+use Rattle.format_read.specs.Laws.Bytes.{fixed-goes}
+use Rattle.format_read.specs.Laws.Items.{items-fuel, items-forward}
+use Rattle.format_read.specs.Laws.Step.{then-value, checked-next}
+use Rattle.format_read.specs.Step.{found}
+use Rattle.format_read.specs.Laws.Near.{number-goes}
 
 keep-goes : (t : List ℕ) (m low i at : ℕ) {e p : ℕ} → at ≤ length t → keepLine t m low i at ≡ found e p → Goes t at p
 unfolding keepLine numberLine numberTo

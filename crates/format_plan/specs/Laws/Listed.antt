@@ -11,29 +11,29 @@ use borrow.Author.Tests.{leb-true, leb-false}
 use Rattle.base_limits.specs.Limits.{keptDigits, valueDigits, memberDigits}
 use Rattle.base_limits.specs.declared.Verdict.{Verdict}
 use Rattle.base_limits.specs.declared.Verdict.the-variants.{Fine, Refused}
-use Rattle.format_key.specs.Key.{keptKey, dualKey, colon, newline}
+use Rattle.format_write.specs.Key.{keptKey, dualKey, colon, newline}
 use Rattle.format_write.specs.Decimal.{decimal}
 use Rattle.format_write.specs.Text.{lineOf, listed}
-use Rattle.format_grammar.specs.Step.{Step, found, refused, _then_, checked}
-use Rattle.format_grammar.specs.Lines.{Lines, textOf}
-use Rattle.format_number.specs.Number.{isDigit, classOf, numberAt, numberTo, OfDigits}
-use Rattle.format_grammar.specs.Bytes.{byteIs, fixedAt}
-use Rattle.format_grammar.specs.Laws.Bytes.{byte-inside, read-same, byte-alike, reads-fixed}
-use Rattle.format_number.specs.Laws.Decimal.{decimal-numeral}
-use Rattle.format_grammar.specs.Laws.Step.{then-found, then-refused, then-value, Stops, early, late, then-stops, checked-fine, checked-value, checked-next}
-use Rattle.format_grammar.specs.Stands.{Stands}
-use Rattle.format_grammar.specs.Laws.Stands.{stands-append, stands-byte, stands-same, take-less, as-long}
-use Rattle.format_grammar.specs.Language.{Reads, Word, Extends, Fixed, Text, none}
-use Rattle.format_grammar.specs.Laws.Language.{bound, read-again, text-stands}
-use Rattle.format_number.specs.Laws.NumberWord.{NumberOrNone, absent, present, number-or-none, number-is, no-digit-number, numeral-same}
-use Rattle.format_number.specs.Laws.Keyed.{Passes, reads-keyed, reads-tested}
-use Rattle.format_survey_lines.specs.Laws.Tests.{one-not-malformed, two-not-malformed}
-use Rattle.format_grammar.specs.Items.{Broken, ListsItems, textFrom}
-use Rattle.format_plan_lines.specs.Lines.{keptTest, keepLine, keepReader, separator, memberStep, memberReader, membersAt, PrintedDual, dualTest, dualHead, listedDual, dualLineAt, dualReader}
-use Rattle.format_grammar.specs.Laws.Items.{items-stop}
+use Rattle.format_read.specs.Step.{Step, found, refused, _then_, checked}
+use Rattle.format_read.specs.Lines.{Lines, textOf}
+use Rattle.format_read.specs.Number.{isDigit, classOf, numberAt, numberTo, OfDigits}
+use Rattle.format_read.specs.Bytes.{byteIs, fixedAt}
+use Rattle.format_read.specs.Laws.Bytes.{byte-inside, read-same, byte-alike, reads-fixed}
+use Rattle.format_read.specs.Laws.Decimal.{decimal-numeral}
+use Rattle.format_read.specs.Laws.Step.{then-found, then-refused, then-value, Stops, early, late, then-stops, checked-fine, checked-value, checked-next}
+use Rattle.format_read.specs.Stands.{Stands}
+use Rattle.format_read.specs.Laws.Stands.{stands-append, stands-byte, stands-same, take-less, as-long}
+use Rattle.format_read.specs.Language.{Reads, Word, Extends, Fixed, Text, none}
+use Rattle.format_read.specs.Laws.Language.{bound, read-again, text-stands}
+use Rattle.format_read.specs.Laws.NumberWord.{NumberOrNone, absent, present, number-or-none, number-is, no-digit-number, numeral-same}
+use Rattle.format_read.specs.Laws.Keyed.{Passes, reads-keyed, reads-tested}
+use Rattle.format_survey.specs.Laws.Tests.{one-not-malformed, two-not-malformed}
+use Rattle.format_read.specs.Items.{Broken, ListsItems, textFrom}
+use Rattle.format_plan.specs.Lines.{keptTest, keepLine, keepReader, separator, memberStep, memberReader, membersAt, PrintedDual, dualTest, dualHead, listedDual, dualLineAt, dualReader}
+use Rattle.format_read.specs.Laws.Items.{items-stop}
 use Rattle.format_plan.specs.WellFormed.{DualDigits, dualText}
 use Rattle.format_plan.specs.Laws.RoundTrip.{dual-some, line-some, colon-ends, memberWords, later-text, listed-text}
-use Rattle.format_grammar.specs.Laws.Listing.{standing-words, standing-long, items-standing, items-broken, item-goes, broken-place, broken-extends, items-again, items-broken-again, text-from}
+use Rattle.format_read.specs.Laws.Listing.{standing-words, standing-long, items-standing, items-broken, item-goes, broken-place, broken-extends, items-again, items-broken-again, text-from}
 
 -- ---- bytes and ends that texts have in common
 

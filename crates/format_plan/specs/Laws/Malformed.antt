@@ -9,27 +9,27 @@ use lib.ListN.{length, take, length-append}
 use lib.Seq.{take-at, length-take-le}
 use borrow.Author.Tests.{le-leb, lt-leb}
 use Rattle.base_limits.specs.Limits.{keptDigits}
-use Rattle.format_number.specs.Number.{OfDigits}
+use Rattle.format_read.specs.Number.{OfDigits}
 use Rattle.base_limits.specs.Verdict.{refusal}
 use Rattle.base_limits.specs.declared.Verdict.{Verdict}
 use Rattle.base_limits.specs.declared.Verdict.the-variants.{Fine, Refused}
-use Rattle.format_key.specs.Key.{keptKey}
+use Rattle.format_write.specs.Key.{keptKey}
 use Rattle.format_write.specs.Text.{lineOf}
-use Rattle.format_grammar.specs.Step.{Step, found, refused, _then_, checked}
-use Rattle.format_grammar.specs.Lines.{Lines, linesAfter, textOf}
-use Rattle.format_grammar.specs.Bytes.{byteIs}
-use Rattle.format_grammar.specs.Laws.Step.{then-found, then-refused}
-use Rattle.format_grammar.specs.Stands.{Stands}
-use Rattle.format_grammar.specs.Laws.Stands.{stands-first, stands-second, stands-end}
-use Rattle.format_grammar.specs.Language.{NotMalformed, read, otherwise, Each, none, more}
-use Rattle.format_grammar.specs.Laws.Language.{bound, read-again, text-stands}
-use Rattle.format_grammar.specs.Items.{ItemReader, Standing, stop, item, Broken, here, later}
-use Rattle.format_plan_lines.specs.Lines.{keptTest, keepReader, keptAt, PrintedDual, dualTest, dualReader, dualsAt}
+use Rattle.format_read.specs.Step.{Step, found, refused, _then_, checked}
+use Rattle.format_read.specs.Lines.{Lines, linesAfter, textOf}
+use Rattle.format_read.specs.Bytes.{byteIs}
+use Rattle.format_read.specs.Laws.Step.{then-found, then-refused}
+use Rattle.format_read.specs.Stands.{Stands}
+use Rattle.format_read.specs.Laws.Stands.{stands-first, stands-second, stands-end}
+use Rattle.format_read.specs.Language.{NotMalformed, read, otherwise, Each, none, more}
+use Rattle.format_read.specs.Laws.Language.{bound, read-again, text-stands}
+use Rattle.format_read.specs.Items.{ItemReader, Standing, stop, item, Broken, here, later}
+use Rattle.format_plan.specs.Lines.{keptTest, keepReader, keptAt, PrintedDual, dualTest, dualReader, dualsAt}
 use Rattle.format_plan.specs.Plan.{Claims, claimsAt, PrintedPlan, planLinesAt, planAt, withRoom, planReading}
 use Rattle.format_plan.specs.Laws.Room.{room-refusal}
-use Rattle.format_grammar.specs.Laws.Items.{items-reads-back}
+use Rattle.format_read.specs.Laws.Items.{items-reads-back}
 use Rattle.format_plan.specs.Laws.RoundTrip.{keep-line-reads-back, dual-line-reads-back, claims-reads-back, claims-some, lines-long, line-some, dual-some, no-keep}
-use Rattle.format_grammar.specs.Laws.Listing.{items-standing, items-broken, broken-items, item-goes, standing-long, broken-place, broken-extends, items-again, items-broken-again, text-from, ItemsMet, all-read, one-refused, Tested, met-lines}
+use Rattle.format_read.specs.Laws.Listing.{items-standing, items-broken, broken-items, item-goes, standing-long, broken-place, broken-extends, items-again, items-broken-again, text-from, ItemsMet, all-read, one-refused, Tested, met-lines}
 use Rattle.format_plan.specs.Laws.Listed.{kept-not-malformed, dual-not-malformed, lists-kept, lists-duals}
 use Rattle.format_plan.specs.Laws.Accepted.{reads-claims, lines-words, plan-missing}
 use Rattle.format_plan.specs.WellFormed.{DualDigits, dualText, claimsText, planWords, WellFormedPlan, PlanBegins}

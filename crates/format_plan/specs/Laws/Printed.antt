@@ -10,14 +10,14 @@ use Rattle.base_finite.specs.Below.{thoseBelow, tabulate}
 use Rattle.base_finite.specs.Laws.Below.{length-tabulate}
 use Rattle.base_limits.specs.Limits.{recordBytes}
 use Rattle.format_record.specs.Record.{memberIn, recordAt}
-use Rattle.format_key.specs.Key.{keptKey}
+use Rattle.format_write.specs.Key.{keptKey}
 use Rattle.format_write.specs.Text.{lineOf, membersOf, dualLine, textBelow, keptLine, keptLines, dualLines, countLines, planText}
-use Rattle.format_grammar.specs.Step.{found}
-use Rattle.format_grammar.specs.Lines.{textOf}
-use Rattle.format_grammar.specs.Stands.{Stands}
-use Rattle.format_grammar.specs.Laws.Stands.{stands-end}
-use Rattle.format_grammar.specs.Language.{Each, none, more}
-use Rattle.format_plan_lines.specs.Lines.{memberNumbers, PrintedDual}
+use Rattle.format_read.specs.Step.{found}
+use Rattle.format_read.specs.Lines.{textOf}
+use Rattle.format_read.specs.Stands.{Stands}
+use Rattle.format_read.specs.Laws.Stands.{stands-end}
+use Rattle.format_read.specs.Language.{Each, none, more}
+use Rattle.format_plan.specs.Lines.{memberNumbers, PrintedDual}
 use Rattle.format_plan.specs.Plan.{Claims, planAt}
 use Rattle.format_plan.specs.Laws.RoundTrip.{plan-reads-back}
 use Rattle.format_plan.specs.WellFormed.{Rising, ended, rising, Printed, Printable, dualText, claimsText, planWords, keptIn, printedDual, printedDuals, planIn, PrintFits}

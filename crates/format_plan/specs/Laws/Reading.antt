@@ -9,12 +9,12 @@ use Rattle.base_limits.specs.Limits.{recordBytes}
 use Rattle.base_limits.specs.Verdict.{refuseIf, refusal, answer, outcome}
 use Rattle.base_limits.specs.declared.Verdict.{Verdict}
 use Rattle.base_limits.specs.declared.Verdict.the-variants.{Fine, Refused}
-use Rattle.format_grammar.specs.Step.{Step, found, refused, _then_, checked, storedIf}
-use Rattle.format_grammar.specs.Laws.Step.{stored-found}
-use Rattle.format_grammar.specs.Lines.{linesAfter}
-use Rattle.format_grammar.specs.Items.{puts}
-use Rattle.format_grammar.specs.Language.{Each}
-use Rattle.format_plan_lines.specs.Lines.{keptAt, dualsAt, putMark, putDual}
+use Rattle.format_read.specs.Step.{Step, found, refused, _then_, checked, storedIf}
+use Rattle.format_read.specs.Laws.Step.{stored-found}
+use Rattle.format_read.specs.Lines.{linesAfter}
+use Rattle.format_read.specs.Items.{puts}
+use Rattle.format_read.specs.Language.{Each}
+use Rattle.format_plan.specs.Lines.{keptAt, dualsAt, putMark, putDual}
 use Rattle.format_plan.specs.Plan.{Claims, PrintedPlan, PlanLines, claimsAt, planLinesAt, planAt, marksOf, dualRecords, cleared, roomTest, roomed, withRoom, planReading}
 use Rattle.format_plan.specs.Laws.Fill.{kept-below, duals-counted, marks-filled, records-filled}
 

@@ -12,14 +12,14 @@ use Rattle.base_limits.specs.Verdict.{refuseIf, refusal, answer, outcome}
 use Rattle.base_limits.specs.declared.Verdict.{Verdict}
 use Rattle.base_limits.specs.Laws.Verdict.{no-refusal}
 use Rattle.base_limits.specs.declared.Verdict.the-variants.{Fine, Refused}
-use Rattle.format_grammar.specs.Step.{Step, found, refused}
-use Rattle.format_grammar.specs.Lines.{linesAfter, following}
+use Rattle.format_read.specs.Step.{Step, found, refused}
+use Rattle.format_read.specs.Lines.{linesAfter, following}
 use Rattle.format_survey.specs.Reading.{stepOutcome}
-use Rattle.format_grammar.specs.Laws.Step.{then-value, checked-fine}
-use Rattle.format_grammar.specs.Items.{itemsFrom}
-use Rattle.format_plan_lines.specs.Lines.{PrintedDual, dualHead, membersAt, dualTest, dualLineAt, dualReader, dualsAt, keptAt, memberNumbers}
+use Rattle.format_read.specs.Laws.Step.{then-value, checked-fine}
+use Rattle.format_read.specs.Items.{itemsFrom}
+use Rattle.format_plan.specs.Lines.{PrintedDual, dualHead, membersAt, dualTest, dualLineAt, dualReader, dualsAt, keptAt, memberNumbers}
 use Rattle.format_plan.specs.Plan.{PrintedPlan, planLinesAt, claimsAt, planAt, roomTest, withRoom}
-use Rattle.format_plan_lines.specs.Laws.Tests.{dual-falls, dual-many}
+use Rattle.format_plan.specs.Laws.Tests.{dual-falls, dual-many}
 use Rattle.format_plan.specs.Laws.Reading.{room-marks, room-records, room-fine}
 
 -- What the test of room says that passes.

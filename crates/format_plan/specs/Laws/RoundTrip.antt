@@ -10,26 +10,26 @@ use lib.ListN.{length, length-append}
 use borrow.Author.Tests.{lt-leb, le-leb}
 use Rattle.base_limits.specs.Limits.{maxDuals, keptDigits, valueDigits, memberDigits, figureDigits}
 use Rattle.base_limits.specs.declared.Verdict.{Verdict}
-use Rattle.format_key.specs.Key.{newline, comma, colon, dualKey, keptKey, terminalsKey, costKey, boundKey, roundsKey}
+use Rattle.format_write.specs.Key.{newline, comma, colon, dualKey, keptKey, terminalsKey, costKey, boundKey, roundsKey}
 use Rattle.format_write.specs.Decimal.{decimal}
 use Rattle.format_write.specs.Text.{lineOf, listed, countLines}
-use Rattle.format_number.specs.Number.{isDigit, classOf, numberAt, numberTo, numberText, numberLine, OfDigits}
-use Rattle.format_number.specs.Laws.Digits.{Digits, one}
-use Rattle.format_number.specs.Laws.Decimal.{decimal-numeral}
-use Rattle.format_number.specs.Laws.Keyed.{newline-no-digit, comma-no-digit, keyed-reads-back, number-reads-back}
-use Rattle.format_plan_lines.specs.Laws.Tests.{kept-fine, risen-next, dual-line-fine}
-use Rattle.format_plan_lines.specs.Lines.{keptTest, keepLine, keepReader, separator, memberNumbers, memberStep, risen, memberReader, membersAt, PrintedDual, dualTest, dualHead, listedDual, dualLineAt, dualReader, dualsAt, keptAt}
+use Rattle.format_read.specs.Number.{isDigit, classOf, numberAt, numberTo, numberText, numberLine, OfDigits}
+use Rattle.format_read.specs.Laws.Digits.{Digits, one}
+use Rattle.format_read.specs.Laws.Decimal.{decimal-numeral}
+use Rattle.format_read.specs.Laws.Keyed.{newline-no-digit, comma-no-digit, keyed-reads-back, number-reads-back}
+use Rattle.format_plan.specs.Laws.Tests.{kept-fine, risen-next, dual-line-fine}
+use Rattle.format_plan.specs.Lines.{keptTest, keepLine, keepReader, separator, memberNumbers, memberStep, risen, memberReader, membersAt, PrintedDual, dualTest, dualHead, listedDual, dualLineAt, dualReader, dualsAt, keptAt}
 use Rattle.format_plan.specs.Plan.{Claims, claimsAt, planLinesAt, PrintedPlan, planAt}
-use Rattle.format_grammar.specs.Bytes.{byteIs}
-use Rattle.format_grammar.specs.Items.{Standing, stop, item}
-use Rattle.format_grammar.specs.Language.{Each, none, more}
-use Rattle.format_grammar.specs.Laws.Bytes.{byte-is, byte-inside, reads-fixed, other-byte}
-use Rattle.format_grammar.specs.Laws.Items.{items-reads-back}
-use Rattle.format_grammar.specs.Laws.Stands.{stands-append, stands-first, stands-second, stands-head}
-use Rattle.format_grammar.specs.Laws.Step.{then-found}
-use Rattle.format_grammar.specs.Lines.{Lines, linesAfter, textOf}
-use Rattle.format_grammar.specs.Stands.{Stands}
-use Rattle.format_grammar.specs.Step.{found, _then_, checked}
+use Rattle.format_read.specs.Bytes.{byteIs}
+use Rattle.format_read.specs.Items.{Standing, stop, item}
+use Rattle.format_read.specs.Language.{Each, none, more}
+use Rattle.format_read.specs.Laws.Bytes.{byte-is, byte-inside, reads-fixed, other-byte}
+use Rattle.format_read.specs.Laws.Items.{items-reads-back}
+use Rattle.format_read.specs.Laws.Stands.{stands-append, stands-first, stands-second, stands-head}
+use Rattle.format_read.specs.Laws.Step.{then-found}
+use Rattle.format_read.specs.Lines.{Lines, linesAfter, textOf}
+use Rattle.format_read.specs.Stands.{Stands}
+use Rattle.format_read.specs.Step.{found, _then_, checked}
 use Rattle.format_plan.specs.WellFormed.{Rising, ended, rising, dualText, DualDigits, Printed, ClaimDigits, claimsText, planWords, Printable}
 
 -- A line of a key and a number, where it stands.

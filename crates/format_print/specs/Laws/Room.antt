@@ -16,7 +16,7 @@ use Rattle.format_record.specs.Bits.{Bytes}
 use Rattle.format_record.specs.Record.{valueIn, memberIn, recordAt}
 use Rattle.format_record.specs.Laws.Record.{value-lt, bytes-record-at}
 use Rattle.format_print.specs.declared.Printed.the-variants.{Length}
-use Rattle.format_key.specs.Key.{terminalsKey, costKey, boundKey, roundsKey, keptKey, dualKey, refusedKey, placeKey, colon, newline}
+use Rattle.format_write.specs.Key.{terminalsKey, costKey, boundKey, roundsKey, keptKey, dualKey, refusedKey, placeKey, colon, newline}
 use Rattle.format_write.specs.Decimal.{digitsWithin, decimal}
 use Rattle.format_write.specs.Text.{lineOf, listed, membersOf, dualLine, textBelow, keptLine, keptLines, dualLines, countLines, planText, refusalText}
 use Rattle.format_write.specs.Wrote.{isNone, itemOf}

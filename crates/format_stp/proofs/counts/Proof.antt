@@ -1,9 +1,9 @@
 -- `format_stp::counts` meets its contract: a refusal of any part stays, and a value goes on.
 use borrow.Author.Needs.{needs}
 use mathlib.Core.Path.{sym, _∙_}
-use Rattle.format_survey_lines.specs.Answer.{countsStep}
-use Rattle.format_number.specs.Laws.Step.{stopped-stays, value-goes}
-use Rattle.format_stp_rule.specs.StpReading.{stpTests}
+use Rattle.format_survey.specs.LinesAnswer.{countsStep}
+use Rattle.format_read.specs.Laws.NumberStep.{stopped-stays, value-goes}
+use Rattle.format_stp.specs.StpReading.{stpTests}
 use Rattle.format_stp.specs.Parts.{stpCounts}
 use Rattle.format_stp.specs.Laws.StpParts.{line-after}
 use Rattle.format_stp.proofs.counts.Statement.{statement}

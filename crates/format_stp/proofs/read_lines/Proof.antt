@@ -4,10 +4,10 @@ use mathlib.Core.List.{List}
 use mathlib.Core.Path.{ap, sym, _∙_}
 use Prim.Native.Nat.{ℕ}
 use lib.Seq.{sets}
-use Rattle.format_grammar.specs.Laws.Step.{then-found, then-refused}
-use Rattle.format_number.specs.Answer.{numberStep}
-use Rattle.format_survey_lines.specs.Line.{firstsOf, secondsOf, weightsOf}
-use Rattle.format_stp_rule.specs.StpReading.{stpEdges}
+use Rattle.format_read.specs.Laws.Step.{then-found, then-refused}
+use Rattle.format_read.specs.Answer.{numberStep}
+use Rattle.format_survey.specs.Line.{firstsOf, secondsOf, weightsOf}
+use Rattle.format_stp.specs.StpReading.{stpEdges}
 use Rattle.format_stp.specs.Laws.Lines.{lines-early, lines-late, lines-said, said-found, said-refused, kept-by, stored-by, pass-nothing, groups-kept, groups-made}
 use Rattle.format_stp.proofs.read_lines.Statement.{statement}
 use Rattle.format_stp.proofs.read_lines.Tie as tie

@@ -2,12 +2,12 @@
 use borrow.Author.Needs.{needs}
 use mathlib.Core.Path.{ap, sym, _∙_}
 use Rattle.base_limits.specs.Verdict.{answer}
-use Rattle.format_grammar.specs.Step.{stopped}
-use Rattle.format_number.specs.Answer.{numberStep}
+use Rattle.format_read.specs.Step.{stopped}
+use Rattle.format_read.specs.Answer.{numberStep}
 use Rattle.format_survey.specs.Laws.Reading.{buffer-kept}
-use Rattle.format_survey_lines.specs.Answer.{countsStep}
-use Rattle.format_survey_lines.specs.Line.{SurveyCounts, firstsOf, secondsOf, weightsOf}
-use Rattle.format_stp_rule.specs.StpReading.{stpOutcome}
+use Rattle.format_survey.specs.LinesAnswer.{countsStep}
+use Rattle.format_survey.specs.Line.{SurveyCounts, firstsOf, secondsOf, weightsOf}
+use Rattle.format_stp.specs.StpReading.{stpOutcome}
 use Rattle.format_stp.specs.Answer.{stpAnswer, stpCountsOf}
 use Rattle.format_stp.specs.Laws.Lines.{said-found, said-refused}
 use Rattle.format_stp.specs.Laws.StpParts.{stp-refused, stp-stopped, stp-found, stp-fits, buffer-none, buffer-all}

@@ -1,10 +1,10 @@
 -- `format_stp::stopped_counts` meets its contract, by the case that the step is.
 use borrow.Author.Needs.{needs}
 use mathlib.Core.Path.{sym, ap}
-use Rattle.format_survey_lines.specs.Answer.{countsStep}
-use Rattle.format_survey_lines.specs.Line.{SurveyCounts}
-use Rattle.format_grammar.specs.Step.{stopped}
-use Rattle.format_stp_rule.specs.StpReading.{stpOutcome, stpNumber}
+use Rattle.format_survey.specs.LinesAnswer.{countsStep}
+use Rattle.format_survey.specs.Line.{SurveyCounts}
+use Rattle.format_read.specs.Step.{stopped}
+use Rattle.format_stp.specs.StpReading.{stpOutcome, stpNumber}
 use Rattle.format_stp.specs.Answer.{stpAnswer}
 use Rattle.format_stp.proofs.stopped_counts.Statement.{statement}
 use Rattle.format_stp.proofs.stopped_counts.Tie as tie

@@ -1,10 +1,10 @@
 -- `format_stp::stopped_lines` meets its contract, by the case that the step is.
 use borrow.Author.Needs.{needs}
 use mathlib.Core.Path.{sym, ap}
-use Rattle.format_number.specs.Answer.{numberStep}
-use Rattle.format_survey_lines.specs.Line.{SurveyCounts}
-use Rattle.format_grammar.specs.Step.{stopped}
-use Rattle.format_stp_rule.specs.StpReading.{stpOutcome, stpNumber}
+use Rattle.format_read.specs.Answer.{numberStep}
+use Rattle.format_survey.specs.Line.{SurveyCounts}
+use Rattle.format_read.specs.Step.{stopped}
+use Rattle.format_stp.specs.StpReading.{stpOutcome, stpNumber}
 use Rattle.format_stp.specs.Answer.{stpAnswer}
 use Rattle.format_stp.proofs.stopped_lines.Statement.{statement}
 use Rattle.format_stp.proofs.stopped_lines.Tie as tie

@@ -5,16 +5,16 @@ use mathlib.Core.List.{List, [], _++_}
 use mathlib.Core.Path.{_≡_, refl, ap, sym, _∙_}
 use lib.ListN.{length, set, replicate, length-set, length-replicate}
 use lib.Seq.{sets}
-use Rattle.format_grammar.specs.Laws.Lines.{lines-length}
-use Rattle.format_grammar.specs.Laws.Step.{then-found, then-refused, then-value, stored-refused}
-use Rattle.format_grammar.specs.Lines.{whole}
-use Rattle.format_grammar.specs.Step.{Step, found, refused, _then_}
+use Rattle.format_read.specs.Laws.Lines.{lines-length}
+use Rattle.format_read.specs.Laws.Step.{then-found, then-refused, then-value, stored-refused}
+use Rattle.format_read.specs.Lines.{whole}
+use Rattle.format_read.specs.Step.{Step, found, refused, _then_}
 use Rattle.format_survey.specs.Laws.Body.{pass-refused}
-use Rattle.format_stp_rule.specs.StpReading.{StpContent, stpEdges, terminalLine, terminalLines}
-use Rattle.format_stp_rule.specs.StpWord.{afterEmpty}
-use Rattle.format_stp_terminals.specs.Laws.TerminalTurn.{end-within}
-use Rattle.format_stp_sections.specs.Section.{terminalsAnnounced, terminalsClosed}
-use Rattle.format_stp_terminals.specs.Terminals.{terminalsFrom, terminalsToEnd, groupsAfter}
+use Rattle.format_stp.specs.StpReading.{StpContent, stpEdges, terminalLine, terminalLines}
+use Rattle.format_stp.specs.StpWord.{afterEmpty}
+use Rattle.format_stp.specs.Laws.TerminalTurn.{end-within}
+use Rattle.format_stp.specs.Section.{terminalsAnnounced, terminalsClosed}
+use Rattle.format_stp.specs.Terminals.{terminalsFrom, terminalsToEnd, groupsAfter}
 use Rattle.base_limits.specs.Limits.{maxVertices}
 use Rattle.format_stp.specs.Parts.{stpLines, storedBy}
 

@@ -8,21 +8,21 @@ use Rattle.base_limits.specs.Limits.{maxVertices, countDigits}
 use Rattle.base_limits.specs.Verdict.{Outcome, refusal, answer}
 use Rattle.base_limits.specs.declared.Verdict.{Verdict}
 use Rattle.base_limits.specs.declared.Verdict.the-variants.{Fine, Refused}
-use Rattle.format_grammar.specs.Bytes.{endAt}
-use Rattle.format_grammar.specs.Laws.Step.{then-found, then-refused, then-then, then-value, checked-fine, checked-value}
-use Rattle.format_grammar.specs.Lines.{whole}
-use Rattle.format_grammar.specs.Step.{Step, found, refused, _then_, checked}
-use Rattle.format_number.specs.Number.{numberLine}
+use Rattle.format_read.specs.Bytes.{endAt}
+use Rattle.format_read.specs.Laws.Step.{then-found, then-refused, then-then, then-value, checked-fine, checked-value}
+use Rattle.format_read.specs.Lines.{whole}
+use Rattle.format_read.specs.Step.{Step, found, refused, _then_, checked}
+use Rattle.format_read.specs.Number.{numberLine}
 use Rattle.format_survey.specs.Laws.Reading.{buffer-kept}
 use Rattle.format_survey.specs.Reading.{filled}
-use Rattle.format_survey_lines.specs.Laws.Body.{sets-filled}
-use Rattle.format_survey_lines.specs.Laws.Tests.{VerticesPass, EdgesPass, vertices-passed, edges-passed}
-use Rattle.format_survey_lines.specs.Line.{Edge, SurveyCounts, countLine, firstsOf, secondsOf, weightsOf, verticesTest, edgesTest}
-use Rattle.format_stp_rule.specs.StpKey.{nodesWord, edgesWord}
-use Rattle.format_stp_rule.specs.StpReading.{StpContent, StpTests, stpHead, stpEdges, stpBody, terminalSection, countThen, stpContent, stpWhole, stpTests, stpNumber, stpOutcome, stpReading}
-use Rattle.format_stp_rule.specs.StpWord.{emptyLines, afterEmpty, guarded}
-use Rattle.format_stp_terminals.specs.Laws.TerminalTurn.{each-then, end-within, from-zeros}
-use Rattle.format_stp_terminals.specs.Terminals.{terminalsToEnd}
+use Rattle.format_survey.specs.Laws.LinesBody.{sets-filled}
+use Rattle.format_survey.specs.Laws.Tests.{VerticesPass, EdgesPass, vertices-passed, edges-passed}
+use Rattle.format_survey.specs.Line.{Edge, SurveyCounts, countLine, firstsOf, secondsOf, weightsOf, verticesTest, edgesTest}
+use Rattle.format_stp.specs.StpKey.{nodesWord, edgesWord}
+use Rattle.format_stp.specs.StpReading.{StpContent, StpTests, stpHead, stpEdges, stpBody, terminalSection, countThen, stpContent, stpWhole, stpTests, stpNumber, stpOutcome, stpReading}
+use Rattle.format_stp.specs.StpWord.{emptyLines, afterEmpty, guarded}
+use Rattle.format_stp.specs.Laws.TerminalTurn.{each-then, end-within, from-zeros}
+use Rattle.format_stp.specs.Terminals.{terminalsToEnd}
 use Rattle.format_stp.specs.Parts.{stpCounts, stpLines, storedBy}
 use Rattle.format_stp.specs.Laws.Lines.{stored-by, groups-length, edges-length}
 

@@ -6,15 +6,15 @@ use mathlib.Core.Path.{_≡_, refl, ap, sym, _∙_, subst}
 use lib.ListN.{length, set, replicate, length-set, length-replicate}
 use Rattle.base_limits.specs.Limits.{maxVertices, groupNumbers}
 use Rattle.base_limits.specs.Verdict.{answer}
-use Rattle.format_grammar.specs.Language.{Text, EachFrom, noneFrom, moreFrom}
+use Rattle.format_read.specs.Language.{Text, EachFrom, noneFrom, moreFrom}
 use Rattle.format_also.specs.WellFormed.{noPair}
-use Rattle.format_survey_lines.specs.Line.{Edge, EdgeDigits}
+use Rattle.format_survey.specs.Line.{Edge, EdgeDigits}
 use Rattle.format_survey.specs.WellFormed.{WithinCounts}
-use Rattle.format_stp_rule.specs.Laws.Accepted.{accepted-in}
-use Rattle.format_stp_rule.specs.StpReading.{StpContent, stpReading}
-use Rattle.format_stp_rule.specs.StpWord.{AfterEmpty, Repeated, none, one}
-use Rattle.format_stp_rule.specs.Subset.{StpEdgeIn, stpEdgeText, TerminalLines, InSubset}
-use Rattle.format_stp_rule.specs.Subset.{none as noLine, one as oneLine}
+use Rattle.format_stp.specs.Laws.Accepted.{accepted-in}
+use Rattle.format_stp.specs.StpReading.{StpContent, stpReading}
+use Rattle.format_stp.specs.StpWord.{AfterEmpty, Repeated, none, one}
+use Rattle.format_stp.specs.Subset.{StpEdgeIn, stpEdgeText, TerminalLines, InSubset}
+use Rattle.format_stp.specs.Subset.{none as noLine, one as oneLine}
 
 -- ---- tracks
 

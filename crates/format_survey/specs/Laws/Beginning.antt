@@ -12,26 +12,26 @@ use Rattle.base_limits.specs.Limits.{maxVertices, maxPairs, countDigits, groupD
 use Rattle.base_limits.specs.Verdict.{refusal}
 use Rattle.base_limits.specs.declared.Verdict.{Verdict}
 use Rattle.base_limits.specs.declared.Verdict.the-variants.{Refused}
-use Rattle.format_key.specs.Key.{nodesKey, linksKey, nodeKey}
+use Rattle.format_write.specs.Key.{nodesKey, linksKey, nodeKey}
 use Rattle.format_write.specs.Text.{lineOf}
-use Rattle.format_grammar.specs.Step.{Step, found, refused, _then_}
-use Rattle.format_grammar.specs.Lines.{textOf, whole}
-use Rattle.format_grammar.specs.Bytes.{endAt}
-use Rattle.format_grammar.specs.Stands.{Stands}
-use Rattle.format_grammar.specs.Language.{EachFrom, Texts, Reads}
-use Rattle.format_grammar.specs.Laws.Lines.{each-map, reads-lines}
-use Rattle.format_grammar.specs.Laws.Stands.{stands-whole, stands-append, stands-first, stands-second}
-use Rattle.format_grammar.specs.Laws.Step.{then-found, then-refused, Stops, early, late, then-stops}
-use Rattle.format_number.specs.Number.{OfDigits}
-use Rattle.format_number.specs.Laws.Keyed.{Passes, reads-tested}
-use Rattle.format_number.specs.Laws.OnlyMalformed.{only-found, only-then, only-end}
+use Rattle.format_read.specs.Step.{Step, found, refused, _then_}
+use Rattle.format_read.specs.Lines.{textOf, whole}
+use Rattle.format_read.specs.Bytes.{endAt}
+use Rattle.format_read.specs.Stands.{Stands}
+use Rattle.format_read.specs.Language.{EachFrom, Texts, Reads}
+use Rattle.format_read.specs.Laws.Lines.{each-map, reads-lines}
+use Rattle.format_read.specs.Laws.Stands.{stands-whole, stands-append, stands-first, stands-second}
+use Rattle.format_read.specs.Laws.Step.{then-found, then-refused, Stops, early, late, then-stops}
+use Rattle.format_read.specs.Number.{OfDigits}
+use Rattle.format_read.specs.Laws.Keyed.{Passes, reads-tested}
+use Rattle.format_read.specs.Laws.OnlyMalformed.{only-found, only-then, only-end}
 use Rattle.format_also.specs.Pair.{Pair, alsoTest, alsoAt}
 use Rattle.format_also.specs.Render.{pairText, pairsText}
 use Rattle.format_also.specs.WellFormed.{lastRank}
 use Rattle.format_also.specs.Laws.Tests.{also-high, also-full, out-refused, PairCause, high-group, out-of-order, no-room, pair-cause}
 use Rattle.format_also.specs.Laws.Failing.{FailingPair, also-fails, fails-also}
-use Rattle.format_survey_lines.specs.Line.{Lengths, pairRoom, Tests, testsFor, verticesTest, edgesTest, groupTest, countLine, groupLine, groupLines, edgeLines}
-use Rattle.format_survey_lines.specs.Laws.Tests.{vertices-none, vertices-many, vertices-short, vertices-fine, vertices-passed, edges-many, edges-fine, edges-passed, group-high, group-line-fine, group-passed}
+use Rattle.format_survey.specs.Line.{Lengths, pairRoom, Tests, testsFor, verticesTest, edgesTest, groupTest, countLine, groupLine, groupLines, edgeLines}
+use Rattle.format_survey.specs.Laws.Tests.{vertices-none, vertices-many, vertices-short, vertices-fine, vertices-passed, edges-many, edges-fine, edges-passed, group-high, group-line-fine, group-passed}
 use Rattle.format_survey.specs.Reading.{surveyAt, stepOutcome, reading}
 use Rattle.format_survey.specs.Beginning.{BeginsWith, VerticesFit, EdgesFit, VerticesOut, EdgesOver, GroupsShort, EdgesShort, GroupOver, AlsoLine, PairOver, PairFaulty, PairsShort, BufferShort, HighGroup, Refusing, verticesOut, edgesOver, bufferShort, highGroup, pairFaulty}
 use Rattle.format_survey.specs.Laws.Content.{SurveyContent, contentWith, contentSurvey, contentAt, NeverMalformed, content-survey}

@@ -3,8 +3,8 @@ use Prim.Native.Nat.{ℕ, suc}
 use mathlib.Core.Path.{_≡_, refl, ap, sym, _∙_}
 use mathlib.Core.List.{List, [], _∷_, _++_}
 use lib.Seq.{sets}
-use Rattle.format_grammar.specs.Step.{Step, refused, storedIf}
-use Rattle.format_grammar.specs.Laws.Step.{stored-refused}
+use Rattle.format_read.specs.Step.{Step, refused, storedIf}
+use Rattle.format_read.specs.Laws.Step.{stored-refused}
 
 sets-nil : (i : ℕ) (vs : List ℕ) → sets [] i vs ≡ []
 sets-nil i [] = refl

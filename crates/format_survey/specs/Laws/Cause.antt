@@ -10,8 +10,8 @@ use Rattle.base_limits.specs.Limits.{maxVertices, maxEdges, groupNumbers}
 use Rattle.base_limits.specs.Laws.Verdict.{no-refusal}
 use Rattle.base_limits.specs.declared.Verdict.{Verdict}
 use Rattle.base_limits.specs.declared.Verdict.the-variants.{Refused}
-use Rattle.format_survey_lines.specs.Line.{verticesTest, edgesTest, groupTest}
-use Rattle.format_survey_lines.specs.Laws.Tests.{vertices-none, vertices-many, vertices-short, vertices-fine, edges-many, edges-first, edges-second, edges-weight, edges-fine, group-high, group-line-fine}
+use Rattle.format_survey.specs.Line.{verticesTest, edgesTest, groupTest}
+use Rattle.format_survey.specs.Laws.Tests.{vertices-none, vertices-many, vertices-short, vertices-fine, edges-many, edges-first, edges-second, edges-weight, edges-fine, group-high, group-line-fine}
 
 pub data VerticesCause (lent n i p : ℕ) : Type 0 where
   out-of-range : i ≡ 1 → p ≡ 0 → (n ≡ 0) ⊎ (maxVertices < n) → VerticesCause lent n i p

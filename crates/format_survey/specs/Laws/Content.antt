@@ -6,30 +6,30 @@ use mathlib.Core.Path.{_≡_, refl, ap, sym, _∙_, subst, fun-ext}
 use mathlib.Core.List.{List, [], _∷_, _++_, append-nil}
 use lib.ListN.{length, getD}
 use Rattle.base_limits.specs.Limits.{countDigits, groupDigits}
-use Rattle.format_number.specs.Number.{OfDigits, alsoLetter}
+use Rattle.format_read.specs.Number.{OfDigits, alsoLetter}
 use Rattle.base_limits.specs.declared.Verdict.the-variants.{Refused}
 use Rattle.format_write.specs.Text.{lineOf}
-use Rattle.format_grammar.specs.Step.{Step, found, refused, _then_}
-use Rattle.format_grammar.specs.Lines.{linesAfter, textOf, whole}
-use Rattle.format_key.specs.Key.{nodesKey, linksKey, nodeKey}
+use Rattle.format_read.specs.Step.{Step, found, refused, _then_}
+use Rattle.format_read.specs.Lines.{linesAfter, textOf, whole}
+use Rattle.format_write.specs.Key.{nodesKey, linksKey, nodeKey}
 use Rattle.format_also.specs.Pair.{Pair, alsoAt}
 use Rattle.format_also.specs.Render.{pairsText}
 use Rattle.format_also.specs.WellFormed.{FewPairs, PairsPass, NoAlso}
 use Rattle.format_also.specs.Laws.Reading.{reads-also}
-use Rattle.format_survey_lines.specs.Line.{Tests, countLine, countsAt, groupLine, groupLines, Edge, edgeLine, edgeLines, SurveyCounts, EdgeDigits, tailAt, tailAfter, SurveyLines, linesOf}
-use Rattle.format_grammar.specs.Bytes.{endAt}
+use Rattle.format_survey.specs.Line.{Tests, countLine, countsAt, groupLine, groupLines, Edge, edgeLine, edgeLines, SurveyCounts, EdgeDigits, tailAt, tailAfter, SurveyLines, linesOf}
+use Rattle.format_read.specs.Bytes.{endAt}
 use Rattle.format_survey.specs.Reading.{bodyAt, SurveyText, surveyOf, surveyAt}
-use Rattle.format_survey_lines.specs.Render.{edgeText}
+use Rattle.format_survey.specs.LinesRender.{edgeText}
 use Rattle.format_survey.specs.Render.{render}
-use Rattle.format_grammar.specs.Laws.Bytes.{byte-not}
-use Rattle.format_grammar.specs.Laws.Stands.{stands-head}
-use Rattle.format_grammar.specs.Laws.Step.{then-then}
-use Rattle.format_grammar.specs.Stands.{Stands}
-use Rattle.format_grammar.specs.Language.{ReadsBefore, Seq, Empty, Text, EachFrom, Texts}
-use Rattle.format_grammar.specs.Laws.Language.{reads-then, reads-before, before-then, then-before, before-as, reads-value, append-five}
-use Rattle.format_number.specs.Laws.Keyed.{Passes, reads-tested}
-use Rattle.format_survey_lines.specs.Laws.Content.{reads-edge}
-use Rattle.format_grammar.specs.Laws.Lines.{reads-lines}
+use Rattle.format_read.specs.Laws.Bytes.{byte-not}
+use Rattle.format_read.specs.Laws.Stands.{stands-head}
+use Rattle.format_read.specs.Laws.Step.{then-then}
+use Rattle.format_read.specs.Stands.{Stands}
+use Rattle.format_read.specs.Language.{ReadsBefore, Seq, Empty, Text, EachFrom, Texts}
+use Rattle.format_read.specs.Laws.Language.{reads-then, reads-before, before-then, then-before, before-as, reads-value, append-five}
+use Rattle.format_read.specs.Laws.Keyed.{Passes, reads-tested}
+use Rattle.format_survey.specs.Laws.LinesContent.{reads-edge}
+use Rattle.format_read.specs.Laws.Lines.{reads-lines}
 
 -- What a text says before its end is looked for.
 pub record SurveyContent : Type 0 where

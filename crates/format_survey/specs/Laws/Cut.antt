@@ -6,20 +6,20 @@ use mathlib.Core.Path.{_≡_, refl, ap, sym, _∙_}
 use mathlib.Core.List.{List}
 use lib.ListN.{length, take}
 use lib.Seq.{take-take}
-use Rattle.format_number.specs.Number.{lineBytes}
+use Rattle.format_read.specs.Number.{lineBytes}
 use Rattle.format_survey.specs.Render.{edgeBytes}
 use Rattle.base_limits.specs.Limits.{maxVertices, maxEdges, countDigits, groupDigits, endpointDigits, weightDigits}
-use Rattle.format_key.specs.Key.{comma, newline, nodesKey, linksKey, nodeKey, linkKey}
-use Rattle.format_survey_lines.specs.Line.{Lengths, pairRoom, Tests, testsFor, verticesTest, edgesTest, groupTest, countLine, groupLine, groupLines, edgeLine, edgeLines}
+use Rattle.format_write.specs.Key.{comma, newline, nodesKey, linksKey, nodeKey, linkKey}
+use Rattle.format_survey.specs.Line.{Lengths, pairRoom, Tests, testsFor, verticesTest, edgesTest, groupTest, countLine, groupLine, groupLines, edgeLine, edgeLines}
 use Rattle.format_survey.specs.Reading.{surveyAt, stepOutcome, reading}
-use Rattle.format_survey_lines.specs.Laws.Tests.{vertices-passed, edges-passed}
+use Rattle.format_survey.specs.Laws.Tests.{vertices-passed, edges-passed}
 use Rattle.format_survey.specs.Laws.Content.{contentWith, contentSurvey, contentAt, content-survey}
-use Rattle.format_grammar.specs.Bytes.{endAt}
-use Rattle.format_grammar.specs.Language.{LooksWithin, Any}
-use Rattle.format_grammar.specs.Laws.Local.{local-value, local-then, local-as, local-fixed, local-lines, local-end}
-use Rattle.format_grammar.specs.Lines.{linesFrom, whole}
-use Rattle.format_grammar.specs.Step.{found, _then_}
-use Rattle.format_number.specs.Laws.Near.{local-number, local-tested}
+use Rattle.format_read.specs.Bytes.{endAt}
+use Rattle.format_read.specs.Language.{LooksWithin, Any}
+use Rattle.format_read.specs.Laws.Local.{local-value, local-then, local-as, local-fixed, local-lines, local-end}
+use Rattle.format_read.specs.Lines.{linesFrom, whole}
+use Rattle.format_read.specs.Step.{found, _then_}
+use Rattle.format_read.specs.Laws.Near.{local-number, local-tested}
 use Rattle.format_also.specs.Laws.Near.{alsoLook, local-also}
 
 local-edge : (e : ℕ) → LooksWithin (λ t at. edgeLine t e at) edgeBytes Any

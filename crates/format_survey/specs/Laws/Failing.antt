@@ -8,19 +8,19 @@ use lib.ListN.{length}
 use Rattle.base_limits.specs.Limits.{groupDigits}
 use Rattle.base_limits.specs.declared.Verdict.{Verdict}
 use Rattle.base_limits.specs.declared.Verdict.the-variants.{Fine, Refused}
-use Rattle.format_key.specs.Key.{nodeKey}
+use Rattle.format_write.specs.Key.{nodeKey}
 use Rattle.format_write.specs.Text.{lineOf}
-use Rattle.format_grammar.specs.Step.{Step, found, refused, _then_, checked}
-use Rattle.format_grammar.specs.Lines.{following, linesFrom, textOf}
-use Rattle.format_grammar.specs.Stands.{Stands}
-use Rattle.format_grammar.specs.Language.{EachFrom, noneFrom, moreFrom}
-use Rattle.format_grammar.specs.Laws.Language.{text-stands}
-use Rattle.format_grammar.specs.Laws.Stands.{stands-append, stands-first, stands-second}
-use Rattle.format_grammar.specs.Laws.Step.{then-found, Stops, early, late, then-stops}
-use Rattle.format_number.specs.Number.{numberLine, OfDigits}
-use Rattle.format_number.specs.Laws.Keyed.{Passes, reads-line, reads-tested}
-use Rattle.format_survey_lines.specs.Line.{groupLine}
-use Rattle.format_number.specs.Laws.OnlyMalformed.{only-line}
+use Rattle.format_read.specs.Step.{Step, found, refused, _then_, checked}
+use Rattle.format_read.specs.Lines.{following, linesFrom, textOf}
+use Rattle.format_read.specs.Stands.{Stands}
+use Rattle.format_read.specs.Language.{EachFrom, noneFrom, moreFrom}
+use Rattle.format_read.specs.Laws.Language.{text-stands}
+use Rattle.format_read.specs.Laws.Stands.{stands-append, stands-first, stands-second}
+use Rattle.format_read.specs.Laws.Step.{then-found, Stops, early, late, then-stops}
+use Rattle.format_read.specs.Number.{numberLine, OfDigits}
+use Rattle.format_read.specs.Laws.Keyed.{Passes, reads-line, reads-tested}
+use Rattle.format_survey.specs.Line.{groupLine}
+use Rattle.format_read.specs.Laws.OnlyMalformed.{only-line}
 
 -- ---- a line whose number is tested
 

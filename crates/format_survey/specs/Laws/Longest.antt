@@ -5,25 +5,25 @@ use native.Mathlib.Omega.{arith}
 use mathlib.Core.Path.{_≡_, refl, ap, sym, subst}
 use mathlib.Core.List.{List, [], _∷_, _++_}
 use lib.ListN.{length, length-append}
-use Rattle.format_number.specs.Laws.NumberWord.{line-most, number-most}
+use Rattle.format_read.specs.Laws.NumberWord.{line-most, number-most}
 use Rattle.base_limits.specs.Limits.{maxVertices, maxEdges, surveyRoom, groupDigits, endpointDigits, weightDigits}
 use Rattle.base_limits.specs.Verdict.{answer}
-use Rattle.format_key.specs.Key.{nodesKey, linksKey, nodeKey, linkKey, comma, newline}
+use Rattle.format_write.specs.Key.{nodesKey, linksKey, nodeKey, linkKey, comma, newline}
 use Rattle.format_write.specs.Text.{lineOf}
 use Rattle.format_also.specs.Pair.{Pair, PairDigits}
 use Rattle.format_also.specs.Render.{pairText, pairsText, pairBytes}
 use Rattle.format_also.specs.Laws.Word.{pair-length}
 use Rattle.format_also.specs.Laws.Passing.{pairs-well}
-use Rattle.format_survey_lines.specs.Line.{Edge, EdgeDigits, Lengths}
+use Rattle.format_survey.specs.Line.{Edge, EdgeDigits, Lengths}
 use Rattle.format_survey.specs.Reading.{SurveyText, reading}
-use Rattle.format_number.specs.Number.{numberText, lineBytes}
-use Rattle.format_survey_lines.specs.Render.{edgeText}
-use Rattle.format_grammar.specs.Lines.{textOf}
+use Rattle.format_read.specs.Number.{numberText, lineBytes}
+use Rattle.format_survey.specs.LinesRender.{edgeText}
+use Rattle.format_read.specs.Lines.{textOf}
 use Rattle.format_survey.specs.Render.{render, edgeBytes, longestText}
-use Rattle.format_grammar.specs.Language.{EachFrom, noneFrom, moreFrom, Each, none, more}
+use Rattle.format_read.specs.Language.{EachFrom, noneFrom, moreFrom, Each, none, more}
 use Rattle.format_survey.specs.WellFormed.{WellFormed, WithinCounts}
 use Rattle.format_survey.specs.Laws.WellFormed.{accepted-render}
-use Rattle.format_grammar.specs.Laws.Lines.{each-map}
+use Rattle.format_read.specs.Laws.Lines.{each-map}
 
 edge-most : (x : Edge) → EdgeDigits x → length (edgeText x) ≤ edgeBytes
 unfolding edgeText

@@ -3,11 +3,11 @@ use Prim.Native.Nat.{ℕ, zero, suc, _+_}
 use mathlib.Core.Path.{_≡_}
 use mathlib.Core.List.{List}
 use Rattle.base_limits.specs.Limits.{endpointDigits, weightDigits}
-use Rattle.format_key.specs.Key.{linkKey, comma, newline}
-use Rattle.format_grammar.specs.Step.{Step, found, refused, _then_}
-use Rattle.format_grammar.specs.Lines.{following, linesFrom}
-use Rattle.format_number.specs.Laws.OnlyMalformed.{OnlyMalformed, only-found, only-then, only-fixed, only-number-to}
-use Rattle.format_survey_lines.specs.Line.{Edge, edgeLine}
+use Rattle.format_write.specs.Key.{linkKey, comma, newline}
+use Rattle.format_read.specs.Step.{Step, found, refused, _then_}
+use Rattle.format_read.specs.Lines.{following, linesFrom}
+use Rattle.format_read.specs.Laws.OnlyMalformed.{OnlyMalformed, only-found, only-then, only-fixed, only-number-to}
+use Rattle.format_survey.specs.Line.{Edge, edgeLine}
 
 only-edge : (t : List ℕ) (e at : ℕ) → OnlyMalformed (edgeLine t e at)
 unfolding edgeLine

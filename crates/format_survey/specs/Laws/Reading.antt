@@ -4,16 +4,16 @@ use native.Mathlib.Omega.{arith}
 use mathlib.Core.Path.{_≡_, ap, sym, _∙_}
 use mathlib.Core.List.{List}
 use lib.ListN.{length, length-map}
-use Rattle.format_survey_lines.specs.Laws.Body.{lines-sizes, lines-room}
+use Rattle.format_survey.specs.Laws.LinesBody.{lines-sizes, lines-room}
 use Rattle.base_limits.specs.Limits.{maxVertices}
 use Rattle.base_limits.specs.Verdict.{Outcome, refusal, answer}
 use Rattle.format_also.specs.Pair.{ownersOf, othersOf}
-use Rattle.format_grammar.specs.Step.{Step, found, refused, _then_}
-use Rattle.format_survey_lines.specs.Line.{Lengths, pairRoom, testsFor, SurveyCounts, countsAt, firstsOf, secondsOf, weightsOf, SurveyLines, linesOf, linesAt}
+use Rattle.format_read.specs.Step.{Step, found, refused, _then_}
+use Rattle.format_survey.specs.Line.{Lengths, pairRoom, testsFor, SurveyCounts, countsAt, firstsOf, secondsOf, weightsOf, SurveyLines, linesOf, linesAt}
 use Rattle.format_survey.specs.Reading.{bodyAt, bodyOf, surveyOf, surveyAt, stepOutcome, reading, filled}
-use Rattle.format_grammar.specs.Bytes.{endAt}
-use Rattle.format_grammar.specs.Laws.Step.{then-value}
-use Rattle.format_survey_lines.specs.Laws.Tests.{counts-passed}
+use Rattle.format_read.specs.Bytes.{endAt}
+use Rattle.format_read.specs.Laws.Step.{then-value}
+use Rattle.format_survey.specs.Laws.Tests.{counts-passed}
 
 -- A buffer at the end, by the outcome.
 module _ {A : Type 0} {o : Outcome A} (values : A → List ℕ) where

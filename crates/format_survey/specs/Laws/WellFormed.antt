@@ -11,22 +11,22 @@ use lib.Dec.{leb}
 use borrow.Author.Tests.{leb-true, leb-false}
 use Rattle.base_limits.specs.Limits.{maxPairs}
 use Rattle.base_limits.specs.Verdict.{refusal, answer}
-use Rattle.format_survey_lines.specs.Line.{Lengths, pairRoom, Tests, testsFor, verticesTest, edgesTest, groupTest, Edge}
+use Rattle.format_survey.specs.Line.{Lengths, pairRoom, Tests, testsFor, verticesTest, edgesTest, groupTest, Edge}
 use Rattle.format_survey.specs.Reading.{SurveyText, surveyOf, surveyAt, stepOutcome, reading}
 use Rattle.format_survey.specs.Render.{render}
-use Rattle.format_survey_lines.specs.Laws.Tests.{vertices-fine, edges-fine, group-line-fine, vertices-passed, edges-passed, group-passed, one-not-malformed, two-not-malformed}
+use Rattle.format_survey.specs.Laws.Tests.{vertices-fine, edges-fine, group-line-fine, vertices-passed, edges-passed, group-passed, one-not-malformed, two-not-malformed}
 use Rattle.format_survey.specs.Laws.Content.{SurveyContent, contentWith, contentSurvey, contentAt, NeverMalformed, Accepted, Formed, reads-content, content-survey}
-use Rattle.format_grammar.specs.Bytes.{endAt}
-use Rattle.format_grammar.specs.Language.{ReadsBefore, NotMalformed, read, otherwise}
-use Rattle.format_grammar.specs.Laws.Bytes.{byte-short, end-here, end-later}
-use Rattle.format_number.specs.Number.{alsoLetter}
+use Rattle.format_read.specs.Bytes.{endAt}
+use Rattle.format_read.specs.Language.{ReadsBefore, NotMalformed, read, otherwise}
+use Rattle.format_read.specs.Laws.Bytes.{byte-short, end-here, end-later}
+use Rattle.format_read.specs.Number.{alsoLetter}
 use Rattle.format_also.specs.Pair.{Pair}
 use Rattle.format_also.specs.WellFormed.{NoAlso}
 use Rattle.format_also.specs.Laws.Passing.{pairs-few, pairs-room, pairs-any-room}
-use Rattle.format_grammar.specs.Laws.Lines.{each-map}
-use Rattle.format_grammar.specs.Laws.Stands.{stands-whole}
-use Rattle.format_grammar.specs.Laws.Step.{then-found, then-value}
-use Rattle.format_grammar.specs.Step.{Step, found, refused, _then_}
+use Rattle.format_read.specs.Laws.Lines.{each-map}
+use Rattle.format_read.specs.Laws.Stands.{stands-whole}
+use Rattle.format_read.specs.Laws.Step.{then-found, then-value}
+use Rattle.format_read.specs.Step.{Step, found, refused, _then_}
 use Rattle.format_survey.specs.WellFormed.{WellFormed, WithinCounts, surveyOfText, SurveyRoom, Accepting, Begins}
 
 -- No test gives 16.

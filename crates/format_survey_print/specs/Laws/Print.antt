@@ -9,7 +9,7 @@ use lib.Seq.{take-suc}
 use Rattle.base_finite.specs.Below.{tabulate}
 use Rattle.base_finite.specs.Laws.Below.{length-tabulate}
 use Rattle.base_limits.specs.Verdict.{refuseIf, _before_, written}
-use Rattle.format_grammar.specs.Lines.{textOf}
+use Rattle.format_read.specs.Lines.{textOf}
 use Rattle.format_print.specs.declared.Printed.the-variants.{Refused}
 use Rattle.format_print.specs.Print.{answerOf, outAfter, printed, printedOut}
 use Rattle.format_survey.specs.Reading.{SurveyText}

@@ -15,7 +15,7 @@ use Rattle.base_limits.specs.declared.Verdict.the-variants.{Fine, Refused}
 use Rattle.format_print.specs.declared.Printed.the-variants.{Length}
 use Rattle.format_print.specs.Print.{answerOf, outAfter}
 use Rattle.format_also.specs.Laws.Render.{map-tabulate, tabulate-getD, owners-from, others-from}
-use Rattle.format_survey_lines.specs.Line.{Edge, firstsOf, secondsOf, weightsOf, Lengths}
+use Rattle.format_survey.specs.Line.{Edge, firstsOf, secondsOf, weightsOf, Lengths}
 use Rattle.format_survey.specs.Reading.{SurveyText, surveyOf, reading}
 use Rattle.format_survey.specs.WellFormed.{WithinCounts, SurveyRoom, surveyOfText}
 use Rattle.format_survey.specs.Laws.WellFormed.{read-render}

@@ -9,7 +9,7 @@ use Rattle.base_limits.specs.Limits.{surveyRoom}
 use Rattle.base_limits.specs.Verdict.{answer, refuseIf}
 use Rattle.format_print.specs.declared.Printed.the-variants.{Length}
 use Rattle.format_print.specs.Print.{printRefusal, answerOf, printed}
-use Rattle.format_survey_lines.specs.Line.{Lengths}
+use Rattle.format_survey.specs.Line.{Lengths}
 use Rattle.format_survey.specs.Reading.{SurveyText, reading}
 use Rattle.format_survey.specs.WellFormed.{WithinCounts}
 use Rattle.format_survey.specs.Laws.Longest.{longest-within, longest-read}

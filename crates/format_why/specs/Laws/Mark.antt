@@ -4,7 +4,7 @@ use borrow.Author.Tests.{eq-eqb, ne-eqb}
 use mathlib.Core.Path.{_≡_}
 use mathlib.Core.List.{List, []}
 use native.Mathlib.Omega.{arith}
-use Rattle.format_key.specs.Key.{roundKey}
+use Rattle.format_write.specs.Key.{roundKey}
 use Rattle.format_write.specs.Text.{lineOf}
 use Rattle.format_why.specs.ReasonText.{keptText, markText}
 

@@ -10,7 +10,7 @@ use lib.Dec.{eqb}
 use Rattle.base_finite.specs.Laws.Test.{either}
 use Rattle.base_limits.specs.Limits.{maxEdges, wordDigits, whyRoom}
 use Rattle.base_limits.specs.Verdict.{refuseIf}
-use Rattle.format_key.specs.Key.{trackKey, markKey, groupKey, fromKey, toKey, routeKey, roundKey, comma, newline}
+use Rattle.format_write.specs.Key.{trackKey, markKey, groupKey, fromKey, toKey, routeKey, roundKey, comma, newline}
 use Rattle.format_write.specs.Decimal.{decimal}
 use Rattle.format_write.specs.Text.{lineOf, listed}
 use Rattle.format_write.specs.Laws.Decimal.{length-decimal}

@@ -14,7 +14,7 @@ use lib.Dec.{eqb}
 use Rattle.base_limits.specs.Limits.{memberBytes, recordBytes}
 use Rattle.format_record.specs.Record.{recordOf, recordAt}
 use Rattle.format_record.specs.Laws.Record.{value-of-record, members-of-record, record-at-first, record-at-right}
-use Rattle.format_key.specs.Key.{keptKey, dualKey, colon, comma, newline}
+use Rattle.format_write.specs.Key.{keptKey, dualKey, colon, comma, newline}
 use Rattle.format_write.specs.Decimal.{decimal}
 use Rattle.format_write.specs.Text.{lineOf, listed, membersOf, dualLine, textBelow, keptLine, dualLines}
 use Rattle.format_write.specs.Wrote.{isNone, itemOf, memberText}

@@ -6,7 +6,7 @@ use mathlib.Core.Path.{_≡_, refl, ap, _∙_}
 use mathlib.Core.List.{[], List, _∷_, _++_}
 use lib.ListN.{length, take, drop}
 use Rattle.base_buffer.specs.Store.{remade}
-use Rattle.survey_labels.specs.Labels.{relabelled}
+use Rattle.survey_components.specs.Buffer.{relabelled}
 use Rattle.plan_active.specs.Flags.{relabelledFirst}
 
 remade-front : (f : ℕ → ℕ → ℕ) (n : ℕ) (l : List ℕ) → (remade f (length (take n l)) (take n l) ++ drop n l) ≡ remade f n l

@@ -21,8 +21,8 @@ use Rattle.theory_steiner.specs.Laws.Joined.{separates-cong}
 use Rattle.theory_steiner.specs.Laws.Activity.{active-cong, active-other, active-gone}
 use Rattle.survey_core.specs.Survey.{groupsAlone, vertexCount, problemOf}
 use Rattle.survey_core.specs.Laws.Member.{member-elim}
-use Rattle.survey_mates.specs.Mate.{mateOf}
-use Rattle.survey_mates.specs.Laws.Mate.{Mated, mated, separates-mates}
+use Rattle.survey_groups.specs.Mate.{mateOf}
+use Rattle.survey_groups.specs.Laws.Mate.{Mated, mated, separates-mates}
 use Rattle.base_buffer.specs.Laws.Store.{set-table, remade-passed}
 use Rattle.plan_active.specs.Flags.{activeFlags, hasMate, MatesListed, ofEither, apartFromMate, joinedActive, relabelledFirst, mergedFlags}
 use Rattle.plan_active.specs.Laws.Listed.{any-gathered}

@@ -1,9 +1,9 @@
 -- `draw` meets its contract: a trace that passes the test is replayed, and of another nothing is drawn.
 use mathlib.Core.Path.{ap, sym, _∙_}
 use lib.ListN.{length}
-use Rattle.plan_duals.specs.Drawing.{recordsOver}
-use Rattle.plan_duals.specs.Trace.{traceFrom}
-use Rattle.plan_duals.specs.Laws.Drawable.{test-drawable, drawn-all, drawn-none}
+use Rattle.plan_draw.specs.Drawing.{recordsOver}
+use Rattle.plan_draw.specs.Trace.{traceFrom}
+use Rattle.plan_draw.specs.Laws.Drawable.{test-drawable, drawn-all, drawn-none}
 use borrow.Author.Needs.{needs}
 use Rattle.plan_draw.proofs.draw.Statement.{statement}
 use Rattle.plan_draw.proofs.draw.Tie as tie

@@ -5,10 +5,10 @@ use mathlib.Core.Path.{sym}
 use mathlib.Core.List.{List}
 use lib.ListN.{length-replicate}
 use Rattle.base_limits.specs.Limits.{maxVertices}
-use Rattle.plan_duals.specs.Members.{noMember}
-use Rattle.plan_duals.specs.Trace.{traceFrom}
-use Rattle.plan_duals.specs.Laws.Drawing.{written-length}
-use Rattle.plan_duals.specs.Laws.Trace.{Replayed, replayed-none, replayed-more, replayed-end}
+use Rattle.plan_draw.specs.Members.{noMember}
+use Rattle.plan_draw.specs.Trace.{traceFrom}
+use Rattle.plan_draw.specs.Laws.Drawing.{written-length}
+use Rattle.plan_draw.specs.Laws.Trace.{Replayed, replayed-none, replayed-more, replayed-end}
 use native.Mathlib.Omega.{arith}
 use Rattle.plan_draw.proofs.draw_trace.Statement.{statement}
 use Rattle.plan_draw.proofs.draw_trace.Tie as tie

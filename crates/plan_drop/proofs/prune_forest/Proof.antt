@@ -1,5 +1,5 @@
 -- `prune_forest` meets its contract: after each batch the marks are those of the batches below base.
-use Rattle.plan_dropped.specs.Laws.Dropped.{length-dropped}
+use Rattle.plan_drop.specs.Laws.Dropped.{length-dropped}
 use Rattle.plan_drop.specs.Laws.Judge.{marksBelow, length-below, below-start, below-more, below-end}
 use Rattle.plan_drop.specs.Prunable.{unweighted}
 use Rattle.survey_components.specs.Labels.{pickedIn}

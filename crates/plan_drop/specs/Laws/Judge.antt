@@ -16,23 +16,23 @@ use Rattle.format_record.specs.Bits.{bitAt}
 use Rattle.theory_steiner.specs.Problem.{Problem, separates}
 use Rattle.theory_steiner.specs.Pruning.{needed, markOf}
 use Rattle.survey_core.specs.Survey.{groupsAlone, problemOf, vertexCount, edgeCount, sameGroup, member}
-use Rattle.survey_mates.specs.Mate.{mateOf}
-use Rattle.survey_mates.specs.Laws.Mate.{separates-mates}
+use Rattle.survey_groups.specs.Mate.{mateOf}
+use Rattle.survey_groups.specs.Laws.Mate.{separates-mates}
 use Rattle.base_buffer.specs.Store.{remade}
 use Rattle.base_buffer.specs.Laws.Store.{length-remade}
 use Rattle.theory_graph.specs.Path.{crosses}
 use Rattle.theory_steiner.specs.Laws.Cut.{needed-by-cut}
 use Rattle.survey_components.specs.Labels.{pickedIn}
-use Rattle.plan_cuts.specs.Word.{wordBits, inBatch, Alone, CutEndsBelow}
-use Rattle.plan_cuts.specs.Tried.{triedWords}
-use Rattle.plan_cuts.specs.Laws.Tried.{tried-words-alone}
+use Rattle.plan_drop.specs.Word.{wordBits, inBatch, Alone, CutEndsBelow}
+use Rattle.plan_drop.specs.Tried.{triedWords}
+use Rattle.plan_drop.specs.Laws.Tried.{tried-words-alone}
 use Rattle.plan_drop.specs.Prunable.{Prunable, unweighted}
-use Rattle.plan_bits.specs.Parted.{partedBelow}
-use Rattle.plan_judge.specs.Judge.{sideIn, judged, raised}
-use Rattle.plan_judge.specs.Laws.Judge.{batch-before, batch-after, batch-in, parted-bit}
-use Rattle.plan_dropped.specs.Dropped.{droppedMarks}
+use Rattle.plan_drop.specs.Parted.{partedBelow}
+use Rattle.plan_drop.specs.Needed.{sideIn, judged, raised}
+use Rattle.plan_drop.specs.Laws.Needed.{batch-before, batch-after, batch-in, parted-bit}
+use Rattle.plan_drop.specs.Dropped.{droppedMarks}
 use Rattle.plan_drop.specs.Judge.{prunedMarks, batchMarks}
-use Rattle.plan_cuts.specs.Laws.Word.{count-lt}
+use Rattle.plan_drop.specs.Laws.Word.{count-lt}
 
 -- ---- stores at rising places
 

@@ -18,9 +18,9 @@ use Rattle.survey_core.specs.Sound.{SurveySound, ByteGroups}
 use Rattle.survey_core.specs.Laws.Refusal.{survey-fine, fine-survey, survey-sound}
 use Rattle.survey_core.specs.Laws.Group.{group-fine, joins-fine}
 use Rattle.survey_components.specs.Labels.{pickedIn}
-use Rattle.survey_forest.specs.Forest.{forestRefusal}
+use Rattle.survey_components.specs.Forest.{forestRefusal}
 use Rattle.survey_components.specs.Laws.Picked.{picked-below}
-use Rattle.survey_forest.specs.Laws.Forest.{forest-fine, fine-forest}
+use Rattle.survey_components.specs.Laws.Forest.{forest-fine, fine-forest}
 use Rattle.plan_drop.specs.Prunable.{Prunable, unweighted}
 use Rattle.plan_drop.specs.Judge.{prunedMarks, marksPruned}
 

@@ -2,7 +2,7 @@
 use mathlib.Core.Path.{refl, sym, _∙_}
 use Rattle.base_limits.specs.Verdict.{written}
 use Rattle.survey_core.specs.Laws.Refusal.{fine-survey}
-use Rattle.plan_growth.specs.Laws.Rounds.{grown-start}
+use Rattle.plan_rounds.specs.Laws.Rounds.{grown-start}
 use borrow.Author.Needs.{needs}
 use Rattle.plan_rounds.proofs.grow.Statement.{statement}
 use Rattle.plan_rounds.proofs.grow.Tie as tie

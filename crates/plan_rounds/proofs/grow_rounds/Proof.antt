@@ -5,9 +5,9 @@ use mathlib.Core.Path.{refl}
 use mathlib.Core.Logic.{⊎-elim}
 use Rattle.survey_core.specs.Survey.{surveyFrom}
 use Rattle.plan_active.specs.Flags.{MatesListed}
-use Rattle.plan_growth.specs.Represents.{arraysFrom, Represents}
-use Rattle.plan_growth.specs.Laws.Round.{going, merged-small, won-edge, round-over, round-won}
-use Rattle.plan_growth.specs.Laws.Rounds.{represents-start, all-merged, time-fits, settled-left, grown-still}
+use Rattle.plan_rounds.specs.Represents.{arraysFrom, Represents}
+use Rattle.plan_rounds.specs.Laws.Round.{going, merged-small, won-edge, round-over, round-won}
+use Rattle.plan_rounds.specs.Laws.Rounds.{represents-start, all-merged, time-fits, settled-left, grown-still}
 use borrow.Author.Needs.{needs}
 use Rattle.plan_rounds.proofs.grow_rounds.Statement.{statement}
 use Rattle.plan_rounds.proofs.grow_rounds.Tie as tie

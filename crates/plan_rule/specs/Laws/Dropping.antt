@@ -48,9 +48,9 @@ use Rattle.survey_core.specs.Refusal.{surveyRefusal, groupRefusal, LowestUnjoin
 use Rattle.survey_core.specs.Laws.Refusal.{survey-fine, fine-survey}
 use Rattle.survey_core.specs.Laws.Group.{group-fine, joins-fine, group-refused, group-joined-intro, group-joined-elim}
 use Rattle.survey_components.specs.Labels.{pickedIn}
-use Rattle.survey_forest.specs.Forest.{closesLoop, loopRefusal}
+use Rattle.survey_components.specs.Forest.{closesLoop, loopRefusal}
 use Rattle.survey_components.specs.Laws.Picked.{picked-below}
-use Rattle.survey_forest.specs.Laws.Forest.{forest-fine, fine-forest}
+use Rattle.survey_components.specs.Laws.Forest.{forest-fine, fine-forest}
 use Rattle.check_rule.specs.Check.{Checked, keptBy, checking}
 use Rattle.check_rule.specs.Laws.Meaning.{check-passing}
 use Rattle.check_rule.specs.Laws.Accuracy.{passing-accurate, checking-passing}

@@ -36,8 +36,8 @@ use Rattle.check_rule.specs.Check.{dualAt, dualsIn, keptBy, checkedOf, checking
 use Rattle.check_rule.specs.Passing.{DualSound, Passing}
 use Rattle.check_rule.specs.Laws.Meaning.{passing-check}
 use Rattle.check_rule.specs.Laws.Accuracy.{passing-accurate}
-use Rattle.plan_duals.specs.Drawing.{recordsOf}
-use Rattle.plan_duals.specs.Laws.Drawing.{nothing, length-records, record-at}
+use Rattle.plan_draw.specs.Drawing.{recordsOf}
+use Rattle.plan_draw.specs.Laws.Drawing.{nothing, length-records, record-at}
 use Rattle.plan_rule.specs.Plan.{planOf}
 
 -- ---- duals by their place in a list

@@ -20,8 +20,8 @@ use Rattle.survey_core.specs.Laws.Group.{group-refused}
 use Rattle.survey_lists.specs.Pouring.{pouredSurvey}
 use Rattle.survey_lists.specs.Laws.Pouring.{length-poured}
 use Rattle.survey_lists.specs.Laws.Plan.{poured-sound}
-use Rattle.survey_split.specs.Laws.Split.{poured-refusal}
-use Rattle.plan_duals.specs.Drawing.{recordsOver}
+use Rattle.survey_lists.specs.Laws.Split.{poured-refusal}
+use Rattle.plan_draw.specs.Drawing.{recordsOver}
 use Rattle.plan_rule.specs.Plan.{Plan, planOf, planRefusal, planning, planCountsOf, counting, marksAfter, recordsAfter}
 use Rattle.plan_rule.specs.Poured.{SameButPlace, same, unjoinable}
 use Rattle.plan_rule.specs.Laws.Ready.{all-bounded}

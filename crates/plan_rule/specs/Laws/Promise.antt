@@ -30,8 +30,8 @@ use Rattle.survey_core.specs.Laws.Refusal.{survey-fine, fine-survey, survey-sou
 use Rattle.survey_core.specs.Sound.{ByteGroups}
 use Rattle.survey_core.specs.Laws.Group.{member-byte, group-joined-elim, group-joined-intro, group-refused, unjoinable-iff}
 use Rattle.theory_steiner.specs.Laws.Finish.{allUsable-edges, grown-resting}
-use Rattle.plan_duals.specs.Drawing.{recordsOf, recordsOver}
-use Rattle.plan_duals.specs.Laws.Drawing.{length-records}
+use Rattle.plan_draw.specs.Drawing.{recordsOf, recordsOver}
+use Rattle.plan_draw.specs.Laws.Drawing.{length-records}
 use Rattle.plan_rule.specs.Plan.{planOf, planRefusal, PlanCounts, planCountsOf, counting, marksAfter, recordsAfter}
 use Rattle.plan_rule.specs.Promise.{Ready, Unjoinable, FinishedPlan, Promises}
 use Rattle.plan_rule.specs.Laws.Number.{before-cases, survey-never}

@@ -22,7 +22,7 @@ use Rattle.survey_core.specs.Pairs.{PairsSound}
 use Rattle.survey_lists.specs.Pouring.{pouredGroups, pouredSurvey}
 use Rattle.survey_lists.specs.Laws.Pouring.{length-poured}
 use Rattle.survey_lists.specs.Laws.Plan.{poured-sound, poured-plan, poured-joins}
-use Rattle.plan_duals.specs.Drawing.{recordsOver}
+use Rattle.plan_draw.specs.Drawing.{recordsOver}
 use Rattle.plan_rule.specs.Plan.{Plan, PlanCounts, planOf, planCountsOf}
 use Rattle.plan_rule.specs.Growing.{grownCountsOf, pickedMarks}
 use Rattle.plan_rule.specs.Promise.{Ready}

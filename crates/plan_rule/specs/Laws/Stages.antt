@@ -27,7 +27,7 @@ use Rattle.survey_core.specs.Survey.{Survey, vertexCount, edgeCount, problemOf}
 use Rattle.survey_core.specs.Sound.{ByteGroups}
 use Rattle.survey_core.specs.Laws.Refusal.{survey-sound}
 use Rattle.survey_components.specs.Labels.{pickedIn}
-use Rattle.plan_duals.specs.Drawing.{recordsOver}
+use Rattle.plan_draw.specs.Drawing.{recordsOver}
 use Rattle.plan_rule.specs.Plan.{planOf, planRefusal, PlanCounts, planCountsOf, counting, marksAfter, recordsAfter}
 use Rattle.plan_rule.specs.Growing.{grownCountsOf, pickedMarks, growing, marksGrown}
 use Rattle.plan_rule.specs.Dropping.{dropRefusal, DropCounts, dropCountsOf, dropping, neededMarks, marksDropped}

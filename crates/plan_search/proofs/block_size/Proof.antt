@@ -1,6 +1,6 @@
 -- `block_size` meets its contract: whole, or what is left.
 use borrow.Author.Tests.{lt-ltb, le-ltb}
-use Rattle.plan_winner.specs.Scan.{blockSize}
+use Rattle.plan_search.specs.Scan.{blockSize}
 use borrow.Author.Needs.{needs}
 use Rattle.plan_search.proofs.block_size.Statement.{statement}
 use Rattle.plan_search.proofs.block_size.Tie as tie

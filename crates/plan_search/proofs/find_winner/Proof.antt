@@ -1,11 +1,11 @@
 -- `find_winner` meets its contract: before block b it has what the passes have.
 use Prim.Native.Nat.{_-_}
 use mathlib.Core.Path.{refl}
-use Rattle.plan_winner.specs.Scan.{blocksOf}
-use Rattle.plan_winner.specs.Tables.{tablesFrom}
-use Rattle.plan_delay.specs.Between.{winnerIn}
-use Rattle.plan_winner.specs.Laws.Scan.{capped-is, capped-small}
-use Rattle.plan_winner.specs.Laws.Loops.{BeforeBlock, next-less, passing-next, passing-start, block-starts, passing-look, passing-keys, passing-floors, passing-end}
+use Rattle.plan_search.specs.Scan.{blocksOf}
+use Rattle.plan_search.specs.Tables.{tablesFrom}
+use Rattle.plan_search.specs.Between.{winnerIn}
+use Rattle.plan_search.specs.Laws.Scan.{capped-is, capped-small}
+use Rattle.plan_search.specs.Laws.Loops.{BeforeBlock, next-less, passing-next, passing-start, block-starts, passing-look, passing-keys, passing-floors, passing-end}
 use borrow.Author.Needs.{needs}
 use Rattle.plan_search.proofs.find_winner.Statement.{statement}
 use Rattle.plan_search.proofs.find_winner.Tie as tie

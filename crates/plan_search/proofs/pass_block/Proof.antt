@@ -1,8 +1,8 @@
 -- `pass_block` meets its contract: the edges of the block, and then the lowest of their keys.
 use mathlib.Core.Path.{ap, _∙_}
 use lib.ListN.{length, set}
-use Rattle.plan_winner.specs.Tables.{onBy}
-use Rattle.plan_winner.specs.Laws.Blocks.{size-fits, size-is}
+use Rattle.plan_search.specs.Tables.{onBy}
+use Rattle.plan_search.specs.Laws.Blocks.{size-fits, size-is}
 use native.Mathlib.Omega.{arith}
 use borrow.Author.Needs.{needs}
 use Rattle.plan_search.proofs.pass_block.Statement.{statement}

@@ -2,10 +2,10 @@
 use Prim.Native.Nat.{_-_}
 use mathlib.Core.Path.{ap, _∙_}
 use mathlib.Core.Logic.{⊎-elim}
-use Rattle.plan_winner.specs.Tables.{tablesFrom}
-use Rattle.plan_delay.specs.Between.{winnerIn}
-use Rattle.plan_winner.specs.Laws.Scan.{capped-is}
-use Rattle.plan_winner.specs.Laws.Loops.{Scanning, scanning-start, scanning-look, scanning-pass, scanning-long, scanning-low, scanning-end}
+use Rattle.plan_search.specs.Tables.{tablesFrom}
+use Rattle.plan_search.specs.Between.{winnerIn}
+use Rattle.plan_search.specs.Laws.Scan.{capped-is}
+use Rattle.plan_search.specs.Laws.Loops.{Scanning, scanning-start, scanning-look, scanning-pass, scanning-long, scanning-low, scanning-end}
 use borrow.Author.Needs.{needs}
 use native.Mathlib.Omega.{arith}
 use Rattle.plan_search.proofs.scan_block.Statement.{statement}

@@ -14,8 +14,8 @@ use lib.Bits.{bitOr}
 use Rattle.base_finite.specs.Below.{counted, anyBelow}
 use Rattle.base_finite.specs.Laws.Below.{any-none, counted-true}
 use Rattle.base_finite.specs.Laws.Test.{not-true-false, and-both, not-of-false, or-false-left, or-false-right}
-use Rattle.plan_winner.specs.Scan.{blockEdges}
-use Rattle.plan_winner.specs.Tables.{Tables}
+use Rattle.plan_search.specs.Scan.{blockEdges}
+use Rattle.plan_search.specs.Tables.{Tables}
 use Rattle.plan_wake.specs.Wake.{endsAt, idleVertex, KeyNotes, notesFrom, behindBy, wokenKey, lowered, wokenEdge, wokenOn, wokenAt, wokenBy, wakeEdges, leastOf, partEnd}
 use Rattle.plan_wake.specs.Laws.Wake.{on-length}
 

@@ -13,9 +13,9 @@ use Rattle.base_finite.specs.Laws.Below.{lt-or-ge}
 use Rattle.base_finite.specs.Laws.Test.{and-both, and-left, and-right, or-left, or-right}
 use Rattle.theory_steiner.specs.Problem.{Problem}
 use Rattle.theory_steiner.specs.Growth.{State, slack}
-use Rattle.plan_winner.specs.Scan.{idleAlone, reach, Keyed, Woken, blockEdges, Floored}
-use Rattle.plan_winner.specs.Tables.{Tables}
-use Rattle.plan_winner.specs.Laws.Scan.{slack-reach, set-low}
+use Rattle.plan_search.specs.Scan.{idleAlone, reach, Keyed, Woken, blockEdges, Floored}
+use Rattle.plan_search.specs.Tables.{Tables}
+use Rattle.plan_search.specs.Laws.Scan.{slack-reach, set-low}
 use Rattle.plan_wake.specs.Wake.{endsAt, idleVertex, KeyNotes, notesFrom, behindBy, wokenKey, lowered, wokenEdge, wokenOn, wokenAt, wokenBy}
 
 -- ---- a number lowered

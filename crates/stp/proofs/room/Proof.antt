@@ -1,7 +1,7 @@
 -- `room`: so many zeros.
 use Prim.Native.Nat.{ℕ, _+_}
 use lib.ListN.{length-replicate}
-use Rattle.api_stp_text.specs.StpOutput.{stpRoom}
+use Rattle.text_stp.specs.StpOutput.{stpRoom}
 use Rattle.stp.proofs.room.Statement.{statement}
 use Rattle.stp.proofs.room.Tie as tie
 

@@ -5,8 +5,8 @@ use lib.ListN.{length, getD}
 use Rattle.theory_graph.specs.Component.{components}
 use Rattle.base_limits.specs.Limits.{maxVertices}
 use Rattle.survey_components.specs.Labels.{chosen}
-use Rattle.survey_labels.specs.Laws.Roots.{Trees, trees-none, trees-labels}
-use Rattle.survey_join.specs.Laws.Met.{trees-met}
+use Rattle.survey_components.specs.Laws.Roots.{Trees, trees-none, trees-labels}
+use Rattle.survey_components.specs.Laws.Met.{trees-met}
 use native.Mathlib.Omega.{arith}
 use borrow.Author.Needs.{needs}
 use Rattle.survey_components.proofs.label_components.Statement.{statement}

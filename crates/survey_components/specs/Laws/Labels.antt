@@ -18,9 +18,9 @@ use Rattle.survey_core.specs.Survey.{Survey, surveyWith, surveyFrom, vertexCoun
 use Rattle.survey_core.specs.Refusal.{surveyRefusal, groupRefusal}
 use Rattle.survey_core.specs.Sound.{SurveySound}
 use Rattle.survey_core.specs.Laws.Refusal.{fine-survey, fine-plain}
-use Rattle.survey_labels.specs.Labels.{EndsWithin}
-use Rattle.survey_labels.specs.Laws.Front.{components-outside, table-front, table-front-changed}
-use Rattle.survey_labels.specs.Laws.Labels.{components-stored}
+use Rattle.survey_components.specs.Buffer.{EndsWithin}
+use Rattle.survey_components.specs.Laws.Front.{components-outside, table-front, table-front-changed}
+use Rattle.survey_components.specs.Laws.Buffer.{components-stored}
 use Rattle.survey_components.specs.Labels.{EndsFit, labelsOf}
 
 -- A group is joined by labels that agree on the vertices.

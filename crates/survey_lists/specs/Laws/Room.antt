@@ -18,8 +18,8 @@ use Rattle.base_limits.specs.Limits.{maxVertices, groupNumbers}
 use Rattle.base_buffer.specs.Store.{remade}
 use Rattle.base_buffer.specs.Laws.Store.{length-remade, remade-passed, tabulate-cong, replicate-table, set-table}
 use Rattle.theory_graph.specs.Component.{components}
-use Rattle.survey_labels.specs.Labels.{relabelled, endsJoined}
-use Rattle.survey_labels.specs.Laws.Labels.{components-more, components-none, components-end}
+use Rattle.survey_components.specs.Buffer.{relabelled, endsJoined}
+use Rattle.survey_components.specs.Laws.Buffer.{components-more, components-none, components-end}
 use Rattle.survey_core.specs.Lists.{Lists, own, owner, other}
 use Rattle.survey_lists.specs.Pouring.{homeBelow, home, pouredLabel, poured, pouredGroups, roomOf}
 use Rattle.survey_lists.specs.Laws.Home.{home-below, home-stays, home-passed, home-taken}

@@ -8,7 +8,7 @@ use Rattle.base_limits.specs.Limits.{maxEdges, recordsRoom, figureDigits, surve
 use Rattle.base_limits.specs.Verdict.{Outcome, refusal, answer}
 use Rattle.base_limits.specs.Laws.Verdict.{answer-fine}
 use Rattle.base_limits.specs.declared.Verdict.the-variants.{Fine}
-use Rattle.format_survey_lines.specs.Line.{Lengths, widest}
+use Rattle.format_survey.specs.Line.{Lengths, widest}
 use Rattle.format_survey.specs.Reading.{reading, SurveyText}
 use Rattle.format_survey.specs.Laws.Longest.{longest-read}
 use Rattle.theory_steiner.specs.Laws.Rounds.{rounds-lt, grown-reached}
@@ -16,17 +16,17 @@ use Rattle.survey_core.specs.Survey.{Survey, vertexCount, problemOf}
 use Rattle.survey_core.specs.Sound.{SurveySound, ByteGroups}
 use Rattle.survey_core.specs.Laws.Refusal.{survey-sound}
 use Rattle.check_rule.specs.Check.{Checked}
-use Rattle.plan_duals.specs.Drawing.{recordsOf}
-use Rattle.plan_duals.specs.Laws.Drawing.{bytes-records}
+use Rattle.plan_draw.specs.Drawing.{recordsOf}
+use Rattle.plan_draw.specs.Laws.Drawing.{bytes-records}
 use Rattle.plan_rule.specs.Plan.{Plan, planOf, planRefusal, planning}
 use Rattle.plan_rule.specs.Promise.{Ready}
 use Rattle.plan_rule.specs.Laws.Ready.{fine-ready}
 use Rattle.plan_rule.specs.Laws.Passes.{finished-passes}
-use Rattle.check_text.specs.Verify.{surveyIn, verifying}
-use Rattle.check_text.specs.Laws.Passes.{read-numbered, printed-passes, printed-length}
-use Rattle.check_text.specs.Laws.Length.{verified-length}
-use Rattle.api_plan_text.specs.Output.{surveyRead, surveyPlan, readPlan, textPlan, outcomeText, planOutput}
-use Rattle.api_verify_text.specs.Output.{passedText, findingsText, verifyOutput}
+use Rattle.check_printed.specs.Verify.{surveyIn, verifying}
+use Rattle.check_printed.specs.Laws.Passes.{read-numbered, printed-passes, printed-length}
+use Rattle.check_printed.specs.Laws.Length.{verified-length}
+use Rattle.text_plan.specs.Output.{surveyRead, surveyPlan, readPlan, textPlan, outcomeText, planOutput}
+use Rattle.text_verify.specs.Output.{passedText, findingsText, verifyOutput}
 use Rattle.theorems.specs.Printed.{planFor, printedPlan}
 
 -- Rounds have few digits.

@@ -31,20 +31,20 @@ use Rattle.survey_core.specs.Refusal.{surveyRefusal}
 use Rattle.survey_core.specs.Laws.Refusal.{survey-fine, survey-sound}
 use Rattle.survey_core.specs.Laws.Group.{joins-fine}
 use Rattle.survey_components.specs.Labels.{pickedIn}
-use Rattle.survey_forest.specs.Forest.{forestRefusal}
-use Rattle.survey_forest.specs.Laws.Forest.{forest-fine}
+use Rattle.survey_components.specs.Forest.{forestRefusal}
+use Rattle.survey_components.specs.Laws.Forest.{forest-fine}
 use Rattle.survey_lists.specs.Pouring.{pouredSurvey}
 use Rattle.survey_lists.specs.Laws.Pouring.{length-poured}
 use Rattle.survey_lists.specs.Laws.Plan.{poured-sound, poured-states, poured-kept, poured-joins}
-use Rattle.plan_growth.specs.Grown.{Growth, GrownAfter}
-use Rattle.plan_growth.specs.Represents.{pickAt}
+use Rattle.plan_rounds.specs.Grown.{Growth, GrownAfter}
+use Rattle.plan_rounds.specs.Represents.{pickAt}
 use Rattle.plan_drop.specs.Judge.{prunedMarks, marksPruned}
 use Rattle.why_rule.specs.Reason.{reasonOf, roundOf, spared, passed}
 use Rattle.why_rule.specs.Why.{whyCounts, routeIn}
 use Rattle.why_rule.specs.Answer.{whyOutcome}
 use Rattle.why_rule.specs.declared.Why.the-variants.{Dropped, Passed}
 use Rattle.why_rule.specs.Laws.Reason.{picked-bounded}
-use Rattle.why_round.specs.Replay.{roundIn}
+use Rattle.why_core.specs.Replay.{roundIn}
 use Rattle.why_core.specs.Asked.{Asked, KeptAsked}
 use Rattle.why_core.specs.Laws.Round.{round-is, round-same}
 

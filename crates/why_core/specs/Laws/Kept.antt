@@ -28,20 +28,20 @@ use Rattle.survey_core.specs.Lists.{inList}
 use Rattle.survey_core.specs.Sound.{SurveySound}
 use Rattle.survey_core.specs.Refusal.{groupRefusal}
 use Rattle.survey_core.specs.Laws.Refusal.{survey-fine, survey-sound, fine-plain}
-use Rattle.survey_labels.specs.Laws.Labels.{components-stored}
+use Rattle.survey_components.specs.Laws.Buffer.{components-stored}
 use Rattle.survey_components.specs.Labels.{chosen, pickedIn, labelsOf}
 use Rattle.survey_components.specs.declared.Chosen.the-variants.{Kept}
-use Rattle.survey_forest.specs.Forest.{forestRefusal}
+use Rattle.survey_components.specs.Forest.{forestRefusal}
 use Rattle.why_rule.specs.Reason.{others, placeOf, partedList, lowMember, highMember, keptReason, reasonOf}
 use Rattle.why_rule.specs.Why.{WhyCounts, whyCounts, routeIn}
 use Rattle.why_rule.specs.Laws.Pair.{low-is, high-is}
 use Rattle.why_rule.specs.Laws.Reason.{picked-bounded, list-apart, kept-bounded, forest, ends-below, low-vertex, needs-holds}
-use Rattle.why_route.specs.Walk.{routeRefusal}
-use Rattle.why_parted.specs.declared.Pair.{Pair}
-use Rattle.why_parted.specs.Parted.{markedBut, labelIn, PairOf}
-use Rattle.why_parted.specs.Laws.Found.{twos-chosen, part-long, part-picked}
-use Rattle.why_kept.specs.Kept.{keptCounts, marksBut, entriesFor, routeLeft, KeptAnswer}
-use Rattle.why_kept.specs.Laws.Held.{held-few}
+use Rattle.why_core.specs.Walk.{routeRefusal}
+use Rattle.why_core.specs.declared.parted.Pair.{Pair}
+use Rattle.why_core.specs.Parted.{markedBut, labelIn, PairOf}
+use Rattle.why_core.specs.Laws.PartedFound.{twos-chosen, part-long, part-picked}
+use Rattle.why_core.specs.Kept.{keptCounts, marksBut, entriesFor, routeLeft, KeptAnswer}
+use Rattle.why_core.specs.Laws.Held.{held-few}
 use Rattle.why_core.specs.Asked.{KeptAsked}
 use Rattle.why_core.specs.Laws.Grown.{lists-long, forest-accepted}
 

@@ -22,10 +22,10 @@ use Rattle.theory_steiner.specs.Laws.Rounds.{stateAt-pick, takes-rounds}
 use Rattle.survey_core.specs.Survey.{Survey, vertexCount, edgeCount, problemOf}
 use Rattle.survey_core.specs.Sound.{SurveySound}
 use Rattle.survey_core.specs.Laws.Refusal.{survey-sound}
-use Rattle.plan_growth.specs.Represents.{pickAt, winnerEdge}
+use Rattle.plan_rounds.specs.Represents.{pickAt, winnerEdge}
 use Rattle.why_rule.specs.Reason.{joinedAfter, firstOrZero, roundOf}
 use Rattle.why_rule.specs.Laws.First.{zero-cong}
-use Rattle.why_round.specs.Replay.{labelsAfter, linkedAfter, roundIn}
+use Rattle.why_core.specs.Replay.{labelsAfter, linkedAfter, roundIn}
 
 -- The pick of which round f is.
 record PickedAt (p : Problem) (r f : ℕ) : Type 0 where

@@ -32,7 +32,7 @@ use Rattle.survey_core.specs.Sound.{SurveySound, ByteGroups}
 use Rattle.survey_core.specs.Refusal.{groupRefusal, LowestUnjoined}
 use Rattle.survey_core.specs.Laws.Refusal.{survey-sound}
 use Rattle.survey_core.specs.Laws.Group.{group-fine, group-refused, group-joined-elim, joins-groups}
-use Rattle.survey_forest.specs.Laws.Forest.{forest-sub}
+use Rattle.survey_components.specs.Laws.Forest.{forest-sub}
 use Rattle.why_rule.specs.Reason.{spared, others, placeOf, partedList, isParted, lowMember, highMember, keptReason, joinedAfter, roundOf, reasonOf}
 use Rattle.why_rule.specs.True.{LinkedBy, LowestPair, NeedsTrue, SparedTrue, LinkedAfter, FirstJoined, TrueOf, needs-true, spared-true, passed-true}
 use Rattle.why_rule.specs.Laws.First.{zero-first, zero-none}

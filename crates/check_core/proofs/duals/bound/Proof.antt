@@ -10,7 +10,7 @@ use Rattle.base_limits.specs.Limits.{recordBytes}
 use Rattle.format_record.specs.Record.{valueIn}
 use Rattle.theory_steiner.specs.Dual.{total}
 use Rattle.base_finite.specs.Laws.Count.{sum-more}
-use Rattle.check_duals.specs.Laws.Duals.{weighedAt, weigh-end, weighed-fits}
+use Rattle.check_core.specs.Laws.Duals.{weighedAt, weigh-end, weighed-fits}
 use Rattle.check_core.proofs.duals.bound.Statement.{statement}
 use Rattle.check_core.proofs.duals.bound.Tie as tie
 

@@ -1,2 +1,0 @@
-pub mod StpOutput
-pub mod Laws

@@ -1,2 +1,0 @@
-pub mod WhyAnswer
-pub mod Laws

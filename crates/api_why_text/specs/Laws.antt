@@ -1,3 +1,0 @@
-pub mod Output
-pub mod Cut
-pub mod Track

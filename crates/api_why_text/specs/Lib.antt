@@ -1,3 +1,0 @@
-pub mod Output
-pub mod Examples
-pub mod Laws

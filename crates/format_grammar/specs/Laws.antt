@@ -1,8 +1,0 @@
-pub mod Step
-pub mod Stands
-pub mod Language
-pub mod Bytes
-pub mod Lines
-pub mod Local
-pub mod Items
-pub mod Listing

@@ -1,0 +1,17 @@
+pub mod Step
+pub mod Stands
+pub mod Language
+pub mod Bytes
+pub mod Lines
+pub mod Local
+pub mod Items
+pub mod Listing
+pub mod Byte
+pub mod Number
+pub mod NumberStep
+pub mod Digits
+pub mod Decimal
+pub mod NumberWord
+pub mod Keyed
+pub mod Near
+pub mod OnlyMalformed

@@ -1,1 +1,0 @@
-// STP texts worked by hand, with no function: see specs/.

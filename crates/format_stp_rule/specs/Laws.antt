@@ -1,9 +1,0 @@
-pub mod ByByte
-pub mod EmptyLines
-pub mod Joined
-pub mod Comment
-pub mod Number
-pub mod Lines
-pub mod File
-pub mod Only
-pub mod Accepted

@@ -1,4 +1,0 @@
-pub mod Line
-pub mod Render
-pub mod Answer
-pub mod Laws

@@ -1,0 +1,4 @@
+pub mod Finish
+pub mod Call
+pub mod Stages
+pub mod Picks

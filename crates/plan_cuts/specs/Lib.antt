@@ -1,5 +1,0 @@
-pub mod Side
-pub mod Word
-pub mod Taken
-pub mod Tried
-pub mod Laws

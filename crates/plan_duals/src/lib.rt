@@ -1,1 +1,0 @@
-// Duals as records, and the trace of a growth that they follow from: definitions and laws in specs/, no functions.

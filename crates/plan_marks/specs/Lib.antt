@@ -1,2 +1,0 @@
-pub mod Picks
-pub mod Laws

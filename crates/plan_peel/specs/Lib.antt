@@ -1,2 +1,0 @@
-pub mod Peel
-pub mod Laws

@@ -1,4 +1,0 @@
-pub mod Scan
-pub mod Blocks
-pub mod Tables
-pub mod Loops

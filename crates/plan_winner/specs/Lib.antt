@@ -1,3 +1,0 @@
-pub mod Scan
-pub mod Tables
-pub mod Laws

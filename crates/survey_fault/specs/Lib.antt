@@ -1,2 +1,0 @@
-pub mod Fault
-pub mod Laws

@@ -1,3 +1,0 @@
-pub mod Labels
-pub mod Roots
-pub mod Laws

@@ -1,2 +1,0 @@
-pub mod Mate
-pub mod Laws

@@ -1,0 +1,5 @@
+pub mod Read
+pub mod Output
+pub mod Cut
+pub mod Planned
+pub mod Printed

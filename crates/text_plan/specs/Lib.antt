@@ -1,0 +1,4 @@
+pub mod Output
+pub mod Examples
+pub mod Planned
+pub mod Laws

@@ -1,0 +1,4 @@
+pub mod Output
+pub mod Examples
+pub mod WhyAnswer
+pub mod Laws

@@ -1,2 +1,0 @@
-pub mod Visit
-pub mod Laws
