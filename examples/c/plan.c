@@ -2,7 +2,7 @@
  *
  *     rt staticlib foamsickle
  *     gcc -Wall -Wextra -Werror -I include examples/c/plan.c target/staticlib/libfoamsickle.a -o plan-c
- *     ./plan samples/p3.survey
+ *     ./plan-c samples/p3.survey
  *
  * Exit status 1 for a survey that is refused, 2 for a file that cannot be read. */
 #include "foamsickle.h"
