@@ -1,4 +1,6 @@
-// The checker of plans: any marks and any moat records against a survey. Definitions in specs/.
+// The checker of plans: any marks and any moat records against a survey. What it answers is check_rule's definition;
+// how sums and stages go is specs/Duals, Moats, Cost and Stage. `check` answers k, kept cost and bound, or 1 to 6, 18
+// or 9 to 15.
 ghost use Rattle.base_buffer.specs.Lent.{old};
 ghost use mathlib.Core.Path.{_≡_};
 ghost use mathlib.Core.List.{[]};

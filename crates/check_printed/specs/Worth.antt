@@ -1,4 +1,4 @@
--- A survey's text with a plan's text behind it that passes, and what passing is worth (document 01, 'What a plan is worth').
+-- A survey's text with a plan's text behind it that passes, and what passing is worth (the buyer's demand 3).
 use Prim.Native.Nat.{ℕ}
 use mathlib.Core.List.{List, _++_}
 use mathlib.Core.Path.{_≡_}

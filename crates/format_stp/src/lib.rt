@@ -1,6 +1,5 @@
-// SteinLib STP texts, the undirected subset: which texts belong to it, and how one is read. Definitions and laws in
-// specs/, no functions.
-// Reads an STP text into the lent buffers of a survey: the counts, then the lines behind them.
+// SteinLib STP texts in, the undirected subset (docs/STP.md). The grammar is specs/Subset, how a text is read
+// specs/StpReading. `read_stp` answers n and m and fills the lent buffers of a survey, or refuses with 1, 3, 7 or 20.
 ghost use Rattle.base_buffer.specs.Lent.{old, new};
 ghost use mathlib.Core.Path.{_≡_};
 ghost use Rattle.format_read.specs.Step.{found, stopped, _then_};

@@ -1,4 +1,5 @@
-// Planning: growing, then dropping. Definitions and what planning promises in plan_rule.
+// Planning: growing, then dropping. Definitions and promises are plan_rule's; specs/Grown and Picks say what growing
+// leaves of any survey. `plan`, `grow_plan` and `prune_plan` answer counts and fill marks and records, or refuse.
 ghost use Rattle.base_buffer.specs.Lent.{old, new};
 ghost use mathlib.Core.Path.{_≡_};
 ghost use lib.ListN.{length};

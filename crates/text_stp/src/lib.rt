@@ -1,6 +1,5 @@
-// What `stp` prints for a text.
-// An STP text in, our own survey text out: what the program `stp` does between reading and writing. Definitions in
-// specs/.
+// What `stp` prints for an STP text: our own survey text, or the two lines of a refusal. Definitions in
+// specs/StpOutput. `stp_text` answers the length for any buffer, `stp_whole` for one that always holds it.
 ghost use Rattle.base_buffer.specs.Lent.{old, new};
 ghost use mathlib.Core.Path.{_≡_};
 ghost use mathlib.Core.List.{_++_};
