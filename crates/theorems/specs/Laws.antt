@@ -4,3 +4,4 @@ pub mod Passes
 pub mod Calls
 pub mod Handset
 pub mod Prints
+pub mod Verify
