@@ -1,5 +1,5 @@
--- What stands in the lent buffers after a call that answered 0, in the words of the demands (document 01, demand 3; document 02, No. 1, 3 and 7). Laws/Calls and
--- Laws/Handset prove it of what the exported contracts say of the buffers.
+-- What stands in the lent buffers after a call that answered 0, in the words of the demands (document 01, demand 3;
+-- document 02, No. 1, 3 and 7). Laws/Calls and Laws/Handset prove it of what the exported contracts say of the buffers.
 use Prim.Native.Nat.{ℕ, _*_, _≤_}
 use mathlib.Core.Path.{_≡_}
 use mathlib.Core.List.{List, _++_}
@@ -10,15 +10,14 @@ use Rattle.survey_core.specs.Survey.{Survey, edgeCount}
 use Rattle.survey_core.specs.Accuracy.{Accurate, DualBound}
 use Rattle.check_rule.specs.Check.{Checked}
 use Rattle.check_rule.specs.Passing.{Passing}
-use Rattle.check_printed.specs.Worth.{Worth}
 use Rattle.plan_rule.specs.Plan.{PlanCounts}
 use Rattle.plan_rule.specs.Promise.{FinishedPlan}
 use Rattle.plan_rule.specs.Dropping.{DropCounts}
 use Rattle.plan_rule.specs.DropPromise.{DroppedMarks}
 use Rattle.why_rule.specs.Why.{WhyCounts}
 use Rattle.api_code.specs.Code.{codeOf}
-use Rattle.api_plan.specs.Call.{planCall, planMarks, planCounts}
-use Rattle.api_plan.specs.GrowCall.{growMarks, growCounts, dropFigures, dropCall, dropMarks, droppedCounts}
+use Rattle.api_plan.specs.Call.{planMarks, planCounts}
+use Rattle.api_plan.specs.GrowCall.{growMarks, growCounts, dropCall, dropMarks, droppedCounts}
 use Rattle.api_check.specs.Call.{checkFigures, checkCall, checkCounts}
 use Rattle.api_handset.specs.Words.{figureBytes}
 
@@ -70,7 +69,8 @@ pub record PlanStands (s : Survey) (before-marks before-records marks records co
   -- demand 3
   pub accurate : Accurate s (getD counts 0 0) (getD counts 1 0)
   pub bounded : DualBound s (getD counts 2 0)
-  -- the marks cut to m and the records to as many as there are moats pass the checking call, with the same k, cost and bound
+  -- the marks cut to m and the records to as many as there are moats pass the checking call, with the same k, cost and
+  -- bound
   pub passes : (lent : List ℕ) → checkFigures ≤ length lent → codeOf (checkCall s (take (edgeCount s) marks) (take (recordBytes * getD counts 4 0) records) lent) ≡ 0
   pub same : (lent : List ℕ) → checkFigures ≤ length lent
       → checkedIn (checkCounts s (take (edgeCount s) marks) (take (recordBytes * getD counts 4 0) records) lent) ≡ checkedIn counts
@@ -94,7 +94,8 @@ pub record DropStands (s : Survey) (before-marks marks counts : List ℕ) : Type
 
 -- ---- growing, then dropping
 
--- What growing left in its buffers, cut to m marks and lent to dropping with other counts, beside what planning leaves in the same buffers.
+-- What growing left in its buffers, cut to m marks and lent to dropping with other counts, beside what planning leaves
+-- in the same buffers.
 abbrev pub grownPicks : Survey → (marks records counts : List ℕ) → List ℕ
 grownPicks s marks records counts = take (edgeCount s) (growMarks s marks records counts)
 

@@ -1,11 +1,12 @@
--- The handset's calls beside the library's (document 02, No. 1, 'with the library's answers'), and what a call that answered 0 has left. Laws/Handset proves it.
+-- The handset's calls beside the library's (document 02, No. 1, 'with the library's answers'), and what a call that
+-- answered 0 has left. Laws/Handset proves it.
 use Prim.Native.Nat.{ℕ, _*_, _%_, _≤_}
 use mathlib.Core.Path.{_≡_}
 use mathlib.Core.List.{List}
 use lib.ListN.{length, take, drop}
 use Rattle.base_limits.specs.Limits.{recordBytes}
 use Rattle.base_limits.specs.Verdict.{refusal, answer}
-use Rattle.survey_core.specs.Survey.{Survey, edgeCount}
+use Rattle.survey_core.specs.Survey.{edgeCount}
 use Rattle.survey_core.specs.Accuracy.{Accurate, DualBound}
 use Rattle.check_rule.specs.Check.{Checked, checkRefusal, checking}
 use Rattle.check_rule.specs.Passing.{Passing}

@@ -1,4 +1,5 @@
--- The plan of the survey that a text says, its text as the program `plan` prints it, and what the programs `plan` and `verify` print for any text.
+-- The plan of the survey that a text says, its text as the program `plan` prints it, and what the programs `plan` and
+-- `verify` print for any text.
 use Prim.Native.Nat.{ℕ}
 use mathlib.Core.Path.{_≡_}
 use mathlib.Core.List.{List}
@@ -35,7 +36,8 @@ pub data PlanPrints (t : List ℕ) : Type 0 where
   printsRefusal : (number place : ℕ) → planOutput t ≡ refusalText number place → PlanPrints t
   printsPlan : (p : Plan) → AccuratePrint t p → PlanPrints t
 
--- What `verify` prints: the two lines of a refusal, or `passed` with a k, cost and bound that are worth what the accuracy rule says.
+-- What `verify` prints: the two lines of a refusal, or `passed` with a k, cost and bound that are worth what the
+-- accuracy rule says.
 pub data VerifyPrints (t : List ℕ) : Type 0 where
   verifyRefusal : (number place : ℕ) → verifyOutput t ≡ refusalText number place → VerifyPrints t
   verifyPassed : (c : Checked) → verifyOutput t ≡ passedText (c .terminals) (c .cost) (c .bound) → Worth t c → VerifyPrints t

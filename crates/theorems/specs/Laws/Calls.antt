@@ -1,5 +1,6 @@
--- One law for each call with lent counts: answer 0, and what now stands in the buffers obeys the accuracy rule (the buyer's demand 3). What planning wrote passes the
--- checking call; growing and then dropping leave what planning leaves; a stored reason is true of the growth.
+-- One law for each call with lent counts: answer 0, and what now stands in the buffers obeys the accuracy rule (the
+-- buyer's demand 3). What planning wrote passes the checking call; growing and then dropping leave what planning
+-- leaves; a stored reason is true of the growth.
 use Prim.Native.Nat.{ℕ, _+_, _*_, _≤_, _<_, _^_}
 use native.Mathlib.Omega.{arith}
 use mathlib.Core.Path.{_≡_, refl, ap, ap₂, sym, _∙_, subst}
@@ -9,33 +10,32 @@ use lib.Seq.{sets, sets-eq}
 use lib.Dec.{ltb, lit<}
 use borrow.Author.Tests.{ltb-false, le-ltb}
 use Rattle.base_limits.specs.Limits.{recordBytes}
-use Rattle.base_limits.specs.Verdict.{refuseIf, _before_, written, Outcome, refusal, answer, outcome}
+use Rattle.base_limits.specs.Verdict.{refuseIf, written, answer, outcome}
 use Rattle.base_limits.specs.declared.Verdict.{Verdict}
 use Rattle.base_limits.specs.declared.Verdict.the-variants.{Fine}
 use Rattle.base_limits.specs.Laws.Verdict.{before-fine, fine-left, fine-right, refuse-false, fine-refuse, answer-fine}
 use Rattle.survey_core.specs.Survey.{Survey, edgeCount, problemOf}
 use Rattle.survey_core.specs.Sound.{ByteGroups}
 use Rattle.survey_core.specs.Refusal.{surveyRefusal}
-use Rattle.survey_core.specs.Accuracy.{Accurate}
 use Rattle.check_rule.specs.Check.{Checked, checkRefusal, checkedOf, checking}
 use Rattle.check_rule.specs.Laws.Accuracy.{checking-passing, checking-accurate, checking-bound}
-use Rattle.plan_rule.specs.Plan.{PlanCounts, planRefusal, planOf, planCountsOf, counting, marksAfter, recordsAfter}
+use Rattle.plan_rule.specs.Plan.{PlanCounts, planRefusal, planOf, planCountsOf, counting}
 use Rattle.plan_rule.specs.Promise.{FinishedPlan}
-use Rattle.plan_rule.specs.Growing.{grownCountsOf, growing, marksGrown}
+use Rattle.plan_rule.specs.Growing.{grownCountsOf, marksGrown}
 use Rattle.plan_rule.specs.Dropping.{DropCounts, dropRefusal, dropCountsOf, dropping, marksDropped}
 use Rattle.plan_rule.specs.DropPromise.{DroppedMarks}
 use Rattle.plan_rule.specs.Stages.{grownPart}
 use Rattle.plan_rule.specs.Laws.Promise.{counting-finished}
 use Rattle.plan_rule.specs.Laws.Dropping.{dropping-promises}
 use Rattle.plan_rule.specs.Laws.Stages.{part-drops, stages-marks}
-use Rattle.why_rule.specs.Reason.{Reason, needs, spared, passed, reasonOf}
-use Rattle.why_rule.specs.Why.{WhyCounts, whyCounts, whyRefusal, reasoning, routeAfter}
+use Rattle.why_rule.specs.Reason.{reasonOf}
+use Rattle.why_rule.specs.Why.{WhyCounts, whyCounts, whyRefusal, reasoning}
 use Rattle.why_rule.specs.Promise.{GivenReason}
 use Rattle.why_rule.specs.Laws.Promise.{why-promises}
 use Rattle.api_code.specs.Code.{codeOf, withCounts, countsAfter}
 use Rattle.api_code.specs.Laws.Encodable.{code-zero, zero-code}
 use Rattle.api_plan.specs.Call.{planFigures, planFiguresOf, planCall, drawnFigures, planMarks, planRecords, planCounts}
-use Rattle.api_plan.specs.GrowCall.{grownFigures, growMarks, growCounts, dropFigures, dropFiguresOf, dropCall, dropMarks, droppedCounts}
+use Rattle.api_plan.specs.GrowCall.{grownFigures, growCounts, dropFigures, dropFiguresOf, dropCall, dropMarks, droppedCounts}
 use Rattle.api_plan.specs.Laws.Call.{plan-call-encodable, plan-marks, plan-records}
 use Rattle.api_plan.specs.Laws.GrowCall.{drop-call-encodable, grow-marks, drop-marks}
 use Rattle.api_check.specs.Call.{checkFigures, checkFiguresOf, checkCall, checkCounts}

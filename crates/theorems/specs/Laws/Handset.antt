@@ -1,18 +1,18 @@
--- The handset answers what the library answers: verdict, marks, records and every count that eight bytes spell; and what stands in its buffers after an answer 0 obeys
--- the accuracy rule (the buyer's demand 3).
-use Prim.Native.Nat.{ℕ, zero, suc, _+_, _*_, _%_, _/_, _≤_, _<_, _^_}
+-- The handset answers what the library answers: verdict, marks, records and every count that eight bytes spell; and
+-- what stands in its buffers after an answer 0 obeys the accuracy rule (the buyer's demand 3).
+use Prim.Native.Nat.{ℕ, zero, suc, _+_, _*_, _%_, _≤_, _<_, _^_}
 use native.Mathlib.Omega.{arith}
-use mathlib.Core.Path.{_≡_, refl, ap, sym, _∙_, subst}
+use mathlib.Core.Path.{_≡_, ap, sym, _∙_, subst}
 use mathlib.Core.Bool.{false}
 use mathlib.Core.List.{List, [], _∷_, _++_, append-assoc}
 use lib.ListN.{length, getD, take, drop}
 use lib.Seq.{sets, sets-eq, take-at, drop-at, drop-append-add}
 use lib.Dec.{lit<}
 use borrow.Author.Tests.{eq-eqb}
-use Rattle.base_limits.specs.Limits.{recordBytes, maxDuals}
-use Rattle.base_limits.specs.Verdict.{refuseIf, _before_, written, Outcome, refusal, answer, outcome}
+use Rattle.base_limits.specs.Limits.{recordBytes}
+use Rattle.base_limits.specs.Verdict.{_before_, written, refusal, answer, outcome}
 use Rattle.base_limits.specs.declared.Verdict.{Verdict}
-use Rattle.base_limits.specs.declared.Verdict.the-variants.{Fine, Refused}
+use Rattle.base_limits.specs.declared.Verdict.the-variants.{Fine}
 use Rattle.base_limits.specs.Laws.Verdict.{before-fine, before-none, fine-left, fine-right, refuse-false, answer-fine, refusal-found}
 use Rattle.format_record.specs.Bits.{numberOf, lowBytes}
 use Rattle.format_record.specs.Laws.Bytes.{length-low, number-of-low}

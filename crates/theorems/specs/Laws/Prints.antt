@@ -1,17 +1,17 @@
--- What the programs `plan` and `verify` print for any text: a refusal, or figures that obey the accuracy rule (the buyer's demand 3).
+-- What the programs `plan` and `verify` print for any text: a refusal, or figures that obey the accuracy rule (the
+-- buyer's demand 3).
 use Prim.Native.Nat.{ℕ}
 use mathlib.Core.Path.{_≡_, refl, ap, subst}
 use mathlib.Core.List.{List}
 use Rattle.base_limits.specs.Limits.{maxEdges, recordsRoom}
 use Rattle.base_limits.specs.Verdict.{Outcome, refusal, answer}
 use Rattle.format_survey.specs.Line.{widest}
-use Rattle.survey_core.specs.Survey.{problemOf}
 use Rattle.survey_core.specs.Accuracy.{Accurate, DualBound}
 use Rattle.check_rule.specs.Check.{Checked}
 use Rattle.check_printed.specs.Verify.{surveyIn, verifying}
 use Rattle.check_printed.specs.Laws.Passes.{read-numbered}
 use Rattle.check_printed.specs.Laws.Accuracy.{verified-accurate}
-use Rattle.plan_rule.specs.Plan.{Plan, planOf}
+use Rattle.plan_rule.specs.Plan.{Plan}
 use Rattle.plan_rule.specs.Promise.{Ready}
 use Rattle.plan_rule.specs.Laws.Ready.{fine-ready}
 use Rattle.plan_rule.specs.Laws.Passes.{finished-accurate, finished-bound}

@@ -1,13 +1,12 @@
--- The call that checks a text: its answer 0 is no refusal's, for none has the number 0; so that the k, cost and bound that it stored are those of a printed plan that
--- passes, and obey the accuracy rule (the buyer's demand 3).
-use Prim.Native.Nat.{ℕ, zero, suc, _+_, _*_, _-_, _^_, _<_, _≤_, min}
+-- The call that checks a text: its answer 0 is no refusal's, for none has the number 0; so that the k, cost and bound
+-- that it stored are those of a printed plan that passes, and obey the accuracy rule (the buyer's demand 3).
+use Prim.Native.Nat.{ℕ, zero, suc, _+_, _*_, _<_}
 use native.Mathlib.Omega.{arith}
-use mathlib.Core.Path.{_≡_, refl, ap, sym, _∙_, subst}
-use mathlib.Core.Logic.{_⊎_, ⊎-elim}
-use mathlib.Core.Bool.{Bool, true, false, cond, _||_}
+use mathlib.Core.Path.{_≡_, refl, sym, subst}
+use mathlib.Core.Logic.{⊎-elim}
+use mathlib.Core.Bool.{Bool, true, false, cond}
 use mathlib.Core.List.{List, [], _∷_}
-use lib.ListN.{length, getD}
-use lib.Seq.{sets}
+use lib.ListN.{length}
 use lib.Dec.{eqb, leb, ltb, lit<}
 use borrow.Author.Tests.{ltb-false}
 use Rattle.base_limits.specs.Limits.{recordBytes, maxEdges, maxDuals, figureDigits, memberDigits, valueDigits, keptDigits, countDigits, groupDigits, endpointDigits, weightDigits, alsoDigits, maxPairs}
@@ -22,12 +21,12 @@ use Rattle.format_read.specs.Lines.{Lines, following, linesFrom, linesAfter}
 use Rattle.format_read.specs.Items.{ItemReader, itemsFrom}
 use Rattle.format_read.specs.Number.{numeralAt, numberAt}
 use Rattle.format_read.specs.Laws.Step.{Stops, early, late, then-stops}
-use Rattle.format_read.specs.Laws.OnlyMalformed.{OnlyMalformed, only-found, only-refused, only-fixed, only-number-to, only-line}
+use Rattle.format_read.specs.Laws.OnlyMalformed.{OnlyMalformed, only-found, only-fixed, only-number-to, only-line}
 use Rattle.format_also.specs.Pair.{Pair, pairOf, pairAt, alsoTest, alsoLine, alsoReader, alsoTurns, alsoAt}
-use Rattle.format_survey.specs.Line.{Edge, SurveyCounts, SurveyTail, widest, pairRoom, verticesTest, edgesTest, groupTest, testsFor, countLine, groupLine, edgeLine, countsAt, groupLines, edgeLines, tailAt, tailAfter, linesOf, linesAt}
+use Rattle.format_survey.specs.Line.{SurveyTail, widest, pairRoom, verticesTest, edgesTest, groupTest, testsFor, countLine, groupLine, edgeLine, countsAt, groupLines, edgeLines, tailAt, tailAfter, linesOf, linesAt}
 use Rattle.format_survey.specs.Reading.{SurveyText}
-use Rattle.format_plan.specs.Lines.{PrintedDual, keptTest, keepLine, keepReader, keptAt, separator, memberStep, memberReader, membersAt, dualTest, dualHead, listedDual, dualLineAt, dualReader, dualsAt}
-use Rattle.format_plan.specs.Plan.{Claims, PrintedPlan, claimsAt, planLinesAt, planAt, roomTest, withRoom, marksOf, dualRecords}
+use Rattle.format_plan.specs.Lines.{keptTest, keepLine, keepReader, keptAt, separator, memberStep, memberReader, membersAt, dualTest, dualHead, listedDual, dualLineAt, dualReader, dualsAt}
+use Rattle.format_plan.specs.Plan.{PrintedPlan, claimsAt, planLinesAt, planAt, roomTest, withRoom, marksOf, dualRecords}
 use Rattle.survey_core.specs.Survey.{Survey, edgeCount}
 use Rattle.check_rule.specs.Check.{Checked, checkRefusal, checkedOf, checking}
 use Rattle.check_printed.specs.Verify.{surveyLinesAt, prefixAt, surveyIn, claimTest, claimsJudged, planVerified, planFrom, verifiedFrom, verifying}
@@ -35,7 +34,6 @@ use Rattle.check_printed.specs.Worth.{Worth}
 use Rattle.check_printed.specs.Laws.Accuracy.{verified-accurate}
 use Rattle.plan_rule.specs.Laws.Number.{before-cases}
 use Rattle.api_code.specs.Code.{codeOf, capped, verdictOf, countsFor, roomFor}
-use Rattle.api_code.specs.Laws.Encodable.{Encodable}
 use Rattle.api_check.specs.Call.{checkFigures, checkFiguresOf}
 use Rattle.api_check.specs.VerifyCall.{verifyCall}
 use Rattle.api_check.specs.Laws.Call.{check-encodable}
