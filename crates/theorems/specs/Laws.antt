@@ -1,3 +1,7 @@
 pub mod Sound
 pub mod Longest
 pub mod Passes
+pub mod Calls
+pub mod Handset
+pub mod Prints
+pub mod Verify

@@ -1,2 +1,4 @@
 pub mod Printed
+pub mod Calls
+pub mod Handset
 pub mod Laws
