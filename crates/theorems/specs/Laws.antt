@@ -2,3 +2,4 @@ pub mod Sound
 pub mod Longest
 pub mod Passes
 pub mod Texts
+pub mod Lines

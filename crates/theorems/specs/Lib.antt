@@ -1,3 +1,4 @@
 pub mod Printed
 pub mod Texts
+pub mod Lines
 pub mod Laws
