@@ -16,6 +16,7 @@ use Rattle.survey_core.specs.Survey.{Survey, vertexCount, edgeCount, problemOf,
 use Rattle.survey_core.specs.Accuracy.{Accurate, DualBound}
 use Rattle.survey_core.specs.Sound.{SurveySound}
 use Rattle.check_rule.specs.Check.{checking}
+use Rattle.plan_rule.specs.Needed.{KeptByNeed}
 use Rattle.plan_rule.specs.Plan.{PlanCounts, planCountsOf, planOf, marksAfter, recordsAfter}
 
 -- None of 1 to 8 and 18 applies: the survey is sound (1 to 6, 18), the two buffers are long enough (7), and all tracks together join every group (8).
@@ -44,6 +45,8 @@ pub record FinishedPlan (s : Survey) (marks records : List ℕ) (c : PlanCounts)
   pub rounds-rest : (v : ℕ) → active (problemOf s) (stateAt (problemOf s) (c .rounds) .label) v ≡ false
   -- the bound: each round's wait, times how many components grow in it, summed up
   pub bound-rounds : c .bound ≡ boundOfRounds (problemOf s) (c .rounds)
+  -- demand 2: kept exactly if without it the other picked tracks fail to link two members, none spare
+  pub needed : KeptByNeed s (take (edgeCount s) (marksAfter s marks records))
   -- demand 3: the checker passes the marks and records that were written, with the same k, cost and bound
   pub passes-checker :
       checking s (take (edgeCount s) (marksAfter s marks records)) (take (recordBytes * c .duals) (recordsAfter s marks records))

@@ -5,3 +5,5 @@ pub mod Calls
 pub mod Handset
 pub mod Prints
 pub mod Verify
+pub mod Texts
+pub mod Lines

@@ -208,7 +208,12 @@ module _ (s : Survey) (sound : SurveySound s) (joinable : Joins (problemOf s) (a
   unfolding cost
   cost-of-marks = sum-cong (problemOf s .edges) _ _ (λ e b. ap (λ t. counted t (problemOf s .weight e)) (kept-of-marks e))
 
-  -- The plan's own marks cost what the plan costs.
+  -- The plan's own marks keep what the plan keeps,
+  pub marks-kept : (e : ℕ) → keptBy (planOf (problemOf s) .marks) e ≡ kept (problemOf s) e
+  unfolding planOf marks
+  marks-kept e = kept-of-marks e
+
+  -- and cost what the plan costs.
   pub marks-cost : cost (problemOf s) (keptBy (planOf (problemOf s) .marks)) ≡ planOf (problemOf s) .cost
   unfolding planOf marks
   marks-cost = cost-of-marks
