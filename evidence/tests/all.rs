@@ -11,5 +11,6 @@ mod stages;
 mod stored;
 mod stp;
 mod stp_calls;
+mod verifying;
 mod why;
 mod why_calls;
