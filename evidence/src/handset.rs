@@ -7,7 +7,7 @@
 //! and before 3, planning's 7 with its other 7s, checking's after 6 and 18.
 
 use crate::calls::code;
-use crate::calls::faults::{harm, pair, spoil, Fault, CHECK_FAULTS, PLAN_FAULTS};
+use crate::calls::faults::{harm, is_full, pair, spoil, Fault, CHECK_FAULTS, PLAN_FAULTS};
 use crate::check::check;
 use crate::gen::{overlap, survey, Rng, Size};
 use crate::plan::{fast, owned, record_room, Counts};
@@ -170,18 +170,21 @@ fn near(rng: &mut Rng, need: usize) -> usize {
 }
 
 impl Case {
-    /// Two faults of the survey, or of the plan that is checked, and, one time in three, a slice of numbers with one to three bytes more or less.
+    /// Two faults of the survey, or of the plan that is checked, and, one time in three, a slice of numbers with one to three bytes more or less. One
+    /// survey of 200 is as large as can be.
     fn new(seed: u64, case: u64, checks: bool) -> Case {
         let rng = &mut Rng::of_case(seed ^ 0x6861_6e64 << u64::from(checks), case);
-        let size = rng.pick(&[Size::Tiny, Size::Tiny, Size::Small, Size::Middle]);
+        let full = is_full(case);
+        let size = if full { Size::Full } else { rng.pick(&[Size::Tiny, Size::Tiny, Size::Small, Size::Middle]) };
         let mut survey = survey(rng, size);
         if rng.chance(1, 2) {
             overlap(rng, &mut survey);
         }
-        let faults = match (checks, rng.chance(2, 3)) {
-            (_, false) => [Fault::Nothing; 2],
-            (true, true) => pair(CHECK_FAULTS, rng.word() >> 8),
-            (false, true) => pair(PLAN_FAULTS, rng.word() >> 8),
+        let row = if checks { CHECK_FAULTS } else { PLAN_FAULTS };
+        let faults = match rng.chance(2, 3) {
+            _ if full => pair(row, case),
+            true => pair(row, rng.word() >> 8),
+            false => [Fault::Nothing; 2],
         };
         let (mut marks, mut records) = (Vec::new(), Vec::new());
         if checks {

@@ -14,7 +14,8 @@
 //! | `brute` | the cheapest joining set of a tiny survey |
 //! | `handset` | planning and checking over bytes alone, and their generated cases |
 //! | `gen`   | seeded surveys, texts and plans, sound and damaged |
-//! | `verifying` | the check of a printed plan behind its survey, as a call |
+//! | `printed` | a printed plan behind its survey's text: reading it back and checking it |
+//! | `verifying` | the same as a call |
 //! | `blunder` | planners with a fault each, which the generated inputs have to tell from a sound one |
 
 pub mod blunder;
@@ -27,6 +28,7 @@ pub mod handset;
 pub mod native;
 pub mod plan;
 pub mod print;
+pub mod printed;
 pub mod read;
 pub mod stages;
 pub mod stp;
@@ -59,6 +61,10 @@ pub const COUNT_DIGITS: usize = 7;
 pub const PRICE_DIGITS: usize = 9;
 /// No. 2: the most digits of an end and of both numbers of an also line.
 pub const END_DIGITS: usize = 3;
+/// The most digits of a printed plan's figures, of its amounts, and of its kept tracks and members: the product's own.
+pub const FIGURE_DIGITS: usize = 12;
+pub const AMOUNT_DIGITS: usize = 9;
+pub const ITEM_DIGITS: usize = 7;
 /// The longest well-formed text that neither 1 nor 3 refuses: all lines that there can be, each number as long as it
 /// can be.
 pub const MAX_TEXT: usize = 56_277;

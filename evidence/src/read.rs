@@ -50,23 +50,33 @@ impl Lent<'_> {
     }
 }
 
-struct Cursor<'a> {
+/// A text and how far it is read.
+pub(crate) struct Cursor<'a> {
     text: &'a [u8],
     at: usize,
 }
 
-impl Cursor<'_> {
+impl<'a> Cursor<'a> {
+    pub(crate) fn new(text: &'a [u8]) -> Cursor<'a> {
+        Cursor { text, at: 0 }
+    }
+
     /// 16 at the cursor. At the end of the text that is its length.
-    fn malformed<T>(&self) -> Result<T, Refusal> {
+    pub(crate) fn malformed<T>(&self) -> Result<T, Refusal> {
         refuse(16, self.at)
     }
 
-    fn next(&self) -> Option<u8> {
+    pub(crate) fn next(&self) -> Option<u8> {
         self.text.get(self.at).copied()
     }
 
+    /// The text ends here, or 16.
+    pub(crate) fn end(&self) -> Result<(), Refusal> {
+        self.next().map_or(Ok(()), |_| self.malformed())
+    }
+
     /// Takes exactly these bytes.
-    fn fixed(&mut self, bytes: &[u8]) -> Result<(), Refusal> {
+    pub(crate) fn fixed(&mut self, bytes: &[u8]) -> Result<(), Refusal> {
         for &byte in bytes {
             if self.next() != Some(byte) {
                 return self.malformed();
@@ -78,7 +88,7 @@ impl Cursor<'_> {
 
     /// Takes one digit to this many, no 0 before another digit. What follows is the caller's to judge: a digit too many
     /// and a digit after a leading 0 are bytes that no comma and no line end can be.
-    fn number(&mut self, most: usize) -> Result<u32, Refusal> {
+    pub(crate) fn number(&mut self, most: usize) -> Result<u64, Refusal> {
         let start = self.at;
         let mut value = 0;
         while let Some(byte @ b'0'..=b'9') = self.next() {
@@ -86,7 +96,7 @@ impl Cursor<'_> {
             if digits == most || (digits == 1 && value == 0) {
                 return self.malformed();
             }
-            value = 10 * value + u32::from(byte - b'0');
+            value = 10 * value + u64::from(byte - b'0');
             self.at += 1;
         }
         if self.at == start {
@@ -98,8 +108,14 @@ impl Cursor<'_> {
 
 /// The survey that a text holds, for buffers of these lengths, or the earliest finding: 1, 3, 7, 16, 17 or 18.
 pub fn parse(text: &[u8], lengths: Lengths) -> Result<Survey, Refusal> {
-    let mut cursor = Cursor { text, at: 0 };
+    let mut cursor = Cursor::new(text);
+    let survey = survey_lines(&mut cursor, lengths)?;
+    cursor.end()?;
+    Ok(survey)
+}
 
+/// The survey whose lines stand at the cursor, which is then behind them.
+pub(crate) fn survey_lines(cursor: &mut Cursor, lengths: Lengths) -> Result<Survey, Refusal> {
     cursor.fixed(b"nodes=")?;
     let n = cursor.number(COUNT_DIGITS)? as usize;
     cursor.fixed(b"\n")?;
@@ -125,7 +141,7 @@ pub fn parse(text: &[u8], lengths: Lengths) -> Result<Survey, Refusal> {
         cursor.fixed(b"node=")?;
         let group = cursor.number(COUNT_DIGITS)?;
         cursor.fixed(b"\n")?;
-        if group > MAX_GROUP {
+        if group > u64::from(MAX_GROUP) {
             return refuse(17, junction);
         }
         survey.groups.push(group as u8);
@@ -137,11 +153,11 @@ pub fn parse(text: &[u8], lengths: Lengths) -> Result<Survey, Refusal> {
         cursor.fixed(b",")?;
         let group = cursor.number(END_DIGITS)?;
         cursor.fixed(b"\n")?;
-        if group > MAX_GROUP {
+        if group > u64::from(MAX_GROUP) {
             return refuse(17, v as usize);
         }
         let pair = survey.owners.len();
-        survey.owners.push(v);
+        survey.owners.push(v as u32);
         survey.others.push(group as u8);
         if survey.view().is_bad_pair(pair) {
             return refuse(18, pair);
@@ -152,15 +168,12 @@ pub fn parse(text: &[u8], lengths: Lengths) -> Result<Survey, Refusal> {
     }
     for _ in 0..m {
         cursor.fixed(b"link=")?;
-        survey.first.push(cursor.number(END_DIGITS)?);
+        survey.first.push(cursor.number(END_DIGITS)? as u32);
         cursor.fixed(b",")?;
-        survey.second.push(cursor.number(END_DIGITS)?);
+        survey.second.push(cursor.number(END_DIGITS)? as u32);
         cursor.fixed(b",")?;
-        survey.prices.push(cursor.number(PRICE_DIGITS)?);
+        survey.prices.push(cursor.number(PRICE_DIGITS)? as u32);
         cursor.fixed(b"\n")?;
-    }
-    if cursor.next().is_some() {
-        return cursor.malformed();
     }
     Ok(survey)
 }

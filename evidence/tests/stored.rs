@@ -3,6 +3,7 @@
 
 use evidence::plan::{fast, reference};
 use evidence::print::{program, stp_program, why_program};
+use evidence::printed::verify_program;
 use std::path::{Path, PathBuf};
 
 /// The files of a folder of the repository with such an ending.
@@ -67,5 +68,16 @@ fn stored_reasons() {
         let text = std::fs::read(answer.with_file_name(format!("../plan/{survey}.survey"))).expect("it is there");
         let stored = std::fs::read_to_string(&answer).expect("it is there");
         assert_eq!(why_program(&text, track.parse().expect("a number")), stored, "{name}");
+    }
+}
+
+#[test]
+fn stored_checks() {
+    let texts = beside("tests/verify", "text");
+    assert!(texts.len() > 40, "{}", texts.len());
+    for text in texts {
+        let found = verify_program(&std::fs::read(&text).expect("it is there"));
+        let stored = std::fs::read_to_string(text.with_extension("expected")).expect("each text has its answer");
+        assert_eq!(found, stored, "{}", text.display());
     }
 }

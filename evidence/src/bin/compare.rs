@@ -20,6 +20,7 @@ use evidence::check::{check, Passed};
 use evidence::gen::{directed_texts, overlap, plan_text_case, refused_survey, stp_case, survey, text_case, Rng, Size};
 use evidence::plan::{fast, owned, record_room, reference, Counts, Plan, Planner, DROPPED};
 use evidence::print::{answer, plan_lines, refusal_lines, stp_program, why_program};
+use evidence::printed::verify_program;
 use evidence::read::{parse, Lengths};
 use evidence::{Refusal, Survey, AMOUNT_BYTES, RECORD_BYTES};
 use std::collections::BTreeMap;
@@ -215,12 +216,9 @@ fn case_of(options: &Options, case: u64) -> Case {
             (input, Vec::new(), answer, lines)
         }
         Kind::Verify => {
-            let (plan, input, expected) = plan_text_case(options.seed, case);
-            let lines = match &expected {
-                Ok(Passed { sites, cost, bound }) => format!("passed\nsites={sites}\ncost={cost}\nbound={bound}\n"),
-                Err(refusal) => refusal_lines(*refusal),
-            };
-            (input, Vec::new(), expected.map(|_| plan), lines)
+            let input = plan_text_case(options.seed, case);
+            let lines = verify_program(&input);
+            (input, Vec::new(), told(&lines), lines)
         }
         Kind::Stp => {
             let input = stp_case(options.seed, case);
@@ -305,10 +303,11 @@ fn compare(options: &Options, program: &str) -> bool {
         println!("{report}\n");
     }
     match options.kind {
-        Kind::Plan | Kind::Verify => println!(
+        Kind::Plan => println!(
             "{} plans: {} with sites, {} drop a track, {} hold a merged moat, {} rounds at most",
             tally.plans, tally.with_sites, tally.with_dropped, tally.with_merged, tally.most_rounds
         ),
+        Kind::Verify => println!("{} passed", tally.plans),
         Kind::Stp => println!("{} surveys", tally.plans),
         Kind::Why => println!("{} reasons", tally.plans),
     }

@@ -328,8 +328,28 @@ pub const PRINT_MOAT_PAIRS: Pairs = &[(9, &[7])];
 pub const PRINT_PLAN_PAIRS: Pairs = &[];
 pub const PRINT_SURVEY_PAIRS: Pairs = &[(2, &[7])];
 
-/// The pair of a case: all pairs of a row in turn, and after every third a case with no fault.
+/// One case of so many has a survey as large as can be: 448 junctions, 2,048 tracks.
+const FULL_EVERY: u64 = 200;
+
+/// Is a case's survey as large as can be?
+pub fn is_full(case: u64) -> bool {
+    case % FULL_EVERY == FULL_EVERY / 2
+}
+
+/// A track of so many: any, but of those of a full survey two times in three the last.
+fn track(rng: &mut Rng, m: usize) -> usize {
+    if m == MAX_TRACKS && rng.chance(2, 3) {
+        m - 1
+    } else {
+        rng.below(m)
+    }
+}
+
+/// The pair of a case: all pairs of a row in turn, and after every third a case with no fault; in full surveys each of the row in turn, alone.
 pub fn pair(faults: &[Fault], case: u64) -> [Fault; 2] {
+    if is_full(case) {
+        return [faults[(case / FULL_EVERY) as usize % faults.len()], Nothing];
+    }
     if case % 4 == 3 {
         return [Nothing; 2];
     }
@@ -356,7 +376,7 @@ pub fn harm(rng: &mut Rng, survey: &mut Survey, fault: Fault) {
             }
         }
         EndOut if m > 0 => {
-            let track = rng.below(m);
+            let track = track(rng, m);
             let end = (n as u32).saturating_add(rng.pick(&[0, 0, 1, 200, u32::MAX]));
             if rng.chance(1, 2) || survey.second.len() <= track {
                 survey.first[track] = end;
@@ -365,13 +385,13 @@ pub fn harm(rng: &mut Rng, survey: &mut Survey, fault: Fault) {
             }
         }
         EndsEqual if m > 0 => {
-            let track = rng.below(m);
+            let track = track(rng, m);
             if let Some(second) = survey.second.get_mut(track) {
                 *second = survey.first[track];
             }
         }
         PriceHigh if m > 0 => {
-            let track = rng.below(m);
+            let track = track(rng, m);
             if let Some(price) = survey.prices.get_mut(track) {
                 *price = MAX_PRICE + rng.pick(&[1, 1, 2, MAX_PRICE, u32::MAX - MAX_PRICE]);
             }
@@ -461,7 +481,7 @@ pub fn spoil(rng: &mut Rng, survey: &Survey, marks: &mut Vec<u8>, records: &mut 
             }
         }
         MarkHigh if !marks.is_empty() => {
-            let track = rng.below(marks.len());
+            let track = track(rng, marks.len());
             marks[track] = rng.pick(&[3, 3, 4, 255]);
         }
         AmountZero if moats > 0 => records[record..record + AMOUNT_BYTES].fill(0),
@@ -516,7 +536,7 @@ pub fn remark(rng: &mut Rng, survey: &mut Survey, marks: &mut Vec<u8>, fault: Fa
         MarksUnequal if rng.chance(1, 2) => marks.push(rng.below(2) as u8),
         MarksUnequal => drop(marks.pop()),
         MarkTwo if !marks.is_empty() => {
-            let track = rng.below(marks.len());
+            let track = track(rng, marks.len());
             marks[track] = rng.pick(&[2, 2, 3, 255]);
         }
         LoopClosed if !picked.is_empty() && survey.first.len() == marks.len() && survey.view().sound().is_ok() => {
@@ -525,6 +545,11 @@ pub fn remark(rng: &mut Rng, survey: &mut Survey, marks: &mut Vec<u8>, fault: Fa
                 .filter(|&t| marks[t] == NOT_PICKED)
                 .filter(|&t| component[survey.first[t] as usize] == component[survey.second[t] as usize])
                 .collect();
+            if let Some(&last) = closing.last().filter(|_| marks.len() == MAX_TRACKS) {
+                // No track can come to it; the last of those that close a loop, or one anywhere.
+                marks[if rng.chance(2, 3) { last } else { rng.pick(&closing) }] = DROPPED;
+                return;
+            }
             for _ in 0..rng.between(1, 2) {
                 if closing.is_empty() || rng.chance(1, 3) {
                     let track = rng.pick(&picked);

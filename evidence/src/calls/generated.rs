@@ -58,6 +58,15 @@ impl Streams {
     fn fault(&self, i: usize) -> Rng {
         self.of(2 + i as u64)
     }
+
+    /// A sound survey, half of them with pairs: mostly small, in one case of 200 as large as can be.
+    fn survey(&self, rng: &mut Rng) -> Survey {
+        let mut survey = if is_full(self.case) { survey(rng, Size::Full) } else { small(rng) };
+        if rng.chance(1, 2) {
+            overlap(rng, &mut survey);
+        }
+        survey
+    }
 }
 
 impl Operation {
@@ -112,29 +121,10 @@ fn counts(rng: &mut Rng, need: usize, faults: [Fault; 2]) -> Vec<u64> {
     (0..length).map(|_| rng.word()).collect()
 }
 
-/// A sound survey, mostly small.
-fn sound(rng: &mut Rng) -> Survey {
+/// A sound survey of up to 40 junctions.
+fn small(rng: &mut Rng) -> Survey {
     let size = rng.pick(&[Size::Tiny, Size::Tiny, Size::Small, Size::Middle]);
     survey(rng, size)
-}
-
-/// The same, half of them with pairs.
-fn sound_lists(rng: &mut Rng) -> Survey {
-    let mut survey = sound(rng);
-    if rng.chance(1, 2) {
-        overlap(rng, &mut survey);
-    }
-    survey
-}
-
-/// The same, rarely as large as can be.
-fn sound_or_full(rng: &mut Rng) -> Survey {
-    if rng.chance(1, 200) {
-        let mut survey = survey(rng, Size::Full);
-        overlap(rng, &mut survey);
-        return survey;
-    }
-    sound_lists(rng)
 }
 
 /// A buffer with some entries behind it that are not lent.
@@ -177,7 +167,7 @@ impl Call for Read {
 }
 
 fn read_input(streams: &Streams, faults: [Fault; 2]) -> Box<dyn Call> {
-    let survey = sound_or_full(&mut streams.base());
+    let survey = streams.survey(&mut streams.base());
     let (n, m, pairs) = (survey.groups.len(), survey.first.len(), survey.owners.len());
     let mut text = survey_text(&survey);
     for (i, fault) in faults.into_iter().enumerate() {
@@ -297,7 +287,7 @@ fn grow_input(streams: &Streams, faults: [Fault; 2]) -> Box<dyn Call> {
 }
 
 fn drawing(streams: &Streams, faults: [Fault; 2], with: fn(&Library) -> Drawing) -> Box<dyn Call> {
-    let mut survey = sound_lists(&mut streams.base());
+    let mut survey = streams.survey(&mut streams.base());
     for (i, fault) in faults.into_iter().enumerate() {
         harm(&mut streams.fault(i), &mut survey, fault);
     }
@@ -349,7 +339,7 @@ fn forest(rng: &mut Rng, survey: &Survey) -> Vec<u8> {
 
 fn drop_input(streams: &Streams, faults: [Fault; 2]) -> Box<dyn Call> {
     let rng = &mut streams.base();
-    let mut survey = sound_lists(rng);
+    let mut survey = streams.survey(rng);
     let mut marks = match owned(grow, survey.view()) {
         Ok(plan) if rng.chance(2, 3) => plan.marks,
         _ => forest(rng, &survey),
@@ -405,7 +395,7 @@ fn why_input(streams: &Streams, faults: [Fault; 2]) -> Box<dyn Call> {
         1 => line(rng, MAX_JUNCTIONS),
         2..10 => line(rng, 100),
         10..30 => line(rng, 1),
-        _ => sound_lists(rng),
+        _ => streams.survey(rng),
     };
     let m = survey.first.len();
     let mut tracks = vec![rng.below(m.max(1)) as u32];
@@ -445,7 +435,7 @@ impl Call for Check {
 }
 
 fn check_input(streams: &Streams, faults: [Fault; 2]) -> Box<dyn Call> {
-    let mut survey = sound_lists(&mut streams.base());
+    let mut survey = streams.survey(&mut streams.base());
     let (mut marks, mut records) = match owned(fast, survey.view()) {
         Ok(plan) => (plan.marks, plan.records),
         Err(_) => (vec![0; survey.first.len()], Vec::new()),
@@ -548,7 +538,7 @@ fn print_survey_input(streams: &Streams, faults: [Fault; 2]) -> Box<dyn Call> {
         (library.print_survey)(survey.view(), out, counts)
     };
     let rng = &mut streams.base();
-    let mut survey = sound_or_full(rng);
+    let mut survey = streams.survey(rng);
     if rng.chance(1, 3) {
         // Printing looks at lengths alone.
         for buffer in [&mut survey.first, &mut survey.second, &mut survey.prices, &mut survey.owners] {

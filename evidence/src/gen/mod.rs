@@ -2,12 +2,14 @@
 
 mod also;
 mod plans;
+mod printed;
 mod rng;
 mod stp;
 mod surveys;
 mod texts;
 
-pub use plans::{damaged_plan, damaged_plan_of, moat_case, plan_text_case, Damage, PlanCase, DAMAGES};
+pub use plans::{damaged_plan, damaged_plan_of, moat_case, Damage, PlanCase, DAMAGES};
+pub use printed::{directed_plan_texts, plan_text_case};
 pub use rng::Rng;
 pub use stp::{damage_stp, directed_stp, stp_case, stp_file, wanted};
 pub use surveys::{

@@ -2,14 +2,10 @@
 
 use super::surveys::{overlap, refused_pairs, refused_survey, survey, Size};
 use super::Rng;
-use crate::check::{amount, check, Passed};
-use crate::plan::{fast, owned, Counts, Plan, KEPT};
-use crate::print::{moat_line, plan_lines, survey_text};
-use crate::read::{parse, Lengths};
-use crate::{
-    highest, refuse, Refusal, Survey, AMOUNT_BYTES, END_DIGITS, MAX_AMOUNT, MAX_JUNCTIONS, MAX_LINE, MAX_RECORDS,
-    PRICE_DIGITS, RECORD_BYTES,
-};
+use crate::check::amount;
+use crate::plan::{fast, owned, Plan, KEPT};
+use crate::print::moat_line;
+use crate::{Survey, AMOUNT_BYTES, MAX_AMOUNT, MAX_JUNCTIONS, MAX_LINE, MAX_RECORDS, RECORD_BYTES};
 
 /// What the checker is given.
 #[derive(Clone, Debug, PartialEq, Eq)]
@@ -101,7 +97,7 @@ fn record(amount: u64, members: impl Iterator<Item = usize>) -> [u8; RECORD_BYTE
 }
 
 /// A survey whose groups can all be joined, half of them with pairs, and its plan.
-fn planned(rng: &mut Rng, size: Size) -> (Survey, Plan) {
+pub(super) fn planned(rng: &mut Rng, size: Size) -> (Survey, Plan) {
     loop {
         let mut survey = survey(rng, size);
         if rng.chance(1, 2) {
@@ -120,56 +116,6 @@ pub fn damaged_plan(seed: u64, case: u64) -> (Damage, PlanCase) {
     let (survey, plan) = planned(rng, size);
     let damage = DAMAGES[(case % DAMAGES.len() as u64) as usize];
     (damage, damaged_plan_of(rng, damage, survey, plan))
-}
-
-/// The largest amount that a text can show.
-const SHOWN: u64 = highest(PRICE_DIGITS) as u64;
-
-/// A survey text with a printed plan behind it, the plan, and what its check comes to. Only what a text can show is
-/// left of a damaged plan: kept tracks and whole moats with amounts of no more digits than a price. What reading finds
-/// in the survey's text comes first, and a false figure, 25, last.
-pub fn plan_text_case(seed: u64, case: u64) -> (Plan, Vec<u8>, Result<Passed, Refusal>) {
-    let (_, PlanCase { mut survey, mut marks, mut records }) = damaged_plan(seed, case);
-    let rng = &mut Rng::of_case(!seed, case);
-    let m = survey.first.len();
-    survey.second.resize(m, 0);
-    survey.prices.resize(m, 0);
-    for number in survey.first.iter_mut().chain(&mut survey.second).chain(&mut survey.owners) {
-        *number = (*number).min(highest(END_DIGITS));
-    }
-    for price in &mut survey.prices {
-        *price = (*price).min(highest(PRICE_DIGITS));
-    }
-    marks.resize(m, 0);
-    marks.iter_mut().filter(|mark| **mark != KEPT).for_each(|mark| *mark = 0);
-    records.truncate(records.len() / RECORD_BYTES * RECORD_BYTES);
-    for record in records.chunks_exact_mut(RECORD_BYTES).filter(|record| amount(record) > SHOWN) {
-        record[..AMOUNT_BYTES].copy_from_slice(&SHOWN.to_le_bytes());
-    }
-    let found = parse(&survey_text(&survey), Lengths::ENOUGH).and_then(|_| {
-        if records.len() > MAX_RECORDS * RECORD_BYTES {
-            return refuse(28, MAX_RECORDS);
-        }
-        check(survey.view(), &marks, &records)
-    });
-    let Passed { sites, cost, bound } = found.unwrap_or(Passed { sites: 0, cost: 0, bound: 0 });
-    let mut claims = [sites, cost, bound];
-    let mut expected = found;
-    if rng.chance(1, 4) {
-        let which = rng.below(3);
-        claims[which] += 1 + rng.below(9) as u64;
-        expected = found.and(refuse(25, which));
-    }
-    let counts = Counts {
-        sites: claims[0],
-        cost: claims[1],
-        bound: claims[2],
-        rounds: rng.below(300) as u64,
-        ..Counts::default()
-    };
-    let plan = Plan { counts, marks, records };
-    let text = [survey_text(&survey), plan_lines(&plan).into_bytes()].concat();
-    (plan, text, expected)
 }
 
 /// The plan of a survey, damaged. Where a damage finds nothing to work on (no moat, no track), another byte or none

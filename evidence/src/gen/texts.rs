@@ -23,7 +23,7 @@ pub(super) const BYTES: [u8; 17] =
     [b'0', b'1', b'9', b'/', b':', b',', b'=', b'\n', b'\r', b'a', b'n', b'l', b'N', b' ', 0, 128, 255];
 
 /// The runs of digits in a text, as start and end.
-fn numbers(text: &[u8]) -> Vec<(usize, usize)> {
+pub(super) fn numbers(text: &[u8]) -> Vec<(usize, usize)> {
     let mut runs = Vec::new();
     let mut at = 0;
     while at < text.len() {
@@ -44,7 +44,7 @@ pub(super) fn splice(text: &[u8], start: usize, end: usize, by: &[u8]) -> Vec<u8
 }
 
 /// Lines with their line ends.
-fn lines(text: &[u8]) -> Vec<Vec<u8>> {
+pub(super) fn lines(text: &[u8]) -> Vec<Vec<u8>> {
     text.split_inclusive(|&byte| byte == b'\n').map(|line| line.to_vec()).collect()
 }
 
