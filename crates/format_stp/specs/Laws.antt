@@ -5,6 +5,7 @@ pub mod Comment
 pub mod Number
 pub mod RuleLines
 pub mod File
+pub mod Grammar
 pub mod Only
 pub mod Accepted
 pub mod Turn

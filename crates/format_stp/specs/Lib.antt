@@ -3,6 +3,7 @@ pub mod StpWord
 pub mod StpNumber
 pub mod StpReading
 pub mod Subset
+pub mod Grammar
 pub mod Section
 pub mod TerminalsAnswer
 pub mod Terminals
