@@ -8,6 +8,7 @@ pub mod File
 pub mod Grammar
 pub mod Only
 pub mod Accepted
+pub mod Beginning
 pub mod Turn
 pub mod NumberTurn
 pub mod HeadTurn

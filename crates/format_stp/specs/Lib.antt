@@ -4,6 +4,7 @@ pub mod StpNumber
 pub mod StpReading
 pub mod Subset
 pub mod Grammar
+pub mod Beginning
 pub mod Section
 pub mod TerminalsAnswer
 pub mod Terminals

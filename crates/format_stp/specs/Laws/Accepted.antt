@@ -16,7 +16,7 @@ use Rattle.format_read.specs.Bytes.{endAt}
 use Rattle.format_read.specs.Language.{Reads, NotMalformed, read, otherwise, Word}
 use Rattle.format_read.specs.Laws.Bytes.{end-here, end-later, read-same}
 use Rattle.format_read.specs.Laws.Language.{read-again, bound}
-use Rattle.format_read.specs.Laws.Stands.{stands-whole, stands-first, stands-second, as-long}
+use Rattle.format_read.specs.Laws.Stands.{stands-whole, stands-first, stands-second, stands-same, as-long}
 use Rattle.format_read.specs.Laws.Step.{then-found, then-refused, then-value, Stops, early, late, then-stops}
 use Rattle.format_read.specs.Stands.{Stands}
 use Rattle.format_read.specs.Step.{Step, found, refused, _then_}
@@ -141,7 +141,7 @@ unfolding stpOutcome
 outcome-found (found b p) e = (p, cc)
 outcome-found (refused n p) e = let z : _≡_ {A = ℕ} 0 1 = cc in absurd (omega arith)
 
-not-malformed-number : (n : ℕ) → (n ≡ 16 → ⊥) → stpNumber n ≡ n
+pub not-malformed-number : (n : ℕ) → (n ≡ 16 → ⊥) → stpNumber n ≡ n
 unfolding stpNumber
 not-malformed-number n h = rw (ne-eqb n 16 h) refl
 
@@ -346,6 +346,27 @@ module _ (gb fb sb wb : List ℕ) where
     -- The text itself is none.
     pub stp-malformed-is-none : IsStp t → ⊥
     stp-malformed-is-none s = agrees-none t p (refused-there t p e) t refl s
+
+  -- A text that agrees up to the byte at that place is refused there too.
+  pub stp-same : (t u : List ℕ) (p : ℕ) → stpReading t gb fb sb wb ≡ refusal 20 p → take (p + 1) t ≡ take (p + 1) u → stpReading u gb fb sb wb ≡ refusal 20 p
+  unfolding stpReading stpWhole stpOutcome stpNumber afterEmpty
+  stp-same t u p e same = by-place (refused-there t p e)
+    where
+      by-place : StpMalformed t p → stpOutcome (stpWhole tests u) ≡ refusal 20 p
+      by-place (in-file h) = ap stpOutcome (then-refused _ (reads .same t u 0 p (omega arith) h same))
+      by-place (behind x q h o) =
+          let from = o .from in
+          let inside = o .inside in
+          let place = o .place in
+          let k : ℕ = emptyLines (drop q t) in
+          let i : length (replicate k newline) ≡ k = length-lines k in
+          let c = read-again reads t u 0 x q (p + 1) (omega arith) (omega arith) same h in
+          let long = as-long t u p same (p + 1) (omega arith) (omega arith) in
+          let s : Stands u q (replicate k newline) = stands-same (p + 1) same (omega arith) (o .stands) in
+          let there : getD t p 0 ≡ getD u (q + k) 0 = read-same t u (p + 1) p same (omega arith) ∙ ap (λ (j : ℕ). getD u j 0) place in
+          let n : emptyLines (drop q u) ≡ k = empty-count u k q s (λ z. o .other (there ∙ z)) in
+          let end : endAt u (q + emptyLines (drop q u)) ≡ refused 16 p = ap (λ (j : ℕ). endAt u (q + j)) n ∙ ap (endAt u) (sym place) ∙ end-later u p (omega arith) in
+          ap stpOutcome (then-found _ c ∙ then-refused _ end)
 
   -- A text of the subset that escapes 1, 3 and 7 is accepted, and what is read is what it says.
   pub escaping-accepted : (t : List ℕ) (x : StpContent) → StpEscapes t gb fb sb wb → InSubset x t → stpReading t gb fb sb wb ≡ answer x
