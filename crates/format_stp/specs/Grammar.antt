@@ -71,3 +71,8 @@ pub record StpText (x : StpContent) (t : List ℕ) : Type 0 where
       ++ (named
       ++ (endLine ++ (blanks (behind .terminalsEnd)
       ++ (eofLine ++ blanks (behind .eof))))))))))))))))
+
+-- Some text of the subset.
+pub record IsStp (t : List ℕ) : Type 0 where
+  pub says : StpContent
+  pub is : StpText says t

@@ -9,6 +9,8 @@ pub mod Grammar
 pub mod Only
 pub mod Accepted
 pub mod Beginning
+pub mod Bytes
+pub mod Promises
 pub mod Turn
 pub mod NumberTurn
 pub mod HeadTurn

@@ -5,6 +5,7 @@ pub mod StpReading
 pub mod Subset
 pub mod Grammar
 pub mod Beginning
+pub mod Promises
 pub mod Section
 pub mod TerminalsAnswer
 pub mod Terminals

@@ -50,10 +50,11 @@ use Rattle.format_stp.specs.Laws.EmptyLines.{reads-after-empty}
 use Rattle.format_stp.specs.Laws.File.{reads-head, count-starts}
 use Rattle.format_stp.specs.Laws.Grammar.{seq, after, opening-of, head-of}
 use Rattle.format_stp.specs.Laws.Only.{only-head, only-after, only-body, only-last}
+use Rattle.format_stp.specs.Promises.{StpGives, gives-1, gives-3, gives-7, gives-20}
 use Rattle.format_stp.specs.StpKey.{nodesWord, edgesWord}
 use Rattle.format_stp.specs.StpReading.{StpContent, StpTests, stpHead, stpBody, countThen, stpContent, stpWhole, stpTests, stpNumber, stpOutcome, stpReading}
 use Rattle.format_stp.specs.StpWord.{afterEmpty, AfterEmpty, guarded}
-use Rattle.format_stp.specs.Subset.{StpHead, StpGives, gives-1, gives-3, gives-7, gives-20}
+use Rattle.format_stp.specs.Subset.{StpHead}
 
 -- ---- a test behind a line
 

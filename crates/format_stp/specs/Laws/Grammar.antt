@@ -12,7 +12,7 @@ use Rattle.format_stp.specs.Grammar.{plain as natural, commented as rema
 use Rattle.format_stp.specs.StpKey.{headerLine, graphLine, sectionWord, commentRest, graphRest, commentLetter, graphLetter, nodesWord, edgesWord, terminalsWord, endLine, terminalsLine, eofLine}
 use Rattle.format_stp.specs.StpReading.{StpContent}
 use Rattle.format_stp.specs.StpWord.{AfterEmpty, CommentLines, Repeated, none, one}
-use Rattle.format_stp.specs.Subset.{StpHead, GraphSection, commented, plain, TerminalIn, terminalText, TerminalLines, InSubset}
+use Rattle.format_stp.specs.Subset.{StpHead, GraphSection, commented, plain, TerminalIn, terminalText, TerminalLines, StpFactored}
 use Rattle.format_stp.specs.Subset.{none as no-line, one as one-line}
 
 pub seq : {A B : Type 0} {W : A → List ℕ → Type 0} {X : A → B → List ℕ → Type 0} {b : B} (a : A) (u v : List ℕ) → W a u → X a b v → Seq W X b (u ++ v)
@@ -180,7 +180,7 @@ flat-text : (o N c M e a E g L s T d n b F z : List ℕ)
 flat-text o N c M e a E g L s T d n b F z = simp append-assoc
 
 -- A text of the grammar has the form that is read.
-pub text-factored : {x : StpContent} {t : List ℕ} → StpText x t → InSubset x t
+pub text-factored : {x : StpContent} {t : List ℕ} → StpText x t → StpFactored x t
 text-factored {x} s =
     let h = head-of (s .opens) in
     let b = s .behind in
@@ -224,7 +224,7 @@ text-is : {A : Type 0} {P : A → Type 0} {text : A → List ℕ} {a : A} {w : L
 text-is m = m .whole ∙ ap (λ (l : List ℕ). blanks (m .empty) ++ l) (m .member .word)
 
 -- What has the form that is read is a text of the grammar.
-pub factored-text : {x : StpContent} {t : List ℕ} → InSubset x t → StpText x t
+pub factored-text : {x : StpContent} {t : List ℕ} → StpFactored x t → StpText x t
 factored-text {x} {t} m =
     let k = m .member in
     let n = k .second in
@@ -276,5 +276,5 @@ factored-text {x} {t} m =
     })
 
 -- The two are one language.
-pub grammar-same : {x : StpContent} {t : List ℕ} → StpText x t ↔ InSubset x t
+pub grammar-same : {x : StpContent} {t : List ℕ} → StpText x t ↔ StpFactored x t
 grammar-same = (text-factored, factored-text)
