@@ -10,6 +10,7 @@ ghost use Rattle.format_survey.specs.Reading.{filled};
 ghost use Rattle.format_stp.specs.StpReading.{stpTests, stpOutcome, stpReading};
 ghost use Rattle.format_stp.specs.Parts.{stpCounts, stpLines, storedBy};
 ghost use Rattle.format_stp.specs.Answer.{stpAnswer, stpCountsOf};
+ghost use Rattle.format_stp.specs.Promises.{stpBuffers, StpPromises};
 use crate::head::head;
 use crate::head::skip;
 use crate::lines::edge_lines;
@@ -166,6 +167,10 @@ pub fn read_stp(
     ensures { λ _.
         let read = stpReading (old text) (old groups) (old firsts) (old seconds) (old weights) in
         ⌜ new weights ≡ filled read (λ x. weightsOf (x .lines)) (old weights) ⌝ }
+    ensures promises { λ r.
+        let before = stpBuffers (old groups) (old firsts) (old seconds) (old weights) in
+        let after = stpBuffers (new groups) (new firsts) (new seconds) (new weights) in
+        ⌜ StpPromises (old text) before (stpAnswer r) after ⌝ }
 {
     let head = counts(
         text,
