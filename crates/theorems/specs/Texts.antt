@@ -10,7 +10,7 @@ use Rattle.format_write.specs.Text.{refusalText}
 use Rattle.format_survey.specs.Line.{widest}
 use Rattle.format_survey.specs.Reading.{SurveyText}
 use Rattle.format_survey.specs.WellFormed.{WellFormed, Begins, Accepting}
-use Rattle.format_survey.specs.Beginning.{Refusing}
+use Rattle.format_survey.specs.Beginning.{VerticesOut, EdgesOver, HighGroup, PairFaulty}
 use Rattle.format_survey_print.specs.Print.{surveyText}
 use Rattle.theory_steiner.specs.Problem.{Joins, allUsable}
 use Rattle.survey_core.specs.Survey.{Survey, vertexCount, edgeCount, problemOf}
@@ -45,8 +45,12 @@ pub data PlanPrints (t out : List ℕ) : Type 0 where
   planned : (s : SurveyText) → Accepting widest t s → SurveySound (surveyIn s) → Joins (problemOf (surveyIn s)) (allUsable (problemOf (surveyIn s))) → out ≡ printedPlan (planFor s) → PlanPrints t out
   -- the text is malformed: 16
   malformed : (p : ℕ) → MalformedAt t p → out ≡ refusalText 16 p → PlanPrints t out
-  -- it begins as 1, 3, 17 or 18 of reading say
-  unread : (number place : ℕ) → Refusing widest t number place → out ≡ refusalText number place → PlanPrints t out
+  -- it begins with a count of junctions that is 0 or too large: 1; else with one of tracks that is too large: 3
+  verticesRefused : VerticesOut t → out ≡ refusalText 1 0 → PlanPrints t out
+  edgesRefused : EdgesOver widest t → out ≡ refusalText 3 0 → PlanPrints t out
+  -- else with lines up to a group over 255: 17; or up to a pair at fault: 18
+  groupOver : (v : ℕ) → HighGroup widest t v → out ≡ refusalText 17 v → PlanPrints t out
+  pairAtFault : (i : ℕ) → PairFaulty widest t i → out ≡ refusalText 18 i → PlanPrints t out
   -- it says a survey with a track to which 4, 5 or 6 comes
   faulty : (s : SurveyText) → Accepting widest t s → (number e : ℕ) → LowestFault (surveyIn s) number e → out ≡ refusalText number e → PlanPrints t out
   -- it says a sound survey with a group that no tracks join: 8
