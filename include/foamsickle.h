@@ -4,8 +4,8 @@
  * any pointer that is not null. A slice that is lent for writing must not overlap any other slice of the call.
  *
  * Answers. A call returns 0, or a refusal: its number is FOAMSICKLE_NUMBER(answer), its place FOAMSICKLE_PLACE(answer).
- * On a refusal nothing is written: every lent slice holds what it held. On an answer, entries behind those that are named
- * keep their values.
+ * On a refusal nothing is written: every lent slice holds what it held. On an answer, entries behind those that are
+ * named keep their values.
  *
  * A survey has n junctions and m tracks: `groups` has n bytes (the group of each junction, 0 for none), `firsts`,
  * `seconds` and `weights` have m numbers each (the two ends and the price of each track). The pairs (owners[i],
@@ -32,7 +32,8 @@
 extern "C" {
 #endif
 
-/* Limits: junctions, tracks, a track's price, a moat's amount in half units, pairs; group numbers lie below the last. */
+/* Limits: junctions, tracks, a track's price, a moat's amount in half units, pairs; group numbers lie below the
+ * last. */
 #define FOAMSICKLE_MAX_VERTICES 448
 #define FOAMSICKLE_MAX_EDGES 2048
 #define FOAMSICKLE_MAX_WEIGHT 100000000
@@ -58,7 +59,8 @@ extern "C" {
 #define FOAMSICKLE_SURVEY_ROOM 65536
 #define FOAMSICKLE_VERIFY_ROOM 2097152
 
-/* Entries of `counts`: planning and growing, dropping, asking why, checking and verifying, reading, reading STP, printing. */
+/* Entries of `counts`: planning and growing, dropping, asking why, checking and verifying, reading, reading STP,
+ * printing. */
 #define FOAMSICKLE_PLAN_FIGURES 5
 #define FOAMSICKLE_DROP_FIGURES 2
 #define FOAMSICKLE_WHY_FIGURES 6
@@ -80,12 +82,12 @@ extern "C" {
 #define FOAMSICKLE_PLACE(answer) ((answer) / 256)
 
 /* Reads a survey's text (lines nodes=, links=, node=, also=, link=).
- * Writes the first n groups, the first m firsts, seconds and weights, the first owners and others of the pairs; counts[0]
- * n, counts[1] m, counts[2] the number of pairs.
- * Refuses what stands first in the text: 16 where it is malformed (place: the byte's offset), 1 and 3 when the line of a
- * count is complete, then 7 if the slices for it are short (for n also where counts has less than 3 entries), 17 for a
- * group over 255 (place: the junction), and when an also line is complete 17 (place: its junction as written), then 18
- * (place: the pair), then 7 if owners or others is full. 4, 5 and 6 are left to planning.
+ * Writes the first n groups, the first m firsts, seconds and weights, the first owners and others of the pairs;
+ * counts[0] n, counts[1] m, counts[2] the number of pairs.
+ * Refuses what stands first in the text: 16 where it is malformed (place: the byte's offset), 1 and 3 when the line of
+ * a count is complete, then 7 if the slices for it are short (for n also where counts has less than 3 entries), 17 for
+ * a group over 255 (place: the junction), and when an also line is complete 17 (place: its junction as written), then
+ * 18 (place: the pair), then 7 if owners or others is full. 4, 5 and 6 are left to planning.
  * Enough for every text: FOAMSICKLE_MAX_VERTICES groups, FOAMSICKLE_MAX_EDGES firsts, seconds and weights,
  * FOAMSICKLE_MAX_PAIRS owners and others. */
 uint64_t foamsickle_read(
@@ -98,12 +100,13 @@ uint64_t foamsickle_read(
     uint8_t *others, size_t others_length,
     uint64_t *counts, size_t counts_length);
 
-/* Reads a SteinLib STP text of the undirected subset (docs/STP.md); junctions count from 1 there and from 0 here, and all
- * terminals form group 1.
- * Writes the first n groups (1 for a terminal, else 0), the first m firsts, seconds and weights; counts[0] n, counts[1] m.
- * Refuses what stands first in the text: 20 where it is malformed (place: the byte's offset), 1 and 3 when the line of a
- * count is complete, then 7 if the slices for it are short (for n also where counts has less than 2 entries). 5 and 6 are
- * left to planning. An answer that 64 bits do not hold is 2^64 - 1; a text of less than 4 GiB has none.
+/* Reads a SteinLib STP text of the undirected subset (docs/STP.md); junctions count from 1 there and from 0 here, and
+ * all terminals form group 1.
+ * Writes the first n groups (1 for a terminal, else 0), the first m firsts, seconds and weights; counts[0] n, counts[1]
+ * m.
+ * Refuses what stands first in the text: 20 where it is malformed (place: the byte's offset), 1 and 3 when the line of
+ * a count is complete, then 7 if the slices for it are short (for n also where counts has less than 2 entries). 5 and 6
+ * are left to planning. An answer that 64 bits do not hold is 2^64 - 1; a text of less than 4 GiB has none.
  * Enough for every text: FOAMSICKLE_MAX_VERTICES groups, FOAMSICKLE_MAX_EDGES firsts, seconds and weights. */
 uint64_t foamsickle_read_stp(
     const uint8_t *text, size_t text_length,
@@ -145,12 +148,12 @@ uint64_t foamsickle_grow(
     uint64_t *counts, size_t counts_length);
 
 /* Drops: of the tracks marked 1, those that some group needs become 2; nothing else is written.
- * Writes the marks, counts[0] sites, counts[1] cost of the tracks marked 2 then. Growing and then dropping, lent just the
- * m marks, is planning. For marks that growing did not leave, accuracy is promised only where foamsickle_check passes
- * them.
- * Refuses 1 to 6 and 18 as above, then 7 (counts too short), then 9 (marks not m long), 10 (a mark above 1; track), 21 (a
- * track marked 1 that closes a loop with such tracks of lower number; the lowest such track), 14 (the tracks marked 1
- * leave a group apart; group).
+ * Writes the marks, counts[0] sites, counts[1] cost of the tracks marked 2 then. Growing and then dropping, lent just
+ * the m marks, is planning. For marks that growing did not leave, accuracy is promised only where foamsickle_check
+ * passes them.
+ * Refuses 1 to 6 and 18 as above, then 7 (counts too short), then 9 (marks not m long), 10 (a mark above 1; track), 21
+ * (a track marked 1 that closes a loop with such tracks of lower number; the lowest such track), 14 (the tracks marked
+ * 1 leave a group apart; group).
  * Needed: FOAMSICKLE_DROP_FIGURES counts. */
 uint64_t foamsickle_drop(
     const uint8_t *groups, size_t groups_length,
@@ -168,9 +171,10 @@ uint64_t foamsickle_drop(
  * entries of route are these in walking order from counts[2]. 1, picked and dropped: no group needs it. 0, not picked:
  * counts[5] is the round, from 1, after which its ends were first in one component, 0 for never. Counts that are not
  * named are 0, and without a route nothing is written into route.
- * Refuses 1 to 6 and 18 as above, then 7 (counts or route too short), then 8 (a group that no set of tracks joins; place:
- * the lowest such group), then 19 (track is m or more; place: track).
- * Needed: n - 1 entries of route, of which FOAMSICKLE_MAX_ROUTE are always enough, and FOAMSICKLE_WHY_FIGURES counts. */
+ * Refuses 1 to 6 and 18 as above, then 7 (counts or route too short), then 8 (a group that no set of tracks joins;
+ * place: the lowest such group), then 19 (track is m or more; place: track).
+ * Needed: n - 1 entries of route, of which FOAMSICKLE_MAX_ROUTE are always enough, and FOAMSICKLE_WHY_FIGURES
+ * counts. */
 uint64_t foamsickle_why(
     const uint8_t *groups, size_t groups_length,
     const uint32_t *firsts, size_t firsts_length,
@@ -242,9 +246,10 @@ uint64_t foamsickle_print_survey(
 /* Checks a printed plan against a survey's text: text is the survey's bytes with the plan's right behind them.
  * Writes counts[0] sites, counts[1] cost of the kept tracks, counts[2] bound, as the checker finds them.
  * Refuses what reading refuses of the survey but 7; 16, 26 (a kept track that is none or does not rise; its line), 27
- * (members of a moat over 255 or not rising; its line) and 28 (over FOAMSICKLE_MAX_DUALS moats; line) of the plan,
- * whichever stands first; then 4 to 6 and 11 to 15 as foamsickle_check; 25 (a figure that the checker does not find; 0
- * sites, 1 cost, 2 bound); last 7 (counts too short).
+ * (members of a moat that are FOAMSICKLE_MAX_VERTICES or more, or do not rise; its line) and 28 (over
+ * FOAMSICKLE_MAX_DUALS moats; line) of the plan, whichever stands first; then 4 to 6 and 11 to 15 as foamsickle_check;
+ * 25 (a figure that the checker does not find; 0 sites, 1 cost, 2 bound); last 7 (counts too short). An answer that 64
+ * bits do not hold is 2^64 - 1; no text that a machine holds has one.
  * Needed: FOAMSICKLE_CHECK_FIGURES counts. */
 uint64_t foamsickle_verify(
     const uint8_t *text, size_t text_length,

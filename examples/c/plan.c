@@ -1,8 +1,8 @@
 /* Plans a survey file and prints the tracks to clear:
  *
  *     rt staticlib foamsickle
- *     gcc -Wall -Wextra -Werror -I include examples/c/plan.c target/staticlib/libfoamsickle.a -o plan
- *     ./plan samples/p3.survey
+ *     gcc -Wall -Wextra -Werror -I include examples/c/plan.c target/staticlib/libfoamsickle.a -o plan-c
+ *     ./plan-c samples/p3.survey
  *
  * Exit status 1 for a survey that is refused, 2 for a file that cannot be read. */
 #include "foamsickle.h"

@@ -1,4 +1,5 @@
-// Checking for a caller that gets one number back and its counts in a lent buffer. Definitions in specs/.
+// Checking for a caller that gets one number back and the counts in a lent buffer. Definitions in specs/Call and
+// specs/VerifyCall. `check_call` judges marks and records, `verify_call` a printed plan behind its survey.
 ghost use mathlib.Core.Path.{_≡_};
 ghost use Rattle.base_buffer.specs.Lent.{old, new};
 ghost use Rattle.survey_core.specs.Survey.{lentWith};

@@ -1,5 +1,5 @@
-// What every call from another language needs: a refusal as one number, and the answer where its counts do not fit.
-// Definitions in specs/.
+// What every call from another language needs: a refusal as one number, counts stored, and the answer where they do not
+// fit. Definitions in specs/Code.
 ghost use mathlib.Core.Path.{_≡_};
 ghost use Prim.Native.Nat.{_+_, _*_};
 ghost use Rattle.base_limits.specs.Verdict.{_before_};

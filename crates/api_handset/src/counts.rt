@@ -1,4 +1,4 @@
-// Counts as bytes, lowest byte first. Definitions in api_handset::words.
+// Counts as bytes, lowest byte first. Definitions in specs/Words.
 ghost use mathlib.Core.Path.{_≡_};
 ghost use Prim.Native.Nat.{_+_, _≤_};
 ghost use lib.ListN.{length};

@@ -1,5 +1,6 @@
-// Planning and checking from the handset: definitions and laws, in specs/. The functions are in api_handset::plan and
-// api_handset::check.
+// Planning and checking from the handset, with bytes alone. Definitions in specs/Words (numbers as bytes), Slices (the
+// survey that slices spell), Call (what is answered and written) and Crossing. `handset_plan` and `handset_check`
+// answer 0, or number + 256 * place.
 
 mod check;
 mod counts;

@@ -1,4 +1,4 @@
-// Planning from the handset: bytes in, one number and counts as bytes out. Definitions in api_handset.
+// Planning from the handset: bytes in, one number and counts as bytes out. Definitions in specs/.
 ghost use mathlib.Core.Path.{_≡_};
 ghost use lib.ListN.{length};
 ghost use Rattle.base_buffer.specs.Lent.{old, new};

@@ -1,4 +1,4 @@
-// Planning of a survey in numbers, with the counts as bytes in a lent slice. Definitions in api_handset.
+// Planning of a survey in numbers, with the counts as bytes in a lent slice. Definitions in specs/.
 ghost use mathlib.Core.Path.{_≡_};
 ghost use Rattle.base_buffer.specs.Lent.{old, new};
 ghost use Rattle.base_limits.specs.Verdict.{written};

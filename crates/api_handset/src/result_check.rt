@@ -1,4 +1,4 @@
-// Checking of a plan against a survey in numbers, with the counts as bytes in a lent slice. Definitions in api_handset.
+// Checking of a plan against a survey in numbers, with the counts as bytes in a lent slice. Definitions in specs/.
 ghost use mathlib.Core.Path.{_≡_};
 ghost use Rattle.base_buffer.specs.Lent.{old, new};
 ghost use Rattle.survey_core.specs.Survey.{lentWith};

@@ -1,4 +1,4 @@
-// Dropping for a caller that gets one number back and the counts in a lent buffer. Definitions in api_plan::grow.
+// Dropping for a caller that gets one number back and the counts in a lent buffer. Definitions in specs/GrowCall.
 ghost use mathlib.Core.Path.{_≡_};
 ghost use Rattle.base_buffer.specs.Lent.{old, new};
 ghost use Rattle.survey_core.specs.Survey.{lentWith};

@@ -1,4 +1,5 @@
-// Planning for a caller that gets one number back and its counts in a lent buffer. Definitions in specs/.
+// Planning, growing and dropping for a caller that gets one number back and the counts in a lent buffer. Definitions in
+// specs/Call and specs/GrowCall. `plan_call`, `grow_call` and `drop_call` answer 0, or number + 256 * place.
 ghost use mathlib.Core.Path.{_≡_};
 ghost use Rattle.base_buffer.specs.Lent.{old, new};
 ghost use Rattle.survey_core.specs.Survey.{lentWith};

@@ -1,4 +1,5 @@
-// Printing for a caller that gets one number back and the text's length in a lent buffer. Definitions in specs/.
+// Printing for a caller that gets one number back and the text's length in a lent buffer. Definitions in specs/Call.
+// `print_dual_call`, `print_plan_call` and `print_survey_call` answer 0, or number + 256 * place.
 ghost use mathlib.Core.Path.{_≡_};
 ghost use Rattle.base_buffer.specs.Lent.{old, new};
 ghost use Rattle.api_code.specs.Code.{codeOf, capped};

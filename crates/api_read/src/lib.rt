@@ -1,5 +1,5 @@
-// Reading for a caller that gets one number back and its counts in a lent buffer. Definitions in specs/.
-// Reading for a caller that gets one number back and the counts in a lent buffer. Definitions in api_read.
+// Reading for a caller that gets one number back and the counts in a lent buffer. Definitions in specs/Call and
+// specs/StpCall. `read_call` reads a survey's text, `stp_call` an STP file.
 ghost use mathlib.Core.Path.{_≡_};
 ghost use Rattle.base_buffer.specs.Lent.{old, new};
 ghost use Rattle.format_survey.specs.Answer.{countsOutcome, countsOf};

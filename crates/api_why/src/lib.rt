@@ -1,5 +1,5 @@
 // Why a track is on the sheet, for a caller that gets one number back and the reason's numbers in a lent buffer.
-// Definitions in specs/.
+// Definitions in specs/Call and specs/Stored. `why_call` answers 0, or number + 256 * place.
 ghost use mathlib.Core.Path.{_≡_};
 ghost use Rattle.base_buffer.specs.Lent.{old, new};
 ghost use Rattle.survey_core.specs.Survey.{lentWith};

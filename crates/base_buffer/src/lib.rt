@@ -1,5 +1,6 @@
 // Lent buffers: reads and stores that are total, so that callers have no bound to show, and casts that lose nothing.
-// Past the end a read gives 0 and a store does nothing. What a loop of stores leaves is defined in specs/.
+// Past the end a read gives 0 and a store does nothing. Definitions in specs/: Lent (what a buffer holds before and
+// after a call), Store (what a loop of stores leaves), Part (how much of a buffer is meant).
 ghost use mathlib.Core.Path.{_≡_};
 ghost use lib.ListN.{getD, set};
 ghost use Rattle.base_buffer.specs.Lent.{old, new};

@@ -1,1 +1,2 @@
-// Sums, counts and bounded searches over the numbers below a bound: definitions and laws in specs/, no functions.
+// Sums, counts and searches over the numbers below a bound, and laws about them, for every crate above. Definitions in
+// specs/Below; it holds no function.

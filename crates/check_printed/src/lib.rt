@@ -1,7 +1,6 @@
-// A survey text with a printed plan behind it: what a check of both answers, definitions and laws in specs/. No
-// functions.
-// Checks a survey text with a printed plan behind it: the survey is read, then the plan, then the checker looks at
-// both, and at last the claimed counts are held against what it finds. Definitions in check_printed.
+// A survey's text with a printed plan behind it, read and checked. Definitions in specs/Verify, what passing is worth
+// in specs/Worth. `verify` answers k, cost and bound as the checker finds them, or the refusal of either text, of the
+// checker, or 25 where a claim is false.
 ghost use Rattle.base_buffer.specs.Lent.{old};
 ghost use mathlib.Core.Path.{_≡_};
 ghost use Prim.Native.Nat.{_≤_};

@@ -1,2 +1,3 @@
-// When marks and duals certify a plan: the checker's answer for any plan, and what it is worth. Definitions and laws in
-// specs/, no functions.
+// When marks and moat records certify a plan: the checker's answer for any of them (specs/Check), what passing means in
+// words of the survey (specs/Passing), and that whatever passes is accurate (specs/Laws/Accuracy). It holds no
+// function.

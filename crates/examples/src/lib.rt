@@ -1,3 +1,2 @@
-// P1 to P12, marks altered by hand, STP files: worked by computation.
-// The plans of P1 to P12, and plans altered by hand: computed by the definitions of plan_rule. No functions.
-// STP texts worked by hand, with no function: see specs/.
+// Worked by computation: P1 to P12 and two surveys with pairs (specs/Examples), marks altered by hand (specs/Altered),
+// STP files (specs/StpExamples). It holds no function.

@@ -1,6 +1,6 @@
-// The also lines of a survey's text, each a vertex and a further group of it: definitions and laws in specs/. No
-// functions.
-// Reads the also lines of a survey's text.
+// The also lines of a survey's text, each a junction and a further group of it. Definitions in specs/Pair (17, 18 and 7
+// of a line) and specs/WellFormed. `pair_lines` reads them, up to the first byte that begins none, and `put_pairs`
+// writes them.
 ghost use Rattle.base_buffer.specs.Lent.{old, new};
 ghost use mathlib.Core.Path.{_≡_};
 ghost use lib.Seq.{sets};

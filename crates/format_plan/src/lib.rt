@@ -1,6 +1,6 @@
-// The lines of a printed plan, its kept edges and its duals: definitions and laws in specs/. No functions.
-// A printed plan, read back: definitions and laws in specs/, and what its readers answer. No functions.
-// Reads a printed plan into lent buffers.
+// A printed plan's text in. What its lines are is specs/Lines, what a plan is specs/Plan, which texts are plans
+// specs/WellFormed. `read_plan` answers the counts that the plan claims and fills marks and records, or refuses with 7,
+// 16, 26, 27 or 28.
 ghost use Rattle.base_buffer.specs.Lent.{old, new};
 ghost use mathlib.Core.Path.{_≡_};
 ghost use Prim.Native.Nat.{_*_};

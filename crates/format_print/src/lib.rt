@@ -1,4 +1,5 @@
-// What printing answers and writes: definitions and laws in specs/. No functions.
+// Plans, moat lines and refusals out. What printing answers and writes is specs/Print, what fits is specs/Within. Each
+// call answers the text's length (`Printed`), or a refusal, and then the buffer holds what it held.
 
 mod lines;
 mod plan;

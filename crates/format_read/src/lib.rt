@@ -1,11 +1,6 @@
-// What reading a text is; fixed bytes, numbers and lines, read.
-// What it is to read and to render a text: steps, the words that they read, lines and items one after another.
-// Definitions and laws in specs/, no functions.
-// The bytes and numbers of a text: definitions and laws in specs/, and the types that every reader of it answers. No
-// functions.
-// Reads fixed bytes, a number or one byte of a class where a reader stands. Each step answers a value with the next
-// cursor, or a refusal. Every key, every number and every byte between them is taken through a reader that stands where
-// the step before it has ended.
+// What reading a text is, for any text: steps, words, lines, items up to a stop (specs/Step, Language, Lines, Items),
+// bytes and numbers (specs/Bytes, Number). Functions take fixed bytes, a number, a byte of a class or a line where a
+// reader stands; each answers a value with the next cursor, or the refusal.
 ghost use Rattle.base_buffer.specs.Lent.{old};
 ghost use mathlib.Core.Path.{_≡_};
 ghost use Prim.Native.Nat.{min};

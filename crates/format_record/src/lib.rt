@@ -1,5 +1,6 @@
-// Dual records: the value, lowest byte first, then the members as bits, 8 to a byte. Definitions in specs/.
-// Every function is total: bytes that a part lacks read as 0, and what has no room is not written.
+// Moat records: the amount, lowest byte first, then the members as bits, 8 to a byte. Definitions in specs/Record and
+// specs/Bits. Functions read and write a record's parts, and are total: bytes that a part lacks read as 0, and what has
+// no room is not written.
 use base_buffer::put8;
 use base_limits::RECORD_BYTES;
 use base_limits::VALUE_BYTES;

@@ -5,8 +5,12 @@ pub mod Comment
 pub mod Number
 pub mod RuleLines
 pub mod File
+pub mod Grammar
 pub mod Only
 pub mod Accepted
+pub mod Beginning
+pub mod Bytes
+pub mod Promises
 pub mod Turn
 pub mod NumberTurn
 pub mod HeadTurn

@@ -3,6 +3,9 @@ pub mod StpWord
 pub mod StpNumber
 pub mod StpReading
 pub mod Subset
+pub mod Grammar
+pub mod Beginning
+pub mod Promises
 pub mod Section
 pub mod TerminalsAnswer
 pub mod Terminals

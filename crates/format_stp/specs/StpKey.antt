@@ -11,6 +11,9 @@ headerLine = ascii "33D32945 STP File, STP Format Version 1.0\n"
 abbrev pub sectionWord : List ℕ
 sectionWord = ascii "SECTION "
 
+abbrev pub commentLine : List ℕ
+commentLine = ascii "SECTION Comment\n"
+
 abbrev pub graphLine : List ℕ
 graphLine = ascii "SECTION Graph\n"
 

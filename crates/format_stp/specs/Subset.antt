@@ -1,11 +1,10 @@
--- The undirected subset of SteinLib STP (document 02, No. 5; docs/STP.md) as a grammar, with no word about how a text is read: which words stand one
--- after another, and what they say.
+-- The lines of the undirected subset of SteinLib STP (document 02, No. 5; docs/STP.md) and what they say, with no word about how a text is read; and its
+-- files in the form that is read: empty lines stand before a line, and a section is known by its first letter.
 use Prim.Native.Nat.{ℕ, suc, _+_, _≤_, _<_}
 use mathlib.Core.List.{List, [], _∷_, _++_}
 use mathlib.Core.Path.{_≡_}
-use lib.ListN.{getD, length, set, replicate, take}
-use Rattle.base_limits.specs.Limits.{countDigits, endpointDigits, weightDigits, maxVertices, maxEdges}
-use Rattle.base_limits.specs.Verdict.{refusal}
+use lib.ListN.{getD, set, replicate}
+use Rattle.base_limits.specs.Limits.{countDigits, endpointDigits, weightDigits}
 use Rattle.format_write.specs.Key.{newline}
 use Rattle.format_read.specs.Language.{Seq, Empty, Fixed, Text}
 use Rattle.format_read.specs.Number.{OfDigits, numberText}
@@ -29,7 +28,7 @@ use Rattle.format_stp.specs.StpKey.{
   eofLine,
   space,
 }
-use Rattle.format_stp.specs.StpReading.{StpContent, stpReading}
+use Rattle.format_stp.specs.StpReading.{StpContent}
 use Rattle.format_stp.specs.StpWord.{AfterEmpty, CommentWord, Repeated}
 
 -- A fixed line, with empty lines before it.
@@ -98,43 +97,10 @@ CountThen word P X = Seq (AfterEmpty (Text P (lineOf word))) X
 abbrev pub StpFile : (N M : ℕ → Type 0) → StpContent → List ℕ → Type 0
 StpFile N M = Seq StpHead λ z. CountThen nodesWord N λ n. CountThen edgesWord M λ m. StpBody n m
 
--- The subset: any counts of at most so many digits, and empty lines behind EOF.
-pub record InSubset (x : StpContent) (t : List ℕ) : Type 0 where
+-- The form of the subset that is read: any counts of at most so many digits, and empty lines behind EOF. Laws/Grammar proves that this is the language of
+-- specs/Grammar.
+pub record StpFactored (x : StpContent) (t : List ℕ) : Type 0 where
   pub file : List ℕ
   pub empty : ℕ
   pub member : StpFile (OfDigits countDigits) (OfDigits countDigits) x file
   pub whole : t ≡ file ++ replicate empty newline
-
--- Some file of the subset.
-pub record IsStp (t : List ℕ) : Type 0 where
-  pub says : StpContent
-  pub is : InSubset says t
-
--- Counts that escape 1, 3 and 7, for lent buffers of these lengths.
-pub record StpFits (groups firsts seconds weights : List ℕ) (x : StpContent) : Type 0 where
-  pub some : 0 < x .vertices
-  pub mostVertices : x .vertices ≤ maxVertices
-  pub forGroups : x .vertices ≤ length groups
-  pub mostEdges : x .edges ≤ maxEdges
-  pub forFirsts : x .edges ≤ length firsts
-  pub forSeconds : x .edges ≤ length seconds
-  pub forWeights : x .edges ≤ length weights
-
--- The bytes before the place of 20 begin a file of the subset.
-pub record StpBegins (t : List ℕ) (p : ℕ) : Type 0 where
-  pub inside : p ≤ length t
-  pub rest : List ℕ
-  pub is : IsStp (take p t ++ rest)
-
--- No 1, 3 or 7 is given.
-pub record StpEscapes (t groups firsts seconds weights : List ℕ) : Type 0 where
-  pub one : (p : ℕ) → stpReading t groups firsts seconds weights ≡ refusal 1 p → ⊥
-  pub three : (p : ℕ) → stpReading t groups firsts seconds weights ≡ refusal 3 p → ⊥
-  pub seven : (p : ℕ) → stpReading t groups firsts seconds weights ≡ refusal 7 p → ⊥
-
--- The numbers of the refusals; 20 alone has a place of its own.
-pub data StpGives (n p : ℕ) : Type 0 where
-  gives-1 : n ≡ 1 → p ≡ 0 → StpGives n p
-  gives-3 : n ≡ 3 → p ≡ 0 → StpGives n p
-  gives-7 : n ≡ 7 → p ≡ 0 → StpGives n p
-  gives-20 : n ≡ 20 → StpGives n p

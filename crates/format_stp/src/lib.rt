@@ -1,6 +1,5 @@
-// SteinLib STP texts, the undirected subset: which texts belong to it, and how one is read. Definitions and laws in
-// specs/, no functions.
-// Reads an STP text into the lent buffers of a survey: the counts, then the lines behind them.
+// SteinLib STP texts in, the undirected subset (docs/STP.md). The grammar is specs/Subset, how a text is read
+// specs/StpReading. `read_stp` answers n and m and fills the lent buffers of a survey, or refuses with 1, 3, 7 or 20.
 ghost use Rattle.base_buffer.specs.Lent.{old, new};
 ghost use mathlib.Core.Path.{_≡_};
 ghost use Rattle.format_read.specs.Step.{found, stopped, _then_};
@@ -11,6 +10,7 @@ ghost use Rattle.format_survey.specs.Reading.{filled};
 ghost use Rattle.format_stp.specs.StpReading.{stpTests, stpOutcome, stpReading};
 ghost use Rattle.format_stp.specs.Parts.{stpCounts, stpLines, storedBy};
 ghost use Rattle.format_stp.specs.Answer.{stpAnswer, stpCountsOf};
+ghost use Rattle.format_stp.specs.Promises.{stpBuffers, StpPromises};
 use crate::head::head;
 use crate::head::skip;
 use crate::lines::edge_lines;
@@ -167,6 +167,10 @@ pub fn read_stp(
     ensures { λ _.
         let read = stpReading (old text) (old groups) (old firsts) (old seconds) (old weights) in
         ⌜ new weights ≡ filled read (λ x. weightsOf (x .lines)) (old weights) ⌝ }
+    ensures promises { λ r.
+        let before = stpBuffers (old groups) (old firsts) (old seconds) (old weights) in
+        let after = stpBuffers (new groups) (new firsts) (new seconds) (new weights) in
+        ⌜ StpPromises (old text) before (stpAnswer r) after ⌝ }
 {
     let head = counts(
         text,

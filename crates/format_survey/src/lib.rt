@@ -1,7 +1,6 @@
-// The lines of a survey text: definitions and laws in specs/, and what the readers of an edge's line and of the counts
-// answer. No functions.
-// A whole survey text: definitions and laws in specs/, and what reading answers. No functions.
-// Reads a survey text: the counts, then the lines after them, into the lent buffers.
+// A survey's text in: what its lines are (specs/Line), how it is read (specs/Reading), which texts are well-formed and
+// how a refused one begins (specs/WellFormed, Beginning). `read` answers n, m and the number of pairs and fills the
+// lent buffers, or refuses with 1, 3, 7, 16, 17 or 18 and writes nothing.
 ghost use Rattle.base_buffer.specs.Lent.{old, new};
 ghost use mathlib.Core.Path.{_≡_};
 ghost use lib.ListN.{length};

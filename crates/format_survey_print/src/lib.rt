@@ -1,5 +1,5 @@
-// What printing a survey's text answers and writes: definitions and laws in specs/. No functions.
-// Printing of a survey's text, which reading takes back.
+// A survey's text out, which reading takes back. Definitions in specs/Print. `print_survey` answers the text's length,
+// or refuses with 2 or 7.
 ghost use Rattle.base_buffer.specs.Lent.{old, new};
 ghost use mathlib.Core.Path.{_≡_};
 ghost use Rattle.format_survey_print.specs.Print.{surveyLent, surveyPrinted, surveyPrintedOut};

@@ -1,4 +1,5 @@
-// Reasons as text: why an edge has its mark. Definitions in specs/.
+// Reasons out: why a track has its mark, as lines of text. Definitions in specs/ReasonText and specs/Within.
+// `print_reason` answers the text's length, or 7.
 ghost use mathlib.Core.Path.{_≡_};
 ghost use lib.ListN.{length};
 ghost use Rattle.base_limits.specs.Limits.{whyRoom};

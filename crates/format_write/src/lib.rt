@@ -1,7 +1,6 @@
-// The keys of the texts, each in this one place: readers compare them, writers write them. Definitions in specs/.
-// The text of a plan, its numbers and lines, and what writing into a lent buffer leaves: definitions and laws in
-// specs/. No functions.
-// Writes bytes, numbers and lines into a lent buffer, as far as it reaches.
+// The keys of the texts, each in this one place (specs/Key), the text of a plan, its numbers and lines (specs/Text,
+// specs/Decimal), and what writing into a lent buffer leaves (specs/Wrote). Functions write bytes, numbers and lines as
+// far as the buffer reaches, and answer the next place.
 ghost use Rattle.base_buffer.specs.Lent.{old, new};
 ghost use mathlib.Core.Path.{_≡_};
 ghost use mathlib.Core.List.{_∷_, []};

@@ -1,4 +1,4 @@
-// Reads a survey text on standard input and prints its plan, or the two lines of a refusal. All between reading and
+// Reads a survey's text on standard input and prints its plan, or the two lines of a refusal. All between reading and
 // writing is `text_plan::plan_whole`; a text longer than the buffer has the output of its first bytes
 // (`output-first-bytes`).
 ghost use mathlib.Core.Path.{_≡_};

@@ -1,4 +1,4 @@
-// Which components are active at the start, as flags by component number. Definitions in plan_active.
+// Which components are active at the start, as flags by component number. Definitions in specs/.
 ghost use Rattle.base_buffer.specs.Lent.{old, new};
 ghost use mathlib.Core.Path.{_≡_};
 ghost use Rattle.plan_active.specs.Flags.{flagged, activeFlags};

@@ -1,6 +1,6 @@
-// Which components are active, as flags by component number, and whether a merged one will be: definitions and laws in
-// specs/, no functions.
-// Two components become one: their labels and flags. Definitions in plan_active.
+// Which components are active, as flags by component number, and whether a merged one will be. Definitions in
+// specs/Flags. `active_flags` makes those of the start, `joined_flag` that of a merged component, `merge` its labels
+// and flags.
 ghost use Rattle.base_buffer.specs.Lent.{old, new};
 ghost use mathlib.Core.Path.{_≡_};
 ghost use Rattle.plan_active.specs.Flags.{relabelledFirst, mergedFlags};

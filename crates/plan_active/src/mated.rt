@@ -1,4 +1,4 @@
-// The vertices that have a mate other than themselves, as a list. Definitions in plan_active.
+// The vertices that have a mate other than themselves, as a list. Definitions in specs/.
 ghost use Rattle.base_buffer.specs.Lent.{old, new};
 ghost use mathlib.Core.Path.{_≡_};
 ghost use mathlib.Core.Bool.{cond};

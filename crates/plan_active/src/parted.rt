@@ -1,4 +1,4 @@
-// Whether what two components become is active. Definitions in plan_active.
+// Whether what two components become is active. Definitions in specs/.
 ghost use Rattle.base_buffer.specs.Lent.{old};
 ghost use mathlib.Core.Path.{_≡_};
 ghost use lib.ListN.{getD};

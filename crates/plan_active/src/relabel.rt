@@ -1,4 +1,4 @@
-// The labels of the first vertices where two components become one. Definitions in plan_active.
+// The labels of the first vertices where two components become one. Definitions in specs/.
 ghost use Rattle.base_buffer.specs.Lent.{old, new};
 ghost use mathlib.Core.Path.{_≡_};
 ghost use Rattle.plan_active.specs.Flags.{relabelledFirst};

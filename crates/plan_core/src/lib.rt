@@ -1,4 +1,5 @@
-// Planning: growing, then dropping. Definitions and what planning promises in plan_rule.
+// Planning: growing, then dropping. Definitions and promises are plan_rule's; specs/Grown and Picks say what growing
+// leaves of any survey. `plan`, `grow_plan` and `prune_plan` answer counts and fill marks and records, or refuse.
 ghost use Rattle.base_buffer.specs.Lent.{old, new};
 ghost use mathlib.Core.Path.{_≡_};
 ghost use lib.ListN.{length};
@@ -6,6 +7,7 @@ ghost use Rattle.survey_core.specs.Survey.{lentWith};
 ghost use Rattle.plan_rule.specs.Plan.{counting, marksAfter, recordsAfter};
 ghost use Rattle.plan_rule.specs.Answer.{plannedOutcome};
 ghost use Rattle.plan_rule.specs.Promise.{Promises};
+ghost use Rattle.plan_rule.specs.Stages.{InStages};
 use crate::counts::both;
 use plan_rule::Planned;
 
@@ -23,7 +25,8 @@ pub use prune::prune_plan;
 
 // Plans a survey into lent buffers for marks and moat records. Finished exactly if none of 1 to 8 and 18 applies; 8
 // exactly if no set of tracks joins some group, and then the lowest; a finished plan passes the checker and is within
-// the accuracy rule. Lists that share a member are poured together, which changes nothing but the place of 8.
+// the accuracy rule. Growing and then dropping by themselves come to the same. Lists that share a member are poured
+// together, which changes nothing but the place of 8.
 pub fn plan(
     groups: &[u8],
     firsts: &[u32],
@@ -46,6 +49,9 @@ pub fn plan(
     ensures promises { λ r.
         let s = lentWith groups firsts seconds weights owners others in
         ⌜ Promises s (old marks) (old records) (plannedOutcome r) ⌝ }
+    ensures stages { λ _.
+        let s = lentWith groups firsts seconds weights owners others in
+        ⌜ InStages s (old marks) (old records) ⌝ }
 {
     let grown = crate::grow::grow_plan(
         groups,

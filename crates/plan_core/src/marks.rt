@@ -20,6 +20,10 @@ fn mark_refusal(mark: u8, e: usize) -> Verdict
     match mark {
         0 => Verdict::Fine,
         1 => Verdict::Fine,
+        2 => Verdict::Refused {
+            number: 10,
+            place: e,
+        },
         _ => Verdict::Refused {
             number: 10,
             place: e,

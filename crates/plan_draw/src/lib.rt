@@ -1,5 +1,5 @@
-// Duals as records, and the trace of a growth that they follow from: definitions and laws in specs/, no functions.
-// Drawing: the duals of a finished growth as records, single vertices first, then merged components as they arose.
+// The moats of a growth as records, single junctions first, then merged components as they arose. Definitions in
+// specs/Trace, Members and Drawing. `draw` writes the records of a trace and answers how many there are.
 ghost use Rattle.base_buffer.specs.Lent.{old, new};
 ghost use mathlib.Core.Path.{_≡_};
 ghost use lib.ListN.{length};

@@ -1,5 +1,5 @@
-// The two sides of each picked edge, as words of up to 64: definitions and laws in specs/. No functions.
-// Pruning: which picked edges are kept. Definitions in specs/.
+// Which picked tracks of a forest are needed: each has a cut of its own, and 64 of them are judged at once. Definitions
+// in specs/Side, Needed, Judge and the like. `prune` writes the marks, or answers 1 to 6, 9, 21 or 14.
 ghost use Rattle.base_buffer.specs.Lent.{old, new};
 ghost use mathlib.Core.Path.{_≡_};
 ghost use lib.ListN.{length};

@@ -1,4 +1,4 @@
-// One word for each vertex: its sides of up to 64 picked edges. Definitions in plan_drop.
+// One word for each vertex: its sides of up to 64 picked edges. Definitions in specs/.
 ghost use Rattle.base_buffer.specs.Lent.{old, new};
 ghost use mathlib.Core.Path.{_≡_};
 ghost use Prim.Native.Nat.{ℕ, _+_, _<_, _^_};

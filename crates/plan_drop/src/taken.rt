@@ -1,4 +1,4 @@
-// Words for the sides of up to 64 picked edges, made edge by edge. Definitions in plan_drop.
+// Words for the sides of up to 64 picked edges, made edge by edge. Definitions in specs/.
 ghost use Rattle.base_buffer.specs.Lent.{old, new};
 ghost use mathlib.Core.Path.{_≡_};
 ghost use Prim.Native.Nat.{ℕ, _+_, _<_, _^_};

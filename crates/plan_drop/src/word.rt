@@ -1,4 +1,4 @@
-// One word: the bit of an edge, and what a new edge makes of a vertex's word. Definitions in plan_drop.
+// One word: the bit of an edge, and what a new edge makes of a vertex's word. Definitions in specs/.
 ghost use mathlib.Core.Path.{_≡_};
 ghost use lib.Dec.{eqb};
 ghost use Rattle.base_finite.specs.Below.{counted};

@@ -1,4 +1,4 @@
-// What a growth ends with: its values settled, and their sum. Definitions in plan_rounds.
+// What a growth ends with: its values settled, and their sum. Definitions in specs/.
 ghost use Rattle.base_buffer.specs.Lent.{old, new};
 ghost use mathlib.Core.Path.{_≡_};
 ghost use Prim.Native.Nat.{_%_, _^_};

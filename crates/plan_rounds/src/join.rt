@@ -1,4 +1,4 @@
-// Two components become one: labels, flags, values and loads. Definitions in plan_rounds.
+// Two components become one: labels, flags, values and loads. Definitions in specs/.
 ghost use Rattle.base_buffer.specs.Lent.{old, new};
 ghost use mathlib.Core.Path.{_≡_};
 ghost use lib.ListN.{getD};

@@ -1,5 +1,6 @@
-// What growing answers; how duals grow over arrays is defined in specs/.
-// Growth over arrays: rounds until no candidate is left. Definitions in plan_rounds.
+// Growing over arrays: rounds until no candidate is left, at most n - 1. What a round makes of any arrays is
+// specs/Round, what they represent specs/Represents, what a growth leaves specs/Grown. `grow` answers the number of
+// rounds and the sum of all moats, and leaves values, picks and their order.
 ghost use Rattle.base_buffer.specs.Lent.{old, new};
 ghost use mathlib.Core.Path.{_≡_};
 ghost use Prim.Native.Nat.{_<_, _^_};

@@ -1,4 +1,4 @@
-// One round of growth over arrays, whatever they hold. Definitions in plan_rounds.
+// One round of growth over arrays, whatever they hold. Definitions in specs/.
 ghost use Rattle.base_buffer.specs.Lent.{old};
 ghost use mathlib.Core.Path.{_≡_};
 ghost use Rattle.plan_search.specs.Between.{winnerIn};

@@ -1,4 +1,4 @@
-// What is held for values and for loads, settled or turned where a component changes. Definitions in plan_rounds.
+// What is held for values and for loads, settled or turned where a component changes. Definitions in specs/.
 ghost use Rattle.base_buffer.specs.Lent.{old, new};
 ghost use mathlib.Core.Path.{_≡_};
 ghost use Rattle.plan_rounds.specs.Tables.{settledAt, settledValues};

@@ -13,9 +13,10 @@ use Rattle.theory_steiner.specs.Growth.{active, stateAt}
 use Rattle.theory_steiner.specs.Pruning.{picked}
 use Rattle.theory_steiner.specs.Rounds.{boundOfRounds, TakesRounds}
 use Rattle.survey_core.specs.Survey.{Survey, vertexCount, edgeCount, problemOf, JoinsGroup}
-use Rattle.survey_core.specs.Accuracy.{Accurate}
+use Rattle.survey_core.specs.Accuracy.{Accurate, DualBound}
 use Rattle.survey_core.specs.Sound.{SurveySound}
 use Rattle.check_rule.specs.Check.{checking}
+use Rattle.plan_rule.specs.Needed.{KeptByNeed}
 use Rattle.plan_rule.specs.Plan.{PlanCounts, planCountsOf, planOf, marksAfter, recordsAfter}
 
 -- None of 1 to 8 and 18 applies: the survey is sound (1 to 6, 18), the two buffers are long enough (7), and all tracks together join every group (8).
@@ -44,12 +45,16 @@ pub record FinishedPlan (s : Survey) (marks records : List ℕ) (c : PlanCounts)
   pub rounds-rest : (v : ℕ) → active (problemOf s) (stateAt (problemOf s) (c .rounds) .label) v ≡ false
   -- the bound: each round's wait, times how many components grow in it, summed up
   pub bound-rounds : c .bound ≡ boundOfRounds (problemOf s) (c .rounds)
+  -- demand 2: kept exactly if without it the other picked tracks fail to link two members, none spare
+  pub needed : KeptByNeed s (take (edgeCount s) (marksAfter s marks records))
   -- demand 3: the checker passes the marks and records that were written, with the same k, cost and bound
   pub passes-checker :
       checking s (take (edgeCount s) (marksAfter s marks records)) (take (recordBytes * c .duals) (recordsAfter s marks records))
       ≡ answer (record { terminals = c .terminals; cost = c .cost; bound = c .bound })
   -- demand 3: the accuracy rule
   pub accuracy : Accurate s (c .terminals) (c .cost)
+  -- and no joining set costs less than half the bound
+  pub bound-halved : DualBound s (c .bound)
 
 -- What a call answers, for any survey and any buffers.
 pub record Promises (s : Survey) (marks records : List ℕ) (o : Outcome PlanCounts) : Type 0 where

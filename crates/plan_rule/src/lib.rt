@@ -1,4 +1,5 @@
-// What planning, growing and dropping answer, and what each promises: definitions and laws in specs/, no functions.
+// What planning, growing and dropping answer and write (specs/Plan, Growing, Dropping), and what each promises
+// (specs/Promise, DropPromise, Stages, Poured). It holds the types of the answers, and no function.
 
 // What planning answers, and growing with cost 0: k, cost, bound, rounds and the number of moats; or a refusal's
 // number and place.

@@ -1,4 +1,4 @@
-// The delay of an edge, and the better of two. Definitions and types in plan_search::delay.
+// The delay of an edge, and the better of two. Definitions in specs/Between, types in `delay`.
 ghost use mathlib.Core.Path.{_≡_};
 ghost use lib.Dec.{eqb};
 ghost use Rattle.theory_steiner.specs.Growth.{activeEnds, delayOf, better};

@@ -1,6 +1,6 @@
-// The search for a round's winner over arrays: edges that cannot win yet are passed over by their keys, and blocks by
-// their floors. Definitions in specs/; the functions stand in the crates above.
-// The search for a round's winner, edge by edge and block by block. Definitions in plan_search.
+// The search for a round's winner over arrays: tracks that cannot win yet are passed over by their keys, and blocks by
+// their floors. Definitions in specs/Scan, Keys, Between, Held and Tables. `find_winner` answers the winner and its
+// wait; `start_keys` makes the keys of the start.
 ghost use Rattle.base_buffer.specs.Lent.{old, new};
 ghost use mathlib.Core.Path.{_≡_};
 ghost use Prim.Native.Nat.{_-_, _*_, _<_, _≤_};

@@ -1,5 +1,5 @@
 // The limit below which the search looks: the time that it goes by, the lower of two keys, and the next block with a
-// floor below the limit. Definitions in plan_search.
+// floor below the limit. Definitions in specs/.
 ghost use Rattle.base_buffer.specs.Lent.{old};
 ghost use mathlib.Core.Path.{_≡_};
 ghost use mathlib.Core.Bool.{cond};

@@ -1,4 +1,4 @@
-// A look at one edge: its delay against the best so far, and its key. Definitions in plan_search.
+// A look at one edge: its delay against the best so far, and its key. Definitions in specs/.
 ghost use Rattle.base_buffer.specs.Lent.{old, new};
 ghost use mathlib.Core.Path.{_≡_};
 ghost use Prim.Native.Nat.{_<_};

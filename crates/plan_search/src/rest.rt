@@ -1,4 +1,4 @@
-// Which edges rest: those with both ends idle and alone. Definitions in plan_search.
+// Which edges rest: those with both ends idle and alone. Definitions in specs/.
 ghost use mathlib.Core.Path.{_≡_};
 ghost use Rattle.plan_search.specs.Tables.{aloneAt, restsBetween};
 use crate::delay::End;

@@ -1,4 +1,4 @@
-// Waking the edges that end at a vertex, block by block. Definitions in plan_wake.
+// Waking the edges that end at a vertex, block by block. Definitions in specs/.
 ghost use Rattle.base_buffer.specs.Lent.{old, new};
 ghost use mathlib.Core.Path.{_≡_};
 ghost use Prim.Native.Nat.{_-_, _≤_};

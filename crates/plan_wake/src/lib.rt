@@ -1,6 +1,5 @@
-// Waking the edges that rest at a vertex when it is joined: they get keys again, and the floors of their blocks are
-// lowered to these. Definitions in specs/; plan_wake::ends and plan_wake are the code.
-// Waking the edges at the two components that a round joins. Definitions in plan_wake.
+// Waking the tracks that rest at a junction when it is joined: they get keys again, and the floors of their blocks are
+// lowered to these. Definitions in specs/Wake. `wake_joined` does it for the two components that a round joins.
 ghost use Rattle.base_buffer.specs.Lent.{old, new};
 ghost use mathlib.Core.Path.{_≡_};
 ghost use Rattle.plan_search.specs.Tables.{tablesIn};

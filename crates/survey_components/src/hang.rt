@@ -1,4 +1,4 @@
-// An edge joins two components that are trees. Definitions in survey_components::labels.
+// An edge joins two components that are trees. Definitions in specs/Roots.
 ghost use Rattle.base_buffer.specs.Lent.{old, new};
 ghost use mathlib.Core.Path.{_≡_};
 ghost use Rattle.survey_components.specs.Roots.{oneRoot, endsHung};

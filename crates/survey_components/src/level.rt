@@ -1,4 +1,4 @@
-// Trees become labels: each vertex hangs on its root. Definitions in survey_components::labels.
+// Trees become labels: each vertex hangs on its root. Definitions in specs/Roots.
 ghost use Rattle.base_buffer.specs.Lent.{old, new};
 ghost use mathlib.Core.Path.{_≡_};
 ghost use lib.ListN.{length};

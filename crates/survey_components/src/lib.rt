@@ -1,4 +1,5 @@
-// Sets of tracks by their marks, and the components that a set makes, as labels in a buffer.
+// Sets of tracks by their marks, the components that a set makes, as labels in a buffer, and its loops. Definitions in
+// specs/Labels, Roots, Met, Forest and Buffer. `set_labels` leaves labels, `forest_refusal` answers 21 or 14.
 ghost use Rattle.base_buffer.specs.Lent.{old, new};
 ghost use mathlib.Core.Path.{_≡_};
 ghost use Prim.Native.Nat.{ℕ};

@@ -1,1 +1,2 @@
-// Surveys as they are lent, what is sound of them and what is refused: definitions and laws in specs/. No functions.
+// A survey as it is lent: its lists (specs/Lists), what it asks of a plan (specs/Survey), what is refused of it and
+// what that leaves (specs/Refusal, Pairs, Sound), and the accuracy rule (specs/Accuracy). It holds no function.

@@ -1,4 +1,5 @@
-// How the members of the groups lie over components: a summary of each group.
+// How the members of groups lie over components: a summary of each group (specs/Spread), the member of its group before
+// each junction (specs/Mate). Functions find the lowest split group, say whether a cut separates, and count sites.
 ghost use Rattle.base_buffer.specs.Lent.{old, new};
 ghost use mathlib.Core.Path.{_≡_};
 ghost use Prim.Native.Nat.{ℕ, _+_, _<_, _^_};

@@ -3,7 +3,7 @@ use Prim.Native.Nat.{ℕ, zero, suc, _<_}
 use mathlib.Core.Path.{_≡_}
 use mathlib.Core.Bool.{true, _&&_, cond}
 use mathlib.Core.List.{List}
-use lib.ListN.{length}
+use lib.ListN.{length, getD}
 use lib.Dec.{eqb, ltb}
 use Rattle.base_finite.specs.Below.{counted, tabulate}
 use Rattle.base_limits.specs.Limits.{maxVertices, groupNumbers}
@@ -23,6 +23,17 @@ pub record ChainLinked (l : Lists) (u v : ℕ) : Type 0 where
   pub member-from : inList l from u ≡ true
   pub member-to : inList l to v ≡ true
   pub chain : Chained l from to
+
+-- These groups are the lists poured together: two junctions are in one of them exactly if a chain of lists links them.
+pub record IsPoured (l : Lists) (groups : List ℕ) : Type 0 where
+  pub long : length groups ≡ length (l .groups)
+  pub together : (u v : ℕ) → u < length (l .groups) → v < length (l .groups) → getD groups u 0 ≡ getD groups v 0 → (getD groups u 0 ≡ 0 → ⊥) → ChainLinked l u v
+  pub linked : (u v : ℕ) → u < length (l .groups) → v < length (l .groups) → ChainLinked l u v → (getD groups u 0 ≡ getD groups v 0) × (getD groups u 0 ≡ 0 → ⊥)
+
+-- A survey t into which s pours: it has the tracks of s, no pairs, and as its groups the lists of s poured together.
+pub record PoursInto (s t : Survey) : Type 0 where
+  pub tracks : t ≡ surveyFrom (t .groups) (s .firsts) (s .seconds) (s .weights)
+  pub groups : IsPoured (listsOf s) (t .groups)
 
 -- One list of v, if it is in any: its own group, or else the g of the first of its pairs.
 unfoldable pub homeBelow : Lists → (v m : ℕ) → ℕ

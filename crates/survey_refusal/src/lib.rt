@@ -1,4 +1,5 @@
-// The refusals of a survey with pairs.
+// Refusals 1 to 6 and 18 of a survey, decided: definitions in survey_core, the test over all tracks at once in
+// specs/Fault. `survey_refusal` judges a survey with pairs, `edges::survey_refusal` one without.
 ghost use mathlib.Core.Path.{_≡_};
 ghost use mathlib.Core.Bool.{_||_};
 ghost use lib.Dec.{eqb, ltb};

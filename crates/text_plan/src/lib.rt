@@ -1,7 +1,5 @@
-// What `plan` prints for a text.
-// A survey's text in, its plan's text out: definitions and laws in specs/. No functions.
-// A survey's text in, its plan's text out: what the program `plan` does between reading and writing. Definitions in
-// text_plan.
+// What `plan` prints for a text: a survey's text in, its plan's text or the two lines of a refusal out. Definitions in
+// specs/Output. `plan_text` answers the length for any buffer, `plan_whole` for one that always holds it.
 ghost use Rattle.base_buffer.specs.Lent.{old, new};
 ghost use mathlib.Core.Path.{_≡_};
 ghost use mathlib.Core.List.{_++_};

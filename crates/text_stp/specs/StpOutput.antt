@@ -3,7 +3,7 @@ use Prim.Native.Nat.{ℕ, _*_}
 use mathlib.Core.Bool.{cond}
 use mathlib.Core.List.{List, []}
 use lib.Dec.{ltb}
-use lib.ListN.{length, replicate}
+use lib.ListN.{length, replicate, take}
 use Rattle.base_limits.specs.Limits.{maxVertices, maxEdges, surveyRoom}
 use Rattle.base_limits.specs.Verdict.{Outcome, refusal, answer}
 use Rattle.format_write.specs.Text.{refusalText}
@@ -14,12 +14,20 @@ use Rattle.format_stp.specs.StpReading.{StpContent, stpReading}
 abbrev pub stpRoom : ℕ
 stpRoom = 17 * surveyRoom
 
--- What a text says, or the refusal, where there is room for every survey within the limits; a longer text is 7.
+-- Of a longer text, of whose first stpRoom bytes reading says this: 'the earliest finding wins', so a refusal before their end stands; where
+-- reading reaches their end the text is too long, 7.
+unfoldable pub beforeCut : {A : Type 0} → Outcome A → Outcome A
+beforeCut (refusal number place) = cond (ltb place stpRoom) (refusal number place) (refusal 7 0)
+beforeCut (answer x) = refusal 7 0
+
+unfoldable pub judged : {A : Type 0} → (length : ℕ) → Outcome A → Outcome A
+judged length o = cond (ltb stpRoom length) (beforeCut o) o
+
+-- What a text says, or the refusal, where there is room for every survey within the limits.
 unfoldable pub stpRead : List ℕ → Outcome StpContent
 stpRead t =
-    cond (ltb stpRoom (length t))
-    (refusal 7 stpRoom)
-    (stpReading t (replicate maxVertices 0) (replicate maxEdges 0) (replicate maxEdges 0) (replicate maxEdges 0))
+    judged (length t)
+    (stpReading (take stpRoom t) (replicate maxVertices 0) (replicate maxEdges 0) (replicate maxEdges 0) (replicate maxEdges 0))
 
 -- What is printed: the survey's text, or 'for a refusal two lines'.
 unfoldable pub stpText : Outcome StpContent → List ℕ

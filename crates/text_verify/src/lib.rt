@@ -1,8 +1,6 @@
-// What `verify` prints for a text.
-// A survey's text with a printed plan behind it in, what the check finds out: definitions and laws in specs/. No
-// functions.
-// Checks a survey's text with a printed plan behind it and prints what it finds: what the program `verify` does between
-// reading and writing. Definitions in text_verify.
+// What `verify` prints for a survey's text with a plan's behind it: `passed` with the figures, or the two lines of a
+// refusal. Definitions in specs/Output. `verify_text` answers the length for any buffer, `verify_whole` for one that
+// always holds it.
 ghost use Rattle.base_buffer.specs.Lent.{old, new};
 ghost use mathlib.Core.Path.{_≡_};
 ghost use mathlib.Core.List.{_++_};

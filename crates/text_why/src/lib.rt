@@ -1,7 +1,6 @@
-// What `why` prints for a text and a track.
-// A survey's text and a track number in, the reason's text out: definitions and laws in specs/. No functions.
-// A survey's text and a track number in, the reason's text out: what the program `why` does between reading and
-// writing.
+// What `why` prints for a text and a track: the reason's text, or the two lines of a refusal. Definitions in
+// specs/Output. `why_text` answers the length for any buffer, `why_whole` for one that always holds it; `track_number`
+// reads the argument.
 ghost use Rattle.base_buffer.specs.Lent.{old, new};
 ghost use mathlib.Core.Path.{_≡_};
 ghost use mathlib.Core.List.{_++_};

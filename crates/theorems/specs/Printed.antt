@@ -1,12 +1,20 @@
--- The plan of the survey that a text says, and its text as the program `plan` prints it.
+-- The plan of the survey that a text says, its text as the program `plan` prints it, and what the programs `plan` and
+-- `verify` print for any text.
 use Prim.Native.Nat.{ℕ}
+use mathlib.Core.Path.{_≡_}
 use mathlib.Core.List.{List}
+use Rattle.base_limits.specs.Verdict.{answer}
 use Rattle.check_printed.specs.Verify.{surveyIn}
 use Rattle.format_survey.specs.Reading.{SurveyText}
-use Rattle.format_write.specs.Text.{planText}
+use Rattle.format_write.specs.Text.{planText, refusalText}
 use Rattle.plan_rule.specs.Plan.{Plan, planOf}
 use Rattle.plan_draw.specs.Drawing.{recordsOf}
 use Rattle.survey_core.specs.Survey.{problemOf}
+use Rattle.survey_core.specs.Accuracy.{Accurate, DualBound}
+use Rattle.check_rule.specs.Check.{Checked}
+use Rattle.check_printed.specs.Worth.{Worth}
+use Rattle.text_plan.specs.Output.{surveyRead, planOutput}
+use Rattle.text_verify.specs.Output.{passedText, verifyOutput}
 
 -- The plan of the survey that a text says, and its text.
 abbrev pub planFor : SurveyText → Plan
@@ -14,3 +22,22 @@ planFor s = planOf (problemOf (surveyIn s))
 
 abbrev pub printedPlan : Plan → List ℕ
 printedPlan p = planText (p .terminals) (p .cost) (p .bound) (p .rounds) (p .marks) (recordsOf (p .duals))
+
+-- A plan that is printed for a text: the figures on its lines obey the accuracy rule for the survey that the text says.
+pub record AccuratePrint (t : List ℕ) (p : Plan) : Type 0 where
+  pub survey : SurveyText
+  pub read : surveyRead t ≡ answer survey
+  pub prints : planOutput t ≡ planText (p .terminals) (p .cost) (p .bound) (p .rounds) (p .marks) (recordsOf (p .duals))
+  pub accurate : Accurate (surveyIn survey) (p .terminals) (p .cost)
+  pub bounded : DualBound (surveyIn survey) (p .bound)
+
+-- What `plan` prints: the two lines of a refusal, or such a plan.
+pub data PlanPrints (t : List ℕ) : Type 0 where
+  printsRefusal : (number place : ℕ) → planOutput t ≡ refusalText number place → PlanPrints t
+  printsPlan : (p : Plan) → AccuratePrint t p → PlanPrints t
+
+-- What `verify` prints: the two lines of a refusal, or `passed` with a k, cost and bound that are worth what the
+-- accuracy rule says.
+pub data VerifyPrints (t : List ℕ) : Type 0 where
+  verifyRefusal : (number place : ℕ) → verifyOutput t ≡ refusalText number place → VerifyPrints t
+  verifyPassed : (c : Checked) → verifyOutput t ≡ passedText (c .terminals) (c .cost) (c .bound) → Worth t c → VerifyPrints t

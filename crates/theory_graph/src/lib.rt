@@ -1,1 +1,2 @@
-// Paths, cuts and components of a graph given by its edges' endpoints: definitions and laws in specs/, no functions.
+// Graphs given by their edges' endpoints: paths, cuts and forests (specs/Path), component labels (specs/Component).
+// Labels are equal exactly if the edges link. It holds no function.

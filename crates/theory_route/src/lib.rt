@@ -1,2 +1,1 @@
-// Routes between two vertices of a forest: what they are, and that there is one at most. Definitions and laws in
-// specs/, no functions.
+// Routes between two vertices of a forest (specs/Route): linked vertices have one, and only one. It holds no function.

@@ -1,7 +1,6 @@
-// Reads a survey text on standard input and a track number as its argument, and prints why the track has its mark, or
-// the two lines of a refusal. All between reading and writing is `text_why::why_whole`; a text longer than the
-// buffer has the output of its first bytes (`why-first-bytes`). Where the argument is no track number nothing is
-// printed.
+// Reads a survey's text on standard input and a track number as its argument, and prints why the track has its mark, or
+// the two lines of a refusal; nothing where the argument is no track number. All between reading and writing is
+// `text_why::why_whole`; a longer text has the output of its first bytes (`why-first-bytes`).
 ghost use mathlib.Core.Path.{_≡_};
 ghost use lib.ListN.{length};
 ghost use Rattle.base_limits.specs.Limits.{surveyRoom};

@@ -15,6 +15,13 @@ use Rattle.survey_components.specs.declared.Chosen.the-variants.{Kept}
 use Rattle.theory_route.specs.First.{firstBelow}
 use Rattle.why_rule.specs.Reason.{placeOf}
 use Rattle.why_core.specs.declared.parted.Pair.{Pair}
+use Rattle.why_core.specs.declared.parted.Tracks.{Tracks}
+use Rattle.why_core.specs.declared.parted.Tracks.the-variants.{Picks, Keeps}
+
+-- The lowest mark of these tracks: 1 picked, 2 kept.
+unfoldable pub leastMark : Tracks → ℕ
+leastMark Picks = 1
+leastMark Keeps = 2
 
 -- e has at least this mark, and is not the one left out.
 unfoldable pub markedBut : (marks : List ℕ) → (least out e : ℕ) → Bool

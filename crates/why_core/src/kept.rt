@@ -6,6 +6,7 @@ ghost use Rattle.survey_core.specs.Survey.{lentWith};
 ghost use Rattle.why_rule.specs.Answer.{whyOutcome};
 ghost use Rattle.why_core.specs.Kept.{heldMarks, keptCounts, KeptAnswer};
 use crate::parted::Pair;
+use crate::parted::Tracks;
 use base_buffer::wide;
 use base_limits::MAX_EDGES;
 use why_rule::Why;
@@ -49,9 +50,9 @@ pub fn explain_kept(
         ⌜ KeptAnswer s (old lists) (old marks) track (old route) (whyOutcome r) (new route) ⌝ }
 {
     let m = firsts.len();
-    let rest = crate::parted::marks_but(marks, 1, track, m);
+    let rest = crate::parted::marks_but(marks, Tracks::Picks, track, m);
     let pair = crate::parted::parted_pair(groups, firsts, seconds, weights, owners, others, &rest);
-    let kept = crate::parted::marks_but(marks, 2, m, m);
+    let kept = crate::parted::marks_but(marks, Tracks::Keeps, m, m);
     let from = pair.smaller;
     let to = pair.larger;
     let size = held(m);

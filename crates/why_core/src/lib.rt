@@ -1,4 +1,6 @@
-// Why a track is on the sheet: the call, which plans in buffers of its own. Definitions and promises in why_rule.
+// Why a track is on the sheet: the call, which plans in buffers of its own. Definitions and promises are why_rule's;
+// how pairs, rounds and routes are found is specs/Parted, Replay and Walk. `why` answers the reason and writes a kept
+// track's route, or refuses with 1 to 8, 18 or 19.
 ghost use Rattle.base_buffer.specs.Lent.{old, new};
 ghost use mathlib.Core.Path.{_≡_};
 ghost use mathlib.Core.List.{_++_};

@@ -2,6 +2,7 @@
 ghost use Rattle.base_buffer.specs.Lent.{old};
 ghost use mathlib.Core.Path.{_≡_};
 ghost use lib.ListN.{replicate};
+ghost use lib.Dec.{leb};
 ghost use Rattle.base_finite.specs.Below.{counted};
 ghost use Rattle.base_limits.specs.Limits.{maxEdges};
 ghost use Rattle.base_limits.specs.Verdict.{_before_};
@@ -11,7 +12,7 @@ ghost use Rattle.survey_core.specs.Refusal.{surveyRefusal, groupRefusal};
 ghost use Rattle.survey_components.specs.Labels.{chosen};
 ghost use Rattle.survey_components.specs.declared.Chosen.the-variants.{Kept};
 ghost use Rattle.why_rule.specs.Reason.{placeOf};
-ghost use Rattle.why_core.specs.Parted.{markedBut, PairOf};
+ghost use Rattle.why_core.specs.Parted.{leastMark, markedBut, PairOf};
 use base_limits::MAX_EDGES;
 use base_limits::Verdict;
 use survey_components::Chosen;
@@ -23,27 +24,67 @@ pub struct Pair {
     pub larger: usize,
 }
 
-// 2 for a track with at least this mark, unless it is the one left out; else 0.
-fn mark_but(marks: &[u8], least: u8, out: usize, e: usize) -> u8
-    ensures { λ r. ⌜ r ≡ counted (markedBut (old marks) least out e) 2 ⌝ }
+// Tracks by their marks: the picked ones, or the kept ones.
+pub enum Tracks {
+    Picks,
+    Keeps,
+}
+
+// Whether a mark is that of a picked track.
+fn is_pick(mark: u8) -> bool
+    ensures { λ r. ⌜ r ≡ leb 1 mark ⌝ }
 {
-    if base_buffer::at8(marks, e) < least {
-        return 0;
+    match mark {
+        0 => false,
+        1 => true,
+        2 => true,
+        _ => true,
     }
+}
+
+// Whether a mark is that of a kept track, or above.
+fn is_keep(mark: u8) -> bool
+    ensures { λ r. ⌜ r ≡ leb 2 mark ⌝ }
+{
+    match mark {
+        0 => false,
+        1 => false,
+        2 => true,
+        _ => true,
+    }
+}
+
+// Whether a mark is that of one of these tracks.
+fn is_among(set: Tracks, mark: u8) -> bool
+    ensures { λ r. ⌜ r ≡ leb (leastMark set) mark ⌝ }
+{
+    match set {
+        Tracks::Picks => is_pick(mark),
+        Tracks::Keeps => is_keep(mark),
+    }
+}
+
+// 2 for one of these tracks, unless it is the one left out; else 0.
+fn mark_but(marks: &[u8], set: Tracks, out: usize, e: usize) -> u8
+    ensures { λ r. ⌜ r ≡ counted (markedBut (old marks) (leastMark set) out e) 2 ⌝ }
+{
     if e == out {
         return 0;
     }
-    2
+    if is_among(set, base_buffer::at8(marks, e)) {
+        return 2;
+    }
+    0
 }
 
-// The tracks below m with at least this mark, but one, as marks of kept tracks.
-pub fn marks_but(marks: &[u8], least: u8, out: usize, m: usize) -> [u8; MAX_EDGES]
-    ensures { λ r. ⌜ r ≡ remade (λ e x. counted (markedBut (old marks) least out e) 2) m (replicate maxEdges 0) ⌝ }
+// These tracks below m, but one, as marks of kept tracks.
+pub fn marks_but(marks: &[u8], set: Tracks, out: usize, m: usize) -> [u8; MAX_EDGES]
+    ensures { λ r. ⌜ r ≡ remade (λ e x. counted (markedBut (old marks) (leastMark set) out e) 2) m (replicate maxEdges 0) ⌝ }
 {
     let mut chosen = [0u8; MAX_EDGES];
     let mut e = 0;
     while e < m {
-        base_buffer::put8(&mut chosen, e, mark_but(marks, least, out, e));
+        base_buffer::put8(&mut chosen, e, mark_but(marks, set, out, e));
         e += 1;
     }
     chosen

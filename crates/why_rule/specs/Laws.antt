@@ -1,4 +1,5 @@
 pub mod First
 pub mod Pair
+pub mod Kept
 pub mod Reason
 pub mod Promise

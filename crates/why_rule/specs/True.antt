@@ -1,7 +1,7 @@
 -- When a reason is true of the growth (document 02, No. 3; document 01, 'How moats grow').
 use Prim.Native.Nat.{ℕ, _<_, _≤_}
 use mathlib.Core.Path.{_≡_}
-use mathlib.Core.Logic.{_⊎_}
+use mathlib.Core.Logic.{_⊎_, _↔_}
 use mathlib.Core.Bool.{Bool, true, false}
 use mathlib.Core.List.{List}
 use Rattle.theory_graph.specs.Path.{Linked, without}
@@ -16,19 +16,28 @@ use Rattle.why_rule.specs.Reason.{Reason, needs, spared, passed, others}
 abbrev pub LinkedBy : Survey → (ℕ → Bool) → (u w : ℕ) → Type 0
 LinkedBy s F u w = Linked (problemOf s .first) (problemOf s .second) F u w
 
--- The lowest pair of members of g that the other picked tracks do not link: by the smaller number, then by the larger.
-pub record LowestPair (s : Survey) (e g u w : ℕ) : Type 0 where
+-- The kept tracks but this one: what the crew's sheet has without it.
+abbrev pub otherKept : Survey → (e : ℕ) → ℕ → Bool
+otherKept s e = without (kept (problemOf s)) e
+
+-- The lowest pair of members of g that the tracks of F do not link: by the smaller number, then by the larger.
+pub record LowestPair (s : Survey) (F : ℕ → Bool) (g u w : ℕ) : Type 0 where
   pub rising : u < w
   pub below : w < vertexCount s
   pub low-member : member s g u ≡ true
   pub high-member : member s g w ≡ true
-  pub parted : LinkedBy s (others s e) u w → ⊥
-  pub lowest : (x y : ℕ) → x < y → y < vertexCount s → member s g x ≡ true → member s g y ≡ true → (LinkedBy s (others s e) x y → ⊥) → (u < x) ⊎ ((u ≡ x) × (w ≤ y))
+  pub parted : LinkedBy s F u w → ⊥
+  pub lowest : (x y : ℕ) → x < y → y < vertexCount s → member s g x ≡ true → member s g y ≡ true → (LinkedBy s F x y → ⊥) → (u < x) ⊎ ((u ≡ x) × (w ≤ y))
 
 pub record NeedsTrue (s : Survey) (e g u w : ℕ) (route : List ℕ) : Type 0 where
   pub is-kept : kept (problemOf s) e ≡ true
+  -- the lowest list that the other picked tracks leave apart, and its lowest pair of members so parted
   pub lowest-list : LowestUnjoined s (others s e) g
-  pub lowest-pair : LowestPair s e g u w
+  pub lowest-pair : LowestPair s (others s e) g u w
+  -- and so it is with the other kept tracks: two members of one list are linked by the ones exactly if by the others
+  pub same-links : (h x y : ℕ) → x < vertexCount s → y < vertexCount s → member s h x ≡ true → member s h y ≡ true → LinkedBy s (others s e) x y ↔ LinkedBy s (otherKept s e) x y
+  pub lowest-kept-list : LowestUnjoined s (otherKept s e) g
+  pub lowest-kept-pair : LowestPair s (otherKept s e) g u w
   -- a path of kept tracks without a repeated junction, in walking order from the smaller; the only one; and the asked track is on it
   pub path : IsRoute (problemOf s .first) (problemOf s .second) (kept (problemOf s)) u w route
   pub only : (es : List ℕ) → IsRoute (problemOf s .first) (problemOf s .second) (kept (problemOf s)) u w es → es ≡ route

@@ -90,7 +90,8 @@ unfolding _before_
 found-first Fine r w = refl
 found-first (Refused number place) r w = refl
 
-size-first : (s : Survey) (w : Verdict) → (sizeRefusal (length (s .groups)) before surveyRefusal s before w) ≡ (surveyRefusal s before w)
+-- 1, which a survey is refused for first, is found twice.
+pub size-first : (s : Survey) (w : Verdict) → (sizeRefusal (length (s .groups)) before surveyRefusal s before w) ≡ (surveyRefusal s before w)
 unfolding sizeRefusal surveyRefusal vertexCount
 size-first s w = found-first (sizeRefusal (length (s .groups))) _ w
 

@@ -12,7 +12,7 @@ use Rattle.base_limits.specs.declared.Verdict.{Verdict}
 use Rattle.format_survey.specs.Reading.{filled}
 use Rattle.format_survey.specs.Line.{SurveyCounts, firstsOf, secondsOf, weightsOf}
 use Rattle.format_stp.specs.StpReading.{StpContent, stpReading}
-use Rattle.format_stp.specs.Subset.{StpGives, gives-1, gives-3, gives-7, gives-20}
+use Rattle.format_stp.specs.Promises.{StpGives, gives-1, gives-3, gives-7, gives-20}
 use Rattle.format_stp.specs.Laws.Accepted.{accepted-in, stp-numbers, stp-malformed-begins}
 use Rattle.format_stp.specs.Answer.{stpAnswer, stpCountsOf}
 use Rattle.format_stp.specs.declared.StpRead.{StpRead}

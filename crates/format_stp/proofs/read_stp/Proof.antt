@@ -11,6 +11,8 @@ use Rattle.format_stp.specs.StpReading.{stpOutcome}
 use Rattle.format_stp.specs.Answer.{stpAnswer, stpCountsOf}
 use Rattle.format_stp.specs.Laws.Lines.{said-found, said-refused}
 use Rattle.format_stp.specs.Laws.StpParts.{stp-refused, stp-stopped, stp-found, stp-fits, buffer-none, buffer-all}
+use Rattle.format_stp.specs.Laws.Promises.{promised}
+use Rattle.format_stp.specs.Promises.{stpBuffers}
 use Rattle.format_stp.proofs.read_stp.Statement.{statement}
 use Rattle.format_stp.proofs.read_stp.Tie as tie
 
@@ -20,16 +22,13 @@ unfolding stpAnswer stpCountsOf countsStep stopped stpOutcome
 returns c =
     let a = c .before .before .before .before .before .before .before .before .before .args in
     let told = c .before .enum-told .given .1 in
-    let r = stp-refused (a .text .now) (a .groups .now) (a .firsts .now) (a .seconds .now) (a .weights .now) (sym (c .before .before .before .counts .ensures) ∙ ap countsStep told) in (
-      c .stopped-counts .ensures ∙ ap (λ x. stpOutcome (stopped {B = SurveyCounts} (countsStep x))) told ∙ sym (ap stpCountsOf r),
-      (
-        buffer-kept (λ x. x .groups) (a .groups .now) r,
-        (
-          buffer-kept (λ x. firstsOf (x .lines)) (a .firsts .now) r,
-          (buffer-kept (λ x. secondsOf (x .lines)) (a .seconds .now) r, buffer-kept (λ x. weightsOf (x .lines)) (a .weights .now) r),
-        ),
-      ),
-    )
+    let r = stp-refused (a .text .now) (a .groups .now) (a .firsts .now) (a .seconds .now) (a .weights .now) (sym (c .before .before .before .counts .ensures) ∙ ap countsStep told) in
+    let counts = c .stopped-counts .ensures ∙ ap (λ x. stpOutcome (stopped {B = SurveyCounts} (countsStep x))) told ∙ sym (ap stpCountsOf r) in
+    let gs = buffer-kept (λ x. x .groups) (a .groups .now) r in
+    let fs = buffer-kept (λ x. firstsOf (x .lines)) (a .firsts .now) r in
+    let ss = buffer-kept (λ x. secondsOf (x .lines)) (a .seconds .now) r in
+    let ws = buffer-kept (λ x. weightsOf (x .lines)) (a .weights .now) r in
+    (counts, (gs, (fs, (ss, (ws, promised (a .text .now) (stpBuffers (a .groups .now) (a .firsts .now) (a .seconds .now) (a .weights .now)) counts gs fs ss ws)))))
 
 same-length : tie.Need-same-length
 same-length c = c .before .before .before .before .before .before .before .before .before .before .groups .given
@@ -52,16 +51,13 @@ returns-2 c =
     let f = c .before .before .before .before .before .before .before .before .before .before .before .read-lines .ensures in
     let b = said-refused (sym (f .0) ∙ ap numberStep told) in
     let e = sym (c .before .before .before .before .before .before .before .before .before .before .before .before .before .before .before .before .before .before .before .counts .ensures) ∙ ap countsStep (c .before .before .before .before .before .before .before .before .before .before .before .before .before .before .before .before .before .head .given .1) in
-    let r = stp-stopped (a .text .now) (a .groups .now) (a .firsts .now) (a .seconds .now) (a .weights .now) e b in (
-      c .stopped-lines .ensures ∙ ap (λ x. stpOutcome (stopped {B = SurveyCounts} (numberStep x))) told ∙ sym (ap stpCountsOf r),
-      (
-        f .1 ∙ buffer-none (λ x. x .groups) (a .groups .now) r b,
-        (
-          f .2 ∙ buffer-none (λ x. firstsOf (x .lines)) (a .firsts .now) r b,
-          (f .3 ∙ buffer-none (λ x. secondsOf (x .lines)) (a .seconds .now) r b, f .4 ∙ buffer-none (λ x. weightsOf (x .lines)) (a .weights .now) r b),
-        ),
-      ),
-    )
+    let r = stp-stopped (a .text .now) (a .groups .now) (a .firsts .now) (a .seconds .now) (a .weights .now) e b in
+    let counts = c .stopped-lines .ensures ∙ ap (λ x. stpOutcome (stopped {B = SurveyCounts} (numberStep x))) told ∙ sym (ap stpCountsOf r) in
+    let gs = f .1 ∙ buffer-none (λ x. x .groups) (a .groups .now) r b in
+    let fs = f .2 ∙ buffer-none (λ x. firstsOf (x .lines)) (a .firsts .now) r b in
+    let ss = f .3 ∙ buffer-none (λ x. secondsOf (x .lines)) (a .seconds .now) r b in
+    let ws = f .4 ∙ buffer-none (λ x. weightsOf (x .lines)) (a .weights .now) r b in
+    (counts, (gs, (fs, (ss, (ws, promised (a .text .now) (stpBuffers (a .groups .now) (a .firsts .now) (a .seconds .now) (a .weights .now)) counts gs fs ss ws)))))
 
 same-length-5 : tie.Need-same-length-5
 same-length-5 c = c .before .before .before .before .before .before .before .before .before .groups .given
@@ -84,19 +80,13 @@ returns-3 c =
     let b = said-found (sym (f .0) ∙ ap numberStep (c .enum-told2 .given .1)) in
     let e = sym (c .before .before .before .before .before .before .before .before .before .before .before .before .before .before .before .before .before .before .counts .ensures) ∙ ap countsStep (c .before .before .before .before .before .before .before .before .before .before .before .before .before .before .before .before .head .given .1) in
     let r = stp-found (a .text .now) (a .groups .now) (a .firsts .now) (a .seconds .now) (a .weights .now) e (b .is) in
-    let fit = stp-fits (a .text .now) (a .groups .now) (a .firsts .now) (a .seconds .now) (a .weights .now) e (b .is) in (
-      sym (ap stpCountsOf r ∙ (λ i. answer (record { vertices = fit .0 i; edges = fit .1 i }))),
-      (
-        f .1 ∙ buffer-all (λ x. x .groups) (a .groups .now) r (b .is) (fit .2 .groups),
-        (
-          f .2 ∙ buffer-all (λ x. firstsOf (x .lines)) (a .firsts .now) r (b .is) (fit .2 .firsts),
-          (
-            f .3 ∙ buffer-all (λ x. secondsOf (x .lines)) (a .seconds .now) r (b .is) (fit .2 .seconds),
-            f .4 ∙ buffer-all (λ x. weightsOf (x .lines)) (a .weights .now) r (b .is) (fit .2 .weights),
-          ),
-        ),
-      ),
-    )
+    let fit = stp-fits (a .text .now) (a .groups .now) (a .firsts .now) (a .seconds .now) (a .weights .now) e (b .is) in
+    let counts = sym (ap stpCountsOf r ∙ (λ i. answer (record { vertices = fit .0 i; edges = fit .1 i }))) in
+    let gs = f .1 ∙ buffer-all (λ x. x .groups) (a .groups .now) r (b .is) (fit .2 .groups) in
+    let fs = f .2 ∙ buffer-all (λ x. firstsOf (x .lines)) (a .firsts .now) r (b .is) (fit .2 .firsts) in
+    let ss = f .3 ∙ buffer-all (λ x. secondsOf (x .lines)) (a .seconds .now) r (b .is) (fit .2 .seconds) in
+    let ws = f .4 ∙ buffer-all (λ x. weightsOf (x .lines)) (a .weights .now) r (b .is) (fit .2 .weights) in
+    (counts, (gs, (fs, (ss, (ws, promised (a .text .now) (stpBuffers (a .groups .now) (a .firsts .now) (a .seconds .now) (a .weights .now)) counts gs fs ss ws)))))
 
 pub read-stp-spec : {M : Type 1} → statement M
 read-stp-spec =

@@ -16,7 +16,7 @@ use Rattle.format_read.specs.Bytes.{endAt}
 use Rattle.format_read.specs.Language.{Reads, NotMalformed, read, otherwise, Word}
 use Rattle.format_read.specs.Laws.Bytes.{end-here, end-later, read-same}
 use Rattle.format_read.specs.Laws.Language.{read-again, bound}
-use Rattle.format_read.specs.Laws.Stands.{stands-whole, stands-first, stands-second, as-long}
+use Rattle.format_read.specs.Laws.Stands.{stands-whole, stands-first, stands-second, stands-same, as-long}
 use Rattle.format_read.specs.Laws.Step.{then-found, then-refused, then-value, Stops, early, late, then-stops}
 use Rattle.format_read.specs.Stands.{Stands}
 use Rattle.format_read.specs.Step.{Step, found, refused, _then_}
@@ -30,7 +30,10 @@ use Rattle.format_stp.specs.Laws.Only.{StpRefusal, vertices, edges, shor
 use Rattle.format_stp.specs.Laws.Only.{malformed as of-its-form}
 use Rattle.format_stp.specs.StpReading.{StpContent, StpTests, stpContent, stpWhole, stpTests, stpNumber, stpOutcome, stpReading}
 use Rattle.format_stp.specs.StpWord.{emptyLines, afterEmpty}
-use Rattle.format_stp.specs.Subset.{StpFile, InSubset, IsStp, StpFits, StpBegins, StpEscapes, StpGives, gives-1, gives-3, gives-7, gives-20}
+use Rattle.format_stp.specs.Grammar.{StpText, IsStp}
+use Rattle.format_stp.specs.Laws.Grammar.{text-factored, factored-text}
+use Rattle.format_stp.specs.Promises.{StpFits, StpGives, gives-1, gives-3, gives-7, gives-20}
+use Rattle.format_stp.specs.Subset.{StpFile, StpFactored}
 
 -- ---- the tests
 
@@ -141,7 +144,7 @@ unfolding stpOutcome
 outcome-found (found b p) e = (p, cc)
 outcome-found (refused n p) e = let z : _≡_ {A = ℕ} 0 1 = cc in absurd (omega arith)
 
-not-malformed-number : (n : ℕ) → (n ≡ 16 → ⊥) → stpNumber n ≡ n
+pub not-malformed-number : (n : ℕ) → (n ≡ 16 → ⊥) → stpNumber n ≡ n
 unfolding stpNumber
 not-malformed-number n h = rw (ne-eqb n 16 h) refl
 
@@ -151,6 +154,18 @@ malformed-number n h e = by-test (eqb n 16) refl
     by-test : (b : Bool) → eqb n 16 ≡ b → n ≡ 16
     by-test true q = eqb-true n 16 q
     by-test false q = absurd (h (sym (not-malformed-number n (eqb-false n 16 q)) ∙ e))
+
+-- The bytes before a place go on to a text of the subset.
+pub record GoesOn (t : List ℕ) (p : ℕ) : Type 0 where
+  pub inside : p ≤ length t
+  pub rest : List ℕ
+  pub is : IsStp (take p t ++ rest)
+
+-- No 1, 3 or 7 is given.
+pub record Unrefused (t groups firsts seconds weights : List ℕ) : Type 0 where
+  pub one : (p : ℕ) → stpReading t groups firsts seconds weights ≡ refusal 1 p → ⊥
+  pub three : (p : ℕ) → stpReading t groups firsts seconds weights ≡ refusal 3 p → ⊥
+  pub seven : (p : ℕ) → stpReading t groups firsts seconds weights ≡ refusal 7 p → ⊥
 
 module _ (gb fb sb wb : List ℕ) where
   abbrev tests : StpTests
@@ -168,7 +183,7 @@ module _ (gb fb sb wb : List ℕ) where
   -- ---- accepted
 
   -- What is accepted is in the subset, its counts escape 1, 3 and 7, and what is read is what it says.
-  pub accepted-in : (t : List ℕ) (x : StpContent) → stpReading t gb fb sb wb ≡ answer x → InSubset x t × StpFits gb fb sb wb x
+  pub accepted-in : (t : List ℕ) (x : StpContent) → stpReading t gb fb sb wb ≡ answer x → StpText x t × StpFits gb fb sb wb x
   unfolding stpReading stpWhole stpTests
   accepted-in t x e =
       let f = outcome-found (stpWhole tests t) e in
@@ -176,8 +191,8 @@ module _ (gb fb sb wb : List ℕ) where
       let h = then-value (afterEmpty endAt t (g .1)) (λ z q. found (g .0) q) (g .3) in
       let same : g .0 ≡ x = cc (h .3) in
       let w = reads .sound t 0 (g .0) (g .1) (omega arith) (g .2) in
-      subst (λ (y : StpContent). InSubset y t × StpFits gb fb sb wb y) same
-      (by-end (g .0) (g .1) w (end-or-other t (g .1) (bound w .1)) (h .2), fits (g .0) (w .member))
+      subst (λ (y : StpContent). StpText y t × StpFits gb fb sb wb y) same
+      (factored-text (by-end (g .0) (g .1) w (end-or-other t (g .1) (bound w .1)) (h .2)), fits (g .0) (w .member))
     where
       fits : (y : StpContent) {v : List ℕ} → Passing y v → StpFits gb fb sb wb y
       fits y m =
@@ -185,7 +200,7 @@ module _ (gb fb sb wb : List ℕ) where
           let b = edges-passed (length fb) (length sb) (length wb) (y .edges) (file-edges m .passes) in
           record { some = a .some; mostVertices = a .most; forGroups = a .room; mostEdges = b .most; forFirsts = b .first; forSeconds = b .second; forWeights = b .weight }
 
-      by-end : (y : StpContent) (q : ℕ) → Word Passing t 0 y q → EndOrOther t q (afterEmpty endAt t q) → {z r : ℕ} → afterEmpty endAt t q ≡ found z r → InSubset y t
+      by-end : (y : StpContent) (q : ℕ) → Word Passing t 0 y q → EndOrOther t q (afterEmpty endAt t q) → {z r : ℕ} → afterEmpty endAt t q ≡ found z r → StpFactored y t
       by-end y q w (goes-on p o s) k = let z : _≡_ {A = ℕ} 0 1 = cc in absurd (omega arith)
       by-end y q w (ends r l s) k =
           let n : ℕ = emptyLines (drop q t) in
@@ -214,9 +229,10 @@ module _ (gb fb sb wb : List ℕ) where
       (0 + length file + k, ap (λ (j : ℕ). endAt t (0 + length file + j)) c ∙ end-here t (0 + length file + k) (omega arith))
 
   -- A text of the subset whose counts escape 1, 3 and 7 is accepted.
-  pub in-accepted : (t : List ℕ) (x : StpContent) → InSubset x t → StpFits gb fb sb wb x → stpReading t gb fb sb wb ≡ answer x
+  pub in-accepted : (t : List ℕ) (x : StpContent) → StpText x t → StpFits gb fb sb wb x → stpReading t gb fb sb wb ≡ answer x
   unfolding stpReading stpWhole stpTests stpOutcome
-  in-accepted t x m f =
+  in-accepted t x text f =
+      let m = text-factored text in
       let u = m .file ++ replicate (m .empty) newline in
       let a : Passes countDigits (tests .vertices) (x .vertices) = record { small = file-vertices (m .member); passes = vertices-fine (length gb) (x .vertices) (positive (f .some)) (f .mostVertices) (f .forGroups) } in
       let b : Passes countDigits (tests .edges) (x .edges) = record { small = file-edges (m .member); passes = edges-fine (length fb) (length sb) (length wb) (x .edges) (f .mostEdges) (f .forFirsts) (f .forSeconds) (f .forWeights) } in
@@ -250,16 +266,16 @@ module _ (gb fb sb wb : List ℕ) where
 
   module _ (t : List ℕ) (p : ℕ) (why : StpMalformed t p) where
     -- The bytes before the place begin a text of the subset.
-    begins : StpBegins t p
+    begins : GoesOn t p
     begins = by-place why
       where
-        by-place : StpMalformed t p → StpBegins t p
+        by-place : StpMalformed t p → GoesOn t p
         by-place (in-file h) =
             let x = reads .extends t 0 p (omega arith) h in
             record {
               inside = reads .place t 0 p (omega arith) h .1;
               rest = x .rest;
-              is = record { says = x .value; is = record { file = x .word; empty = 0; member = x .member; whole = x .whole ∙ sym (append-nil (x .word)) } };
+              is = record { says = x .value; is = factored-text (record { file = x .word; empty = 0; member = x .member; whole = x .whole ∙ sym (append-nil (x .word)) }) };
             }
         by-place (behind x q h o) =
             let w = reads .sound t 0 x q (omega arith) h in
@@ -274,12 +290,13 @@ module _ (gb fb sb wb : List ℕ) where
               rest = [];
               is = record {
                 says = x;
-                is = record {
-                  file = w .word;
-                  empty = k;
-                  member = reads .well x (w .word) (w .member);
-                  whole = append-nil (take p t) ∙ ap (λ (j : ℕ). take j t) z ∙ o .stands .is ∙ ap (λ (l : List ℕ). l ++ replicate k newline) front;
-                };
+                is = factored-text
+                    (record {
+                      file = w .word;
+                      empty = k;
+                      member = reads .well x (w .word) (w .member);
+                      whole = append-nil (take p t) ∙ ap (λ (j : ℕ). take j t) z ∙ o .stands .is ∙ ap (λ (l : List ℕ). l ++ replicate k newline) front;
+                    });
               };
             }
 
@@ -288,8 +305,8 @@ module _ (gb fb sb wb : List ℕ) where
     agrees-none u same s =
         by-place why (reads .notMalformed u 0 (s .says) (m .file) (m .member) (subst (λ (l : List ℕ). Stands l 0 (m .file)) (sym (m .whole)) (stands-first (m .file) (replicate (m .empty) newline) (stands-whole _))))
       where
-        m : InSubset (s .says) u
-        m = s .is
+        m : StpFactored (s .says) u
+        m = text-factored (s .is)
 
         by-found : (x : StpContent) (q : ℕ) → Other t q p → stpContent tests u 0 ≡ found x q → NotMalformed (stpContent tests u 0) (s .says) (0 + length (m .file)) → ⊥
         by-found x q o c (otherwise e k) = let z : _≡_ {A = ℕ} 0 1 = cc in omega arith
@@ -335,7 +352,7 @@ module _ (gb fb sb wb : List ℕ) where
 
   module _ (t : List ℕ) (p : ℕ) (e : stpReading t gb fb sb wb ≡ refusal 20 p) where
     -- The bytes before the place of 20 begin a text of the subset.
-    pub stp-malformed-begins : StpBegins t p
+    pub stp-malformed-begins : GoesOn t p
     stp-malformed-begins = begins t p (refused-there t p e)
 
     -- With the byte at that place they begin none.
@@ -347,11 +364,35 @@ module _ (gb fb sb wb : List ℕ) where
     pub stp-malformed-is-none : IsStp t → ⊥
     stp-malformed-is-none s = agrees-none t p (refused-there t p e) t refl s
 
-  -- A text of the subset that escapes 1, 3 and 7 is accepted, and what is read is what it says.
-  pub escaping-accepted : (t : List ℕ) (x : StpContent) → StpEscapes t gb fb sb wb → InSubset x t → stpReading t gb fb sb wb ≡ answer x
-  unfolding stpReading stpWhole stpOutcome
-  escaping-accepted t x h m = by-content (reads .notMalformed t 0 x (m .file) (m .member) stands)
+  -- A text that agrees up to the byte at that place is refused there too.
+  pub stp-same : (t u : List ℕ) (p : ℕ) → stpReading t gb fb sb wb ≡ refusal 20 p → take (p + 1) t ≡ take (p + 1) u → stpReading u gb fb sb wb ≡ refusal 20 p
+  unfolding stpReading stpWhole stpOutcome stpNumber afterEmpty
+  stp-same t u p e same = by-place (refused-there t p e)
     where
+      by-place : StpMalformed t p → stpOutcome (stpWhole tests u) ≡ refusal 20 p
+      by-place (in-file h) = ap stpOutcome (then-refused _ (reads .same t u 0 p (omega arith) h same))
+      by-place (behind x q h o) =
+          let from = o .from in
+          let inside = o .inside in
+          let place = o .place in
+          let k : ℕ = emptyLines (drop q t) in
+          let i : length (replicate k newline) ≡ k = length-lines k in
+          let c = read-again reads t u 0 x q (p + 1) (omega arith) (omega arith) same h in
+          let long = as-long t u p same (p + 1) (omega arith) (omega arith) in
+          let s : Stands u q (replicate k newline) = stands-same (p + 1) same (omega arith) (o .stands) in
+          let there : getD t p 0 ≡ getD u (q + k) 0 = read-same t u (p + 1) p same (omega arith) ∙ ap (λ (j : ℕ). getD u j 0) place in
+          let n : emptyLines (drop q u) ≡ k = empty-count u k q s (λ z. o .other (there ∙ z)) in
+          let end : endAt u (q + emptyLines (drop q u)) ≡ refused 16 p = ap (λ (j : ℕ). endAt u (q + j)) n ∙ ap (endAt u) (sym place) ∙ end-later u p (omega arith) in
+          ap stpOutcome (then-found _ c ∙ then-refused _ end)
+
+  -- A text of the subset that is given no 1, 3 or 7 is accepted, and what is read is what it says.
+  pub unrefused-accepted : (t : List ℕ) (x : StpContent) → Unrefused t gb fb sb wb → StpText x t → stpReading t gb fb sb wb ≡ answer x
+  unfolding stpReading stpWhole stpOutcome
+  unrefused-accepted t x h text = by-content (reads .notMalformed t 0 x (m .file) (m .member) stands)
+    where
+      m : StpFactored x t
+      m = text-factored text
+
       stands : Stands t 0 (m .file)
       stands = subst (λ (l : List ℕ). Stands l 0 (m .file)) (sym (m .whole)) (stands-first (m .file) (replicate (m .empty) newline) (stands-whole _))
 
@@ -397,9 +438,9 @@ module _ (gb fb sb wb : List ℕ) where
           by-number (edges z w) = gives-3 (sym same ∙ ap stpNumber z) (place ∙ w)
           by-number (short z w) = gives-7 (sym same ∙ ap stpNumber z) (place ∙ w)
 
-  -- A text outside the subset that escapes 1, 3 and 7 is refused with 20.
-  pub escaping-refused : (t : List ℕ) → StpEscapes t gb fb sb wb → (IsStp t → ⊥) → (p : ℕ) × (stpReading t gb fb sb wb ≡ refusal 20 p)
-  escaping-refused t h none = by-outcome (stpReading t gb fb sb wb) refl
+  -- A text outside the subset that is given none is refused with 20.
+  pub unrefused-refused : (t : List ℕ) → Unrefused t gb fb sb wb → (IsStp t → ⊥) → (p : ℕ) × (stpReading t gb fb sb wb ≡ refusal 20 p)
+  unrefused-refused t h none = by-outcome (stpReading t gb fb sb wb) refl
     where
       by-outcome : (o : Outcome StpContent) → stpReading t gb fb sb wb ≡ o → (p : ℕ) × (stpReading t gb fb sb wb ≡ refusal 20 p)
       by-outcome (answer x) e = absurd (none (record { says = x; is = accepted-in t x e .0 }))

@@ -124,7 +124,7 @@ reads-graph-section : Reads graphSection GraphSection GraphSection
 unfolding graphSection
 reads-graph-section = reads-as (λ t at. refl) section-to section-from section-to section-from (reads-by-byte letter section behind-reads commentLetter refl)
 
-reads-head : Reads stpHead StpHead StpHead
+pub reads-head : Reads stpHead StpHead StpHead
 unfolding stpHead
 reads-head = reads-then (reads-fixed headerLine) λ z. reads-then (reads-stp-line _ _ refl) λ y. reads-graph-section
 
@@ -154,7 +154,7 @@ module _ (n : ℕ) (most : n ≤ maxVertices) where
 
 -- ---- the counts
 
-count-starts : (b : ℕ) (word : List ℕ) → eqb b newline ≡ false → (P : ℕ → Type 0) (x : ℕ) (w : List ℕ) → Text P (lineOf (b ∷ word)) x w → StartsOther w
+pub count-starts : (b : ℕ) (word : List ℕ) → eqb b newline ≡ false → (P : ℕ → Type 0) (x : ℕ) (w : List ℕ) → Text P (lineOf (b ∷ word)) x w → StartsOther w
 unfolding lineOf
 count-starts b word e P x w m = subst StartsOther (sym (m .word)) (record { some = omega arith; other = eqb-false b newline e })
 

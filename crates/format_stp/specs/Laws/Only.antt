@@ -90,6 +90,10 @@ only-graph-section t at = only-by-byte _ (λ b. cond (eqb b commentLetter) comme
     by-letter q true = only-then _ _ (only-fixed commentRest t q) (λ z p. only-then _ _ (only-comment 0 (drop p t) p) (λ y r. only-stp-line graphLine t r))
     by-letter q false = only-fixed graphRest t q
 
+pub only-head : (t : List ℕ) (at : ℕ) → OnlyMalformed (stpHead t at)
+unfolding stpHead
+only-head t at = only-then _ _ (only-fixed headerLine t at) (λ z a. only-then _ _ (only-stp-line sectionWord t a) (λ y b. only-graph-section t b))
+
 only-edge : (n : ℕ) (t : List ℕ) (at : ℕ) → OnlyMalformed (afterEmpty (stpEdge n) t at)
 unfolding afterEmpty stpEdge stpEnd
 only-edge n t at =
@@ -122,7 +126,7 @@ only-section n t at =
     only-then _ _ (only-then _ _ (only-fixed terminalsWord t _) (λ z a. only-free (isFree [] 0 n) n newline t countDigits a)) (λ k c.
     only-then _ _ (only-terminals n t k (replicate n 0) c) (λ gs d. only-then _ _ (only-stp-line endLine t d) (λ x e. only-then _ _ (only-stp-line eofLine t e) (λ w f. only-found gs f))))))
 
-only-body : (n m : ℕ) (t : List ℕ) (at : ℕ) → OnlyMalformed (stpBody n m t at)
+pub only-body : (n m : ℕ) (t : List ℕ) (at : ℕ) → OnlyMalformed (stpBody n m t at)
 unfolding stpBody stpEdges whole
 only-body n m t at =
     only-then _ _ (only-then _ _ (only-edges n t m 0 at) (λ z p. only-found _ p)) (λ es p. only-then _ _ (only-section n t p) (λ gs q. only-found _ q))
@@ -172,20 +176,20 @@ unfolding refuseIf _before_
 only-two true y i j u v n p h k e = only-if true i u n p h e
 only-two false y i j u v n p h k e = only-if y j v n p k e
 
-only-after : (word t : List ℕ) (at : ℕ) → OnlyMalformed (afterEmpty (numberLine word countDigits) t at)
+pub only-after : (word t : List ℕ) (at : ℕ) → OnlyMalformed (afterEmpty (numberLine word countDigits) t at)
 unfolding afterEmpty
 only-after word t at = only-line word countDigits t _
 
-only-last : (t : List ℕ) (at : ℕ) → OnlyMalformed (afterEmpty endAt t at)
+pub only-last : (t : List ℕ) (at : ℕ) → OnlyMalformed (afterEmpty endAt t at)
 unfolding afterEmpty
 only-last t at = only-end t _
 
 -- Every refusal of reading.
 pub stp-refusals : (a b c d : ℕ) (t : List ℕ) (n p : ℕ) → stpWhole (stpTests a b c d) t ≡ refused n p → StpRefusal n p
-unfolding stpWhole stpContent stpHead countThen stpTests verticesTest edgesTest
+unfolding stpWhole stpContent countThen stpTests verticesTest edgesTest
 stp-refusals a b c d t n p e =
     stp-then _ _
-    (stp-then _ _ (of-form (only-then _ _ (only-fixed headerLine t 0) (λ z a. only-then _ _ (only-stp-line sectionWord t a) (λ y b. only-graph-section t b)))) (λ z q.
+    (stp-then _ _ (of-form (only-head t 0)) (λ z q.
     stp-then _ _ (of-form (only-after nodesWord t q)) (λ x r.
     only-guarded (verticesTest a x) (λ n p. only-two (eqb x 0 || ltb maxVertices x) (ltb a x) 1 7 0 0 n p (vertices refl refl) (short refl refl))
     (stp-then _ _ (of-form (only-after edgesWord t r)) (λ y s.

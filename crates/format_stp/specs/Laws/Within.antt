@@ -11,9 +11,10 @@ use Rattle.format_also.specs.WellFormed.{noPair}
 use Rattle.format_survey.specs.Line.{Edge, EdgeDigits}
 use Rattle.format_survey.specs.WellFormed.{WithinCounts}
 use Rattle.format_stp.specs.Laws.Accepted.{accepted-in}
+use Rattle.format_stp.specs.Laws.Grammar.{text-factored}
 use Rattle.format_stp.specs.StpReading.{StpContent, stpReading}
 use Rattle.format_stp.specs.StpWord.{AfterEmpty, Repeated, none, one}
-use Rattle.format_stp.specs.Subset.{StpEdgeIn, stpEdgeText, TerminalLines, InSubset}
+use Rattle.format_stp.specs.Subset.{StpEdgeIn, stpEdgeText, TerminalLines, StpFactored}
 use Rattle.format_stp.specs.Subset.{none as noLine, one as oneLine}
 
 -- ---- tracks
@@ -61,7 +62,7 @@ record Says (x : StpContent) : Type 0 where
   vertices : length (x .groups) ≡ x .vertices
   edges : length (x .lines) ≡ x .edges
 
-says : (x : StpContent) (t : List ℕ) → InSubset x t → Says x
+says : (x : StpContent) (t : List ℕ) → StpFactored x t → Says x
 says x t m =
     let counts = m .member .second in
     let body = counts .second .second in
@@ -81,7 +82,7 @@ says x t m =
 pub stp-within : (t groups firsts seconds weights : List ℕ) (x : StpContent) → stpReading t groups firsts seconds weights ≡ answer x → WithinCounts (x .groups) [] (x .lines)
 stp-within t groups firsts seconds weights x e =
     let a = accepted-in groups firsts seconds weights t x e in
-    let s = says x t (a .0) in
+    let s = says x t (text-factored (a .0)) in
     let f = a .1 in
     let v = s .vertices in
     let m = s .edges in
@@ -99,4 +100,4 @@ stp-within t groups firsts seconds weights x e =
 
 -- As many groups and tracks as the counts say.
 pub stp-sizes : (t groups firsts seconds weights : List ℕ) (x : StpContent) → stpReading t groups firsts seconds weights ≡ answer x → (length (x .groups) ≡ x .vertices) × (length (x .lines) ≡ x .edges)
-stp-sizes t groups firsts seconds weights x e = let s = says x t (accepted-in groups firsts seconds weights t x e .0) in (s .vertices, s .edges)
+stp-sizes t groups firsts seconds weights x e = let s = says x t (text-factored (accepted-in groups firsts seconds weights t x e .0)) in (s .vertices, s .edges)

@@ -36,7 +36,8 @@ use Rattle.plan_rule.specs.Plan.{planOf, planRefusal, PlanCounts, planCo
 use Rattle.plan_rule.specs.Promise.{Ready, Unjoinable, FinishedPlan, Promises}
 use Rattle.plan_rule.specs.Laws.Number.{before-cases, survey-never}
 use Rattle.plan_rule.specs.Laws.Ready.{fine-ready, ready-fine, all-bounded, buffers-fit}
-use Rattle.plan_rule.specs.Laws.Passes.{finished-passes, finished-accurate}
+use Rattle.plan_rule.specs.Laws.Passes.{finished-passes, finished-accurate, finished-bound}
+use Rattle.plan_rule.specs.Laws.Needed.{plan-needed}
 
 -- ---- 8
 
@@ -153,8 +154,10 @@ module _ (s : Survey) (numbered : ByteGroups s) (marks records : List ℕ) (fine
         rounds-steps = rounds .steps;
         rounds-rest = rounds .rest;
         bound-rounds = rounds .bound;
+        needed = rw cut-marks (plan-needed s (r .survey) (r .joinable));
         passes-checker = rw (cut-marks, cut-records) (finished-passes s (r .survey) (r .joinable) numbered);
         accuracy = finished-accurate s (r .survey) (r .joinable);
+        bound-halved = finished-bound s (r .survey) (r .joinable);
       }
 
 -- An answer with counts is a finished plan, and none of 1 to 8 applied.

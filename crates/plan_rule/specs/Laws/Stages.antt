@@ -207,12 +207,12 @@ module _ (s : Survey) (numbered : ByteGroups s) (marks records : List ℕ) {g : 
   pub stages-refused : {number place : ℕ} → g ≡ refusal number place
       → (refusal number place ≡ counting s (length marks) (length records))
       × ((grown-marks ≡ marksAfter s marks records)
-      × ((grown-records ≡ recordsAfter s marks records) × Promises s marks records (refusal number place)))
+      × ((grown-records ≡ recordsAfter s marks records) × (Promises s marks records (refusal number place) × InStages s marks records)))
   stages-refused {number} {place} h =
       let r : growing s (length marks) (length records) ≡ refusal number place = sym g-is ∙ h in
       let e : refusal number place ≡ counting s (length marks) (length records) = sym (stages .refuses number place .1 r) in
       let k = stages .marks-refused number place r in
-      (e, (marks-are ∙ k .0 ∙ sym (k .1 .0), (records-are, planning-promises s numbered marks records (refusal number place) e)))
+      (e, (marks-are ∙ k .0 ∙ sym (k .1 .0), (records-are, (planning-promises s numbered marks records (refusal number place) e, stages))))
 
   -- Growing finishes, and dropping is lent the first m marks.
   pub stages-finished : {c : PlanCounts} {o : Outcome PlanCounts} {d : Outcome DropCounts} {part : List ℕ} → g ≡ answer c
@@ -220,7 +220,7 @@ module _ (s : Survey) (numbered : ByteGroups s) (marks records : List ℕ) {g : 
       → o ≡ thenDropping g d
       → (o ≡ counting s (length marks) (length records))
       × ((part ++ drop (length (s .firsts) - 0) grown-marks ≡ marksAfter s marks records)
-      × ((grown-records ≡ recordsAfter s marks records) × Promises s marks records o))
+      × ((grown-records ≡ recordsAfter s marks records) × (Promises s marks records o × InStages s marks records)))
   unfolding edgeCount grownPart
   stages-finished {c} {o} {d} {part} h d-is part-is o-is = (
     e,
@@ -228,7 +228,7 @@ module _ (s : Survey) (numbered : ByteGroups s) (marks records : List ℕ) {g : 
       ap (λ (l : List ℕ). l ++ drop (length (s .firsts) - 0) grown-marks) (part-is ∙ ap (marksDropped s) lent)
           ∙ ap (λ (l : List ℕ). marksDropped s (take (length (s .firsts)) (marksGrown s marks records)) ++ l) rest
           ∙ sym (stages .marks-finished c (sym g-is ∙ h)),
-      (records-are, planning-promises s numbered marks records o e),
+      (records-are, (planning-promises s numbered marks records o e, stages)),
     ),
   )
     where

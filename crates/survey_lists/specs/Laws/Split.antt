@@ -20,7 +20,7 @@ use Rattle.base_limits.specs.declared.Verdict.the-variants.{Fine}
 use Rattle.base_limits.specs.Laws.Verdict.{lowest-cong}
 use Rattle.theory_steiner.specs.Problem.{Bounded}
 use Rattle.survey_core.specs.Lists.{Lists, own, owner, other, isPaired, inList}
-use Rattle.survey_core.specs.Survey.{Survey, listsOf, listsAlone, groupsAlone, vertexCount, edgeCount, member, groupJoined, problemOf}
+use Rattle.survey_core.specs.Survey.{Survey, surveyFrom, listsOf, listsAlone, groupsAlone, vertexCount, edgeCount, member, groupJoined, problemOf}
 use Rattle.survey_core.specs.Sound.{ByteGroups}
 use Rattle.survey_core.specs.Refusal.{groupRefusal}
 use Rattle.survey_core.specs.Pairs.{PairsSound}
@@ -30,8 +30,8 @@ use Rattle.survey_core.specs.Laws.Member.{IsMember, member-elim, member-intro, 
 use Rattle.survey_groups.specs.Spread.{spread, notedIn}
 use Rattle.survey_groups.specs.Laws.Spread.{split-lowest, spread-step}
 use Rattle.survey_lists.specs.Split.{splitList, pairGroup, entryGroup, entryVertex, entries}
-use Rattle.survey_lists.specs.Pouring.{pouredSurvey}
-use Rattle.survey_lists.specs.Laws.Plan.{poured-joins, poured-bytes}
+use Rattle.survey_lists.specs.Pouring.{IsPoured, pouredSurvey}
+use Rattle.survey_lists.specs.Laws.Plan.{into-joins, is-poured, poured-bytes}
 
 -- ---- the entries
 
@@ -231,11 +231,16 @@ module _ (l : Lists) (label : ℕ → ℕ) where
 
 -- ---- pouring
 
--- Whether a list is not joined is the same after pouring; only its number is not.
+-- Whether a list is not joined is the same after pouring, into whatever groups; only its number is not.
+pub into-refusal : (s : Survey) (number : ℕ) (F : ℕ → Bool) {groups : List ℕ} → IsPoured (listsOf s) groups → ByteGroups s → ByteGroups (surveyFrom groups (s .firsts) (s .seconds) (s .weights))
+    → Bounded (problemOf s) F → (groupRefusal s number F ≡ Fine) ↔ (groupRefusal (surveyFrom groups (s .firsts) (s .seconds) (s .weights)) number F ≡ Fine)
+unfolding problemOf edgeCount
+into-refusal s number F {groups} poured numbered bytes bounded =
+    let t = surveyFrom groups (s .firsts) (s .seconds) (s .weights) in (
+      λ h. joins-fine t number F bounded (into-joins s poured F bounded .0 (group-fine s number F bounded numbered h)),
+      λ h. joins-fine s number F bounded (into-joins s poured F bounded .1 (group-fine t number F bounded bytes h)),
+    )
+
 pub poured-refusal : (s : Survey) (number : ℕ) (F : ℕ → Bool) → PairsSound (listsOf s) → ByteGroups s → Bounded (problemOf s) F
     → (groupRefusal s number F ≡ Fine) ↔ (groupRefusal (pouredSurvey s) number F ≡ Fine)
-unfolding problemOf edgeCount
-poured-refusal s number F sound numbered bounded = (
-  λ h. joins-fine (pouredSurvey s) number F bounded (poured-joins s sound F bounded .0 (group-fine s number F bounded numbered h)),
-  λ h. joins-fine s number F bounded (poured-joins s sound F bounded .1 (group-fine (pouredSurvey s) number F bounded (poured-bytes s numbered) h)),
-)
+poured-refusal s number F sound numbered bounded = into-refusal s number F (is-poured (listsOf s) sound) numbered (poured-bytes s numbered) bounded

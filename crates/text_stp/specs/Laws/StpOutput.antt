@@ -1,12 +1,14 @@
--- Laws of what `stp` prints: what is printed by the outcome of reading; that `surveyRoom` bytes hold it; that a printed survey is read back; that a
--- text too long is known by its first bytes.
+-- Laws of what `stp` prints: what is printed by the outcome of reading; that `surveyRoom` bytes hold it; that a printed survey is read back; that the
+-- first bytes decide it.
 use Prim.Native.Nat.{ℕ, _+_, _^_, _≤_, _<_}
 use native.Mathlib.Omega.{arith}
+use mathlib.Core.Bool.{Bool, true, false, cond}
 use mathlib.Core.List.{List, [], map}
 use mathlib.Core.Logic.{_⊎_, inl, inr}
 use mathlib.Core.Path.{_≡_, refl, ap, sym, _∙_, subst}
+use lib.Dec.{ltb}
 use lib.ListN.{length, take, drop, getD, replicate, length-map, List·getD-map}
-use lib.Seq.{take-at, take-all, ext-getD, length-take-le}
+use lib.Seq.{take-at, take-all, ext-getD, length-take-le, take-take}
 use borrow.Author.Tests.{lt-ltb, le-ltb}
 use Rattle.base_finite.specs.Below.{tabulate}
 use Rattle.base_finite.specs.Laws.Below.{lt-or-ge, length-tabulate, getD-tabulate}
@@ -29,29 +31,57 @@ use Rattle.format_stp.specs.StpReading.{StpContent, stpReading}
 use Rattle.format_stp.specs.Answer.{stpCountsOf}
 use Rattle.format_stp.specs.Laws.Within.{stp-within, stp-sizes}
 use Rattle.text_stp.specs.Stored.{storedSurvey, storedPrinted, storedPrintedOut, StoredWords, unreadWords, readWords}
-use Rattle.text_stp.specs.StpOutput.{stpRoom, stpRead, stpText, stpOutput}
+use Rattle.text_stp.specs.StpOutput.{stpRoom, beforeCut, judged, stpRead, stpText, stpOutput}
 
 -- ---- reading
 
--- Reading a text that is not too long, into buffers of the limits' sizes.
+-- Reading a text, into buffers of the limits' sizes.
 abbrev pub readWhole : List ℕ → Outcome StpContent
 readWhole t = stpReading t (replicate maxVertices 0) (replicate maxEdges 0) (replicate maxEdges 0) (replicate maxEdges 0)
 
-read-long : (t : List ℕ) → stpRoom < length t → stpRead t ≡ refusal 7 stpRoom
-unfolding stpRead
-read-long t h = rw (lt-ltb stpRoom (length t) h) refl
+module _ {A : Type 0} (l : ℕ) where
+  judged-short : (o : Outcome A) → l ≤ stpRoom → judged l o ≡ o
+  unfolding judged
+  judged-short o h = rw (le-ltb stpRoom l h) refl
+
+  judged-long : (o : Outcome A) → stpRoom < l → judged l o ≡ beforeCut o
+  unfolding judged
+  judged-long o h = rw (lt-ltb stpRoom l h) refl
+
+  -- What is answered was read whole.
+  judged-answer : (o : Outcome A) {x : A} → judged l o ≡ answer x → (o ≡ answer x) × (l ≤ stpRoom)
+  unfolding beforeCut
+  judged-answer o {x} e = by-length (lt-or-ge stpRoom l)
+    where
+      cut : (o : Outcome A) → beforeCut o ≡ answer x → ⊥
+      cut (answer y) e = let z : _≡_ {A = ℕ} 0 1 = cc in omega arith
+      cut (refusal n p) e = by-place (ltb p stpRoom) e
+        where
+          by-place : (b : Bool) → cond b (refusal n p) (refusal 7 0) ≡ answer x → ⊥
+          by-place true e = let z : _≡_ {A = ℕ} 0 1 = cc in omega arith
+          by-place false e = let z : _≡_ {A = ℕ} 0 1 = cc in omega arith
+
+      by-length : (stpRoom < l) ⊎ (l ≤ stpRoom) → (o ≡ answer x) × (l ≤ stpRoom)
+      by-length (inl h) = absurd (cut o (sym (judged-long o h) ∙ e))
+      by-length (inr h) = (sym (judged-short o h) ∙ e, h)
+
+-- The counts are judged as what is read.
+judged-counts : (l : ℕ) (o : Outcome StpContent) → judged l (stpCountsOf o) ≡ stpCountsOf (judged l o)
+unfolding judged beforeCut stpCountsOf
+judged-counts l o = by-length (ltb stpRoom l) o
+  where
+    by-length : (b : Bool) (o : Outcome StpContent) → cond b (beforeCut (stpCountsOf o)) (stpCountsOf o) ≡ stpCountsOf (cond b (beforeCut o) o)
+    by-length false o = refl
+    by-length true (answer x) = refl
+    by-length true (refusal n p) = by-place (ltb p stpRoom)
+      where
+        by-place : (c : Bool) → cond c (refusal n p) (refusal 7 0) ≡ stpCountsOf (cond c (refusal n p) (refusal 7 0))
+        by-place true = refl
+        by-place false = refl
 
 read-short : (t : List ℕ) → length t ≤ stpRoom → stpRead t ≡ readWhole t
 unfolding stpRead
-read-short t h = rw (le-ltb stpRoom (length t) h) refl
-
-pub long-output : (t : List ℕ) → stpRoom < length t → refusalText 7 stpRoom ≡ stpOutput t
-unfolding stpOutput stpText
-long-output t h = sym (ap stpText (read-long t h))
-
-output-read : (t : List ℕ) → length t ≤ stpRoom → stpOutput t ≡ stpText (readWhole t)
-unfolding stpOutput
-output-read t h = ap stpText (read-short t h)
+read-short t h = judged-short (length t) (readWhole (take stpRoom t)) h ∙ ap readWhole (take-all stpRoom t h)
 
 -- A refusal's lines fit the room for surveys.
 pub refusal-room : (number place : ℕ) → number < 2 ^ 64 → place < 2 ^ 64 → length (refusalText number place) ≤ surveyRoom
@@ -112,54 +142,58 @@ part-read {x = x} values old n is long e =
     ap (take n) (e ∙ ap (λ (o : Outcome StpContent). filled o values old) is) ∙ take-at (values x) (drop (length (values x)) old) n long
 
 -- `counts` is what reading answers.
-module _ (t : List ℕ) (short : length t ≤ stpRoom) {counts : Outcome SurveyCounts} (told-counts : counts ≡ stpCountsOf (readWhole t)) where
+module _ (t : List ℕ) {counts : Outcome SurveyCounts} (told-counts : counts ≡ stpCountsOf (stpRead t)) where
   refused-output : {n p : ℕ} → counts ≡ refusal n p → refusalText n p ≡ stpOutput t
-  unfolding stpText
-  refused-output told = sym (output-read t short ∙ ap stpText (counts-refused (readWhole t) (sym told-counts ∙ told)))
+  unfolding stpOutput stpText
+  refused-output told = sym (ap stpText (counts-refused (stpRead t) (sym told-counts ∙ told)))
 
   module _ {n m : ℕ} (told : counts ≡ answer (record { vertices = n; edges = m })) where
-    found : ReadOf (readWhole t) n m
-    found = counts-read (readWhole t) (sym told-counts ∙ told)
+    found : ReadOf (stpRead t) n m
+    found = counts-read (stpRead t) (sym told-counts ∙ told)
 
     abbrev x : StpContent
     x = found .said
 
+    first : readWhole (take stpRoom t) ≡ answer x
+    unfolding stpRead
+    first = judged-answer (length t) (readWhole (take stpRoom t)) (found .is) .0
+
     within : WithinCounts (x .groups) [] (x .lines)
-    within = stp-within t _ _ _ _ x (found .is)
+    within = stp-within (take stpRoom t) _ _ _ _ x first
 
     many : length (x .groups) ≡ n
-    many = stp-sizes t _ _ _ _ x (found .is) .0 ∙ found .vertices
+    many = stp-sizes (take stpRoom t) _ _ _ _ x first .0 ∙ found .vertices
 
     long : length (x .lines) ≡ m
-    long = stp-sizes t _ _ _ _ x (found .is) .1 ∙ found .edges
+    long = stp-sizes (take stpRoom t) _ _ _ _ x first .1 ∙ found .edges
 
     output-is : render (x .groups) [] (x .lines) ≡ stpOutput t
-    unfolding stpText
-    output-is = sym (output-read t short ∙ ap stpText (found .is))
+    unfolding stpOutput stpText
+    output-is = sym (ap stpText (found .is))
 
     output-room : length (stpOutput t) ≤ surveyRoom
     output-room = let l = longest-within within in omega (arith, ap length output-is)
 
     -- The survey of the parts of the buffers that were filled.
-    module _ {groups firsts seconds weights : List ℕ} (gb fb sb wb : List ℕ) (g : groups ≡ filled (readWhole t) (λ x. x .groups) gb) (f : firsts ≡ filled (readWhole t) (λ x. firstsOf (x .lines)) fb)
-        (s : seconds ≡ filled (readWhole t) (λ x. secondsOf (x .lines)) sb) (w : weights ≡ filled (readWhole t) (λ x. weightsOf (x .lines)) wb) where
+    module _ {groups firsts seconds weights : List ℕ} (gb fb sb wb : List ℕ) (g : groups ≡ filled (readWhole (take stpRoom t)) (λ x. x .groups) gb) (f : firsts ≡ filled (readWhole (take stpRoom t)) (λ x. firstsOf (x .lines)) fb)
+        (s : seconds ≡ filled (readWhole (take stpRoom t)) (λ x. secondsOf (x .lines)) sb) (w : weights ≡ filled (readWhole (take stpRoom t)) (λ x. weightsOf (x .lines)) wb) where
       abbrev part : SurveyText
       part = storedSurvey (record { vertices = n; edges = m }) groups firsts seconds weights
 
       gs : take n groups ≡ x .groups
-      gs = part-read (λ x. x .groups) gb n (found .is) many g
+      gs = part-read (λ x. x .groups) gb n first many g
 
       fs : take m firsts ≡ firstsOf (x .lines)
       unfolding firstsOf
-      fs = part-read (λ x. firstsOf (x .lines)) fb m (found .is) (length-map (x .lines) (λ e. e .first) ∙ long) f
+      fs = part-read (λ x. firstsOf (x .lines)) fb m first (length-map (x .lines) (λ e. e .first) ∙ long) f
 
       ss : take m seconds ≡ secondsOf (x .lines)
       unfolding secondsOf
-      ss = part-read (λ x. secondsOf (x .lines)) sb m (found .is) (length-map (x .lines) (λ e. e .second) ∙ long) s
+      ss = part-read (λ x. secondsOf (x .lines)) sb m first (length-map (x .lines) (λ e. e .second) ∙ long) s
 
       ws : take m weights ≡ weightsOf (x .lines)
       unfolding weightsOf
-      ws = part-read (λ x. weightsOf (x .lines)) wb m (found .is) (length-map (x .lines) (λ e. e .weight) ∙ long) w
+      ws = part-read (λ x. weightsOf (x .lines)) wb m first (length-map (x .lines) (λ e. e .weight) ∙ long) w
 
       text : surveyText part ≡ stpOutput t
       unfolding surveyText pairsFrom tabulate
@@ -180,51 +214,51 @@ module _ (t : List ℕ) (short : length t ≤ stpRoom) {counts : Outcome SurveyC
       )
 
 -- What is printed of the answer of reading and of the buffers that it filled.
-module _ (t : List ℕ) (short : length t ≤ stpRoom) {groups firsts seconds weights : List ℕ} (gb fb sb wb : List ℕ) (g : groups ≡ filled (readWhole t) (λ x. x .groups) gb) (f : firsts ≡ filled (readWhole t) (λ x. firstsOf (x .lines)) fb)
-    (s : seconds ≡ filled (readWhole t) (λ x. secondsOf (x .lines)) sb) (w : weights ≡ filled (readWhole t) (λ x. weightsOf (x .lines)) wb) (out : List ℕ) where
-  by-words : (o : Outcome SurveyCounts) → StoredWords o → o ≡ stpCountsOf (readWhole t)
+module _ (t : List ℕ) {groups firsts seconds weights : List ℕ} (gb fb sb wb : List ℕ) (g : groups ≡ filled (readWhole (take stpRoom t)) (λ x. x .groups) gb) (f : firsts ≡ filled (readWhole (take stpRoom t)) (λ x. firstsOf (x .lines)) fb)
+    (s : seconds ≡ filled (readWhole (take stpRoom t)) (λ x. secondsOf (x .lines)) sb) (w : weights ≡ filled (readWhole (take stpRoom t)) (λ x. weightsOf (x .lines)) wb) (out : List ℕ) where
+  by-words : (o : Outcome SurveyCounts) → StoredWords o → o ≡ stpCountsOf (stpRead t)
       → (storedPrinted o groups firsts seconds weights out ≡ printed (stpOutput t) out)
       × ((storedPrintedOut o groups firsts seconds weights out ≡ printedOut (stpOutput t) out) × (length (stpOutput t) ≤ surveyRoom))
   unfolding storedPrinted storedPrintedOut
   by-words o (unreadWords {number} {place} hn hp) told =
-      let text = refused-output t short told refl in (
+      let text = refused-output t told refl in (
         ap (λ (l : List ℕ). printed l out) text,
         (ap (λ (l : List ℕ). printedOut l out) text, subst (λ (l : List ℕ). length l ≤ surveyRoom) text (refusal-room number place hn hp)),
       )
-  by-words o readWords told = survey-prints t short told refl gb fb sb wb g f s w out
+  by-words o readWords told = survey-prints t told refl gb fb sb wb g f s w out
 
-  pub read-printed : {o : Outcome SurveyCounts} {r : Printed} {new : List ℕ} → o ≡ stpCountsOf (readWhole t)
-      → (r ≡ storedPrinted o groups firsts seconds weights out) × ((new ≡ storedPrintedOut o groups firsts seconds weights out) × StoredWords o)
+  pub read-printed : {o said : Outcome SurveyCounts} {r : Printed} {new : List ℕ} → o ≡ stpCountsOf (readWhole (take stpRoom t)) → said ≡ judged (length t) o
+      → (r ≡ storedPrinted said groups firsts seconds weights out) × ((new ≡ storedPrintedOut said groups firsts seconds weights out) × StoredWords said)
       → (r ≡ printed (stpOutput t) out) × ((new ≡ printedOut (stpOutput t) out) × (length (stpOutput t) ≤ surveyRoom))
-  read-printed {o} told p = let q = by-words o (p .1 .1) told in (p .0 ∙ q .0, (p .1 .0 ∙ q .1 .0, q .1 .1))
+  unfolding stpRead
+  read-printed {said = said} told is p =
+      let all = is ∙ ap (judged (length t)) told ∙ judged-counts (length t) (readWhole (take stpRoom t)) in
+      let q = by-words said (p .1 .1) all in
+      (p .0 ∙ q .0, (p .1 .0 ∙ q .1 .0, q .1 .1))
 
 -- ---- what is printed
 
 -- A survey that is printed is read by our own reader, and says what the STP text says.
 pub output-read-back : (t : List ℕ) (x : StpContent) → stpRead t ≡ answer x → reading (stpOutput t) widest ≡ answer (surveyOfText (x .groups) [] (x .lines))
-unfolding stpOutput stpText
-output-read-back t x e = ap (λ (o : Outcome StpContent). reading (stpText o) widest) e ∙ by-length (lt-or-ge stpRoom (length t))
-  where
-    back : length t ≤ stpRoom → reading (render (x .groups) [] (x .lines)) widest ≡ answer (surveyOfText (x .groups) [] (x .lines))
-    back h =
-        let w = stp-within t _ _ _ _ x (sym (read-short t h) ∙ e) in
-        let a = w .fewGroups in
-        let b = w .fewEdges in
-        read-render widest (x .groups) [] (x .lines) w (record { forGroups = a; forFirsts = b; forSeconds = b; forWeights = b; forOwners = omega arith; forOthers = omega arith })
-
-    other : _≡_ {A = Outcome StpContent} (refusal 7 stpRoom) (answer x) → ⊥
-    other h = let z : _≡_ {A = ℕ} 0 1 = cc in omega arith
-
-    by-length : (stpRoom < length t) ⊎ (length t ≤ stpRoom) → reading (render (x .groups) [] (x .lines)) widest ≡ answer (surveyOfText (x .groups) [] (x .lines))
-    by-length (inl h) = absurd (other (sym (read-long t h) ∙ e))
-    by-length (inr h) = back h
+unfolding stpOutput stpText stpRead
+output-read-back t x e =
+    let f = judged-answer (length t) (readWhole (take stpRoom t)) e in
+    let w = stp-within (take stpRoom t) _ _ _ _ x (f .0) in
+    let a = w .fewGroups in
+    let b = w .fewEdges in
+    ap (λ (o : Outcome StpContent). reading (stpText o) widest) e
+    ∙ read-render widest (x .groups) [] (x .lines) w (record { forGroups = a; forFirsts = b; forSeconds = b; forWeights = b; forOwners = omega arith; forOthers = omega arith })
 
 -- The first stpRoom + 1 bytes of a text decide what is printed for it.
 pub stp-first-bytes : (t : List ℕ) → stpOutput (take (stpRoom + 1) t) ≡ stpOutput t
+unfolding stpRead stpOutput
 stp-first-bytes t = by-length (lt-or-ge stpRoom (length t))
   where
-    by-length : (stpRoom < length t) ⊎ (length t ≤ stpRoom) → stpOutput (take (stpRoom + 1) t) ≡ stpOutput t
-    by-length (inl h) =
+    long : stpRoom < length t → stpRead (take (stpRoom + 1) t) ≡ stpRead t
+    long h =
         let l = length-take-le (stpRoom + 1) t (omega arith) in
-        sym (long-output (take (stpRoom + 1) t) (omega (arith, l))) ∙ long-output t h
+        judged-long (length (take (stpRoom + 1) t)) _ (omega (arith, l)) ∙ ap (λ (u : List ℕ). beforeCut (readWhole u)) (take-take stpRoom (stpRoom + 1) t (omega arith)) ∙ sym (judged-long (length t) _ h)
+
+    by-length : (stpRoom < length t) ⊎ (length t ≤ stpRoom) → stpOutput (take (stpRoom + 1) t) ≡ stpOutput t
+    by-length (inl h) = ap stpText (long h)
     by-length (inr h) = ap stpOutput (take-all (stpRoom + 1) t (omega arith))

@@ -9,7 +9,7 @@ use mathlib.Core.List.{List}
 use lib.ListN.{length, getD, take, replicate, length-replicate, getD-replicate, List·getD-eq-default}
 use lib.Seq.{getD-take, length-take-le}
 use lib.Dec.{eqb, leb}
-use borrow.Author.Tests.{ne-eqb, eq-eqb, le-leb, lt-leb}
+use borrow.Author.Tests.{ne-eqb, eq-eqb}
 use Rattle.base_finite.specs.Below.{counted}
 use Rattle.base_finite.specs.Laws.Below.{lt-or-ge, counted-false}
 use Rattle.base_finite.specs.Laws.Test.{not-true-false, true-not-false, and-right}
@@ -88,17 +88,17 @@ module _ (t : ℕ → Bool) (m : ℕ) (few : m ≤ maxEdges) {all : List ℕ} (a
 -- ---- one mark, as the code finds it
 
 module _ (marks : List ℕ) (least out e : ℕ) where
-  pub below-least : {x : ℕ} → x ≡ getD marks e 0 → x < least → 0 ≡ counted (markedBut marks least out e) 2
+  pub not-among : {x : ℕ} → x ≡ getD marks e 0 → leb least x ≡ false → 0 ≡ counted (markedBut marks least out e) 2
   unfolding markedBut counted
-  below-least is h = rw (lt-leb least (getD marks e 0) (subst (λ x. x < least) is h))
+  not-among is h = let k : leb least (getD marks e 0) ≡ false = subst (λ x. leb least x ≡ false) is h in rw k
 
   pub left-out : e ≡ out → 0 ≡ counted (markedBut marks least out e) 2
   unfolding markedBut
   left-out h = sym (counted-false (not-true-false _ (λ k. true-not-false (not (eqb e out)) (and-right (leb least (getD marks e 0)) _ k) (ap not (eq-eqb e out h)))) 2)
 
-  pub marked-two : {x : ℕ} → x ≡ getD marks e 0 → least ≤ x → (e ≡ out → ⊥) → 2 ≡ counted (markedBut marks least out e) 2
+  pub marked-two : {x : ℕ} → x ≡ getD marks e 0 → leb least x ≡ true → (e ≡ out → ⊥) → 2 ≡ counted (markedBut marks least out e) 2
   unfolding markedBut counted
-  marked-two is h d = rw (le-leb least (getD marks e 0) (subst (λ x. least ≤ x) is h), ne-eqb e out d)
+  marked-two is h d = let k : leb least (getD marks e 0) ≡ true = subst (λ x. leb least x ≡ true) is h in rw (k, ne-eqb e out d)
 
 -- ---- the pair, as the code finds it
 

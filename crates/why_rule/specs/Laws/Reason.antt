@@ -36,6 +36,7 @@ use Rattle.survey_components.specs.Laws.Forest.{forest-sub}
 use Rattle.why_rule.specs.Reason.{spared, others, placeOf, partedList, isParted, lowMember, highMember, keptReason, joinedAfter, roundOf, reasonOf}
 use Rattle.why_rule.specs.True.{LinkedBy, LowestPair, NeedsTrue, SparedTrue, LinkedAfter, FirstJoined, TrueOf, needs-true, spared-true, passed-true}
 use Rattle.why_rule.specs.Laws.First.{zero-first, zero-none}
+use Rattle.why_rule.specs.Laws.Kept.{others-alike, kept-list, kept-pair}
 use Rattle.why_rule.specs.Laws.Pair.{parted-first, parted-second, parted-labels, parted-intro, low-first, high-first, pair-parted, low-lt-high, pair-lowest}
 
 module _ (s : Survey) (sound : SurveySound s) where
@@ -176,7 +177,7 @@ module _ (s : Survey) (sound : SurveySound s) where
       pair-apart : LinkedBy s (others s e) low high → ⊥
       pair-apart = labels-apart low high (parted-labels s label g low high pair)
 
-      lowest-pair-is : LowestPair s e (partedList s e) low high
+      lowest-pair-is : LowestPair s (others s e) (partedList s e) low high
       lowest-pair-is =
           record {
             rising = low-lt-high s label g list-apart;
@@ -215,6 +216,9 @@ module _ (s : Survey) (sound : SurveySound s) where
             is-kept = is-kept;
             lowest-list = parted-list;
             lowest-pair = lowest-pair-is;
+            same-links = others-alike s sound joinable e is-kept;
+            lowest-kept-list = kept-list s sound joinable e is-kept parted-list;
+            lowest-kept-pair = kept-pair s sound joinable e is-kept lowest-pair-is;
             path = route-there;
             only = λ es r. sym (route-is (problemOf s) (kept (problemOf s)) kept-bounded forest ends-below low-vertex (r .route));
             on-route = route-uses e (route-there .route) (λ l. pair-apart (linked-mono (without-mono e (kept-picked (problemOf s) ok some joinable)) l));

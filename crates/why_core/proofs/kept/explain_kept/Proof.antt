@@ -1,5 +1,6 @@
 -- `explain_kept` meets its contract: the pair and the route are those that its calls find.
 use mathlib.Core.Path.{sym}
+use Rattle.why_core.specs.Parted.{leastMark}
 use Rattle.why_core.specs.Laws.Held.{held-le, but-long}
 use Rattle.why_core.specs.Laws.Answer.{kept-found}
 use borrow.Author.Needs.{needs}
@@ -13,6 +14,7 @@ part-find-route-end : tie.Need-part-find-route-end
 part-find-route-end c = let few = held-le _ (c .before .held .ensures) in search (needs, few)
 
 returns : tie.Need-returns
+unfolding leastMark
 returns c =
     let found = c .before .before .before .find-route .ensures in
     kept-found _ _ _ _ _ _ (c .before .before .before .before .before .before .before .before .before .before .before .marks-but .ensures) (c .before .before .before .before .before .before .before .before .before .parted-pair .ensures) (c .before .before .before .before .before .before .before .before .marks-but2 .ensures) (c .before .before .before .before .before .before .before .held .ensures) (found .0) (found .1) (c .kept-answer .ensures)

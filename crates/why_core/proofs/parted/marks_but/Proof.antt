@@ -7,17 +7,17 @@ use Rattle.base_finite.specs.Below.{counted}
 use Rattle.base_limits.specs.Limits.{maxEdges}
 use Rattle.base_buffer.specs.Store.{remade}
 use Rattle.base_buffer.specs.Laws.Store.{length-remade, remade-more, remade-end}
-use Rattle.why_core.specs.Parted.{markedBut}
+use Rattle.why_core.specs.Parted.{leastMark, markedBut}
 use borrow.Author.Needs.{needs}
 use Rattle.why_core.proofs.parted.marks_but.Statement.{statement}
 use Rattle.why_core.proofs.parted.marks_but.Tie as tie
 
 abbrev Inv-loop : tie.InvT-loop
-Inv-loop marks least out m chosen₀ e₀ chosen e =
-    (e ≤ m) × (chosen ≡ remade (λ e x. counted (markedBut marks least out e) 2) e (replicate maxEdges 0))
+Inv-loop marks set out m chosen₀ e₀ chosen e =
+    (e ≤ m) × (chosen ≡ remade (λ e x. counted (markedBut marks (leastMark set) out e) 2) e (replicate maxEdges 0))
 
 abbrev μ-loop : tie.MeasureT-loop
-μ-loop marks least out m chosen₀ e₀ chosen e = m - e
+μ-loop marks set out m chosen₀ e₀ chosen e = m - e
 
 loop-holds : tie.Need-loop-holds Inv-loop μ-loop
 unfolding remade
