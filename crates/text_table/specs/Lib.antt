@@ -1,0 +1,2 @@
+pub mod TrackTable
+pub mod Laws
