@@ -30,6 +30,7 @@ pub mod print;
 pub mod read;
 pub mod stages;
 pub mod stp;
+pub mod table;
 pub mod verifying;
 pub mod why;
 

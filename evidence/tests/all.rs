@@ -11,5 +11,6 @@ mod stages;
 mod stored;
 mod stp;
 mod stp_calls;
+mod tables;
 mod why;
 mod why_calls;

@@ -7,19 +7,21 @@
 
 use evidence::calls::document;
 use evidence::calls::generated::OPERATIONS;
-use evidence::handset;
+use evidence::{handset, table};
 use std::collections::BTreeMap;
 use std::process::ExitCode;
 
 #[cfg(feature = "native")]
-use evidence::native::{HANDSET, LIBRARY};
+use evidence::native::{HANDSET, LIBRARY, TABLES};
 #[cfg(not(feature = "native"))]
 const LIBRARY: evidence::calls::Library = evidence::calls::SECOND;
 #[cfg(not(feature = "native"))]
 const HANDSET: handset::Handset = handset::SECOND;
+#[cfg(not(feature = "native"))]
+const TABLES: table::Tables = table::SECOND;
 
 /// The calls of which so many cases are compared; the check of printed plans is of the library alone.
-const COMPARED: u64 = (OPERATIONS.len() + handset::CALLS.len()) as u64 + cfg!(feature = "native") as u64;
+const COMPARED: u64 = (OPERATIONS.len() + handset::CALLS.len() + table::CALLS.len()) as u64 + cfg!(feature = "native") as u64;
 
 /// Holds a call of so many cases against the second implementation, and says how often each refusal came.
 fn run(name: &str, count: u64, seed: u64, compare: impl Fn(u64) -> Result<u64, String>) -> Result<(), String> {
@@ -40,6 +42,9 @@ fn compare(count: u64, seed: u64) -> Result<(), String> {
     }
     for (name, checks) in handset::CALLS {
         run(name, count, seed, |case| handset::compare(&HANDSET, seed, case, checks))?;
+    }
+    for (name, unpacks) in table::CALLS {
+        run(name, count, seed, |case| table::compare(&TABLES, seed, case, unpacks))?;
     }
     #[cfg(feature = "native")]
     run("verify", count, seed, |case| evidence::verifying::compare(evidence::native::VERIFY, seed, case))?;

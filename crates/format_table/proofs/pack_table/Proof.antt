@@ -1,9 +1,10 @@
 -- `pack_table` meets its contract.
 use mathlib.Core.Path.{sym, _∙_}
+use native.Mathlib.Omega.{arith}
 use borrow.Author.Needs.{needs}
 use Rattle.base_limits.specs.Laws.Verdict.{written-refused}
 use Rattle.format_table.specs.Table.{packedOut}
-use Rattle.format_table.specs.Laws.Turning.{packing-holds, packed-after}
+use Rattle.format_table.specs.Laws.Turning.{takes, turning-holds, packed-after}
 use Rattle.format_table.proofs.pack_table.Statement.{statement}
 use Rattle.format_table.proofs.pack_table.Tie as tie
 
@@ -17,7 +18,9 @@ returns c =
 turn-requires : tie.Need-turn-requires
 turn-requires c κs =
     let told = c .before in
-    packing-holds _ _ (sym (told .before .before .table-refusal .ensures) ∙ told .enum-told .given .1)
+    let fine = sym (told .before .before .table-refusal .ensures) ∙ told .enum-told .given .1 in
+    let whole = takes _ _ fine .whole in
+    turning-holds _ _ fine _ _ (omega arith)
 
 returns-2 : tie.Need-returns-2
 returns-2 c =

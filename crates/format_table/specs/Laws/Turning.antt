@@ -181,17 +181,8 @@ takes long room h =
     record { whole = omega arith; holds = ltb-false room long (fine-refuse (ltb room long) 7 0 (fine-right _ _ h)) }
 
 module _ (t out : List ℕ) (fine : tableRefusal (length t) (length out) ≡ Fine) where
-  pub packing-holds : Holds (tracksIn t) trackBytes t out
-  packing-holds =
-      let w = takes (length t) (length out) fine .whole in
-      let b = takes (length t) (length out) fine .holds in
-      record { table = omega arith; buffer = omega arith }
-
-  pub unpacking-holds : Holds trackBytes (tracksIn t) t out
-  unpacking-holds =
-      let w = takes (length t) (length out) fine .whole in
-      let b = takes (length t) (length out) fine .holds in
-      record { table = omega arith; buffer = omega arith }
+  pub turning-holds : (rows columns : ℕ) → rows * columns ≡ length t → Holds rows columns t out
+  turning-holds rows columns all = let b = takes (length t) (length out) fine .holds in record { table = omega arith; buffer = omega arith }
 
   pub packed-after : {after : List ℕ} → after ≡ turned (tracksIn t) trackBytes t ++ drop (tracksIn t * trackBytes) out → after ≡ packedOut t out
   unfolding packed packedOut written

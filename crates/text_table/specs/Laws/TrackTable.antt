@@ -4,23 +4,29 @@ use native.Mathlib.Omega.{arith}
 use native.Mathlib.Numerals.{add-one}
 use mathlib.Core.Path.{_≡_, refl, ap, sym, _∙_, subst}
 use mathlib.Core.List.{List, _++_}
-use lib.ListN.{length, getD, set, take, drop, length-set, List·getD-append, List·getD-eq-default}
+use lib.ListN.{length, getD, set, take, drop, length-set, length-map, List·getD-append, List·getD-eq-default}
 use lib.Seq.{getD-append-add}
 use borrow.Author.Tests.{lt-ltb, le-ltb}
 use Rattle.base_finite.specs.Below.{tabulate}
 use Rattle.base_finite.specs.Laws.Below.{length-tabulate}
+use Rattle.base_limits.specs.Limits.{maxEdges, surveyRoom}
 use Rattle.base_limits.specs.Verdict.{Outcome, refusal, answer, refuseIf, written}
 use Rattle.format_record.specs.Bits.{lowBytes}
 use Rattle.format_record.specs.Laws.Bytes.{length-low}
 use Rattle.format_print.specs.declared.Printed.{Printed}
 use Rattle.format_print.specs.declared.Printed.the-variants.{Length, Refused as PrintRefused}
 use Rattle.format_print.specs.Print.{answerOf, outAfter, printRefusal, printed, printedOut}
+use Rattle.format_survey.specs.Line.{widest, firstsOf}
+use Rattle.format_survey.specs.Reading.{SurveyText, reading, surveyOf}
+use Rattle.format_survey.specs.WellFormed.{surveyOfText}
+use Rattle.format_survey.specs.Laws.Cut.{reading-first-bytes}
+use Rattle.format_survey.specs.Laws.WellFormed.{accepted-render}
 use Rattle.format_table.specs.Table.{trackBytes}
 use Rattle.format_table.specs.Laws.Turning.{stored-more}
 use Rattle.survey_core.specs.Survey.{Survey, surveyWith}
 use Rattle.text_plan.specs.Output.{surveyRead}
 use Rattle.text_plan.specs.Laws.Read.{SaidBy}
-use Rattle.text_table.specs.TrackTable.{numberBytes, trackRow, trackByte, trackTable, tableOf, textTable, tabled, tabledOut}
+use Rattle.text_table.specs.TrackTable.{numberBytes, tableRoom, trackRow, trackByte, trackTable, tableOf, textTable, tabled, tabledOut}
 
 pub length-table : (firsts seconds weights : List ℕ) → length (trackTable firsts seconds weights) ≡ trackBytes * length firsts
 unfolding trackTable
@@ -142,3 +148,31 @@ said-tabled t out {firsts = firsts} {seconds = seconds} {weights = weights} said
       made .0 ∙ ap (λ l. printed l out) same ∙ sym (ap (λ o. tabled (tableOf o) out) (said .is)),
       made .1 ∙ ap (λ l. printedOut l out) same ∙ sym (ap (λ o. tabledOut (tableOf o) out) (said .is)),
     )
+
+-- ---- of a text
+
+-- The program `table` reads at most `surveyRoom` bytes; what stands behind them changes nothing.
+pub table-first-bytes : (t : List ℕ) → textTable (take surveyRoom t) ≡ textTable t
+unfolding textTable surveyRead
+table-first-bytes t = ap tableOf (reading-first-bytes t widest)
+
+few-tracks : (t : List ℕ) (s : SurveyText) → reading t widest ≡ answer s → length (s .firsts) ≤ maxEdges
+unfolding surveyOfText surveyOf firstsOf
+few-tracks t s e =
+    let a = accepted-render widest t s e in
+    let few = a .within .fewEdges in
+    let long = length-map (a .edges) (λ x. x .first) in
+    subst (λ (s : SurveyText). length (s .firsts) ≤ maxEdges) (sym (a .says)) (omega (arith, few, long))
+
+-- A table of this many bytes holds that of every text: 7 does not come.
+pub table-room : (t table : List ℕ) → textTable t ≡ answer table → length table ≤ tableRoom
+unfolding textTable tableOf surveyRead
+table-room t table = by (reading t widest) refl
+  where
+    by : (o : Outcome SurveyText) → reading t widest ≡ o → tableOf o ≡ answer table → length table ≤ tableRoom
+    by (refusal number place) is e = let z : _≡_ {A = ℕ} 0 1 = cc in absurd (omega arith)
+    by (answer s) is e =
+        let same : trackTable (s .firsts) (s .seconds) (s .weights) ≡ table = cc e in
+        let long = length-table (s .firsts) (s .seconds) (s .weights) in
+        let few = few-tracks t s is in
+        subst (λ l. length l ≤ tableRoom) same (omega arith)
