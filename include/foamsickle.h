@@ -242,7 +242,7 @@ uint64_t foamsickle_print_survey(
 /* Packs a track table for the memory card. A track is twelve bytes: two ends and a price, four bytes each, lowest first.
  * Writes into out the first bytes of all tracks, then all second bytes, and so on: byte j of track i of m at j * m + i.
  * Refuses 23 (table_length is no multiple of twelve), then 7 (out is shorter than table). Any number of tracks.
- * Needed: table_length bytes of out; those behind them keep their values. table and out must not overlap. */
+ * Needed: table_length bytes of out. */
 uint64_t foamsickle_pack_table(
     const uint8_t *table, size_t table_length,
     uint8_t *out, size_t out_length);

@@ -1,7 +1,9 @@
-//! Track tables for the memory card (document 02, No. 10), a second time, and generated tables that hold a library against it.
+//! Track tables for the memory card (document 02, No. 10), a second time, and generated tables that hold a library
+//! against it.
 //!
-//! The paper: a track is twelve bytes; the first bytes of all tracks come first, then all second bytes, and so on, and the inverse gives the tracks
-//! again; 23 for a length that is no multiple of twelve, then 7 for a short result; bytes past the table's length keep their values.
+//! The paper: a track is twelve bytes; the first bytes of all tracks come first, then all second bytes, and so on, and
+//! the inverse gives the tracks again; 23 for a length that is no multiple of twelve, then 7 for a short result; bytes
+//! past the table's length keep their values.
 
 use crate::gen::Rng;
 
@@ -65,7 +67,8 @@ fn any(rng: &mut Rng, length: usize) -> Vec<u8> {
     (0..length).map(|_| rng.word() as u8).collect()
 }
 
-/// A case: first every length up to 40, then tables of whole tracks, some of them with a part of one, a 64th of them the largest.
+/// A case: first every length up to 40, then tables of whole tracks, some of them with a part of one, a 64th of them
+/// the largest.
 pub fn case(seed: u64, number: u64, unpacks: bool) -> Case {
     let rng = &mut Rng::of_case(seed ^ 0x7461_626c << u64::from(unpacks), number);
     let directed = number < SHORTEST * ROOMS;
@@ -93,7 +96,8 @@ fn run(call: fn(&[u8], &mut [u8]) -> u64, case: &Case) -> (u64, Vec<u8>) {
     (answer, out)
 }
 
-/// Holds a library against the second implementation on one case, and undoes what it wrote: the refusal that came, or what differs.
+/// Holds a library against the second implementation on one case, and undoes what it wrote: the refusal that came, or
+/// what differs.
 pub fn compare(tables: &Tables, seed: u64, number: u64, unpacks: bool) -> Result<u64, String> {
     let case = case(seed, number, unpacks);
     let name = CALLS[usize::from(unpacks)].0;

@@ -1,5 +1,5 @@
-//! Track tables, a second time: No. 10's sentences worked by hand; the generated cases have every length up to 40 and meet 23 and 7; and libraries with
-//! one fault each are told from the second implementation.
+//! Track tables, a second time: No. 10's sentences worked by hand; the generated cases have every length up to 40 and
+//! meet 23 and 7; and libraries with one fault each are told from the second implementation.
 
 use evidence::table::{case, compare, Tables, CALLS, SECOND, TRACK};
 use std::collections::BTreeSet;

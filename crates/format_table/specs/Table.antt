@@ -11,8 +11,8 @@ use Rattle.base_limits.specs.declared.Verdict.{Verdict}
 abbrev pub trackBytes : ℕ
 trackBytes = 12
 
--- A table of so many rows and columns, read column by column: byte j of row i goes to j * rows + i (law `turned-at`). With rows and
--- columns exchanged it is the inverse (law `turned-twice`).
+-- A table of so many rows and columns, read column by column: byte j of row i goes to j * rows + i (law `turned-at`).
+-- With rows and columns exchanged it is the inverse (law `turned-twice`).
 unfoldable pub turned : (rows columns : ℕ) → List ℕ → List ℕ
 turned rows columns t = tabulate (rows * columns) (λ k. getD t (k % rows * columns + k / rows) 0)
 

@@ -1,4 +1,5 @@
--- The track table of the survey that a text says (document 02, No. 10, its second sentence): twelve bytes a track, in the tracks' order.
+-- The track table of the survey that a text says (document 02, No. 10, its second sentence): twelve bytes a track, in
+-- the tracks' order.
 use Prim.Native.Nat.{ℕ, _*_, _/_, _%_}
 use mathlib.Core.List.{List, _++_}
 use lib.ListN.{length, getD}

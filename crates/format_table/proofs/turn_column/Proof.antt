@@ -1,6 +1,5 @@
 -- `turn_column` meets its contract: one byte more at a time, within the table and the buffer (`places`).
 use Prim.Native.Nat.{_-_}
-use native.Mathlib.Omega.{arith}
 use mathlib.Core.Path.{refl}
 use borrow.Author.Needs.{needs}
 use Rattle.format_table.specs.Laws.Turning.{StoringColumn, column-start, column-more, column-end, places}

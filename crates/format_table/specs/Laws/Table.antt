@@ -1,4 +1,5 @@
--- Turning a table and back (document 02, No. 10): each undoes the other, for any number of rows and columns, none included.
+-- Turning a table and back (document 02, No. 10): each undoes the other, for any number of rows and columns, none
+-- included.
 use Prim.Native.Nat.{ℕ, zero, suc, _+_, _*_, _/_, _%_, _<_, _≤_}
 use native.Mathlib.Omega.{arith}
 use native.Mathlib.Nat.{

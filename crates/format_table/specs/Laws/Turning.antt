@@ -1,4 +1,5 @@
--- The bytes that the code stores are the table turned (document 02, No. 10). `turn_column`, `turn`, `pack_table` and `unpack_table` use it.
+-- The bytes that the code stores are the table turned (document 02, No. 10). `turn_column`, `turn`, `pack_table` and
+-- `unpack_table` use it.
 use Prim.Native.Nat.{ℕ, zero, suc, _+_, _*_, _/_, _%_, _<_, _≤_}
 use native.Mathlib.Omega.{arith}
 use native.Mathlib.Numerals.{add-one}

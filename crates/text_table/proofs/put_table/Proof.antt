@@ -1,9 +1,7 @@
 -- `put_table` meets its contract: one byte more at a time, where there is room for all.
-use Prim.Native.Nat.{_*_, _-_}
+use Prim.Native.Nat.{_-_}
 use mathlib.Core.Path.{refl}
-use lib.ListN.{length}
 use borrow.Author.Needs.{needs}
-use Rattle.format_table.specs.Table.{trackBytes}
 use Rattle.text_table.specs.Laws.TrackTable.{Tabling, tabling-start, table-fits, tabling-more, tabling-end, table-short}
 use Rattle.text_table.proofs.put_table.Statement.{statement}
 use Rattle.text_table.proofs.put_table.Tie as tie

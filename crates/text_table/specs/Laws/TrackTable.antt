@@ -1,5 +1,6 @@
--- Laws of a survey's track table: its length, so that packing takes it; its bytes one at a time; the loop that stores them. `survey_table` uses them.
-use Prim.Native.Nat.{ℕ, zero, suc, _+_, _*_, _-_, _/_, _%_, _<_, _≤_}
+-- Laws of a survey's track table: its length, so that packing takes it; its bytes one at a time; the loop that stores
+-- them. `survey_table` uses them.
+use Prim.Native.Nat.{ℕ, _+_, _*_, _-_, _/_, _%_, _<_, _≤_}
 use native.Mathlib.Omega.{arith}
 use native.Mathlib.Numerals.{add-one}
 use mathlib.Core.Path.{_≡_, refl, ap, sym, _∙_, subst}

@@ -1,5 +1,4 @@
 -- `low_byte` meets its contract: each byte by its place.
-use Prim.Native.Nat.{_<_}
 use native.Mathlib.Omega.{arith}
 use mathlib.Core.Path.{_≡_}
 use borrow.Author.Needs.{needs}
