@@ -32,6 +32,7 @@ pub mod printed;
 pub mod read;
 pub mod stages;
 pub mod stp;
+pub mod table;
 pub mod verifying;
 pub mod why;
 

@@ -12,6 +12,7 @@ mod stages;
 mod stored;
 mod stp;
 mod stp_calls;
+mod tables;
 mod verifying;
 mod why;
 mod why_calls;

@@ -23,6 +23,7 @@ ghost use Rattle.api_check.specs.Call.{checkFiguresOf, checkCall, checkCounts};
 ghost use Rattle.api_print.specs.Call.{dualCall, dualOut, dualCounts};
 ghost use Rattle.api_print.specs.Call.{textCall, textOut, textCounts, surveyCall, surveyOut, surveyCounts};
 ghost use Rattle.api_check.specs.VerifyCall.{verifyCall};
+ghost use Rattle.format_table.specs.Table.{tableRefusal, packedOut, unpackedOut};
 ghost use Rattle.api_handset.specs.Slices.{lentSlices};
 ghost use Rattle.api_handset.specs.Call.{handsetPlan, handsetMarks, handsetRecords, handsetPlanResult};
 ghost use Rattle.api_handset.specs.Call.{handsetCheck, handsetCheckResult};
@@ -370,6 +371,24 @@ pub extern "C" fn foamsickle_print_survey(
         out,
         counts,
     )
+}
+
+// Packs a track table, twelve bytes a track: the first bytes of all tracks, then all second bytes, and so on.
+#[no_mangle]
+pub extern "C" fn foamsickle_pack_table(table: &[u8], out: &mut [u8]) -> u64
+    ensures code { λ r. ⌜ r ≡ codeOf (tableRefusal (length (old table)) (length (old out))) ⌝ }
+    ensures out { λ _. ⌜ new out ≡ packedOut (old table) (old out) ⌝ }
+{
+    api_print::pack_table_call(table, out)
+}
+
+// Unpacks a packed table: its tracks, one after another.
+#[no_mangle]
+pub extern "C" fn foamsickle_unpack_table(table: &[u8], out: &mut [u8]) -> u64
+    ensures code { λ r. ⌜ r ≡ codeOf (tableRefusal (length (old table)) (length (old out))) ⌝ }
+    ensures out { λ _. ⌜ new out ≡ unpackedOut (old table) (old out) ⌝ }
+{
+    api_print::unpack_table_call(table, out)
 }
 
 // Checks a survey's text with a printed plan behind it. `counts` gets k, the kept cost and the bound.
