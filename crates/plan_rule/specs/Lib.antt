@@ -2,6 +2,7 @@ pub mod Plan
 pub mod Growing
 pub mod Dropping
 pub mod Poured
+pub mod Exact
 pub mod Promise
 pub mod DropPromise
 pub mod Stages

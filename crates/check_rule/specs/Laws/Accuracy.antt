@@ -19,7 +19,7 @@ use Rattle.check_rule.specs.Check.{Checked, dualAt, dualsIn, keptBy, che
 use Rattle.check_rule.specs.Passing.{Passing}
 use Rattle.check_rule.specs.Laws.Meaning.{check-passing, passing-check}
 
-each-tabulate : {P : Dual → Type 0} (n : ℕ) (f : ℕ → Dual) → ((i : ℕ) → i < n → P (f i)) → EachDual P (tabulate n f)
+pub each-tabulate : {P : Dual → Type 0} (n : ℕ) (f : ℕ → Dual) → ((i : ℕ) → i < n → P (f i)) → EachDual P (tabulate n f)
 unfolding tabulate
 each-tabulate zero f h = none
 each-tabulate {P} (suc n) f h = snoc (each-tabulate n f (λ i b. h i (omega arith))) (h n (omega arith))

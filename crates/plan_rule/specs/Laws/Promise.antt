@@ -37,6 +37,7 @@ use Rattle.plan_rule.specs.Promise.{Ready, Unjoinable, FinishedPlan, Pro
 use Rattle.plan_rule.specs.Laws.Number.{before-cases, survey-never}
 use Rattle.plan_rule.specs.Laws.Ready.{fine-ready, ready-fine, all-bounded, buffers-fit}
 use Rattle.plan_rule.specs.Laws.Passes.{finished-passes, finished-accurate}
+use Rattle.plan_rule.specs.Laws.Exact.{finished-exact}
 
 -- ---- 8
 
@@ -155,6 +156,7 @@ module _ (s : Survey) (numbered : ByteGroups s) (marks records : List ℕ) (fine
         bound-rounds = rounds .bound;
         passes-checker = rw (cut-marks, cut-records) (finished-passes s (r .survey) (r .joinable) numbered);
         accuracy = finished-accurate s (r .survey) (r .joinable);
+        exact = rw cut-marks (finished-exact s (r .survey) (r .joinable) numbered);
       }
 
 -- An answer with counts is a finished plan, and none of 1 to 8 applied.
