@@ -4,7 +4,7 @@ ghost use mathlib.Core.Path.{_≡_};
 ghost use mathlib.Core.List.{[]};
 ghost use Rattle.base_limits.specs.Verdict.{outcome, answer};
 ghost use Rattle.survey_core.specs.Survey.{surveyFrom, lentWith};
-ghost use Rattle.survey_core.specs.Accuracy.{Accurate};
+ghost use Rattle.survey_core.specs.Accuracy.{Accurate, DualBound};
 ghost use Rattle.check_rule.specs.Passing.{Passing};
 ghost use Rattle.check_rule.specs.Check.{Checked, ruleRefusal, checkedOf, checking};
 ghost use Rattle.check_core.specs.Stage.{inputRefusal, PlanFits, checkedOutcome};
@@ -81,7 +81,8 @@ fn judge(groups: &[u8], firsts: &[u32], weights: &[u32], marks: &[u8], records: 
 }
 
 // Checks a plan, marks and moat records, against a survey. It passes exactly if none of 1 to 6, 18 and 9 to 15 applies,
-// and then the accuracy rule holds of the k and the kept cost that it answers. Lists that share a member are poured
+// and then the accuracy rule holds of the k and the kept cost that it answers, and no joining set costs less than half
+// the bound. Lists that share a member are poured
 // together for what does not depend on their numbers.
 pub fn check(
     groups: &[u8],
@@ -100,6 +101,8 @@ pub fn check(
         × (Passing s (old marks) (old records) → checkedOutcome r ≡ answer (checkedOf s (old marks) (old records))) ⌝ }
     ensures accurate { λ r. let s = lentWith groups firsts seconds weights owners others in
         ⌜ ((c : Checked) → checkedOutcome r ≡ answer c → Accurate s (c .terminals) (c .cost)) ⌝ }
+    ensures bounded { λ r. let s = lentWith groups firsts seconds weights owners others in
+        ⌜ ((c : Checked) → checkedOutcome r ≡ answer c → DualBound s (c .bound)) ⌝ }
 {
     let unfit = input_refusal(
         groups,

@@ -14,7 +14,7 @@ use Rattle.format_survey.specs.Render.{render}
 use Rattle.format_survey.specs.WellFormed.{WithinCounts, surveyOfText}
 use Rattle.format_also.specs.Pair.{Pair}
 use Rattle.format_survey.specs.Line.{widest, Edge}
-use Rattle.survey_core.specs.Accuracy.{Accurate}
+use Rattle.survey_core.specs.Accuracy.{Accurate, DualBound}
 use Rattle.survey_core.specs.Survey.{Survey}
 
 -- Counts that are what the checker found.
@@ -23,12 +23,13 @@ pub record Claimed (x : Claims) (c : Checked) : Type 0 where
   pub cost : c .cost ≡ x .cost
   pub bound : c .bound ≡ x .bound
 
--- What passes: the text begins with a survey, of which the k and the cost that are reported obey the accuracy rule.
+-- What passes: the text begins with a survey, of which the k and the cost that are reported obey the accuracy rule, and the bound is worth what a bound is.
 pub record Worth (t : List ℕ) (c : Checked) : Type 0 where
   pub survey : SurveyText
   pub next : ℕ
   pub read : prefixAt widest t ≡ found survey next
   pub accurate : Accurate (surveyIn survey) (c .terminals) (c .cost)
+  pub bounded : DualBound (surveyIn survey) (c .bound)
 
 -- The survey of groups, pairs and edges.
 abbrev pub surveyRendered : List ℕ → List Pair → List Edge → Survey

@@ -11,7 +11,7 @@ use Rattle.theory_graph.specs.Path.{Linked, without, Forest}
 use Rattle.theory_steiner.specs.Problem.{Joins, terminals, cost}
 use Rattle.survey_core.specs.Survey.{Survey, edgeCount, problemOf}
 use Rattle.survey_core.specs.Refusal.{LowestUnjoined}
-use Rattle.survey_core.specs.Accuracy.{Accurate}
+use Rattle.survey_core.specs.Accuracy.{Accurate, DualBound}
 use Rattle.survey_core.specs.Sound.{SurveySound}
 use Rattle.survey_components.specs.Labels.{pickedIn}
 use Rattle.check_rule.specs.Check.{Checked, keptBy, checking}
@@ -65,6 +65,8 @@ pub record DroppedMarks (s : Survey) (before after : List ℕ) (c : DropCounts) 
   pub cost-is : c .cost ≡ cost (problemOf s) (keptBy after)
   -- accuracy, where the checker passes the marks with some moat records, whatever these are
   pub accuracy : (records : List ℕ) (k : Checked) → checking s after records ≡ answer k → Accurate s (c .terminals) (c .cost)
+  -- and no joining set costs less than half the bound that it answers
+  pub bound-halved : (records : List ℕ) (k : Checked) → checking s after records ≡ answer k → DualBound s (k .bound)
 
 -- 21 came, at some track.
 pub record LoopFound (o : Outcome DropCounts) : Type 0 where

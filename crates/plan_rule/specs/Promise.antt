@@ -13,7 +13,7 @@ use Rattle.theory_steiner.specs.Growth.{active, stateAt}
 use Rattle.theory_steiner.specs.Pruning.{picked}
 use Rattle.theory_steiner.specs.Rounds.{boundOfRounds, TakesRounds}
 use Rattle.survey_core.specs.Survey.{Survey, vertexCount, edgeCount, problemOf, JoinsGroup}
-use Rattle.survey_core.specs.Accuracy.{Accurate}
+use Rattle.survey_core.specs.Accuracy.{Accurate, DualBound}
 use Rattle.survey_core.specs.Sound.{SurveySound}
 use Rattle.check_rule.specs.Check.{checking}
 use Rattle.plan_rule.specs.Plan.{PlanCounts, planCountsOf, planOf, marksAfter, recordsAfter}
@@ -51,6 +51,8 @@ pub record FinishedPlan (s : Survey) (marks records : List ℕ) (c : PlanCounts)
       ≡ answer (record { terminals = c .terminals; cost = c .cost; bound = c .bound })
   -- demand 3: the accuracy rule
   pub accuracy : Accurate s (c .terminals) (c .cost)
+  -- and no joining set costs less than half the bound
+  pub bound-halved : DualBound s (c .bound)
   -- document 02, No. 14: where near best is best
   pub exact : Exact s (take (edgeCount s) (marksAfter s marks records)) c
 

@@ -14,7 +14,7 @@ use Rattle.format_survey.specs.Line.{widest}
 use Rattle.format_survey.specs.Reading.{SurveyText}
 use Rattle.survey_core.specs.Survey.{edgeCount}
 use Rattle.check_rule.specs.Check.{Checked, checking}
-use Rattle.check_rule.specs.Laws.Accuracy.{checking-accurate}
+use Rattle.check_rule.specs.Laws.Accuracy.{checking-accurate, checking-bound}
 use Rattle.format_plan.specs.Plan.{Claims, PrintedPlan, marksOf, dualRecords}
 use Rattle.check_printed.specs.Verify.{prefixAt, surveyIn, claimTest, claimsJudged, planVerified, planFrom, verifiedFrom, verifying}
 use Rattle.check_printed.specs.Worth.{Claimed, Worth}
@@ -71,9 +71,12 @@ pub verified-accurate : (t : List ℕ) (c : Checked) → verifying t ≡ answer 
 verified-accurate t c e =
     let v = verified-parts t c e in
     let s = surveyIn (v .survey) in
+    let numbered = prefix-numbered widest t (v .read) in
+    let kept = marksOf (edgeCount s) (v .plan .kept) in
     record {
       survey = v .survey;
       next = v .next;
       read = v .read;
-      accurate = checking-accurate s (prefix-numbered widest t (v .read)) (marksOf (edgeCount s) (v .plan .kept)) (dualRecords (v .plan .duals)) c (v .passes);
+      accurate = checking-accurate s numbered kept (dualRecords (v .plan .duals)) c (v .passes);
+      bounded = checking-bound s numbered kept (dualRecords (v .plan .duals)) c (v .passes);
     }

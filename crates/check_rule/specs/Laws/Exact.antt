@@ -1,5 +1,5 @@
--- What figures that pass the checker show (document 02, No. 14): the records' values come to at most twice the cost of any set of tracks that joins (`theory_steiner: weak-duality`), so that a
--- bound of twice the cost leaves no room for a cheaper one; and with k = 2 the accuracy rule's premise is just that.
+-- What figures that pass the checker show (document 02, No. 14): no set of tracks that joins every group costs less than half the bound, so that a bound of twice the cost leaves no room for a
+-- cheaper one; and with k = 2 the accuracy rule's premise is just that.
 use Prim.Native.Nat.{ℕ, _*_, _-_, _/_, _≤_}
 use native.Mathlib.Omega.{arith}
 use mathlib.Core.Path.{_≡_, refl, ap, sym, _∙_, subst}
@@ -13,27 +13,19 @@ use Rattle.base_limits.specs.Verdict.{answer}
 use Rattle.base_limits.specs.Laws.Verdict.{answer-fine}
 use Rattle.theory_steiner.specs.Problem.{EdgeSet, Joins, terminals, cost}
 use Rattle.theory_steiner.specs.Dual.{total}
-use Rattle.theory_steiner.specs.Laws.WeakDuality.{weak-duality}
 use Rattle.survey_core.specs.Survey.{Survey, edgeCount, problemOf}
 use Rattle.survey_core.specs.Sound.{ByteGroups}
 use Rattle.check_rule.specs.Check.{Checked, dualAt, dualsIn, keptBy, checkedOf, checkRefusal, checking}
 use Rattle.check_rule.specs.Passing.{Passing}
 use Rattle.check_rule.specs.Exact.{showsCheapest, Certified}
 use Rattle.check_rule.specs.Laws.Meaning.{check-passing, kept-bounded}
-use Rattle.check_rule.specs.Laws.Accuracy.{each-tabulate}
+use Rattle.check_rule.specs.Laws.Accuracy.{passing-bound}
 
 pub shows-cheapest-iff : (c b : ℕ) → (showsCheapest c b ≡ true → 2 * c ≤ b) × (2 * c ≤ b → showsCheapest c b ≡ true)
 unfolding showsCheapest
 shows-cheapest-iff c b = (leb-true (2 * c) b, le-leb (2 * c) b)
 
 module _ (s : Survey) (marks records : List ℕ) (h : Passing s marks records) where
-  -- The bound is at most twice the cost of any set that joins.
-  pub passing-bound : (F : ℕ → Bool) → EdgeSet (problemOf s) F → Joins (problemOf s) F → total (dualsIn records) ≤ 2 * cost (problemOf s) F
-  unfolding dualsIn problemOf
-  passing-bound F set joins =
-      weak-duality (problemOf s) F set joins (dualsIn records) (each-tabulate (length records / recordBytes) (dualAt records) (h .duals-separate))
-      (λ e b u. h .not-overtight e b)
-
   kept-set : EdgeSet (problemOf s) (keptBy marks)
   unfolding problemOf
   kept-set e k = (kept-bounded s marks (h .marks-long) e k, refl)
@@ -48,8 +40,8 @@ module _ (s : Survey) (marks records : List ℕ) (h : Passing s marks records) w
       record {
         joins = h .kept-joins;
         kept-cost = refl;
-        none-cheaper = λ t F set joins. let x = test .0 t in let y = passing-bound F set joins in omega arith;
-        bound-exact = λ t. let x = test .0 t in let y = passing-bound (keptBy marks) kept-set (h .kept-joins) in omega arith;
+        none-cheaper = λ t F set joins. let x = test .0 t in let y = passing-bound s marks records h .halved F set joins in omega arith;
+        bound-exact = λ t. let x = test .0 t in let y = passing-bound s marks records h .halved (keptBy marks) kept-set (h .kept-joins) in omega arith;
         two-sites = λ two. test .1 (let x = two-fit two in omega arith);
         no-sites = λ none. test .1 (let x = h .none-free none in omega arith);
       }

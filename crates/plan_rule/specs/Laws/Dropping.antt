@@ -53,7 +53,7 @@ use Rattle.survey_components.specs.Laws.Picked.{picked-below}
 use Rattle.survey_components.specs.Laws.Forest.{forest-fine, fine-forest}
 use Rattle.check_rule.specs.Check.{Checked, keptBy, checking}
 use Rattle.check_rule.specs.Laws.Meaning.{check-passing}
-use Rattle.check_rule.specs.Laws.Accuracy.{passing-accurate, checking-passing}
+use Rattle.check_rule.specs.Laws.Accuracy.{passing-accurate, checking-bound, checking-passing}
 use Rattle.plan_rule.specs.Dropping.{dropRefusal, DropCounts, dropCountsOf, dropping, neededMarks, marksDropped}
 use Rattle.plan_rule.specs.DropPromise.{
   Marked,
@@ -365,6 +365,7 @@ module _ (s : Survey) (marks : List ℕ) where
           accuracy = λ records k h.
               subst (Accurate s (terminals (problemOf s))) kept-cost
               (passing-accurate s (neededMarks s marks) records (checking-passing s numbered (neededMarks s marks) records .0 k h));
+          bound-halved = checking-bound s numbered (neededMarks s marks);
         }
 
 -- ---- the call

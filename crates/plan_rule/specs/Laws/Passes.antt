@@ -29,13 +29,13 @@ use Rattle.theory_steiner.specs.Laws.Finish.{kept-joins, kept-picked, kept-edge
 use Rattle.theory_steiner.specs.Laws.Dual.{weigh-tabulate, each-dual, value-separates, value-fits, duals-count, total-duals}
 use Rattle.theory_steiner.specs.Laws.Accuracy.{kept-accurate, no-terminal-free, grown-feasible}
 use Rattle.survey_core.specs.Survey.{Survey, vertexCount, edgeCount, problemOf}
-use Rattle.survey_core.specs.Accuracy.{Accurate}
+use Rattle.survey_core.specs.Accuracy.{Accurate, DualBound}
 use Rattle.survey_core.specs.Sound.{SurveySound, ByteGroups}
 use Rattle.survey_core.specs.Laws.Refusal.{survey-sound}
 use Rattle.check_rule.specs.Check.{dualAt, dualsIn, keptBy, checkedOf, checking}
 use Rattle.check_rule.specs.Passing.{DualSound, Passing}
 use Rattle.check_rule.specs.Laws.Meaning.{passing-check}
-use Rattle.check_rule.specs.Laws.Accuracy.{passing-accurate}
+use Rattle.check_rule.specs.Laws.Accuracy.{passing-accurate, passing-bound}
 use Rattle.plan_draw.specs.Drawing.{recordsOf}
 use Rattle.plan_draw.specs.Laws.Drawing.{nothing, length-records, record-at}
 use Rattle.plan_rule.specs.Plan.{planOf}
@@ -251,3 +251,8 @@ module _ (s : Survey) (sound : SurveySound s) (joinable : Joins (problemOf s) (a
   pub finished-accurate : Accurate s (planOf (problemOf s) .terminals) (planOf (problemOf s) .cost)
   unfolding planOf marks bytes
   finished-accurate = subst (Accurate s (terminals (problemOf s))) cost-of-marks (passing-accurate s marks bytes finished-passing)
+
+  -- And no joining set costs less than half its bound.
+  pub finished-bound : DualBound s (planOf (problemOf s) .bound)
+  unfolding planOf marks bytes
+  finished-bound = subst (DualBound s) total-read (passing-bound s marks bytes finished-passing)

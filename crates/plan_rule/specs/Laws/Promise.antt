@@ -36,7 +36,7 @@ use Rattle.plan_rule.specs.Plan.{planOf, planRefusal, PlanCounts, planCo
 use Rattle.plan_rule.specs.Promise.{Ready, Unjoinable, FinishedPlan, Promises}
 use Rattle.plan_rule.specs.Laws.Number.{before-cases, survey-never}
 use Rattle.plan_rule.specs.Laws.Ready.{fine-ready, ready-fine, all-bounded, buffers-fit}
-use Rattle.plan_rule.specs.Laws.Passes.{finished-passes, finished-accurate}
+use Rattle.plan_rule.specs.Laws.Passes.{finished-passes, finished-accurate, finished-bound}
 use Rattle.plan_rule.specs.Laws.Exact.{finished-exact}
 
 -- ---- 8
@@ -156,6 +156,7 @@ module _ (s : Survey) (numbered : ByteGroups s) (marks records : List ℕ) (fine
         bound-rounds = rounds .bound;
         passes-checker = rw (cut-marks, cut-records) (finished-passes s (r .survey) (r .joinable) numbered);
         accuracy = finished-accurate s (r .survey) (r .joinable);
+        bound-halved = finished-bound s (r .survey) (r .joinable);
         exact = rw cut-marks (finished-exact s (r .survey) (r .joinable) numbered);
       }
 

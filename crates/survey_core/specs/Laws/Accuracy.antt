@@ -1,14 +1,17 @@
 -- What the accuracy rule says in the numbers that a buyer is told (docs/GUARANTEE.md): by how much a set of tracks that joins every group can be cheaper, for each number of sites;
--- and that the number of sites is never 1.
-use Prim.Native.Nat.{ℕ, suc, _*_, _-_, _≤_}
+-- and that the number of sites is never 1. And what moats that separate and overload no track are worth.
+use Prim.Native.Nat.{ℕ, suc, _*_, _-_, _≤_, _<_}
 use native.Mathlib.Omega.{arith}
 use native.Mathlib.Nat.{le-of-mul-le-mul-left, mul-le-mul-right}
 use mathlib.Core.Path.{_≡_, refl}
 use mathlib.Core.Bool.{Bool}
+use mathlib.Core.List.{List}
 use Rattle.theory_steiner.specs.Problem.{EdgeSet, Joins, cost, terminals}
+use Rattle.theory_steiner.specs.Dual.{Dual, EachDual, Separating, dualLoad, total}
 use Rattle.theory_steiner.specs.Laws.Terminals.{terminals-not-one}
-use Rattle.survey_core.specs.Survey.{Survey, problemOf}
-use Rattle.survey_core.specs.Accuracy.{Accurate}
+use Rattle.theory_steiner.specs.Laws.WeakDuality.{weak-duality}
+use Rattle.survey_core.specs.Survey.{Survey, edgeCount, problemOf}
+use Rattle.survey_core.specs.Accuracy.{Accurate, DualBound}
 use Rattle.survey_core.specs.Laws.Refusal.{same-group-symmetric}
 
 -- Document 01: k is never 1.
@@ -19,6 +22,12 @@ sites-not-one s = terminals-not-one (problemOf s) (same-group-symmetric s)
 -- With no site a plan costs nothing.
 pub no-site-free : (s : Survey) (c : ℕ) → Accurate s 0 c → c ≡ 0
 no-site-free s c a = a .free refl
+
+-- Moats that each part two members of a group, and together load no track beyond twice its price: no joining set costs less than half of what they hold.
+pub duals-bound : (s : Survey) (ds : List Dual) → EachDual (Separating (problemOf s)) ds →
+    ((e : ℕ) → e < edgeCount s → dualLoad (problemOf s) ds e ≤ 2 * problemOf s .weight e) → DualBound s (total ds)
+unfolding problemOf edgeCount
+duals-bound s ds separating fits = record { halved = λ F set joins. weak-duality (problemOf s) F set joins ds separating (λ e b u. fits e b) }
 
 module _ (s : Survey) (c : ℕ) (F : ℕ → Bool) (edges : EdgeSet (problemOf s) F) (joins : Joins (problemOf s) F) where
   -- With two sites no set is cheaper.
