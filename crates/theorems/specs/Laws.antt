@@ -1,3 +1,4 @@
 pub mod Sound
 pub mod Longest
 pub mod Passes
+pub mod Remark

@@ -68,13 +68,13 @@ module _ (t : List ℕ) (lent : Lengths) (s : SurveyText) (read : reading t lent
         omega arith
 
 -- Where a finished plan comes from: a survey that was read, to which none of 1 to 8 applies.
-record Source (t : List ℕ) (p : Plan) : Type 0 where
-  survey : SurveyText
-  read : surveyRead t ≡ answer survey
-  fine : planRefusal (surveyIn survey) maxEdges recordsRoom ≡ Fine
-  plan : planFor survey ≡ p
+pub record Source (t : List ℕ) (p : Plan) : Type 0 where
+  pub survey : SurveyText
+  pub read : surveyRead t ≡ answer survey
+  pub fine : planRefusal (surveyIn survey) maxEdges recordsRoom ≡ Fine
+  pub plan : planFor survey ≡ p
 
-source : (t : List ℕ) (p : Plan) → textPlan t ≡ answer p → Source t p
+pub source : (t : List ℕ) (p : Plan) → textPlan t ≡ answer p → Source t p
 unfolding textPlan readPlan surveyPlan planning
 source t p finished = by-read (surveyRead t) refl finished
   where
