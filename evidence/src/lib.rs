@@ -12,6 +12,7 @@
 //! | `stages` | growing and dropping, each on its own (No. 7) |
 //! | `print` | a moat line, a printed plan, a refusal, and the whole program's answer |
 //! | `brute` | the cheapest joining set of a tiny survey |
+//! | `exact` | a cheapest route and a cheapest set that joins all junctions (No. 14) |
 //! | `handset` | planning and checking over bytes alone, and their generated cases |
 //! | `gen`   | seeded surveys, texts and plans, sound and damaged |
 //! | `printed` | a printed plan behind its survey's text: reading it back and checking it |
@@ -22,6 +23,7 @@ pub mod blunder;
 pub mod brute;
 pub mod calls;
 pub mod check;
+pub mod exact;
 pub mod gen;
 pub mod handset;
 #[cfg(feature = "native")]

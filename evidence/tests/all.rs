@@ -5,6 +5,7 @@ mod blunders;
 mod calls;
 mod checking;
 mod document;
+mod exact;
 mod full;
 mod handset;
 mod reading;
