@@ -77,7 +77,7 @@ fn write_turned(found: Verdict, table: &[u8], n: usize) {
 }
 
 // A survey's text in, its table out.
-fn tabulate() {
+fn write_survey_table() {
     let mut input = survey_room();
     let got = io::read_full(0, &mut input);
     let mut table = table_room();
@@ -117,7 +117,7 @@ fn is_word(argument: &[u8], word: &[u8]) -> bool {
 
 fn main() {
     if os::arg_count() == 1 {
-        tabulate();
+        write_survey_table();
         return;
     }
     let mut argument = [0u8; 8];

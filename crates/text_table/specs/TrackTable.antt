@@ -45,11 +45,11 @@ unfoldable pub textTable : List ℕ → Outcome (List ℕ)
 textTable t = tableOf (surveyRead t)
 
 -- What a call answers that writes the table: its length, or the refusal; 7 where the buffer is short.
-unfoldable pub tabled : Outcome (List ℕ) → (out : List ℕ) → Printed
-tabled (refusal number place) out = PrintRefused number place
-tabled (answer table) out = printed table out
+unfoldable pub tablePrinted : Outcome (List ℕ) → (out : List ℕ) → Printed
+tablePrinted (refusal number place) out = PrintRefused number place
+tablePrinted (answer table) out = printed table out
 
 -- What it leaves in the buffer: the table, and behind it what was there; a refusal writes nothing.
-unfoldable pub tabledOut : Outcome (List ℕ) → (out : List ℕ) → List ℕ
-tabledOut (refusal number place) out = out
-tabledOut (answer table) out = printedOut table out
+unfoldable pub tablePrintedOut : Outcome (List ℕ) → (out : List ℕ) → List ℕ
+tablePrintedOut (refusal number place) out = out
+tablePrintedOut (answer table) out = printedOut table out

@@ -3,7 +3,7 @@
 ghost use mathlib.Core.Path.{_≡_};
 ghost use Rattle.base_buffer.specs.Lent.{old, new};
 ghost use Rattle.format_print.specs.Print.{printed, printedOut};
-ghost use Rattle.text_table.specs.TrackTable.{trackTable, textTable, tabled, tabledOut};
+ghost use Rattle.text_table.specs.TrackTable.{trackTable, textTable, tablePrinted, tablePrintedOut};
 use crate::row::track_byte;
 use base_buffer::put8;
 use base_limits::MAX_EDGES;
@@ -41,8 +41,8 @@ fn put_table(firsts: &[u32], seconds: &[u32], weights: &[u32], out: &mut [u8]) -
 // Writes the track table of the survey that a text says; the refusal of reading, or 7 where the buffer is short, writes
 // nothing. A buffer of `TABLE_ROOM` bytes holds every table.
 pub fn survey_table(text: &[u8], out: &mut [u8]) -> Printed
-    ensures { λ r. ⌜ r ≡ tabled (textTable (old text)) (old out) ⌝ }
-    ensures { λ _. ⌜ new out ≡ tabledOut (textTable (old text)) (old out) ⌝ }
+    ensures { λ r. ⌜ r ≡ tablePrinted (textTable (old text)) (old out) ⌝ }
+    ensures { λ _. ⌜ new out ≡ tablePrintedOut (textTable (old text)) (old out) ⌝ }
 {
     let mut groups = [0u8; MAX_VERTICES];
     let mut firsts = [0u32; MAX_EDGES];

@@ -2,12 +2,12 @@
 use Prim.Native.Nat.{_-_}
 use mathlib.Core.Path.{refl}
 use borrow.Author.Needs.{needs}
-use Rattle.text_table.specs.Laws.TrackTable.{Tabling, tabling-start, table-fits, tabling-more, tabling-end, table-short}
+use Rattle.text_table.specs.Laws.TrackTable.{StoringTable, storing-start, table-fits, storing-more, storing-end, table-short}
 use Rattle.text_table.proofs.put_table.Statement.{statement}
 use Rattle.text_table.proofs.put_table.Tie as tie
 
 abbrev Inv-loop : tie.InvT-loop
-Inv-loop firsts seconds weights out₀ long k₀ out k = Tabling firsts seconds weights out₀ k out
+Inv-loop firsts seconds weights out₀ long k₀ out k = StoringTable firsts seconds weights out₀ k out
 
 abbrev μ-loop : tie.MeasureT-loop
 μ-loop firsts seconds weights out₀ long k₀ out k = long - k
@@ -23,16 +23,16 @@ mul-long c =
     search (needs, room)
 
 loop-holds : tie.Need-loop-holds Inv-loop μ-loop
-loop-holds c = tabling-start _ _ _ _
+loop-holds c = storing-start _ _ _ _
 
 loop-again : tie.Need-loop-again Inv-loop μ-loop
 loop-again c =
     let at = c .before .before .before .before .before in
-    tabling-more _ _ _ _ (at .before .before .if1 .left) (at .before .loop .inv) (at .loop-test .taken) (c .before .before .before .track-byte .ensures) (c .before .before .put8 .ensures)
+    storing-more _ _ _ _ (at .before .before .if1 .left) (at .before .loop .inv) (at .loop-test .taken) (c .before .before .before .track-byte .ensures) (c .before .before .put8 .ensures)
 
 -- the table
 returns-2 : tie.Need-returns-2 Inv-loop μ-loop
-returns-2 c = tabling-end _ _ _ _ (c .before .before .if1 .left) (c .before .loop .inv) refl (c .loop-test .left)
+returns-2 c = storing-end _ _ _ _ (c .before .before .if1 .left) (c .before .loop .inv) refl (c .loop-test .left)
 
 pub put-table-spec : {M : Type 1} → statement M
 put-table-spec =

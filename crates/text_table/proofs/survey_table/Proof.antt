@@ -6,7 +6,7 @@ use borrow.Author.Needs.{needs}
 use Rattle.base_limits.specs.Limits.{maxVertices, maxEdges, maxPairs}
 use Rattle.format_survey.specs.Answer.{countsOutcome}
 use Rattle.text_plan.specs.Laws.Read.{survey-buffers, refused-read, counts-few, survey-said}
-use Rattle.text_table.specs.Laws.TrackTable.{refused-tabled, said-tabled}
+use Rattle.text_table.specs.Laws.TrackTable.{refused-printed, said-printed}
 use Rattle.text_table.proofs.survey_table.Statement.{statement}
 use Rattle.text_table.proofs.survey_table.Tie as tie
 
@@ -40,7 +40,7 @@ unfolding countsOutcome
 returns c =
     let call = c .before .before .before .before .before .before .before .before .before in
     let a = call .before .before .before .before .before .before .before .before .before .args in
-    refused-tabled (a .text .now) (a .out .now) (refused-read (a .text .now) survey-buffers (call .read .ensures .0) (ap countsOutcome (c .before .number .given .1)))
+    refused-printed (a .text .now) (a .out .now) (refused-read (a .text .now) survey-buffers (call .read .ensures .0) (ap countsOutcome (c .before .number .given .1)))
 
 -- the table
 returns-2 : tie.Need-returns-2
@@ -55,7 +55,7 @@ returns-2 c =
     let said =
     survey-said (a .text .now) survey-buffers (read .0) told (replicate maxVertices 0) edges edges edges pairs pairs
     (read .1 .0) (read .1 .1 .0) (read .1 .1 .1 .0) (read .1 .1 .1 .1 .0) (read .1 .1 .1 .1 .1 .0) (read .1 .1 .1 .1 .1 .1) in
-    said-tabled (a .text .now) (a .out .now) said (c .before .before .put-table .ensures)
+    said-printed (a .text .now) (a .out .now) said (c .before .before .put-table .ensures)
 
 pub survey-table-spec : {M : Type 1} → statement M
 survey-table-spec =

@@ -27,7 +27,7 @@ use Rattle.format_table.specs.Laws.Turning.{stored-more}
 use Rattle.survey_core.specs.Survey.{Survey, surveyWith}
 use Rattle.text_plan.specs.Output.{surveyRead}
 use Rattle.text_plan.specs.Laws.Read.{SaidBy}
-use Rattle.text_table.specs.TrackTable.{numberBytes, tableRoom, trackRow, trackByte, trackTable, tableOf, textTable, tabled, tabledOut}
+use Rattle.text_table.specs.TrackTable.{numberBytes, tableRoom, trackRow, trackByte, trackTable, tableOf, textTable, tablePrinted, tablePrintedOut}
 
 pub length-table : (firsts seconds weights : List ℕ) → length (trackTable firsts seconds weights) ≡ trackBytes * length firsts
 unfolding trackTable
@@ -77,24 +77,24 @@ module _ (first second weight j : ℕ) where
 -- ---- the loop
 
 -- Before each byte: k are stored.
-pub record Tabling (firsts seconds weights held : List ℕ) (k : ℕ) (out : List ℕ) : Type 0 where
+pub record StoringTable (firsts seconds weights held : List ℕ) (k : ℕ) (out : List ℕ) : Type 0 where
   pub within : k ≤ trackBytes * length firsts
   pub long : length out ≡ length held
   pub made : out ≡ tabulate k (trackByte firsts seconds weights) ++ drop k held
 
 module _ (firsts seconds weights held : List ℕ) where
-  pub tabling-start : Tabling firsts seconds weights held 0 held
+  pub storing-start : StoringTable firsts seconds weights held 0 held
   unfolding tabulate
-  tabling-start = record { within = omega arith; long = refl; made = refl }
+  storing-start = record { within = omega arith; long = refl; made = refl }
 
   -- There is room for the table.
   module _ (room : length firsts ≤ length held / trackBytes) where
     pub table-fits : trackBytes * length firsts ≤ length held
     table-fits = omega arith
 
-    pub tabling-more : {k x : ℕ} {out after : List ℕ} → Tabling firsts seconds weights held k out → k < trackBytes * length firsts
-        → x ≡ trackByte firsts seconds weights k → after ≡ set out k x → Tabling firsts seconds weights held (k + 1) after
-    tabling-more {k} {x} {out} {after} h b is stored =
+    pub storing-more : {k x : ℕ} {out after : List ℕ} → StoringTable firsts seconds weights held k out → k < trackBytes * length firsts
+        → x ≡ trackByte firsts seconds weights k → after ≡ set out k x → StoringTable firsts seconds weights held (k + 1) after
+    storing-more {k} {x} {out} {after} h b is stored =
         record {
           within = omega arith;
           long = ap length stored ∙ length-set out k x ∙ h .long;
@@ -106,10 +106,10 @@ module _ (firsts seconds weights held : List ℕ) where
         }
 
     -- All are stored.
-    pub tabling-end : {k n : ℕ} {out : List ℕ} → Tabling firsts seconds weights held k out → n ≡ trackBytes * length firsts → n ≤ k
+    pub storing-end : {k n : ℕ} {out : List ℕ} → StoringTable firsts seconds weights held k out → n ≡ trackBytes * length firsts → n ≤ k
         → (Length n ≡ printed (trackTable firsts seconds weights) held) × (out ≡ printedOut (trackTable firsts seconds weights) held)
     unfolding printed printedOut printRefusal answerOf outAfter written refuseIf trackTable
-    tabling-end {k} {n} h same c =
+    storing-end {k} {n} h same c =
         let w = h .within in
         let e : k ≡ trackBytes * length firsts = omega arith in
         let long = length-table firsts seconds weights in
@@ -132,22 +132,22 @@ module _ (firsts seconds weights held : List ℕ) where
 -- ---- the table of a text
 
 -- Reading refused it.
-pub refused-tabled : (t out : List ℕ) {number place : ℕ} → surveyRead t ≡ refusal number place
-    → (PrintRefused number place ≡ tabled (textTable t) out) × (out ≡ tabledOut (textTable t) out)
-unfolding textTable tableOf tabled tabledOut
-refused-tabled t out e = (sym (ap (λ o. tabled (tableOf o) out) e), sym (ap (λ o. tabledOut (tableOf o) out) e))
+pub refused-printed : (t out : List ℕ) {number place : ℕ} → surveyRead t ≡ refusal number place
+    → (PrintRefused number place ≡ tablePrinted (textTable t) out) × (out ≡ tablePrintedOut (textTable t) out)
+unfolding textTable tableOf tablePrinted tablePrintedOut
+refused-printed t out e = (sym (ap (λ o. tablePrinted (tableOf o) out) e), sym (ap (λ o. tablePrintedOut (tableOf o) out) e))
 
 -- The table of what was read.
-pub said-tabled : (t out : List ℕ) {r : Printed} {after groups firsts seconds weights owners others : List ℕ}
+pub said-printed : (t out : List ℕ) {r : Printed} {after groups firsts seconds weights owners others : List ℕ}
     → SaidBy t (surveyWith groups firsts seconds weights owners others)
     → (r ≡ printed (trackTable firsts seconds weights) out) × (after ≡ printedOut (trackTable firsts seconds weights) out)
-    → (r ≡ tabled (textTable t) out) × (after ≡ tabledOut (textTable t) out)
-unfolding textTable tableOf tabled tabledOut
-said-tabled t out {firsts = firsts} {seconds = seconds} {weights = weights} said made =
+    → (r ≡ tablePrinted (textTable t) out) × (after ≡ tablePrintedOut (textTable t) out)
+unfolding textTable tableOf tablePrinted tablePrintedOut
+said-printed t out {firsts = firsts} {seconds = seconds} {weights = weights} said made =
     let same : trackTable firsts seconds weights ≡ trackTable (said .survey .firsts) (said .survey .seconds) (said .survey .weights) =
     ap (λ (s : Survey). trackTable (s .firsts) (s .seconds) (s .weights)) (said .same) in (
-      made .0 ∙ ap (λ l. printed l out) same ∙ sym (ap (λ o. tabled (tableOf o) out) (said .is)),
-      made .1 ∙ ap (λ l. printedOut l out) same ∙ sym (ap (λ o. tabledOut (tableOf o) out) (said .is)),
+      made .0 ∙ ap (λ l. printed l out) same ∙ sym (ap (λ o. tablePrinted (tableOf o) out) (said .is)),
+      made .1 ∙ ap (λ l. printedOut l out) same ∙ sym (ap (λ o. tablePrintedOut (tableOf o) out) (said .is)),
     )
 
 -- ---- of a text
