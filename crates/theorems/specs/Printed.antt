@@ -2,11 +2,12 @@
 -- `verify` print for any text.
 use Prim.Native.Nat.{ℕ}
 use mathlib.Core.Path.{_≡_}
-use mathlib.Core.List.{List}
+use mathlib.Core.List.{List, _++_}
 use Rattle.base_limits.specs.Verdict.{answer}
 use Rattle.check_printed.specs.Verify.{surveyIn}
 use Rattle.format_survey.specs.Reading.{SurveyText}
-use Rattle.format_write.specs.Text.{planText, refusalText}
+use Rattle.format_write.specs.Key.{terminalsKey, costKey, boundKey}
+use Rattle.format_write.specs.Text.{lineOf, planText, refusalText}
 use Rattle.plan_rule.specs.Plan.{Plan, planOf}
 use Rattle.plan_draw.specs.Drawing.{recordsOf}
 use Rattle.survey_core.specs.Survey.{problemOf}
@@ -41,3 +42,14 @@ pub data PlanPrints (t : List ℕ) : Type 0 where
 pub data VerifyPrints (t : List ℕ) : Type 0 where
   verifyRefusal : (number place : ℕ) → verifyOutput t ≡ refusalText number place → VerifyPrints t
   verifyPassed : (c : Checked) → verifyOutput t ≡ passedText (c .terminals) (c .cost) (c .bound) → Worth t c → VerifyPrints t
+
+-- The lines `sites=`, `cost=` and `bound=` with these figures.
+abbrev pub figureLines : (k c b : ℕ) → List ℕ
+figureLines k c b = lineOf terminalsKey k ++ lineOf costKey c ++ lineOf boundKey b
+
+-- Figures that obey the accuracy rule for the survey that a text says.
+pub record AccurateFigures (t : List ℕ) (k c b : ℕ) : Type 0 where
+  pub survey : SurveyText
+  pub read : surveyRead t ≡ answer survey
+  pub accurate : Accurate (surveyIn survey) k c
+  pub bounded : DualBound (surveyIn survey) b
