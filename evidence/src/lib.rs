@@ -75,6 +75,8 @@ pub const MAX_TEXT: usize = 56_277;
 pub const MAX_LINE: usize = 2_048;
 /// The program reads no more of its standard input.
 pub const MAX_INPUT: usize = 65_536;
+/// Bytes of an STP file that the program reads.
+pub const STP_ROOM: usize = 17 * MAX_INPUT;
 
 /// The highest number of so many digits.
 pub const fn highest(digits: usize) -> u32 {
