@@ -243,6 +243,21 @@ uint64_t foamsickle_print_survey(
     uint8_t *out, size_t out_length,
     uint64_t *counts, size_t counts_length);
 
+/* Packs a track table for the memory card. A track is twelve bytes: two ends and a price, four bytes each, lowest first.
+ * Writes into out the first bytes of all tracks, then all second bytes, and so on: byte j of track i of m at j * m + i.
+ * Refuses 23 (table_length is no multiple of twelve), then 7 (out is shorter than table). Any number of tracks.
+ * Needed: table_length bytes of out. */
+uint64_t foamsickle_pack_table(
+    const uint8_t *table, size_t table_length,
+    uint8_t *out, size_t out_length);
+
+/* Unpacks a packed track table: undoes foamsickle_pack_table, which undoes it.
+ * Writes into out the tracks, one after another.
+ * Refuses as foamsickle_pack_table. Needed: as there. */
+uint64_t foamsickle_unpack_table(
+    const uint8_t *table, size_t table_length,
+    uint8_t *out, size_t out_length);
+
 /* Checks a printed plan against a survey's text: text is the survey's bytes with the plan's right behind them.
  * Writes counts[0] sites, counts[1] cost of the kept tracks, counts[2] bound, as the checker finds them.
  * Refuses what reading refuses of the survey but 7; 16, 26 (a kept track that is none or does not rise; its line), 27

@@ -132,6 +132,12 @@ static void print_moat(void) {
 
 static void verify(void) { answer = foamsickle_verify(text, text_length, counts, FOAMSICKLE_CHECK_FIGURES); }
 
+static uint8_t table[2][12 * M];
+
+static void pack_table(void) { answer = foamsickle_pack_table(table[0], sizeof table[0], table[1], sizeof table[1]); }
+
+static void unpack_table(void) { answer = foamsickle_unpack_table(table[1], sizeof table[1], table[0], sizeof table[0]); }
+
 static void *run(void *call) {
     (*(void (**)(void))call)();
     return NULL;
@@ -172,6 +178,8 @@ int main(int argc, char **argv) {
         {"foamsickle_print_plan", print_plan},
         {"foamsickle_print_dual", print_moat},
         {"foamsickle_verify", verify},
+        {"foamsickle_pack_table", pack_table},
+        {"foamsickle_unpack_table", unpack_table},
     };
     size_t limit = argc == 2 ? (size_t)strtoul(argv[1], NULL, 10) : FOAMSICKLE_STACK;
     uint8_t *area = aligned_alloc(4096, AREA);

@@ -13,6 +13,7 @@
 //! | `stages` | growing and dropping, each on its own (No. 7) |
 //! | `print` | a moat line, a printed plan, a refusal, and the whole program's answer |
 //! | `brute` | the cheapest joining set of a tiny survey |
+//! | `exact` | a cheapest route and a cheapest set that joins all junctions (No. 14) |
 //! | `handset` | planning and checking over bytes alone, and their generated cases |
 //! | `gen`   | seeded surveys, texts and plans, sound and damaged |
 //! | `printed` | a printed plan behind its survey's text: reading it back and checking it |
@@ -23,6 +24,7 @@ pub mod blunder;
 pub mod brute;
 pub mod calls;
 pub mod check;
+pub mod exact;
 pub mod gen;
 pub mod handset;
 #[cfg(feature = "native")]
@@ -33,6 +35,7 @@ pub mod printed;
 pub mod read;
 pub mod stages;
 pub mod stp;
+pub mod table;
 pub mod verifying;
 pub mod why;
 

@@ -14,6 +14,7 @@ use crate::handset::{Crossing, Handset};
 use crate::plan::Counts;
 use crate::read::Lent;
 use crate::stp;
+use crate::table::Tables;
 use crate::verifying::Verify;
 use crate::{Refusal, View};
 use foamsickle::call;
@@ -61,6 +62,9 @@ pub const HANDSET: Handset = Handset {
     plan: |crossing, marks, records, result| call::handset_plan(bytes(crossing), marks, records, result),
     check: |crossing, marks, records, result| call::handset_check(bytes(crossing), marks, records, result),
 };
+
+/// Its track tables for the memory card.
+pub const TABLES: Tables = Tables { pack: call::pack_table, unpack: call::unpack_table };
 
 /// Its check of a printed plan behind its survey.
 pub const VERIFY: Verify = call::verify;

@@ -1,5 +1,5 @@
-// Printing for a caller that gets one number back and the text's length in a lent buffer. Definitions in specs/Call.
-// `print_dual_call`, `print_plan_call` and `print_survey_call` answer 0, or number + 256 * place.
+// Printing, and packing of track tables, for a caller that gets one number back and a text's length in a lent buffer.
+// Definitions in specs/Call. Every call answers 0, or number + 256 * place.
 ghost use mathlib.Core.Path.{_≡_};
 ghost use Rattle.base_buffer.specs.Lent.{old, new};
 ghost use Rattle.api_code.specs.Code.{codeOf, capped};
@@ -10,9 +10,12 @@ use format_print::print_dual;
 
 mod plan;
 mod survey;
+mod table;
 
 pub use plan::print_plan_call;
 pub use survey::print_survey_call;
+pub use table::pack_table_call;
+pub use table::unpack_table_call;
 
 // Entries of the counts.
 pub const PRINT_FIGURES: usize = 1;

@@ -2,11 +2,13 @@
 ghost use mathlib.Core.Path.{_≡_};
 ghost use Rattle.base_buffer.specs.Lent.{old, new};
 ghost use lib.ListN.{length};
+ghost use Prim.Native.Nat.{_≤_};
 ghost use Rattle.format_survey.specs.Reading.{filled};
 ghost use Rattle.format_survey.specs.Line.{firstsOf, secondsOf, weightsOf};
+ghost use Rattle.format_stp.specs.Promises.{stpBuffers, StpPromises};
 ghost use Rattle.format_stp.specs.Answer.{stpAnswer, stpCountsOf};
 ghost use Rattle.api_code.specs.Code.{codeOf, capped, verdictOf, countsFor};
-ghost use Rattle.api_read.specs.StpCall.{stpFiguresOf, stpCall};
+ghost use Rattle.api_read.specs.StpCall.{stpFigures, stpFiguresOf, stpCall};
 use format_stp::StpRead;
 
 // Entries of the counts.
@@ -57,6 +59,11 @@ pub fn stp_call(
     ensures counts { λ _.
         let read = stpCall (old text) (old groups) (old firsts) (old seconds) (old weights) (length (old counts)) in
         ⌜ new counts ≡ countsFor (stpCountsOf read) stpFiguresOf (old counts) ⌝ }
+    ensures promises { λ _.
+        let read = stpCall (old text) (old groups) (old firsts) (old seconds) (old weights) (length (old counts)) in
+        let before = stpBuffers (old groups) (old firsts) (old seconds) (old weights) in
+        let after = stpBuffers (new groups) (new firsts) (new seconds) (new weights) in
+        ⌜ (stpFigures ≤ length (old counts) → StpPromises (old text) before (stpCountsOf read) after) ⌝ }
 {
     let room = api_code::lent_on(counts.len(), STP_FIGURES, groups.len());
     let answer = format_stp::read_stp(text, &mut groups[0..room], firsts, seconds, weights);

@@ -1,3 +1,4 @@
 pub mod Meaning
 pub mod Accuracy
+pub mod Exact
 pub mod Refusal

@@ -1,3 +1,4 @@
 pub mod Check
 pub mod Passing
+pub mod Exact
 pub mod Laws

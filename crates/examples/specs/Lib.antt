@@ -1,3 +1,4 @@
 pub mod Examples
 pub mod Altered
 pub mod StpExamples
+pub mod Exact

@@ -1,18 +1,29 @@
 -- STP texts worked by hand (document 02, No. 5; docs/STP.md): what each says, and where 20 stands, each proved by computation.
-use Prim.Native.Nat.{ℕ}
+use Prim.Native.Nat.{ℕ, _<_}
+use native.Mathlib.Omega.{arith}
 use mathlib.Core.List.{List, [], _∷_, _++_, map}
-use mathlib.Core.Path.{_≡_, refl}
+use mathlib.Core.Bool.{Bool, true, false, cond}
+use mathlib.Core.Path.{_≡_, refl, ap, sym}
+use lib.Dec.{eqb}
+use borrow.Author.Tests.{eqb-false}
 use lib.ListN.{length, replicate}
 use Rattle.base_finite.specs.Below.{anyBelow}
-use Rattle.base_limits.specs.Verdict.{Outcome, refusal, refuseIf, _before_}
-use Rattle.format_write.specs.Key.{ascii}
-use Rattle.format_write.specs.Decimal.{spelledAfter}
+use Rattle.base_limits.specs.Verdict.{Outcome, refusal, answer, refuseIf, _before_}
+use Rattle.format_write.specs.Key.{ascii, newline}
+use Rattle.format_write.specs.Decimal.{decimal, digitsWithin, spelledAfter}
+use Rattle.format_write.specs.Text.{lineOf}
+use Rattle.format_read.specs.Language.{Text}
+use Rattle.format_read.specs.Laws.Bytes.{no-bool}
 use Rattle.format_read.specs.Bytes.{byteIs, fixedAt, endAt}
 use Rattle.format_read.specs.Lines.{following, linesFrom, whole}
 use Rattle.format_read.specs.Step.{found, _then_}
-use Rattle.format_read.specs.Number.{classOf, isDigit, digitsEnd, numeralEnd, numeralAt, numberAt, numberTo, numberLine}
-use Rattle.format_survey.specs.Line.{verticesTest, edgesTest}
-use Rattle.format_stp.specs.StpKey.{headerLine}
+use Rattle.format_read.specs.Number.{classOf, isDigit, digitsEnd, numeralEnd, numeralAt, numberAt, numberTo, numberLine, numberText}
+use Rattle.format_survey.specs.Line.{Edge, verticesTest, edgesTest}
+use Rattle.format_stp.specs.Grammar.{blanks, Followed, commented, StpText}
+use Rattle.format_stp.specs.Grammar.{none as no-name, one as one-name}
+use Rattle.format_stp.specs.Laws.Accepted.{in-accepted}
+use Rattle.format_stp.specs.StpKey.{headerLine, endWord, endLine}
+use Rattle.format_stp.specs.Subset.{StpEdgeIn, stpEdgeText, terminalText}
 use Rattle.format_stp.specs.StpNumber.{isFree, leadsTo, reaches, opens, withDigit, goesOn, endsFree, digitsAfter, moreAfter, freeTo}
 use Rattle.format_stp.specs.StpReading.{
   StpContent,
@@ -36,6 +47,7 @@ use Rattle.format_stp.specs.StpReading.{
   stpOutcome,
   stpReading,
 }
+use Rattle.format_stp.specs.StpWord.{Repeated, none, one, OneLine, end, byte, CommentLines, last, line}
 use Rattle.format_stp.specs.StpWord.{emptyLines, afterEmpty, byByte, guarded, shown, commentFrom, commentAt}
 
 -- ---- whole texts
@@ -86,6 +98,99 @@ unfolding stpOutcome stpNumber stpLine afterEmpty emptyLines byByte stpBody stpE
     terminalLines fixedAt byteIs endAt linesFrom following whole _then_ numberTo numberAt numeralAt numeralEnd digitsEnd classOf isDigit spelledAfter
     freeTo digitsAfter goesOn opens reaches leadsTo isFree withDigit moreAfter endsFree anyBelow
 body-read = refl
+
+-- The example of docs/STP.md.
+abbrev documentText : List ℕ
+documentText =
+    ascii "33D32945 STP File, STP Format Version 1.0\n\n"
+    ++ ascii "SECTION Comment\nName    \"small\"\nRemark  \"any bytes but 10, up to the line END\"\nEND\n\n"
+    ++ ascii "SECTION Graph\nNodes 4\nEdges 3\nE 1 2 5\nE 2 3 7\nE 3 4 0\nEND\n\n"
+    ++ ascii "SECTION Terminals\nTerminals 2\nT 1\nT 4\nEND\n\nEOF\n"
+
+abbrev documentSaid : StpContent
+documentSaid =
+    record {
+      vertices = 4;
+      edges = 3;
+      groups = 1 ∷ 0 ∷ 0 ∷ 1 ∷ [];
+      lines = record { first = 0; second = 1; weight = 5 } ∷ record { first = 1; second = 2; weight = 7 } ∷ record { first = 2; second = 3; weight = 0 } ∷ [];
+    }
+
+-- It is a text of the grammar, piece by piece, and says this.
+abbrev documentName : List ℕ
+documentName = ascii "Name    \"small\""
+
+abbrev documentRemark : List ℕ
+documentRemark = ascii "Remark  \"any bytes but 10, up to the line END\""
+
+unfoldable oneLine : List ℕ → Bool
+oneLine [] = true
+oneLine (b ∷ l) = cond (eqb b newline) false (oneLine l)
+
+is-line : (l : List ℕ) → oneLine l ≡ true → OneLine l
+unfolding oneLine
+is-line [] e = end
+is-line (b ∷ l) e = by-byte (eqb b newline) refl e (λ f. is-line l f)
+  where
+    by-byte : (c : Bool) → eqb b newline ≡ c → cond c false (oneLine l) ≡ true → (oneLine l ≡ true → OneLine l) → OneLine (b ∷ l)
+    by-byte true q e k = no-bool (sym e)
+    by-byte false q e k = byte (eqb-false b newline q) (k e)
+
+name-other : documentName ≡ endWord → ⊥
+name-other e = let z : _≡_ {A = ℕ} 15 3 = ap length e in omega arith
+
+remark-other : documentRemark ≡ endWord → ⊥
+remark-other e = let z : _≡_ {A = ℕ} 46 3 = ap length e in omega arith
+
+document-comment : CommentLines (documentName ++ newline ∷ (documentRemark ++ newline ∷ endLine))
+unfolding oneLine
+document-comment = line (is-line documentName refl) name-other (line (is-line documentRemark refl) remark-other last)
+
+followed : {A : Type 0} {P : A → Type 0} (text : A → List ℕ) (a : A) → P a → Followed (Text P text) a (text a ++ blanks 0)
+followed text a h = record { line = text a; empty = 0; member = record { holds = h; word = refl }; whole = refl }
+
+abbrev trackOf : (u v w : ℕ) → Edge
+trackOf u v w = record { first = u; second = v; weight = w }
+
+track : (u v w : ℕ) → u < 4 → v < 4 → w < 10 → StpEdgeIn 4 (trackOf u v w)
+track u v w a b c = record { first = a; second = b; firstDigits = omega arith; secondDigits = omega arith; weight = omega arith }
+
+pub document-in : StpText documentSaid documentText
+unfolding lineOf decimal digitsWithin numberText stpEdgeText terminalText
+document-in =
+    record {
+      opening = _;
+      opens = commented 1 1 0 document-comment;
+      nodes = omega arith;
+      edges = omega arith;
+      tracks = (stpEdgeText (trackOf 0 1 5) ++ blanks 0) ++ ((stpEdgeText (trackOf 1 2 7) ++ blanks 0) ++ ((stpEdgeText (trackOf 2 3 0) ++ blanks 0) ++ []));
+      eachTrack =
+          one (followed stpEdgeText (trackOf 0 1 5) (track 0 1 5 (omega arith) (omega arith) (omega arith)))
+          (one (followed stpEdgeText (trackOf 1 2 7) (track 1 2 7 (omega arith) (omega arith) (omega arith)))
+          (one (followed stpEdgeText (trackOf 2 3 0) (track 2 3 0 (omega arith) (omega arith) (omega arith))) none));
+      terminals = 2;
+      announced = record { most = omega arith; digits = omega arith };
+      named = (terminalText 0 ++ blanks 0) ++ ((terminalText 3 ++ blanks 0) ++ []);
+      eachTerminal =
+          one-name (followed terminalText 0 (record { below = omega arith; fresh = refl; digits = omega arith }))
+          (one-name (followed terminalText 3 (record { below = omega arith; fresh = refl; digits = omega arith })) no-name);
+      behind = record { nodes = 0; edges = 0; graphEnd = 1; section = 0; terminals = 0; terminalsEnd = 1; eof = 0 };
+      whole = refl;
+    }
+
+-- So it is read, into buffers that just hold it.
+pub document-read : stpReading documentText (replicate 4 0) (replicate 3 0) (replicate 3 0) (replicate 3 0) ≡ answer documentSaid
+document-read =
+    in-accepted (replicate 4 0) (replicate 3 0) (replicate 3 0) (replicate 3 0) documentText documentSaid document-in
+    (record {
+      some = omega arith;
+      mostVertices = omega arith;
+      forGroups = omega arith;
+      mostEdges = omega arith;
+      forFirsts = omega arith;
+      forSeconds = omega arith;
+      forWeights = omega arith;
+    })
 
 -- ---- what stands behind the counts, with 12 junctions and one track
 

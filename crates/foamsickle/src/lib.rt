@@ -6,14 +6,16 @@ ghost use Rattle.base_buffer.specs.Lent.{old, new};
 ghost use Rattle.survey_core.specs.Survey.{lentWith};
 ghost use Rattle.format_write.specs.Text.{planText};
 ghost use lib.ListN.{length};
+ghost use Prim.Native.Nat.{_≤_};
 ghost use Rattle.format_survey.specs.Line.{lentLengths, firstsOf, secondsOf, weightsOf};
 ghost use Rattle.format_survey_print.specs.Print.{surveyLent};
 ghost use Rattle.format_survey.specs.Reading.{filled};
 ghost use Rattle.format_survey.specs.Answer.{countsOf};
 ghost use Rattle.api_code.specs.Code.{codeOf, capped, verdictOf, countsFor};
 ghost use Rattle.api_read.specs.Call.{readFiguresOf, readCall};
+ghost use Rattle.format_stp.specs.Promises.{stpBuffers, StpPromises};
 ghost use Rattle.format_stp.specs.Answer.{stpCountsOf};
-ghost use Rattle.api_read.specs.StpCall.{stpFiguresOf, stpCall};
+ghost use Rattle.api_read.specs.StpCall.{stpFigures, stpFiguresOf, stpCall};
 ghost use Rattle.api_plan.specs.Call.{planCall, planMarks, planRecords, planCounts};
 ghost use Rattle.api_plan.specs.GrowCall.{growMarks, growCounts, dropCall, dropMarks, droppedCounts};
 ghost use Rattle.api_why.specs.Call.{whyCall, whyRoute, whyFigured};
@@ -21,6 +23,7 @@ ghost use Rattle.api_check.specs.Call.{checkFiguresOf, checkCall, checkCounts};
 ghost use Rattle.api_print.specs.Call.{dualCall, dualOut, dualCounts};
 ghost use Rattle.api_print.specs.Call.{textCall, textOut, textCounts, surveyCall, surveyOut, surveyCounts};
 ghost use Rattle.api_check.specs.VerifyCall.{verifyCall};
+ghost use Rattle.format_table.specs.Table.{tableRefusal, packedOut, unpackedOut};
 ghost use Rattle.api_handset.specs.Slices.{lentSlices};
 ghost use Rattle.api_handset.specs.Call.{handsetPlan, handsetMarks, handsetRecords, handsetPlanResult};
 ghost use Rattle.api_handset.specs.Call.{handsetCheck, handsetCheckResult};
@@ -110,6 +113,11 @@ pub extern "C" fn foamsickle_read_stp(
     ensures counts { λ _.
         let read = stpCall (old text) (old groups) (old firsts) (old seconds) (old weights) (length (old counts)) in
         ⌜ new counts ≡ countsFor (stpCountsOf read) stpFiguresOf (old counts) ⌝ }
+    ensures promises { λ _.
+        let read = stpCall (old text) (old groups) (old firsts) (old seconds) (old weights) (length (old counts)) in
+        let before = stpBuffers (old groups) (old firsts) (old seconds) (old weights) in
+        let after = stpBuffers (new groups) (new firsts) (new seconds) (new weights) in
+        ⌜ (stpFigures ≤ length (old counts) → StpPromises (old text) before (stpCountsOf read) after) ⌝ }
 {
     api_read::stp_call(text, groups, firsts, seconds, weights, counts)
 }
@@ -363,6 +371,24 @@ pub extern "C" fn foamsickle_print_survey(
         out,
         counts,
     )
+}
+
+// Packs a track table, twelve bytes a track: the first bytes of all tracks, then all second bytes, and so on.
+#[no_mangle]
+pub extern "C" fn foamsickle_pack_table(table: &[u8], out: &mut [u8]) -> u64
+    ensures code { λ r. ⌜ r ≡ codeOf (tableRefusal (length (old table)) (length (old out))) ⌝ }
+    ensures out { λ _. ⌜ new out ≡ packedOut (old table) (old out) ⌝ }
+{
+    api_print::pack_table_call(table, out)
+}
+
+// Unpacks a packed table: its tracks, one after another.
+#[no_mangle]
+pub extern "C" fn foamsickle_unpack_table(table: &[u8], out: &mut [u8]) -> u64
+    ensures code { λ r. ⌜ r ≡ codeOf (tableRefusal (length (old table)) (length (old out))) ⌝ }
+    ensures out { λ _. ⌜ new out ≡ unpackedOut (old table) (old out) ⌝ }
+{
+    api_print::unpack_table_call(table, out)
 }
 
 // Checks a survey's text with a printed plan behind it. `counts` gets k, the kept cost and the bound.

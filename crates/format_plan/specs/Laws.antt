@@ -7,6 +7,7 @@ pub mod Room
 pub mod Fuel
 pub mod RoundTrip
 pub mod Printed
+pub mod Remark
 pub mod Listed
 pub mod Accepted
 pub mod Malformed

@@ -4,4 +4,5 @@ pub mod Plan
 pub mod WellFormed
 pub mod Examples
 pub mod Answer
+pub mod Remark
 pub mod Laws

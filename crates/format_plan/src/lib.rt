@@ -23,6 +23,7 @@ mod claim_lines;
 mod duals;
 mod keep;
 mod members;
+pub mod remark;
 
 // The counts that a plan claims, with the next cursor.
 pub enum Claims {

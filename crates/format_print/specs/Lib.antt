@@ -1,4 +1,5 @@
 pub mod Examples
 pub mod Print
+pub mod Answer
 pub mod Within
 pub mod Laws

@@ -24,9 +24,9 @@ pub use grow::grow_plan;
 pub use prune::prune_plan;
 
 // Plans a survey into lent buffers for marks and moat records. Finished exactly if none of 1 to 8 and 18 applies; 8
-// exactly if no set of tracks joins some group, and then the lowest; a finished plan passes the checker and is within
-// the accuracy rule. Growing and then dropping by themselves come to the same. Lists that share a member are poured
-// together, which changes nothing but the place of 8.
+// exactly if no set of tracks joins some group, and then the lowest; a finished plan passes the checker, is within the
+// accuracy rule, and is a cheapest one with two sites or with all junctions in one list. Growing and then dropping by
+// themselves come to the same. Lists that share a member are poured together, which changes nothing but the place of 8.
 pub fn plan(
     groups: &[u8],
     firsts: &[u32],

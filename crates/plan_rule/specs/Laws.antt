@@ -2,6 +2,7 @@ pub mod Number
 pub mod Ready
 pub mod Passes
 pub mod Needed
+pub mod Exact
 pub mod Promise
 pub mod Same
 pub mod Poured

@@ -3,6 +3,7 @@ pub mod Growing
 pub mod Dropping
 pub mod Poured
 pub mod Needed
+pub mod Exact
 pub mod Promise
 pub mod DropPromise
 pub mod Stages

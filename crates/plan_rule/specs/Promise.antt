@@ -18,6 +18,7 @@ use Rattle.survey_core.specs.Sound.{SurveySound}
 use Rattle.check_rule.specs.Check.{checking}
 use Rattle.plan_rule.specs.Needed.{KeptByNeed}
 use Rattle.plan_rule.specs.Plan.{PlanCounts, planCountsOf, planOf, marksAfter, recordsAfter}
+use Rattle.plan_rule.specs.Exact.{Exact}
 
 -- None of 1 to 8 and 18 applies: the survey is sound (1 to 6, 18), the two buffers are long enough (7), and all tracks together join every group (8).
 pub record Ready (s : Survey) (marksLength recordsLength : ℕ) : Type 0 where
@@ -55,6 +56,8 @@ pub record FinishedPlan (s : Survey) (marks records : List ℕ) (c : PlanCounts)
   pub accuracy : Accurate s (c .terminals) (c .cost)
   -- and no joining set costs less than half the bound
   pub bound-halved : DualBound s (c .bound)
+  -- document 02, No. 14: where near best is best
+  pub exact : Exact s (take (edgeCount s) (marksAfter s marks records)) c
 
 -- What a call answers, for any survey and any buffers.
 pub record Promises (s : Survey) (marks records : List ℕ) (o : Outcome PlanCounts) : Type 0 where

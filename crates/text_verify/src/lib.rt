@@ -19,6 +19,9 @@ mod print;
 // newlines.
 pub const FINDINGS_ROOM: usize = 24 + 3 * (WORD_DIGITS + 1);
 
+// Where the figures of a plan that passes begin: behind `passed` and its newline.
+pub const FIGURES_FROM: usize = 7;
+
 // Checks a survey text with a printed plan behind it and prints `passed`, sites, cost and bound, or the refusal's two
 // lines; 7 where that does not fit. A buffer of `FINDINGS_ROOM` bytes always holds it.
 pub fn verify_text(text: &[u8], out: &mut [u8]) -> Printed

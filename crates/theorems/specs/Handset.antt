@@ -56,9 +56,12 @@ pub record HandsetPlanStands (b : Slices) (before-marks before-records marks rec
   -- demand 3
   pub accurate : Accurate (surveySpelled b) (figureIn result 0) (figureIn result 1)
   pub bounded : DualBound (surveySpelled b) (figureIn result 2)
-  -- the marks cut to m and the records to as many as there are moats pass the handset's checking call
+  -- the marks cut to m and the records to as many as there are moats pass the handset's checking call,
+  -- with the same k, cost and bound
   pub passes : (lent : List ℕ) → checkBytes ≤ length lent
       → codeOf (handsetCheck b (take (edgeCount (surveySpelled b)) marks) (take (recordBytes * figureIn result 4) records) lent) ≡ 0
+  pub same : (lent : List ℕ) → checkBytes ≤ length lent
+      → checkedSpelled (handsetCheckResult b (take (edgeCount (surveySpelled b)) marks) (take (recordBytes * figureIn result 4) records) lent) ≡ checkedSpelled result
 
 -- Marks and records that passed, with the counts that were stored.
 pub record HandsetCheckStands (b : Slices) (marks records result : List ℕ) : Type 0 where

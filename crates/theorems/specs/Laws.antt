@@ -7,3 +7,4 @@ pub mod Prints
 pub mod Verify
 pub mod Texts
 pub mod Lines
+pub mod Remark

@@ -1,10 +1,13 @@
--- The plan of the survey that a text says, its text as the program `plan` prints it, and what the programs `plan` and
--- `verify` print for any text.
+-- The plan of the survey that a text says, its text as the program `plan` prints it, what the programs `plan` and
+-- `verify` print for any text, and what it is that no cheaper plan exists.
 use Prim.Native.Nat.{ℕ}
 use mathlib.Core.Path.{_≡_}
 use mathlib.Core.List.{List}
 use Rattle.base_limits.specs.Verdict.{answer}
-use Rattle.check_printed.specs.Verify.{surveyIn}
+use Rattle.check_rule.specs.Exact.{NoneCheaper}
+use Rattle.check_printed.specs.Verify.{prefixAt, surveyIn}
+use Rattle.format_read.specs.Step.{found}
+use Rattle.format_survey.specs.Line.{widest}
 use Rattle.format_survey.specs.Reading.{SurveyText}
 use Rattle.format_write.specs.Text.{planText, refusalText}
 use Rattle.plan_rule.specs.Plan.{Plan, planOf}
@@ -41,3 +44,16 @@ pub data PlanPrints (t : List ℕ) : Type 0 where
 pub data VerifyPrints (t : List ℕ) : Type 0 where
   verifyRefusal : (number place : ℕ) → verifyOutput t ≡ refusalText number place → VerifyPrints t
   verifyPassed : (c : Checked) → verifyOutput t ≡ passedText (c .terminals) (c .cost) (c .bound) → Worth t c → VerifyPrints t
+
+-- The text says a survey of which no set of tracks that joins every group costs less than c.
+pub record NoCheaperPlan (t : List ℕ) (c : ℕ) : Type 0 where
+  pub survey : SurveyText
+  pub read : surveyRead t ≡ answer survey
+  pub none-cheaper : NoneCheaper (surveyIn survey) c
+
+-- The same of a text that begins with a survey.
+pub record NoCheaperBehind (t : List ℕ) (c : ℕ) : Type 0 where
+  pub survey : SurveyText
+  pub next : ℕ
+  pub read : prefixAt widest t ≡ found survey next
+  pub none-cheaper : NoneCheaper (surveyIn survey) c

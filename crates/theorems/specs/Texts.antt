@@ -10,7 +10,7 @@ use Rattle.format_write.specs.Text.{refusalText}
 use Rattle.format_survey.specs.Line.{widest}
 use Rattle.format_survey.specs.Reading.{SurveyText}
 use Rattle.format_survey.specs.WellFormed.{WellFormed, Begins, Accepting}
-use Rattle.format_survey.specs.Beginning.{Refusing}
+use Rattle.format_survey.specs.Beginning.{VerticesOut, EdgesOver, HighGroup, PairFaulty}
 use Rattle.format_survey_print.specs.Print.{surveyText}
 use Rattle.theory_steiner.specs.Problem.{Joins, allUsable}
 use Rattle.survey_core.specs.Survey.{Survey, vertexCount, edgeCount, problemOf}
@@ -40,17 +40,21 @@ pub record LowestFault (s : Survey) (number e : ℕ) : Type 0 where
   pub lower : (i : ℕ) → i < e → EdgeSound s i
 
 -- What is printed for a text: a plan, or a refusal's number and place.
-pub data PlanPrints (t out : List ℕ) : Type 0 where
+pub data TextPrints (t out : List ℕ) : Type 0 where
   -- the text says a sound survey whose groups all tracks together join: its plan
-  planned : (s : SurveyText) → Accepting widest t s → SurveySound (surveyIn s) → Joins (problemOf (surveyIn s)) (allUsable (problemOf (surveyIn s))) → out ≡ printedPlan (planFor s) → PlanPrints t out
+  planned : (s : SurveyText) → Accepting widest t s → SurveySound (surveyIn s) → Joins (problemOf (surveyIn s)) (allUsable (problemOf (surveyIn s))) → out ≡ printedPlan (planFor s) → TextPrints t out
   -- the text is malformed: 16
-  malformed : (p : ℕ) → MalformedAt t p → out ≡ refusalText 16 p → PlanPrints t out
-  -- it begins as 1, 3, 17 or 18 of reading say
-  unread : (number place : ℕ) → Refusing widest t number place → out ≡ refusalText number place → PlanPrints t out
+  malformed : (p : ℕ) → MalformedAt t p → out ≡ refusalText 16 p → TextPrints t out
+  -- it begins with a count of junctions that is 0 or too large: 1; else with one of tracks that is too large: 3
+  verticesRefused : VerticesOut t → out ≡ refusalText 1 0 → TextPrints t out
+  edgesRefused : EdgesOver widest t → out ≡ refusalText 3 0 → TextPrints t out
+  -- else with lines up to a group over 255: 17; or up to a pair at fault: 18
+  groupOver : (v : ℕ) → HighGroup widest t v → out ≡ refusalText 17 v → TextPrints t out
+  pairAtFault : (i : ℕ) → PairFaulty widest t i → out ≡ refusalText 18 i → TextPrints t out
   -- it says a survey with a track to which 4, 5 or 6 comes
-  faulty : (s : SurveyText) → Accepting widest t s → (number e : ℕ) → LowestFault (surveyIn s) number e → out ≡ refusalText number e → PlanPrints t out
+  faulty : (s : SurveyText) → Accepting widest t s → (number e : ℕ) → LowestFault (surveyIn s) number e → out ≡ refusalText number e → TextPrints t out
   -- it says a sound survey with a group that no tracks join: 8
-  unjoined : (s : SurveyText) → Accepting widest t s → SurveySound (surveyIn s) → (g : ℕ) → LowestUnjoined (surveyIn s) (allUsable (problemOf (surveyIn s))) g → out ≡ refusalText 8 g → PlanPrints t out
+  unjoined : (s : SurveyText) → Accepting widest t s → SurveySound (surveyIn s) → (g : ℕ) → LowestUnjoined (surveyIn s) (allUsable (problemOf (surveyIn s))) g → out ≡ refusalText 8 g → TextPrints t out
 
 -- Demand 1 for texts.
 pub record TextsPlanned : Type 0 where
@@ -58,4 +62,4 @@ pub record TextsPlanned : Type 0 where
   pub sound-planned : (s : SurveyText) → SurveySound (surveyIn s) → ByteGroups (surveyIn s) → Joins (problemOf (surveyIn s)) (allUsable (problemOf (surveyIn s)))
       → planOutput (surveyText s) ≡ printedPlan (planFor s)
   -- and every text prints a plan or its refusal, by the case that it is
-  pub every-text : (t : List ℕ) → PlanPrints t (planOutput t)
+  pub every-text : (t : List ℕ) → TextPrints t (planOutput t)

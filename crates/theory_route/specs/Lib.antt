@@ -1,3 +1,4 @@
 pub mod First
 pub mod Route
+pub mod Cheapest
 pub mod Laws

@@ -15,3 +15,8 @@ pub mod Accuracy
 pub mod Terminals
 pub mod Minima
 pub mod Required
+pub mod Exact
+pub mod Order
+pub mod Spanning
+pub mod Cheapest
+pub mod Taken

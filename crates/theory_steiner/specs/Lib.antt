@@ -1,6 +1,7 @@
 pub mod Problem
 pub mod Growth
 pub mod Minima
+pub mod Spanning
 pub mod Dual
 pub mod Pruning
 pub mod Requirement

@@ -1,7 +1,8 @@
 -- The two minima of source 003, section 4.2.1: the least slack of the edges between components with exactly one end active, and half the least of those with
 -- both. Laws/Minima shows that the delay of a round is the smaller of them, or the only one that there is.
-use Prim.Native.Nat.{ℕ, zero, suc, _/_}
-use mathlib.Core.Bool.{Bool, _&&_, not, xor, cond}
+use Prim.Native.Nat.{ℕ, zero, suc, _/_, _<_}
+use mathlib.Core.Path.{_≡_}
+use mathlib.Core.Bool.{Bool, true, _&&_, not, xor, cond}
 use lib.Dec.{eqb, ltb}
 use Rattle.theory_steiner.specs.Problem.{Problem}
 use Rattle.theory_steiner.specs.Growth.{State, active, slack, Delay, never, after, Winner, nobody, edge}
@@ -21,6 +22,13 @@ smaller (after a) (after b) = after (cond (ltb b a) b a)
 unfoldable pub least : (test : ℕ → Bool) (f : ℕ → ℕ) → (n : ℕ) → Delay
 least test f zero = never
 least test f (suc e) = smaller (least test f e) (cond (test e) (after (f e)) never)
+
+-- d is f of one of them.
+pub record Attained (test : ℕ → Bool) (f : ℕ → ℕ) (n d : ℕ) : Type 0 where
+  pub at : ℕ
+  pub below : at < n
+  pub passes : test at ≡ true
+  pub value : f at ≡ d
 
 unfoldable pub halved : Delay → Delay
 halved never = never

@@ -1,6 +1,6 @@
 -- The Steiner forest problem over plain numbers (source 001, Problem 22.1, restated by a requirement r(u, v)). A survey, with groups or
 -- with overlapping lists, with all its tracks or with one closed, is an instance.
-use Prim.Native.Nat.{ℕ, _<_}
+use Prim.Native.Nat.{ℕ, _≤_, _<_}
 use mathlib.Core.Path.{_≡_}
 use mathlib.Core.Bool.{Bool, true, _&&_, _||_, not}
 use lib.Dec.{eqb, ltb}
@@ -50,6 +50,10 @@ joined p F =
 -- The sum of the weights, each edge once.
 unfoldable pub cost : Problem → (ℕ → Bool) → ℕ
 cost p F = sumBelow (p .edges) (λ e. counted (F e) (p .weight e))
+
+-- No set of usable edges that joins costs less than F (document 02, No. 14: 'where near best is best').
+abbrev pub Cheapest : Problem → (ℕ → Bool) → Type 0
+Cheapest p F = (G : ℕ → Bool) → EdgeSet p G → Joins p G → cost p F ≤ cost p G
 
 -- f(S) of source 001, section 22.1: some required pair has one vertex inside S and one outside.
 unfoldable pub separates : Problem → (ℕ → Bool) → Bool

@@ -79,7 +79,8 @@ fn mark_but(marks: &[u8], set: Tracks, out: usize, e: usize) -> u8
 
 // These tracks below m, but one, as marks of kept tracks.
 pub fn marks_but(marks: &[u8], set: Tracks, out: usize, m: usize) -> [u8; MAX_EDGES]
-    ensures { λ r. ⌜ r ≡ remade (λ e x. counted (markedBut (old marks) (leastMark set) out e) 2) m (replicate maxEdges 0) ⌝ }
+    ensures { λ r.
+        ⌜ r ≡ remade (λ e x. counted (markedBut (old marks) (leastMark set) out e) 2) m (replicate maxEdges 0) ⌝ }
 {
     let mut chosen = [0u8; MAX_EDGES];
     let mut e = 0;

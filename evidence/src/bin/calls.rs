@@ -7,21 +7,24 @@
 
 use evidence::calls::document;
 use evidence::calls::generated::OPERATIONS;
-use evidence::{handset, verifying};
+use evidence::{handset, table, verifying};
 use std::collections::BTreeMap;
 use std::process::ExitCode;
 
 #[cfg(feature = "native")]
-use evidence::native::{HANDSET, LIBRARY, VERIFY};
+use evidence::native::{HANDSET, LIBRARY, TABLES, VERIFY};
 #[cfg(not(feature = "native"))]
 const LIBRARY: evidence::calls::Library = evidence::calls::SECOND;
 #[cfg(not(feature = "native"))]
 const HANDSET: handset::Handset = handset::SECOND;
 #[cfg(not(feature = "native"))]
 const VERIFY: verifying::Verify = verifying::second;
+#[cfg(not(feature = "native"))]
+const TABLES: table::Tables = table::SECOND;
 
-/// The calls of which so many cases are compared: the operations, those of the handset, the check of printed plans.
-const COMPARED: u64 = (OPERATIONS.len() + handset::CALLS.len() + 1) as u64;
+/// The calls of which so many cases are compared: the operations, those of the handset and of tables, the check of
+/// printed plans.
+const COMPARED: u64 = (OPERATIONS.len() + handset::CALLS.len() + table::CALLS.len() + 1) as u64;
 
 /// Holds a call of so many cases against the second implementation, and says how often each refusal came.
 fn run(name: &str, count: u64, seed: u64, compare: impl Fn(u64) -> Result<u64, String>) -> Result<(), String> {
@@ -42,6 +45,9 @@ fn compare(count: u64, seed: u64) -> Result<(), String> {
     }
     for (name, checks) in handset::CALLS {
         run(name, count, seed, |case| handset::compare(&HANDSET, seed, case, checks))?;
+    }
+    for (name, unpacks) in table::CALLS {
+        run(name, count, seed, |case| table::compare(&TABLES, seed, case, unpacks))?;
     }
     run("verify", count, seed, |case| verifying::compare(VERIFY, seed, case))
 }

@@ -1,6 +1,7 @@
 //! Seeded inputs. A seed and a case number name an input for good; no case depends on another.
 
 mod also;
+pub mod exact;
 mod plans;
 mod printed;
 mod rng;

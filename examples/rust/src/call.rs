@@ -110,6 +110,8 @@ mod flat {
             groups: in u8, firsts: in u32, seconds: in u32, weights: in u32, owners: in u32, others: in u8, out: out u8,
             counts: out u64,
         );
+        pack_table = foamsickle_pack_table(table: in u8, out: out u8);
+        unpack_table = foamsickle_unpack_table(table: in u8, out: out u8);
         verify = foamsickle_verify(text: in u8, counts: out u64);
         handset_plan = foamsickle_handset_plan(
             groups: in u8, firsts: in u8, seconds: in u8, weights: in u8, owners: in u8, others: in u8, marks: out u8,
@@ -123,7 +125,7 @@ mod flat {
 }
 
 /// `counts` of `read_stp` takes n and m; what the others do include/foamsickle.h says.
-pub use flat::{print_dual, print_plan, read_stp, verify};
+pub use flat::{pack_table, print_dual, print_plan, read_stp, unpack_table, verify};
 
 /// `counts` takes n, m and the number of pairs.
 pub fn read(text: &[u8], b: Buffers, counts: &mut [u64]) -> u64 {

@@ -77,6 +77,8 @@ pub enum Refusal {
     MalformedStp(u64),
     /// 21: this picked track closes a loop with picked tracks of lower number
     Loop(u64),
+    /// 23: a table is not whole tracks
+    PartOfTrack,
     /// any other number and its place, as of a printed plan: 25 to 28
     Other(u8, u64),
 }
@@ -108,6 +110,7 @@ impl Refusal {
             19 => Track(place),
             20 => MalformedStp(place),
             21 => Loop(place),
+            23 => PartOfTrack,
             number => Other(number as u8, place),
         }
     }
@@ -340,6 +343,21 @@ pub fn print_survey(survey: &Survey) -> Result<Vec<u8>, Refusal> {
     printed(1 << 16, |out, counts| call::print_survey(survey.slices(), out, counts))
 }
 
+/// A track table packed for the memory card, twelve bytes a track: the first bytes of all tracks, then all second bytes,
+/// and so on.
+pub fn pack_table(table: &[u8]) -> Result<Vec<u8>, Refusal> {
+    let mut out = vec![0; table.len()];
+    answered(call::pack_table(table, &mut out))?;
+    Ok(out)
+}
+
+/// The tracks of a packed table, one after another.
+pub fn unpack_table(table: &[u8]) -> Result<Vec<u8>, Refusal> {
+    let mut out = vec![0; table.len()];
+    answered(call::unpack_table(table, &mut out))?;
+    Ok(out)
+}
+
 /// Checks a plan's text against a survey's.
 pub fn verify(survey: &[u8], plan: &[u8]) -> Result<Found, Refusal> {
     let mut counts = [0; CHECK_FIGURES];
@@ -396,6 +414,18 @@ mod tests {
         let twice = stp.replace("T 3", "T 1");
         let at = twice.rfind("1\nEND").unwrap() as u64;
         assert_eq!(read_stp(twice.as_bytes()), Err(Refusal::MalformedStp(at)));
+    }
+
+    #[test]
+    fn a_table_is_packed_and_unpacked() {
+        // A track from 1 to 2 at 300, and one from 3 to 4 at 5.
+        let table = [1, 0, 0, 0, 2, 0, 0, 0, 44, 1, 0, 0, 3, 0, 0, 0, 4, 0, 0, 0, 5, 0, 0, 0];
+        let packed = [1, 3, 0, 0, 0, 0, 0, 0, 2, 4, 0, 0, 0, 0, 0, 0, 44, 5, 1, 0, 0, 0, 0, 0];
+        assert_eq!(pack_table(&table).unwrap(), packed);
+        assert_eq!(unpack_table(&packed).unwrap(), table);
+        assert_eq!(pack_table(&[]).unwrap(), []);
+        assert_eq!(unpack_table(&table[1..]), Err(Refusal::PartOfTrack));
+        assert_eq!(call::pack_table(&table, &mut [0; 23]), 7);
     }
 
     #[test]

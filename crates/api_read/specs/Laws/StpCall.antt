@@ -1,5 +1,5 @@
 -- Reading an STP text: counts that fit, and it is the library's own; too short, and a group buffer of no length is lent on, which is refused.
-use Prim.Native.Nat.{ℕ, _+_, _*_, _-_, _^_, _<_}
+use Prim.Native.Nat.{ℕ, _+_, _*_, _-_, _^_, _≤_, _<_}
 use native.Mathlib.Omega.{arith}
 use mathlib.Core.Path.{_≡_, refl, ap, sym, _∙_}
 use mathlib.Core.Bool.{true, cond}
@@ -7,12 +7,14 @@ use mathlib.Core.List.{List, [], _∷_, _++_}
 use lib.ListN.{length, take, drop}
 use lib.Seq.{sets}
 use lib.Dec.{ltb, lit<}
+use borrow.Author.Tests.{le-ltb}
 use Rattle.base_limits.specs.Verdict.{Outcome, refusal, answer}
 use Rattle.base_limits.specs.declared.Verdict.{Verdict}
 use Rattle.format_survey.specs.Reading.{filled}
 use Rattle.format_survey.specs.Line.{SurveyCounts, firstsOf, secondsOf, weightsOf}
 use Rattle.format_stp.specs.StpReading.{StpContent, stpReading}
-use Rattle.format_stp.specs.Promises.{StpGives, gives-1, gives-3, gives-7, gives-20}
+use Rattle.format_stp.specs.Laws.Promises.{promised}
+use Rattle.format_stp.specs.Promises.{StpGives, gives-1, gives-3, gives-7, gives-20, stpBuffers, StpPromises}
 use Rattle.format_stp.specs.Laws.Accepted.{accepted-in, stp-numbers, stp-malformed-begins}
 use Rattle.format_stp.specs.Answer.{stpAnswer, stpCountsOf}
 use Rattle.format_stp.specs.declared.StpRead.{StpRead}
@@ -107,6 +109,25 @@ module _ (t groups firsts seconds weights counts : List ℕ) {room : ℕ} (lent 
         let ss = buffer-left (λ x. secondsOf (x .lines)) seconds (read .secondsRead) in
         let ws = buffer-left (λ x. weightsOf (x .lines)) weights (read .weightsRead) in
         (code, (groups-left, (fs, (ss, (ws, k ∙ ap (λ (o : Outcome SurveyCounts). countsFor o stpFiguresOf counts) same)))))
+
+-- ---- the promises of reading
+
+-- For counts that fit, what the call answers and leaves keeps them.
+module _ (t groups firsts seconds weights : List ℕ) (counts : ℕ) where
+  abbrev said : Outcome StpContent
+  said = stpCall t groups firsts seconds weights counts
+
+  pub call-promises : {groups′ firsts′ seconds′ weights′ : List ℕ} → groups′ ≡ filled said (λ x. x .groups) groups → firsts′ ≡ filled said (λ x. firstsOf (x .lines)) firsts → seconds′ ≡ filled said (λ x. secondsOf (x .lines)) seconds
+      → weights′ ≡ filled said (λ x. weightsOf (x .lines)) weights → stpFigures ≤ counts
+      → StpPromises t (stpBuffers groups firsts seconds weights) (stpCountsOf said) (stpBuffers groups′ firsts′ seconds′ weights′)
+  unfolding stpCall
+  call-promises g f s w enough =
+      promised t (stpBuffers groups firsts seconds weights) (ap stpCountsOf same) (g ∙ ap (λ (o : Outcome StpContent). filled o (λ x. x .groups) groups) same)
+      (f ∙ ap (λ (o : Outcome StpContent). filled o (λ x. firstsOf (x .lines)) firsts) same) (s ∙ ap (λ (o : Outcome StpContent). filled o (λ x. secondsOf (x .lines)) seconds) same)
+      (w ∙ ap (λ (o : Outcome StpContent). filled o (λ x. weightsOf (x .lines)) weights) same)
+    where
+      same : said ≡ stpReading t groups firsts seconds weights
+      same = rw (le-ltb counts stpFigures enough) refl
 
 -- ---- number and place can be read off the answer
 

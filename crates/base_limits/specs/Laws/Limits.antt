@@ -1,9 +1,24 @@
--- The limits are the papers' (document 02, No. 6 and No. 8), and the digit limits follow from them: a price and an amount at the limit, and the largest
+-- The limits are the papers' (document 01; document 02, No. 2, No. 6 and No. 8), and the digit limits follow from them: a price and an amount at the limit, and the largest
 -- cost and bound that a plan can have, are written with just so many digits.
 use Prim.Native.Nat.{ℕ, _+_, _*_, _^_, _<_, _≤_}
 use native.Mathlib.Omega.{arith}
 use mathlib.Core.Path.{_≡_, refl}
-use Rattle.base_limits.specs.Limits.{maxVertices, maxEdges, maxWeight, maxValue, groupNumbers, maxPairs, valueBytes, memberBytes, recordBytes, maxDuals, countDigits, groupDigits, weightDigits, figureDigits, valueDigits, longestDual, dualRoom, HasDigits}
+use Rattle.base_limits.specs.Limits.{maxVertices, maxEdges, maxWeight, maxValue, groupNumbers, maxPairs, valueBytes, memberBytes, recordBytes, maxDuals, countDigits, groupDigits, endpointDigits, weightDigits, alsoDigits, figureDigits, valueDigits, longestDual, dualRoom, surveyRoom, HasDigits}
+
+-- ---- document 01, and document 02, No. 2
+
+pub edge-limit : maxEdges ≡ 2048
+edge-limit = refl
+
+pub endpoint-digits : endpointDigits ≡ 3
+endpoint-digits = refl
+
+pub also-digits : alsoDigits ≡ 3
+also-digits = refl
+
+-- What the programs `plan` and `why` read of a text.
+pub survey-room : surveyRoom ≡ 65536
+survey-room = refl
 
 -- ---- document 02, No. 6
 
@@ -55,6 +70,10 @@ longest-line = refl
 
 pub line-fits : longestDual ≤ dualRoom
 line-fits = omega arith
+
+-- A buffer for every printed line.
+pub dual-room : dualRoom ≡ 2048
+dual-room = refl
 
 -- ---- what has so many digits
 

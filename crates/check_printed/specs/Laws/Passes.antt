@@ -27,7 +27,7 @@ use Rattle.check_core.specs.Laws.Counts.{counts-fit}
 use Rattle.format_plan.specs.Plan.{Claims, planAt}
 use Rattle.check_printed.specs.Verify.{surveyIn, planVerified, planFrom, verifiedFrom, verifying}
 use Rattle.check_printed.specs.Laws.Verify.{claim-fine, room-suffices}
-use Rattle.format_plan.specs.WellFormed.{planIn, PrintFits}
+use Rattle.format_plan.specs.WellFormed.{ClaimDigits, planIn, PrintFits}
 use Rattle.format_plan.specs.Laws.Printed.{read-back}
 use Rattle.check_printed.specs.Laws.Prefix.{within-numbered, plan-behind, prefix-render}
 use Rattle.check_printed.specs.Laws.Same.{drawn-passes}
@@ -61,6 +61,10 @@ module _ (s : Survey) (numbered : ByteGroups s) (marks records : List ℕ) (c : 
         duals = p .records-few;
         values = λ i l. let small = p .duals-sound i l .small in omega arith;
       }
+
+  -- The figures of what passes have few digits.
+  pub checked-digits : ClaimDigits (claimsOf c 0)
+  checked-digits = passed-fits 0 (omega arith) .few
 
   -- The text of what passes is no longer than any plan's.
   passed-length : Bytes records → (rounds : ℕ) → rounds < 10 ^ figureDigits → length (printedWith c rounds marks records) ≤ planRoom

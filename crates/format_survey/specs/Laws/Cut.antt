@@ -8,7 +8,7 @@ use lib.ListN.{length, take}
 use lib.Seq.{take-take}
 use Rattle.format_read.specs.Number.{lineBytes}
 use Rattle.format_survey.specs.Render.{edgeBytes}
-use Rattle.base_limits.specs.Limits.{maxVertices, maxEdges, countDigits, groupDigits, endpointDigits, weightDigits}
+use Rattle.base_limits.specs.Limits.{maxVertices, maxEdges, countDigits, groupDigits, endpointDigits, weightDigits, surveyRoom}
 use Rattle.format_write.specs.Key.{comma, newline, nodesKey, linksKey, nodeKey, linkKey}
 use Rattle.format_survey.specs.Line.{Lengths, pairRoom, Tests, testsFor, verticesTest, edgesTest, groupTest, countLine, groupLine, groupLines, edgeLine, edgeLines}
 use Rattle.format_survey.specs.Reading.{surveyAt, stepOutcome, reading}
@@ -69,6 +69,6 @@ pub reading-cut : (k : ℕ) (t : List ℕ) (lent : Lengths) → farthestLook ≤
 unfolding reading
 reading-cut k t lent h = ap stepOutcome (survey-same lent (take k t) t (take-take farthestLook k t h))
 
--- A program that reads at most 65,536 bytes gives the answer of its whole input.
-pub reading-first-bytes : (t : List ℕ) (lent : Lengths) → reading (take 65536 t) lent ≡ reading t lent
-reading-first-bytes t lent = reading-cut 65536 t lent (omega arith)
+-- A program that reads at most `surveyRoom` bytes gives the answer of its whole input.
+pub reading-first-bytes : (t : List ℕ) (lent : Lengths) → reading (take surveyRoom t) lent ≡ reading t lent
+reading-first-bytes t lent = reading-cut surveyRoom t lent (omega arith)

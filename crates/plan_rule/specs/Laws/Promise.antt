@@ -38,6 +38,7 @@ use Rattle.plan_rule.specs.Laws.Number.{before-cases, survey-never}
 use Rattle.plan_rule.specs.Laws.Ready.{fine-ready, ready-fine, all-bounded, buffers-fit}
 use Rattle.plan_rule.specs.Laws.Passes.{finished-passes, finished-accurate, finished-bound}
 use Rattle.plan_rule.specs.Laws.Needed.{plan-needed}
+use Rattle.plan_rule.specs.Laws.Exact.{finished-exact}
 
 -- ---- 8
 
@@ -158,6 +159,7 @@ module _ (s : Survey) (numbered : ByteGroups s) (marks records : List ℕ) (fine
         passes-checker = rw (cut-marks, cut-records) (finished-passes s (r .survey) (r .joinable) numbered);
         accuracy = finished-accurate s (r .survey) (r .joinable);
         bound-halved = finished-bound s (r .survey) (r .joinable);
+        exact = rw cut-marks (finished-exact s (r .survey) (r .joinable) numbered);
       }
 
 -- An answer with counts is a finished plan, and none of 1 to 8 applied.

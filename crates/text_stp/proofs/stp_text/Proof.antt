@@ -24,7 +24,7 @@ returns c =
     let read = rw first at (call .read-stp .ensures) in
     let edges = replicate {A = ℕ} maxEdges 0 in
     read-printed (a .text .now) (replicate maxVertices 0) edges edges edges
-    (read .1 .0) (read .1 .1 .0) (read .1 .1 .1 .0) (read .1 .1 .1 .1) (a .out .now) (read .0) (c .before .before .before .before .before .before .before .before .judge .ensures) (c .before .before .print-read .ensures)
+    (read .1 .0) (read .1 .1 .0) (read .1 .1 .1 .0) (read .1 .1 .1 .1 .0) (a .out .now) (read .0) (c .before .before .before .before .before .before .before .before .judge .ensures) (c .before .before .print-read .ensures)
 
 pub stp-text-spec : {M : Type 1} → statement M
 stp-text-spec =

@@ -1,4 +1,4 @@
--- Laws of what `stp` prints: what is printed by the outcome of reading; that `surveyRoom` bytes hold it; that a printed survey is read back; that the
+-- Laws of what `stp` prints: that the earliest finding wins where a text is too long; what is printed by the outcome of reading; that `surveyRoom` bytes hold it; that a printed survey is read back; that the
 -- first bytes decide it.
 use Prim.Native.Nat.{ℕ, _+_, _^_, _≤_, _<_}
 use native.Mathlib.Omega.{arith}
@@ -7,7 +7,7 @@ use mathlib.Core.List.{List, [], map}
 use mathlib.Core.Logic.{_⊎_, inl, inr}
 use mathlib.Core.Path.{_≡_, refl, ap, sym, _∙_, subst}
 use lib.Dec.{ltb}
-use lib.ListN.{length, take, drop, getD, replicate, length-map, List·getD-map}
+use lib.ListN.{length, take, drop, getD, replicate, length-map, List·getD-map, take-append-drop}
 use lib.Seq.{take-at, take-all, ext-getD, length-take-le, take-take}
 use borrow.Author.Tests.{lt-ltb, le-ltb}
 use Rattle.base_finite.specs.Below.{tabulate}
@@ -29,6 +29,7 @@ use Rattle.format_survey_print.specs.Laws.Print.{whole-answer, whole-out}
 use Rattle.format_survey_print.specs.Print.{edgeAt, edgesFrom, surveyText, surveyPrinted, surveyPrintedOut}
 use Rattle.format_stp.specs.StpReading.{StpContent, stpReading}
 use Rattle.format_stp.specs.Answer.{stpCountsOf}
+use Rattle.format_stp.specs.Laws.Beginning.{stp-refused-longer}
 use Rattle.format_stp.specs.Laws.Within.{stp-within, stp-sizes}
 use Rattle.text_stp.specs.Stored.{storedSurvey, storedPrinted, storedPrintedOut, StoredWords, unreadWords, readWords}
 use Rattle.text_stp.specs.StpOutput.{stpRoom, beforeCut, judged, stpRead, stpText, stpOutput}
@@ -82,6 +83,43 @@ judged-counts l o = by-length (ltb stpRoom l) o
 read-short : (t : List ℕ) → length t ≤ stpRoom → stpRead t ≡ readWhole t
 unfolding stpRead
 read-short t h = judged-short (length t) (readWhole (take stpRoom t)) h ∙ ap readWhole (take-all stpRoom t h)
+
+-- A refusal of the first bytes before their end is the whole text's: reading the whole text gives it too.
+pub cut-refused : (t : List ℕ) {n p : ℕ} → readWhole (take stpRoom t) ≡ refusal n p → p < stpRoom → (stpRead t ≡ refusal n p) × (readWhole t ≡ refusal n p)
+unfolding stpRead beforeCut
+cut-refused t {n} {p} e h = by-length (lt-or-ge stpRoom (length t))
+  where
+    whole : stpRoom < length t → readWhole t ≡ refusal n p
+    whole l =
+        let k = length-take-le stpRoom t (omega arith) in
+        ap readWhole (sym (take-append-drop stpRoom t))
+        ∙ stp-refused-longer (replicate maxVertices 0) (replicate maxEdges 0) (replicate maxEdges 0) (replicate maxEdges 0) (take stpRoom t) (drop stpRoom t) e (omega (arith, k))
+
+    by-length : (stpRoom < length t) ⊎ (length t ≤ stpRoom) → (judged (length t) (readWhole (take stpRoom t)) ≡ refusal n p) × (readWhole t ≡ refusal n p)
+    by-length (inl l) = (judged-long (length t) _ l ∙ ap beforeCut e ∙ rw (lt-ltb p stpRoom h) refl, whole l)
+    by-length (inr l) = (judged-short (length t) _ l ∙ e, ap readWhole (sym (take-all stpRoom t l)) ∙ e)
+
+-- What is not too long is read whole; and 'too long' is said only of a text over the room whose first bytes are refused nowhere before their end.
+pub data CutOrWhole (t : List ℕ) : Type 0 where
+  whole : stpRead t ≡ readWhole t → CutOrWhole t
+  tooLong : stpRoom < length t → ((n p : ℕ) → readWhole (take stpRoom t) ≡ refusal n p → stpRoom ≤ p) → stpRead t ≡ refusal 7 0 → CutOrWhole t
+
+pub cut-or-whole : (t : List ℕ) → CutOrWhole t
+unfolding stpRead beforeCut
+cut-or-whole t = by-length (lt-or-ge stpRoom (length t))
+  where
+    cut : stpRoom < length t → (o : Outcome StpContent) → readWhole (take stpRoom t) ≡ o → CutOrWhole t
+    cut l (answer x) e = tooLong l (λ n p f. let z : _≡_ {A = ℕ} 0 1 = cc in absurd (omega arith)) (judged-long (length t) _ l ∙ ap beforeCut e)
+    cut l (refusal n p) e = by-place (lt-or-ge p stpRoom)
+      where
+        by-place : (p < stpRoom) ⊎ (stpRoom ≤ p) → CutOrWhole t
+        by-place (inl h) = let c = cut-refused t e h in whole (c .0 ∙ sym (c .1))
+        by-place (inr h) =
+            tooLong l (λ i q f. let same : p ≡ q = cc in omega arith) (judged-long (length t) _ l ∙ ap beforeCut e ∙ rw (le-ltb p stpRoom h) refl)
+
+    by-length : (stpRoom < length t) ⊎ (length t ≤ stpRoom) → CutOrWhole t
+    by-length (inl l) = cut l (readWhole (take stpRoom t)) refl
+    by-length (inr l) = whole (read-short t l)
 
 -- A refusal's lines fit the room for surveys.
 pub refusal-room : (number place : ℕ) → number < 2 ^ 64 → place < 2 ^ 64 → length (refusalText number place) ≤ surveyRoom

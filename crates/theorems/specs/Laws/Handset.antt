@@ -270,61 +270,69 @@ module _ (b : Slices) (marks records result : List ℕ) where
           bounded = checking-bound s numbered marks records c (checked-call numbered);
         }
 
-  module _ (none : codeOf (handsetPlan b marks records result) ≡ 0) where
-    plan-fine : handsetPlan b marks records result ≡ Fine
-    unfolding handsetPlan planWith
-    plan-fine =
-        code-zero (handsetPlan b marks records result)
-        (encodable-before _ _ (ragged-encodable b) λ _. counts-encodable (surveySpelled b) planBytes (length result) _ (plan-encodable (surveySpelled b) (length marks) (length records))) none
+answer-same : {a b : Checked} → answer a ≡ answer b → a ≡ b
+answer-same h = cc
 
-    plan-parts : (planBytes ≤ length result) × (planRefusal (surveySpelled b) (length marks) (length records) ≡ Fine)
-    unfolding handsetPlan planWith
-    plan-parts =
-        counts-fine (surveySpelled b) planBytes (length result) (planRefusal (surveySpelled b) (length marks) (length records)) (fine-right (raggedRefusal b) _ plan-fine)
+module _ (b : Slices) (marks records result : List ℕ) (none : codeOf (handsetPlan b marks records result) ≡ 0) where
+  plan-fine : handsetPlan b marks records result ≡ Fine
+  unfolding handsetPlan planWith
+  plan-fine =
+      code-zero (handsetPlan b marks records result)
+      (encodable-before _ _ (ragged-encodable b) λ _. counts-encodable (surveySpelled b) planBytes (length result) _ (plan-encodable (surveySpelled b) (length marks) (length records))) none
 
-    unragged : raggedRefusal b ≡ Fine
-    unfolding handsetPlan
-    unragged = fine-left (raggedRefusal b) _ plan-fine
+  plan-parts : (planBytes ≤ length result) × (planRefusal (surveySpelled b) (length marks) (length records) ≡ Fine)
+  unfolding handsetPlan planWith
+  plan-parts =
+      counts-fine (surveySpelled b) planBytes (length result) (planRefusal (surveySpelled b) (length marks) (length records)) (fine-right (raggedRefusal b) _ plan-fine)
 
-    -- What passes the checker passes the handset's checking call on the same slices.
-    passed-across : (m r lent : List ℕ) (c : Checked) → checking (surveySpelled b) m r ≡ answer c → checkBytes ≤ length lent → codeOf (handsetCheck b m r lent) ≡ 0
-    unfolding checking handsetCheck checkWith checkRefusal
-    passed-across m r lent c h long =
-        let s = surveySpelled b in
-        let fine = answer-fine (checkRefusal s m r) (checkedOf s m r) c h .0 in
-        zero-code (before-fine unragged _ ∙ fine-counts s checkBytes (length lent) (checkRefusal s m r) long (fine-left (surveyRefusal s) _ fine) fine)
+  unragged : raggedRefusal b ≡ Fine
+  unfolding handsetPlan
+  unragged = fine-left (raggedRefusal b) _ plan-fine
 
-    module _ (numbered : ByteGroups (surveySpelled b)) where
-      plan-counts : plannedSpelled (handsetPlanResult b marks records result) ≡ planCountsOf (planOf (problemOf (surveySpelled b)))
-      unfolding handsetPlanResult
-      plan-counts =
-          ap (λ (l : List ℕ). plannedSpelled l) (result-stored plan-fine (drawnFigures (surveySpelled b)) result)
-          ∙ planned-spelled (surveySpelled b) numbered (length marks) (length records) (plan-parts .1) result (plan-parts .0)
+  -- What passes the checker passes the handset's checking call on the same slices.
+  passed-across : (m r lent : List ℕ) (c : Checked) → checking (surveySpelled b) m r ≡ answer c → checkBytes ≤ length lent → codeOf (handsetCheck b m r lent) ≡ 0
+  unfolding checking handsetCheck checkWith checkRefusal
+  passed-across m r lent c h long =
+      let s = surveySpelled b in
+      let fine = answer-fine (checkRefusal s m r) (checkedOf s m r) c h .0 in
+      zero-code (before-fine unragged _ ∙ fine-counts s checkBytes (length lent) (checkRefusal s m r) long (fine-left (surveyRefusal s) _ fine) fine)
 
-      plan-finished : FinishedPlan (surveySpelled b) marks records (plannedSpelled (handsetPlanResult b marks records result))
-      unfolding counting outcome
-      plan-finished =
-          counting-finished (surveySpelled b) numbered marks records (plannedSpelled (handsetPlanResult b marks records result))
-          (ap (λ v. outcome v (planCountsOf (planOf (problemOf (surveySpelled b))))) (plan-parts .1) ∙ ap (λ (c : PlanCounts). answer c) (sym plan-counts))
+  module _ (numbered : ByteGroups (surveySpelled b)) where
+    plan-counts : plannedSpelled (handsetPlanResult b marks records result) ≡ planCountsOf (planOf (problemOf (surveySpelled b)))
+    unfolding handsetPlanResult
+    plan-counts =
+        ap (λ (l : List ℕ). plannedSpelled l) (result-stored plan-fine (drawnFigures (surveySpelled b)) result)
+        ∙ planned-spelled (surveySpelled b) numbered (length marks) (length records) (plan-parts .1) result (plan-parts .0)
 
-      plan-marks : marksAfter (surveySpelled b) marks records ≡ handsetMarks b marks records result
-      unfolding handsetMarks marksAfter drawnMarks written
-      plan-marks = ap (λ v. written v (drawnMarks (surveySpelled b) marks) marks) (plan-parts .1 ∙ sym plan-fine)
+    plan-finished : FinishedPlan (surveySpelled b) marks records (plannedSpelled (handsetPlanResult b marks records result))
+    unfolding counting outcome
+    plan-finished =
+        counting-finished (surveySpelled b) numbered marks records (plannedSpelled (handsetPlanResult b marks records result))
+        (ap (λ v. outcome v (planCountsOf (planOf (problemOf (surveySpelled b))))) (plan-parts .1) ∙ ap (λ (c : PlanCounts). answer c) (sym plan-counts))
 
-      plan-records : recordsAfter (surveySpelled b) marks records ≡ handsetRecords b marks records result
-      unfolding handsetRecords recordsAfter drawnRecords written
-      plan-records = ap (λ v. written v (drawnRecords (surveySpelled b) records) records) (plan-parts .1 ∙ sym plan-fine)
+    plan-marks : marksAfter (surveySpelled b) marks records ≡ handsetMarks b marks records result
+    unfolding handsetMarks marksAfter drawnMarks written
+    plan-marks = ap (λ v. written v (drawnMarks (surveySpelled b) marks) marks) (plan-parts .1 ∙ sym plan-fine)
 
-      plan-passes : checking (surveySpelled b) (take (edgeCount (surveySpelled b)) (handsetMarks b marks records result))
-          (take (recordBytes * figureIn (handsetPlanResult b marks records result) 4) (handsetRecords b marks records result))
-          ≡ answer (checkedSpelled (handsetPlanResult b marks records result))
-      plan-passes = rw (← plan-marks, ← plan-records) (plan-finished .passes-checker)
+    plan-records : recordsAfter (surveySpelled b) marks records ≡ handsetRecords b marks records result
+    unfolding handsetRecords recordsAfter drawnRecords written
+    plan-records = ap (λ v. written v (drawnRecords (surveySpelled b) records) records) (plan-parts .1 ∙ sym plan-fine)
 
-      pub handset-plan-stands : HandsetPlanStands b marks records (handsetMarks b marks records result) (handsetRecords b marks records result) (handsetPlanResult b marks records result)
-      handset-plan-stands =
-          record {
-            finished = plan-finished;
-            accurate = plan-finished .accuracy;
-            bounded = plan-finished .bound-halved;
-            passes = λ lent long. passed-across _ _ lent (checkedSpelled (handsetPlanResult b marks records result)) plan-passes long;
-          }
+    plan-passes : checking (surveySpelled b) (take (edgeCount (surveySpelled b)) (handsetMarks b marks records result))
+        (take (recordBytes * figureIn (handsetPlanResult b marks records result) 4) (handsetRecords b marks records result))
+        ≡ answer (checkedSpelled (handsetPlanResult b marks records result))
+    plan-passes = rw (← plan-marks, ← plan-records) (plan-finished .passes-checker)
+
+    pub handset-plan-stands : HandsetPlanStands b marks records (handsetMarks b marks records result) (handsetRecords b marks records result) (handsetPlanResult b marks records result)
+    handset-plan-stands =
+        record {
+          finished = plan-finished;
+          accurate = plan-finished .accuracy;
+          bounded = plan-finished .bound-halved;
+          passes = λ lent long. passed-across _ _ lent (checkedSpelled (handsetPlanResult b marks records result)) plan-passes long;
+          same = λ lent long.
+              answer-same
+              (sym
+              (checked-call b _ _ lent (passed-across _ _ lent (checkedSpelled (handsetPlanResult b marks records result)) plan-passes long) numbered)
+              ∙ plan-passes);
+        }

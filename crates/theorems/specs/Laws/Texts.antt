@@ -26,6 +26,7 @@ use Rattle.format_also.specs.Laws.Render.{pairs-many}
 use Rattle.format_survey.specs.Line.{Edge, EdgeDigits, firstsOf, secondsOf, weightsOf, widest}
 use Rattle.format_survey.specs.Reading.{SurveyText, surveyOf, reading}
 use Rattle.format_survey.specs.WellFormed.{WithinCounts, SurveyRoom, Accepting, surveyOfText}
+use Rattle.format_survey.specs.Beginning.{BufferShort, Refusing, verticesOut, edgesOver, bufferShort, highGroup, pairFaulty}
 use Rattle.format_survey.specs.Laws.WellFormed.{accepted-render, malformed-begins, malformed-stops, malformed-is-none}
 use Rattle.format_survey.specs.Laws.Beginning.{refused-begins}
 use Rattle.format_survey_print.specs.Print.{edgeWith, edgeAt, edgesFrom, edgesIn, pairsIn, surveyOfLists, surveyText, surveyPrintRefusal, surveyPrinted}
@@ -48,7 +49,7 @@ use Rattle.plan_rule.specs.Laws.Ready.{fine-ready, ready-fine, all-bounded, buf
 use Rattle.text_plan.specs.Output.{surveyRead, surveyPlan, readPlan, textPlan, outcomeText, planOutput}
 use Rattle.text_plan.specs.Laws.Output.{refused-output}
 use Rattle.theorems.specs.Printed.{planFor, printedPlan}
-use Rattle.theorems.specs.Texts.{MalformedAt, EdgeFault, endOut, endsEqual, priceOver, LowestFault, PlanPrints, planned, malformed, unread, faulty, unjoined, TextsPlanned}
+use Rattle.theorems.specs.Texts.{MalformedAt, EdgeFault, endOut, endsEqual, priceOver, LowestFault, TextPrints, planned, malformed, verticesRefused, edgesRefused, groupOver, pairAtFault, faulty, unjoined, TextsPlanned}
 use Rattle.theorems.specs.Laws.Sound.{read-sound, sound-within}
 
 -- ---- 4, 5 and 6
@@ -168,18 +169,18 @@ module _ (t : List ℕ) (s : SurveyText) (read : reading t widest ≡ answer s) 
   unfolding vertexCount edgeCount
   roomy = let few = shaped .few in buffers-fit (length (s .groups)) (length (s .firsts)) maxEdges recordsRoom (shaped .edges-few) (omega arith)
 
-  read-prints : PlanPrints t (planOutput t)
+  read-prints : TextPrints t (planOutput t)
   unfolding planRefusal
   read-prints = by (planRefusal q maxEdges recordsRoom) refl
     where
       later : (number place : ℕ) → planRefusal q maxEdges recordsRoom ≡ Refused number place → surveyRefusal q ≡ Fine
           → (refuseIf (ltb maxEdges (edgeCount q) || ltb recordsRoom (recordBytes * dualsFor (vertexCount q))) 7 0 before groupRefusal q 8 (allUsable (problemOf q))) ≡ Refused number place
-          → PlanPrints t (planOutput t)
+          → TextPrints t (planOutput t)
       later number place e fine k =
           let l = group-refused q 8 (allUsable (problemOf q)) (all-bounded q) number place (sym (before-fine roomy _) ∙ k) in
           unjoined s accepts (fine-survey q fine) place (l .1) (refused-text number place e ∙ ap (λ (n : ℕ). refusalText n place) (l .0))
 
-      by : (v : Verdict) → planRefusal q maxEdges recordsRoom ≡ v → PlanPrints t (planOutput t)
+      by : (v : Verdict) → planRefusal q maxEdges recordsRoom ≡ v → TextPrints t (planOutput t)
       by Fine e =
           let r : Ready q maxEdges recordsRoom = fine-ready q (read-numbered t widest s read) maxEdges recordsRoom e in
           planned s accepts (r .survey) (r .joinable) (fine-output e)
@@ -191,18 +192,40 @@ module _ (t : List ℕ) (s : SurveyText) (read : reading t widest ≡ answer s) 
 
 -- ---- every text
 
-text-prints : (t : List ℕ) → PlanPrints t (planOutput t)
+-- With buffers of the limits' sizes 7 does not come of reading.
+never-short : {t : List ℕ} → BufferShort widest t → ⊥
+never-short (inl x) = let a = x .short in let b = x .most in omega arith
+never-short (inr (inl x)) = by (x .short)
+  where
+    by : (maxEdges < x .edges) ⊎ ((maxEdges < x .edges) ⊎ (maxEdges < x .edges)) → ⊥
+    by (inl a) = let b = x .most in omega arith
+    by (inr (inl a)) = let b = x .most in omega arith
+    by (inr (inr a)) = let b = x .most in omega arith
+never-short (inr (inr x)) = by (x .short)
+  where
+    by : (maxPairs ≤ x .number) ⊎ (maxPairs ≤ x .number) → ⊥
+    by (inl a) = let b = x .line .few in omega arith
+    by (inr a) = let b = x .line .few in omega arith
+
+text-prints : (t : List ℕ) → TextPrints t (planOutput t)
 unfolding surveyRead
 text-prints t = by (surveyRead t) refl
   where
-    refused : (n p : ℕ) → surveyRead t ≡ refusal n p → Dec (n ≡ 16) → PlanPrints t (planOutput t)
+    begins : (n p : ℕ) → planOutput t ≡ refusalText n p → Refusing widest t n p → TextPrints t (planOutput t)
+    begins n p e (verticesOut i z x) = verticesRefused x (e ∙ rw (i, z))
+    begins n p e (edgesOver i z x) = edgesRefused x (e ∙ rw (i, z))
+    begins n p e (bufferShort i z x) = absurd (never-short x)
+    begins n p e (highGroup i x) = groupOver p x (e ∙ rw i)
+    begins n p e (pairFaulty i x) = pairAtFault p x (e ∙ rw i)
+
+    refused : (n p : ℕ) → surveyRead t ≡ refusal n p → Dec (n ≡ 16) → TextPrints t (planOutput t)
     refused n p e (yes is) =
         let k : surveyRead t ≡ refusal 16 p = e ∙ ap (λ (i : ℕ). refusal i p) is in
         malformed p (record { begins = malformed-begins widest t p k; stops = malformed-stops widest t p k; not-whole = malformed-is-none widest t p k })
         (sym (refused-output t k))
-    refused n p e (no other) = unread n p (refused-begins widest t e other) (sym (refused-output t e))
+    refused n p e (no other) = begins n p (sym (refused-output t e)) (refused-begins widest t e other)
 
-    by : (o : Outcome SurveyText) → surveyRead t ≡ o → PlanPrints t (planOutput t)
+    by : (o : Outcome SurveyText) → surveyRead t ≡ o → TextPrints t (planOutput t)
     by (refusal n p) e = refused n p e (ℕ-discrete n 16)
     by (answer s) e = read-prints t s e
 

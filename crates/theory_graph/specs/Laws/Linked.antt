@@ -40,6 +40,15 @@ linked-refl e = linked-from e here
 pub linked-ends : {a b : ℕ → ℕ} {F : ℕ → Bool} (e : ℕ) → F e ≡ true → Linked a b F (a e) (b e)
 linked-ends e f = linked-edge e f (forth refl refl)
 
+-- Where G links the ends of each edge of F, it links whatever F links.
+pub linked-over : {a b : ℕ → ℕ} {F G : ℕ → Bool} {u w : ℕ} → ((e : ℕ) → F e ≡ true → Linked a b G (a e) (b e)) → Linked a b F u w → Linked a b G u w
+linked-over h here = here
+linked-over {a} {b} {F} {G} h (step {u = u} {v = v} e f l p) = linked-trans (along l) (linked-over h p)
+  where
+    along : Leads a b e u v → Linked a b G u v
+    along (forth x y) = subst (λ t. Linked a b G t v) x (subst (λ t. Linked a b G (a e) t) y (h e f))
+    along (back x y) = subst (λ t. Linked a b G t v) x (subst (λ t. Linked a b G (b e) t) y (linked-sym (h e f)))
+
 -- How u and w are linked by F and one edge e more: without it, or through it one way or the other.
 pub data Through (a b : ℕ → ℕ) (F : ℕ → Bool) (e u w : ℕ) : Type 0 where
   avoids : Linked a b F u w → Through a b F e u w

@@ -35,6 +35,10 @@ pub occurs-cases : (y x : ℕ) (xs : List ℕ) → occurs (y ∷ xs) x ≡ true 
 unfolding occurs
 occurs-cases y x xs h = ⊎-elim (λ k. inl (eqb-true x y k)) inr (or-cases (eqb x y) (occurs xs x) h)
 
+pub occurs-same : (y x : ℕ) (xs : List ℕ) → (x ≡ y → ⊥) → occurs (y ∷ xs) x ≡ occurs xs x
+unfolding occurs
+occurs-same y x xs other = rw (ne-eqb x y other)
+
 not-head : (y x : ℕ) (xs : List ℕ) → occurs (y ∷ xs) x ≡ false → x ≡ y → ⊥
 unfolding occurs
 not-head y x xs h = eqb-false x y (or-false-left (eqb x y) (occurs xs x) h)
@@ -121,6 +125,34 @@ module _ {a b : ℕ → ℕ} {F : ℕ → Bool} where
   pub route-spares : (e : ℕ) {u w : ℕ} {es vs : List ℕ} → Route a b F u w es vs → occurs es e ≡ false → Linked a b (without F e) u w
   route-spares e arrived h = here
   route-spares e (onward {es = es} g f l fresh r) h = step g (without-intro F e g f (λ same. not-head g e es h (sym same))) l (route-spares e r (not-tail g e es h))
+
+  -- Its edges are of F,
+  pub route-edge : (e : ℕ) {u w : ℕ} {es vs : List ℕ} → Route a b F u w es vs → occurs es e ≡ true → F e ≡ true
+  route-edge e arrived h = absurd (none-occurs e h)
+  route-edge e (onward {es = es} g f l fresh r) h = ⊎-elim (λ same. subst (λ x. F x ≡ true) (sym same) f) (λ k. route-edge e r k) (occurs-cases g e es h)
+
+  -- they alone link its ends,
+  pub route-alone : {u w : ℕ} {es vs : List ℕ} → Route a b F u w es vs → Linked a b (occurs es) u w
+  route-alone arrived = here
+  route-alone (onward {es = es} e f l fresh r) = step e (head-occurs e es) l (linked-mono (λ x h. tail-occurs e x es h) (route-alone r))
+
+  -- it visits both ends of each,
+  pub route-visits : (e x : ℕ) {u w : ℕ} {es vs : List ℕ} → Route a b F u w es vs → occurs es e ≡ true → (a e ≡ x) ⊎ (b e ≡ x) → occurs vs x ≡ true
+  route-visits e x arrived h at = absurd (none-occurs e h)
+  route-visits e x (onward {u} {v} {es = es} {vs = vs} g f l fresh r) h at =
+      ⊎-elim
+      (λ same.
+      ⊎-elim
+      (λ k. subst (λ y. occurs (u ∷ vs) y ≡ true) (sym k) (head-occurs u vs))
+      (λ k. subst (λ y. occurs (u ∷ vs) y ≡ true) (sym k) (tail-occurs u v vs (start-visited r)))
+      (end-is (subst (λ k. Leads a b k u v) (sym same) l) at))
+      (λ k. tail-occurs u x vs (route-visits e x r k at))
+      (occurs-cases g e es h)
+
+  -- and so it uses none twice.
+  pub route-once : (e : ℕ) {u v w : ℕ} {es vs : List ℕ} → Leads a b e u v → occurs vs u ≡ false → Route a b F v w es vs → occurs es e ≡ false
+  route-once e {u} {es = es} {vs = vs} l fresh r =
+      not-true-false (occurs es e) (λ h. true-not-false (occurs vs u) (route-visits e u r h (end-at l)) fresh)
 
   -- An edge whose removal parts the two ends lies on it.
   pub route-uses : (e : ℕ) {u w : ℕ} {es vs : List ℕ} → Route a b F u w es vs → (Linked a b (without F e) u w → ⊥) → occurs es e ≡ true

@@ -93,7 +93,7 @@ module _ (p : Problem) (ok : Sound p) (some : 0 < p .vertices) (joinable : Joins
   unfolding picked
   picked-joins u v bu bv r = partition p ok (grown-reached p) .sound u v bu bv (resting-joined p (grown p .label) grown-resting u v bu bv r)
 
-  picked-edges : EdgeSet p (picked p)
+  pub picked-edges : EdgeSet p (picked p)
   unfolding picked
   picked-edges = picked-usable p (grown-reached p)
 

@@ -1,7 +1,8 @@
 -- `stp_call` meets its contract: what `read_stp` answers where so much of the group buffer is lent on.
 use borrow.Author.Needs.{needs}
+use lib.ListN.{length}
 use Rattle.api_code.specs.Laws.Lending.{lent-le}
-use Rattle.api_read.specs.Laws.StpCall.{stp-into}
+use Rattle.api_read.specs.Laws.StpCall.{stp-into, call-promises}
 use Rattle.api_read.proofs.stp.stp_call.Statement.{statement}
 use Rattle.api_read.proofs.stp.stp_call.Tie as tie
 
@@ -27,10 +28,12 @@ returns : tie.Need-returns
 returns c =
     let a = c .before .before .before .before .before .before .before .before .before .before .before .before .before .before .before .before .before .before .before .before .before .before .before .before .args in
     let read = c .before .before .before .before .before .before .before .before .before .before .before .before .read-stp .ensures in
-    stp-into (a .text .now) (a .groups .now) (a .firsts .now) (a .seconds .now) (a .weights .now) (a .counts .now) (c .before .before .before .before .before .before .before .before .before .before .before .before .before .before .before .before .before .lent-on .ensures)
-    (record { told = read .0; groupsRead = read .1 .0; firstsRead = read .1 .1 .0; secondsRead = read .1 .1 .1 .0; weightsRead = read .1 .1 .1 .1 })
+    let q = stp-into (a .text .now) (a .groups .now) (a .firsts .now) (a .seconds .now) (a .weights .now) (a .counts .now) (c .before .before .before .before .before .before .before .before .before .before .before .before .before .before .before .before .before .lent-on .ensures)
+    (record { told = read .0; groupsRead = read .1 .0; firstsRead = read .1 .1 .0; secondsRead = read .1 .1 .1 .0; weightsRead = read .1 .1 .1 .1 .0 })
     (c .before .before .stp-code .ensures .0)
-    (c .before .before .stp-code .ensures .1)
+    (c .before .before .stp-code .ensures .1) in
+    let promises = call-promises (a .text .now) (a .groups .now) (a .firsts .now) (a .seconds .now) (a .weights .now) (length (a .counts .now)) (q .1 .0) (q .1 .1 .0) (q .1 .1 .1 .0) (q .1 .1 .1 .1 .0) in
+    (q .0, (q .1 .0, (q .1 .1 .0, (q .1 .1 .1 .0, (q .1 .1 .1 .1 .0, (q .1 .1 .1 .1 .1, promises))))))
 
 pub stp-call-spec : {M : Type 1} → statement M
 stp-call-spec =

@@ -1,0 +1,4 @@
+pub mod Table
+pub mod Turning
+pub mod Examples
+pub mod Laws

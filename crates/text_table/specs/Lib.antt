@@ -1,0 +1,3 @@
+pub mod TrackTable
+pub mod Examples
+pub mod Laws

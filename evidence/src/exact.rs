@@ -1,0 +1,130 @@
+//! Where near best is best (No. 14): Dijkstra's cheapest route and Kruskal's taking, written apart from the planners, and what a plan of either kind of
+//! survey has to be by them.
+
+use crate::View;
+
+/// What is said where the figures show that no cheaper plan exists.
+pub const REMARK: &str = "no cheaper plan exists\n";
+
+/// What a plan of No. 14's surveys is judged by: the picked tracks as a count, as the plan is printed.
+#[derive(Clone, Debug, PartialEq, Eq)]
+pub struct Drawn {
+    pub sites: u64,
+    pub cost: u64,
+    pub bound: u64,
+    pub rounds: u64,
+    /// Rising.
+    pub kept: Vec<usize>,
+}
+
+/// The price of a cheapest route from one junction to another, or nothing where there is none. Each time the nearest junction that is not settled is
+/// settled.
+pub fn dijkstra(survey: View, from: usize, to: usize) -> Option<u64> {
+    let n = survey.n();
+    let mut far: Vec<Option<u64>> = vec![None; n];
+    let mut settled = vec![false; n];
+    far[from] = Some(0);
+    loop {
+        let near = (0..n).filter(|&v| !settled[v] && far[v].is_some()).min_by_key(|&v| far[v])?;
+        if near == to {
+            return far[near];
+        }
+        settled[near] = true;
+        for t in 0..survey.m() {
+            let ends = [survey.first[t] as usize, survey.second[t] as usize];
+            for (here, there) in [(ends[0], ends[1]), (ends[1], ends[0])] {
+                if here == near && !settled[there] {
+                    let by = far[near].expect("settled") + u64::from(survey.prices[t]);
+                    far[there] = Some(far[there].map_or(by, |old| old.min(by)));
+                }
+            }
+        }
+    }
+}
+
+/// The tracks that are taken by price, then number, each where it joins two parts; rising.
+pub fn kruskal(survey: View) -> Vec<usize> {
+    let mut order: Vec<usize> = (0..survey.m()).collect();
+    order.sort_by_key(|&t| (survey.prices[t], t));
+    let mut part: Vec<usize> = (0..survey.n()).collect();
+    let mut taken = Vec::new();
+    for t in order {
+        let (one, other) = (part[survey.first[t] as usize], part[survey.second[t] as usize]);
+        if one != other {
+            taken.push(t);
+            part.iter_mut().filter(|v| **v == one).for_each(|v| *v = other);
+        }
+    }
+    taken.sort_unstable();
+    taken
+}
+
+/// The price of joining all junctions, by growing from junction 0 by the cheapest track that leads out: a second way to the same figure.
+pub fn prim(survey: View) -> Option<u64> {
+    let mut inside = vec![false; survey.n()];
+    inside[0] = true;
+    let mut cost = 0;
+    for _ in 1..survey.n() {
+        let leads_out = |t: &usize| inside[survey.first[*t] as usize] != inside[survey.second[*t] as usize];
+        let t = (0..survey.m()).filter(leads_out).min_by_key(|&t| survey.prices[t])?;
+        cost += u64::from(survey.prices[t]);
+        inside[survey.first[t] as usize] = true;
+        inside[survey.second[t] as usize] = true;
+    }
+    Some(cost)
+}
+
+fn wanted(holds: bool, what: &str) -> Result<(), String> {
+    holds.then_some(()).ok_or_else(|| what.to_string())
+}
+
+fn price(survey: View, tracks: &[usize]) -> u64 {
+    tracks.iter().map(|&t| u64::from(survey.prices[t])).sum()
+}
+
+/// Are the tracks all those of one route from u to w that visits no junction twice?
+pub fn is_route(survey: View, tracks: &[usize], u: usize, w: usize) -> bool {
+    let mut left = tracks.to_vec();
+    let mut visited = vec![false; survey.n()];
+    let mut here = u;
+    visited[here] = true;
+    while here != w {
+        let at = |t: &usize| [survey.first[*t], survey.second[*t]].contains(&(here as u32));
+        let Some(step) = left.iter().position(at) else {
+            return false;
+        };
+        let t = left.swap_remove(step);
+        here = (survey.first[t] as usize + survey.second[t] as usize) - here;
+        if visited[here] {
+            return false;
+        }
+        visited[here] = true;
+    }
+    left.is_empty()
+}
+
+/// No. 14's first sentence: of a survey whose sites are u and w.
+pub fn two_sites(survey: View, u: usize, w: usize, drawn: &Drawn) -> Result<(), String> {
+    wanted(drawn.sites == 2, "not two sites")?;
+    wanted(is_route(survey, &drawn.kept, u, w), "the kept tracks are not one route")?;
+    wanted(price(survey, &drawn.kept) == drawn.cost, "the cost is not that of the kept tracks")?;
+    wanted(dijkstra(survey, u, w) == Some(drawn.cost), "not a cheapest route")?;
+    wanted(drawn.bound == 2 * drawn.cost, "the bound is not twice the cost")
+}
+
+/// Its second sentence: of a survey with all junctions in one list. A track is dropped exactly if there are more rounds than kept tracks.
+pub fn one_list(survey: View, drawn: &Drawn) -> Result<(), String> {
+    wanted(drawn.kept == kruskal(survey), "the kept tracks are not those taken by price, then number")?;
+    wanted(drawn.rounds == drawn.kept.len() as u64, "a picked track is dropped")?;
+    wanted(price(survey, &drawn.kept) == drawn.cost, "the cost is not that of the kept tracks")?;
+    wanted(prim(survey) == Some(drawn.cost), "a set of tracks that joins all is cheaper")
+}
+
+/// What is to stand on standard error: the remark exactly where the figures show it.
+pub fn remark(cost: u64, bound: u64) -> &'static str {
+    if 2 * cost <= bound {
+        REMARK
+    } else {
+        ""
+    }
+}
