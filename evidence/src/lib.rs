@@ -1,6 +1,7 @@
 //! Track planning by moats, a second time: every operation of document 01 ("01" below), with requests of document 02
-//! ("No. 2": groups as lists that may overlap; "No. 6": prices for bridge decks; "No. 7": growing and dropping on their own; "No. 8": larger districts), written from
-//! those papers alone, in their words and their order. The product is held against what stands here.
+//! ("No. 2": groups as lists that may overlap; "No. 6": prices for bridge decks; "No. 7": growing and dropping on their
+//! own; "No. 8": larger districts), written from those papers alone, in their words and their order. The product is
+//! held against what stands here.
 //!
 //! | module  | what it answers |
 //! |---------|-----------------|

@@ -1,5 +1,6 @@
-//! The product's library from outside, through its Rust crate `foamsickle` (examples/rust): the feature `native` links it, `bench` times its planner
-//! beside our own, `compare --native` and `calls` hold its answers and the bytes it leaves against ours.
+//! The product's library from outside, through its Rust crate `foamsickle` (examples/rust): the feature `native` links
+//! it, `bench` times its planner beside our own, `compare --native` and `calls` hold its answers and the bytes it
+//! leaves against ours.
 //!
 //! The crate takes libfoamsickle.a from target/staticlib, or from the folder that FOAMSICKLE_LIB_DIR names:
 //!

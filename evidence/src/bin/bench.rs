@@ -3,12 +3,13 @@
 //!     bench [--seed S] [--surveys N] [--repeats R] [--sample K]
 //!     bench --instructions [--seed S] [--surveys N]
 //!
-//! First a line for each of nine sizes, 64 to 448 junctions with 2,048 tracks and fewer: the surveys as they are, then with
-//! up to 256 pairs that leave the plan as it is, beside the own groups, and in place of them. Each survey is planned R
-//! times; a line gives the medians and the least times, each as the mean over the surveys. On a busy machine the least
-//! times are the steadier ones. Then K random surveys with few tracks and few sites: the median, the highest but 10 and
-//! the highest but 1 in 100, of the least times. With the feature `native` the outside planner is timed in turn with ours,
-//! on the same surveys, after its answer has been compared, and of the K surveys its times in ours are told.
+//! First a line for each of nine sizes, 64 to 448 junctions with 2,048 tracks and fewer: the surveys as they are, then
+//! with up to 256 pairs that leave the plan as it is, beside the own groups, and in place of them. Each survey is
+//! planned R times; a line gives the medians and the least times, each as the mean over the surveys. On a busy machine
+//! the least times are the steadier ones. Then K random surveys with few tracks and few sites: the median, the highest
+//! but 10 and the highest but 1 in 100, of the least times. With the feature `native` the outside planner is timed in
+//! turn with ours, on the same surveys, after its answer has been compared, and of the K surveys its times in ours are
+//! told.
 //!
 //! `--instructions` counts the instructions of a plan under valgrind, which don't depend on what else the machine does.
 

@@ -261,8 +261,8 @@ pub const PRINT_MOAT_FAULTS: &[Fault] = &[Nothing, RecordLength, OutShort, Count
 pub const PRINT_PLAN_FAULTS: &[Fault] = &[Nothing, OutShort, CountsShort];
 pub const PRINT_SURVEY_FAULTS: &[Fault] = &[Nothing, SecondUnequal, PricesUnequal, PairsUnequal, OutShort, CountsShort];
 
-/// The refusals that can be due together in one call: each with those before which it is given. Where two stand in both orders the place decides: of
-/// tracks the lower, and in a text what is complete first.
+/// The refusals that can be due together in one call: each with those before which it is given. Where two stand in both
+/// orders the place decides: of tracks the lower, and in a text what is complete first.
 pub type Pairs = &'static [(u64, &'static [u64])];
 
 pub const READ_PAIRS: Pairs = &[
@@ -345,7 +345,8 @@ fn track(rng: &mut Rng, m: usize) -> usize {
     }
 }
 
-/// The pair of a case: all pairs of a row in turn, and after every third a case with no fault; in full surveys each of the row in turn, alone.
+/// The pair of a case: all pairs of a row in turn, and after every third a case with no fault; in full surveys each of
+/// the row in turn, alone.
 pub fn pair(faults: &[Fault], case: u64) -> [Fault; 2] {
     if is_full(case) {
         return [faults[(case / FULL_EVERY) as usize % faults.len()], Nothing];
@@ -528,8 +529,8 @@ pub fn spoil(rng: &mut Rng, survey: &Survey, marks: &mut Vec<u8>, records: &mut 
     }
 }
 
-/// Puts a fault into the marks of picked tracks, if it is one of those. A loop is closed by a track that is there, or by
-/// a parallel one that comes to the survey.
+/// Puts a fault into the marks of picked tracks, if it is one of those. A loop is closed by a track that is there, or
+/// by a parallel one that comes to the survey.
 pub fn remark(rng: &mut Rng, survey: &mut Survey, marks: &mut Vec<u8>, fault: Fault) {
     let picked: Vec<usize> = (0..marks.len()).filter(|&t| marks[t] == DROPPED).collect();
     match fault {

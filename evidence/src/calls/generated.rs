@@ -1,4 +1,5 @@
-//! Generated calls: a sound input, two faults put into it, and lent buffers with any bytes in them, each from a stream of its own.
+//! Generated calls: a sound input, two faults put into it, and lent buffers with any bytes in them, each from a stream
+//! of its own.
 
 use super::faults::*;
 use super::{
@@ -36,7 +37,8 @@ pub struct Operation {
     input: fn(&Streams, [Fault; 2]) -> Box<dyn Call>,
 }
 
-/// The random numbers of a case: a stream for each part of an input, so that a fault alone is the same as beside another.
+/// The random numbers of a case: a stream for each part of an input, so that a fault alone is the same as beside
+/// another.
 struct Streams {
     seed: u64,
     case: u64,
