@@ -10,6 +10,7 @@
 //! | `plan`  | the plan of a survey, by `reference` (slow, plain) and by `fast` |
 //! | `check` | a plan drawn by anyone |
 //! | `why` | the reason for a track (No. 3) |
+//! | `closed` | plans with one track closed (No. 12) |
 //! | `stages` | growing and dropping, each on its own (No. 7) |
 //! | `print` | a moat line, a printed plan, a refusal, and the whole program's answer |
 //! | `brute` | the cheapest joining set of a tiny survey |
@@ -24,6 +25,7 @@ pub mod blunder;
 pub mod brute;
 pub mod calls;
 pub mod check;
+pub mod closed;
 pub mod exact;
 pub mod gen;
 pub mod handset;

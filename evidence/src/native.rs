@@ -52,6 +52,7 @@ pub const LIBRARY: Library = Library {
     drop: |survey, marks, counts| call::drop(slices(survey), marks, counts),
     check: |survey, marks, records, counts| call::check(slices(survey), marks, records, counts),
     why: |survey, track, route, counts| call::why(slices(survey), track, route, counts),
+    closed: |survey, tracks, result| call::closed(slices(survey), tracks, result),
     print_moat: call::print_dual,
     print_plan,
     print_survey: |survey, out, counts| call::print_survey(slices(survey), out, counts),

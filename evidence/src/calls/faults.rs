@@ -72,6 +72,7 @@ pub enum Fault {
     PickRemoved,
     RouteShort,
     TrackOut,
+    TracksMany,
     StpCount,
     StpEnd,
     StpPrice,
@@ -241,6 +242,30 @@ pub const WHY_FAULTS: &[Fault] = &[
     PairUnjoinable,
     TrackOut,
 ];
+/// 8 and 19 stand in the rows, and are no refusal of the call.
+pub const CLOSED_FAULTS: &[Fault] = &[
+    Nothing,
+    NoJunction,
+    ManyJunctions,
+    SecondUnequal,
+    PricesUnequal,
+    PairsUnequal,
+    ManyTracks,
+    EndOut,
+    EndsEqual,
+    PriceHigh,
+    PairOut,
+    PairNone,
+    PairOwn,
+    PairsFall,
+    PairTwice,
+    ManyPairs,
+    TracksMany,
+    CountsShort,
+    Unjoinable,
+    PairUnjoinable,
+    TrackOut,
+];
 /// The faults of pairs that are 18.
 pub const PAIR_FAULTS: &[Fault] = &[PairOut, PairNone, PairOwn, PairsFall, PairTwice, ManyPairs];
 /// The faults of also lines, and the refusal of each.
@@ -323,6 +348,15 @@ pub const WHY_PAIRS: Pairs = &[
     (18, &[7, 8, 19]),
     (7, &[8, 19]),
     (8, &[19]),
+];
+pub const CLOSED_PAIRS: Pairs = &[
+    (1, &[2, 3, 4, 5, 6, 18, 7]),
+    (2, &[3, 4, 5, 6, 18, 7]),
+    (3, &[4, 5, 6, 18, 7]),
+    (4, &[5, 6, 18, 7]),
+    (5, &[4, 6, 18, 7]),
+    (6, &[4, 5, 18, 7]),
+    (18, &[7]),
 ];
 pub const PRINT_MOAT_PAIRS: Pairs = &[(9, &[7])];
 pub const PRINT_PLAN_PAIRS: Pairs = &[];

@@ -12,6 +12,7 @@ pub mod faults;
 pub mod generated;
 
 use crate::check::check;
+use crate::closed::closed;
 use crate::plan::{fast, Counts, Plan};
 use crate::print::{moat_line, plan_lines, survey_text};
 use crate::read::{read, Lent};
@@ -33,6 +34,7 @@ pub struct Library {
     pub grow: fn(View, &mut [u8], &mut [u8], &mut [u64]) -> u64,
     pub drop: fn(View, &mut [u8], &mut [u64]) -> u64,
     pub why: fn(View, u32, &mut [u32], &mut [u64]) -> u64,
+    pub closed: fn(View, &[u32], &mut [u64]) -> u64,
     pub print_moat: fn(&[u8], &mut [u8], &mut [u64]) -> u64,
     pub print_plan: fn(Figures, &[u8], &[u8], &mut [u8], &mut [u64]) -> u64,
     pub print_survey: fn(View, &mut [u8], &mut [u64]) -> u64,
@@ -147,6 +149,10 @@ fn why_call(survey: View, track: u32, route: &mut [u32], counts: &mut [u64]) -> 
     stored(why(survey, track, route).map(|r| [r.kind, r.list, r.smaller, r.larger, r.entries, r.round]), counts)
 }
 
+fn closed_call(survey: View, tracks: &[u32], result: &mut [u64]) -> u64 {
+    closed(survey, tracks, result).map_or_else(code, |()| 0)
+}
+
 fn print_moat_call(record: &[u8], out: &mut [u8], counts: &mut [u64]) -> u64 {
     if record.len() == RECORD_BYTES && counts.len() < PRINT_COUNTS {
         return SHORT;
@@ -199,6 +205,7 @@ pub const SECOND: Library = Library {
     grow: grow_call,
     drop: drop_call,
     why: why_call,
+    closed: closed_call,
     print_moat: print_moat_call,
     print_plan: print_plan_call,
     print_survey: print_survey_call,
