@@ -1,4 +1,5 @@
--- The plan of the survey that a text says, and its text as the program `plan` prints it; and what it is that no cheaper one exists.
+-- The plan of the survey that a text says, and its text as the program `plan` prints it; and what it is that no
+-- cheaper one exists.
 use Prim.Native.Nat.{ℕ}
 use mathlib.Core.Path.{_≡_}
 use mathlib.Core.List.{List}
