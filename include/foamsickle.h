@@ -69,6 +69,10 @@ extern "C" {
 #define FOAMSICKLE_STP_FIGURES 2
 #define FOAMSICKLE_PRINT_FIGURES 1
 
+/* Numbers in the list of closed tracks, at most; and of `result` for each. */
+#define FOAMSICKLE_MAX_CLOSED 256
+#define FOAMSICKLE_ROW_FIGURES 4
+
 /* Bytes of the handset's `result`: planning, checking. */
 #define FOAMSICKLE_PLAN_BYTES (8 * FOAMSICKLE_PLAN_FIGURES)
 #define FOAMSICKLE_CHECK_BYTES (8 * FOAMSICKLE_CHECK_FIGURES)
@@ -185,6 +189,23 @@ uint64_t foamsickle_why(
     uint32_t track,
     uint32_t *route, size_t route_length,
     uint64_t *counts, size_t counts_length);
+
+/* Plans with one track closed, for each number in tracks: the track is never a candidate, and all numbers are kept.
+ * Writes for each, in list order, four numbers: result[4 i] the refusal or 0, result[4 i + 1] its place, result[4 i + 2]
+ * the cost, result[4 i + 3] the bound; in a refused row cost and bound are 0. A row has 19 (place: the number) for a
+ * number of m or more, else 8 (place: the lowest group that the other tracks do not join); the others proceed. A number
+ * may stand in the list more than once.
+ * Refuses 1 to 6 and 18 as above, then 7 (over FOAMSICKLE_MAX_CLOSED tracks, or result too short).
+ * Needed: FOAMSICKLE_ROW_FIGURES numbers of result for each track. */
+uint64_t foamsickle_closed(
+    const uint8_t *groups, size_t groups_length,
+    const uint32_t *firsts, size_t firsts_length,
+    const uint32_t *seconds, size_t seconds_length,
+    const uint32_t *weights, size_t weights_length,
+    const uint32_t *owners, size_t owners_length,
+    const uint8_t *others, size_t others_length,
+    const uint32_t *tracks, size_t tracks_length,
+    uint64_t *result, size_t result_length);
 
 /* Checks marks and moat records, whoever drew them, against a survey.
  * Writes counts[0] sites, counts[1] cost of the kept tracks, counts[2] bound.

@@ -83,6 +83,14 @@ static void why(void) {
         answer = 1;
 }
 
+/* The path's first track, which is picked, and one that is not. */
+static void closed(void) {
+    static const uint32_t tracks[] = {M - (N - 1), 0};
+    static uint64_t rows[2 * FOAMSICKLE_ROW_FIGURES];
+    answer = foamsickle_closed(groups, N, firsts, M, seconds, M, weights, M, owners, PAIRS, others, PAIRS, tracks, 2, rows,
+                               2 * FOAMSICKLE_ROW_FIGURES);
+}
+
 static void check(void) {
     answer = foamsickle_check(groups, N, firsts, M, seconds, M, weights, M, owners, PAIRS, others, PAIRS, marks, M, records,
                               moat_bytes, counts, FOAMSICKLE_CHECK_FIGURES);
@@ -169,6 +177,7 @@ int main(int argc, char **argv) {
         {"foamsickle_drop", drop},
         {"foamsickle_plan", plan},
         {"foamsickle_why", why},
+        {"foamsickle_closed", closed},
         {"foamsickle_check", check},
         {"foamsickle_handset_plan", handset_plan},
         {"foamsickle_handset_check", handset_check},

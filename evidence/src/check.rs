@@ -24,8 +24,8 @@ pub fn holds(record: &[u8], v: usize) -> bool {
     record[AMOUNT_BYTES + v / 8] >> (v % 8) & 1 == 1
 }
 
-/// Passes the plan or gives its first refusal: 1 to 6 and 18 as in planning, then 9 to 15; each is looked for in every item, from
-/// the lowest up, before the next.
+/// Passes the plan or gives its first refusal: 1 to 6 and 18 as in planning, then 9 to 15; each is looked for in every
+/// item, from the lowest up, before the next.
 pub fn check(survey: View, marks: &[u8], records: &[u8]) -> Result<Passed, Refusal> {
     survey.sound()?;
     let (n, m) = (survey.n(), survey.m());

@@ -1,5 +1,5 @@
-//! Where near best is best (No. 14): Dijkstra's cheapest route and Kruskal's taking, written apart from the planners, and what a plan of either kind of
-//! survey has to be by them.
+//! Where near best is best (No. 14): Dijkstra's cheapest route and Kruskal's taking, written apart from the planners,
+//! and what a plan of either kind of survey has to be by them.
 
 use crate::View;
 
@@ -17,8 +17,8 @@ pub struct Drawn {
     pub kept: Vec<usize>,
 }
 
-/// The price of a cheapest route from one junction to another, or nothing where there is none. Each time the nearest junction that is not settled is
-/// settled.
+/// The price of a cheapest route from one junction to another, or nothing where there is none. Each time the nearest
+/// junction that is not settled is settled.
 pub fn dijkstra(survey: View, from: usize, to: usize) -> Option<u64> {
     let n = survey.n();
     let mut far: Vec<Option<u64>> = vec![None; n];
@@ -59,7 +59,8 @@ pub fn kruskal(survey: View) -> Vec<usize> {
     taken
 }
 
-/// The price of joining all junctions, by growing from junction 0 by the cheapest track that leads out: a second way to the same figure.
+/// The price of joining all junctions, by growing from junction 0 by the cheapest track that leads out: a second way
+/// to the same figure.
 pub fn prim(survey: View) -> Option<u64> {
     let mut inside = vec![false; survey.n()];
     inside[0] = true;
@@ -103,7 +104,7 @@ pub fn is_route(survey: View, tracks: &[usize], u: usize, w: usize) -> bool {
     left.is_empty()
 }
 
-/// No. 14's first sentence: of a survey whose sites are u and w.
+/// No. 14's first claim, of a survey whose sites are u and w.
 pub fn two_sites(survey: View, u: usize, w: usize, drawn: &Drawn) -> Result<(), String> {
     wanted(drawn.sites == 2, "not two sites")?;
     wanted(is_route(survey, &drawn.kept, u, w), "the kept tracks are not one route")?;
@@ -112,7 +113,8 @@ pub fn two_sites(survey: View, u: usize, w: usize, drawn: &Drawn) -> Result<(), 
     wanted(drawn.bound == 2 * drawn.cost, "the bound is not twice the cost")
 }
 
-/// Its second sentence: of a survey with all junctions in one list. A track is dropped exactly if there are more rounds than kept tracks.
+/// Its second claim, of a survey with all junctions in one list. A track is dropped exactly if there are more rounds
+/// than kept tracks.
 pub fn one_list(survey: View, drawn: &Drawn) -> Result<(), String> {
     wanted(drawn.kept == kruskal(survey), "the kept tracks are not those taken by price, then number")?;
     wanted(drawn.rounds == drawn.kept.len() as u64, "a picked track is dropped")?;

@@ -1,10 +1,11 @@
-//! Calls from the handset (document 02, No. 1, with No. 2's pairs): planning and checking over bytes alone, a second time, and generated inputs that
-//! hold a library against it.
+//! Calls from the handset (document 02, No. 1, with No. 2's pairs): planning and checking over bytes alone, a second
+//! time, and generated inputs that hold a library against it.
 //!
-//! The papers: ends, prices and the pairs' v cross as four bytes each, lowest first; the counts come back in a lent slice, eight bytes each, lowest
-//! first, in document 01's order; a slice of numbers that is no multiple of four long gets 2, a short result 7, in checking before 9; the answer is
-//! 0 or number + 256 * place, and a refusal writes nothing. Where 2 and 7 stand among the other refusals is read from document 01's order: 2 after 1
-//! and before 3, planning's 7 with its other 7s, checking's after 6 and 18.
+//! The papers: ends, prices and the pairs' v cross as four bytes each, lowest first; the counts come back in a lent
+//! slice, eight bytes each, lowest first, in document 01's order; a slice of numbers that is no multiple of four long
+//! gets 2, a short result 7, in checking before 9; the answer is 0 or number + 256 * place, and a refusal writes
+//! nothing. Where 2 and 7 stand among the other refusals is read from document 01's order: 2 after 1 and before 3,
+//! planning's 7 with its other 7s, checking's after 6 and 18.
 
 use crate::calls::code;
 use crate::calls::faults::{harm, is_full, pair, spoil, Fault, CHECK_FAULTS, PLAN_FAULTS};
@@ -170,8 +171,8 @@ fn near(rng: &mut Rng, need: usize) -> usize {
 }
 
 impl Case {
-    /// Two faults of the survey, or of the plan that is checked, and, one time in three, a slice of numbers with one to three bytes more or less. One
-    /// survey of 200 is as large as can be.
+    /// Two faults of the survey, or of the plan that is checked, and, one time in three, a slice of numbers with one to
+    /// three bytes more or less. One survey of 200 is as large as can be.
     fn new(seed: u64, case: u64, checks: bool) -> Case {
         let rng = &mut Rng::of_case(seed ^ 0x6861_6e64 << u64::from(checks), case);
         let full = is_full(case);
@@ -234,7 +235,8 @@ impl Case {
         Answer { code, lent: vec![marks, records, result] }
     }
 
-    /// The lengths of the four slices of numbers and of the result, modulo four and as they are: what a run of cases is to cover.
+    /// The lengths of the four slices of numbers and of the result, modulo four and as they are: what a run of cases is
+    /// to cover.
     pub fn lengths(&self) -> ([usize; 4], usize) {
         ([0, 1, 2, 3].map(|i| self.slices[i].len() % NUMBER), self.result.len())
     }

@@ -1,6 +1,7 @@
 //! Track planning by moats, a second time: every operation of document 01 ("01" below), with requests of document 02
-//! ("No. 2": groups as lists that may overlap; "No. 6": prices for bridge decks; "No. 7": growing and dropping on their own; "No. 8": larger districts), written from
-//! those papers alone, in their words and their order. The product is held against what stands here.
+//! ("No. 2": groups as lists that may overlap; "No. 6": prices for bridge decks; "No. 7": growing and dropping on their
+//! own; "No. 8": larger districts), written from those papers alone, in their words and their order. The product is
+//! held against what stands here.
 //!
 //! | module  | what it answers |
 //! |---------|-----------------|
@@ -9,6 +10,7 @@
 //! | `plan`  | the plan of a survey, by `reference` (slow, plain) and by `fast` |
 //! | `check` | a plan drawn by anyone |
 //! | `why` | the reason for a track (No. 3) |
+//! | `closed` | plans with one track closed (No. 12) |
 //! | `stages` | growing and dropping, each on its own (No. 7) |
 //! | `print` | a moat line, a printed plan, a refusal, and the whole program's answer |
 //! | `brute` | the cheapest joining set of a tiny survey |
@@ -23,6 +25,7 @@ pub mod blunder;
 pub mod brute;
 pub mod calls;
 pub mod check;
+pub mod closed;
 pub mod exact;
 pub mod gen;
 pub mod handset;
@@ -75,6 +78,8 @@ pub const MAX_TEXT: usize = 56_277;
 pub const MAX_LINE: usize = 2_048;
 /// The program reads no more of its standard input.
 pub const MAX_INPUT: usize = 65_536;
+/// Bytes of an STP file that the program reads.
+pub const STP_ROOM: usize = 17 * MAX_INPUT;
 
 /// The highest number of so many digits.
 pub const fn highest(digits: usize) -> u32 {

@@ -1,5 +1,6 @@
-//! The product's library from outside, through its Rust crate `foamsickle` (examples/rust): the feature `native` links it, `bench` times its planner
-//! beside our own, `compare --native` and `calls` hold its answers and the bytes it leaves against ours.
+//! The product's library from outside, through its Rust crate `foamsickle` (examples/rust): the feature `native` links
+//! it, `bench` times its planner beside our own, `compare --native` and `calls` hold its answers and the bytes it
+//! leaves against ours.
 //!
 //! The crate takes libfoamsickle.a from target/staticlib, or from the folder that FOAMSICKLE_LIB_DIR names:
 //!
@@ -51,6 +52,7 @@ pub const LIBRARY: Library = Library {
     drop: |survey, marks, counts| call::drop(slices(survey), marks, counts),
     check: |survey, marks, records, counts| call::check(slices(survey), marks, records, counts),
     why: |survey, track, route, counts| call::why(slices(survey), track, route, counts),
+    closed: |survey, tracks, result| call::closed(slices(survey), tracks, result),
     print_moat: call::print_dual,
     print_plan,
     print_survey: |survey, out, counts| call::print_survey(slices(survey), out, counts),

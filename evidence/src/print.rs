@@ -4,7 +4,7 @@ use crate::check::{amount, holds};
 use crate::plan::{owned, Plan, Planner, KEPT};
 use crate::read::{parse, Lengths};
 use crate::why::{why, Reason};
-use crate::{refuse, stp, Refusal, Survey, AMOUNT_BYTES, MAX_INPUT, MAX_JUNCTIONS, RECORD_BYTES};
+use crate::{refuse, stp, Refusal, Survey, AMOUNT_BYTES, MAX_INPUT, MAX_JUNCTIONS, RECORD_BYTES, STP_ROOM};
 use std::fmt::{Arguments, Write};
 
 /// The line of a record. Any amount and any member bit is printed as it stands.
@@ -84,9 +84,16 @@ pub fn survey_text(survey: &Survey) -> Vec<u8> {
     out.into_bytes()
 }
 
-/// What the program that reads STP files prints: the survey's text.
+/// What the program that reads STP files prints: the survey's text. Of a longer file than it reads the first bytes are
+/// judged, and it is 7 unless they are refused before their end.
 pub fn stp_program(input: &[u8]) -> String {
-    match stp::parse(input, Lengths::ENOUGH) {
+    let first = &input[..input.len().min(STP_ROOM)];
+    let read = match stp::parse(first, Lengths::ENOUGH) {
+        Err(refusal) if refusal.place < STP_ROOM as u64 => Err(refusal),
+        _ if STP_ROOM < input.len() => Err(Refusal { number: 7, place: 0 }),
+        read => read,
+    };
+    match read {
         Ok(survey) => String::from_utf8_lossy(&survey_text(&survey)).into_owned(),
         Err(refusal) => refusal_lines(refusal),
     }

@@ -1,7 +1,9 @@
-//! A printed plan read back behind its survey's text, and checked (01, "Survey text and printed plan"; the README, "For a buyer").
+//! A printed plan read back behind its survey's text, and checked (01, "Survey text and printed plan"; the README, "For
+//! a buyer").
 //!
-//! 01 has the lines of a plan: `sites=`, `cost=`, `bound=`, `rounds=`, then `keep=` and then `moat=` lines. The README has the refusals: 16 with a place
-//! that counts from the survey's first byte; 26 to 28 at the line's number among its kind, when the line is complete; then the checker's; last 25.
+//! 01 has the lines of a plan: `sites=`, `cost=`, `bound=`, `rounds=`, then `keep=` and then `moat=` lines. The README
+//! has the refusals: 16 with a place that counts from the survey's first byte; 26 to 28 at the line's number among its
+//! kind, when the line is complete; then the checker's; last 25.
 
 use crate::check::{check, Passed};
 use crate::plan::{KEPT, NOT_PICKED};

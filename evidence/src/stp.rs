@@ -49,8 +49,8 @@ impl Cursor<'_> {
         self.end()
     }
 
-    /// A number, taken digit by digit as long as `goes_on` says that the digits so far begin one that may stand here. It
-    /// has no 0 before another digit.
+    /// A number, taken digit by digit as long as `goes_on` says that the digits so far begin one that may stand here.
+    /// It has no 0 before another digit.
     fn number(&mut self, goes_on: impl Fn(u32, usize) -> bool) -> Result<u32, Refusal> {
         let start = self.at;
         let mut value = 0;

@@ -1,5 +1,6 @@
-//! The check of a printed plan behind its survey as a call: one text in, one number out, sites, cost and bound in a lent buffer. That counts which do
-//! not fit are 7, after all that is refused of the text, is the product's own decision, as are 25 to 28 (`printed`).
+//! The check of a printed plan behind its survey as a call: one text in, one number out, sites, cost and bound in a
+//! lent buffer. That counts which do not fit are 7, after all that is refused of the text, is the product's own
+//! decision, as are 25 to 28 (`printed`).
 
 use crate::calls::{code, CHECK_COUNTS};
 use crate::check::Passed;

@@ -4,6 +4,7 @@ mod agree;
 mod blunders;
 mod calls;
 mod checking;
+mod closed;
 mod document;
 mod exact;
 mod full;

@@ -1,5 +1,6 @@
-//! The comparison of single calls finds faults: libraries with one fault each, among them changes of order that a definition and its code could make
-//! together, are told from the second implementation; and every pair of refusals that can be due together is met.
+//! The comparison of single calls finds faults: libraries with one fault each, among them changes of order that a
+//! definition and its code could make together, are told from the second implementation; and every pair of refusals
+//! that can be due together is met.
 
 use evidence::blunder::lowest_of_class;
 use evidence::calls::document;
@@ -548,7 +549,8 @@ fn faults_are_found() {
     }
 }
 
-/// Each fault alone is refused, the one with x and the other with y, and both together with x: for every pair (x, y) of an operation's list.
+/// Each fault alone is refused, the one with x and the other with y, and both together with x: for every pair (x, y) of
+/// an operation's list.
 #[test]
 fn every_pair_is_met() {
     for operation in OPERATIONS {
@@ -569,8 +571,8 @@ fn every_pair_is_met() {
     }
 }
 
-/// Every fault of pairs and of also lines is due alone, and beside each refusal that can stand before or behind its own: 2 of pairs of unequal length,
-/// 18 of others, and in a text its own.
+/// Every fault of pairs and of also lines is due alone, and beside each refusal that can stand before or behind its
+/// own: 2 of pairs of unequal length, 18 of others, and in a text its own.
 #[test]
 fn every_fault_of_pairs_is_met() {
     let of_pairs: Vec<(Fault, u64)> =

@@ -229,8 +229,8 @@ fn buffers_of_planning() {
 #[test]
 fn blunders() {
     for planner in PLANNERS {
-        // Sites at both ends of a track do not make it needed, where their groups are complete: group 3 grows through groups
-        // 1 and 2 and picks 2-3 on its way, but 0-5 joins it.
+        // Sites at both ends of a track do not make it needed, where their groups are complete: group 3 grows through
+        // groups 1 and 2 and picks 2-3 on its way, but 0-5 joins it.
         let survey = Survey::new(&[3, 1, 1, 2, 2, 3], &[(0, 1, 1), (1, 2, 0), (2, 3, 1), (3, 4, 0), (0, 5, 5)]);
         let plan = owned(planner, survey.view()).unwrap();
         assert_eq!(plan.marks, [1, 2, 1, 2, 2]);

@@ -1,4 +1,5 @@
-//! Where near best is best (No. 14): both planners against Dijkstra and Kruskal, and that the judgement tells what is near from what is best.
+//! Where near best is best (No. 14): both planners against Dijkstra and Kruskal, and that the judgement tells what is
+//! near from what is best.
 
 use evidence::check::check;
 use evidence::exact::{dijkstra, is_route, kruskal, one_list, prim, remark, two_sites, Drawn};

@@ -1,5 +1,6 @@
-//! Surveys as large as can be among single calls: of 20,000 calls of an operation 100 have 448 junctions and 2,048 tracks, and libraries that go wrong
-//! past the 1,024th track, or at the last, are told from the second implementation on these.
+//! Surveys as large as can be among single calls: of 20,000 calls of an operation 100 have 448 junctions and 2,048
+//! tracks, and libraries that go wrong past the 1,024th track, or at the last, are told from the second implementation
+//! on these.
 
 use evidence::calls::faults::is_full;
 use evidence::calls::generated::OPERATIONS;

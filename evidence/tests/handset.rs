@@ -1,5 +1,6 @@
-//! The handset's calls, a second time: cases worked by hand from No. 1's sentences; the generated cases meet every refusal, every length modulo four and
-//! the results around 24 and 40 bytes; and libraries with one fault each are told from the second implementation.
+//! The handset's calls, a second time: cases worked by hand from No. 1's sentences; the generated cases meet every
+//! refusal, every length modulo four and the results around 24 and 40 bytes; and libraries with one fault each are told
+//! from the second implementation.
 
 use evidence::calls::code;
 use evidence::check::check;

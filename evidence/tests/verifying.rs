@@ -1,5 +1,6 @@
-//! Printed plans read back: each refusal by hand; the generated texts meet every refusal often; a text goes wrong where no longer one begins so; what
-//! passes or is refused of lines is what the checker says of marks and records; and checks with one fault each are told from the second implementation.
+//! Printed plans read back: each refusal by hand; the generated texts meet every refusal often; a text goes wrong where
+//! no longer one begins so; what passes or is refused of lines is what the checker says of marks and records; and
+//! checks with one fault each are told from the second implementation.
 
 use evidence::calls::{code, CHECK_COUNTS};
 use evidence::check::{check, Passed};
@@ -78,7 +79,8 @@ fn every_refusal_comes_often() {
     }
 }
 
-/// 16 stands at the first offset whose byte no well-formed text has after the bytes before it: up to there the text is whole, or only stops early.
+/// 16 stands at the first offset whose byte no well-formed text has after the bytes before it: up to there the text is
+/// whole, or only stops early.
 #[test]
 fn malformed_at_the_first_wrong_byte() {
     let malformed = |text: &[u8]| match verify(text) {

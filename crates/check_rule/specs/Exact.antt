@@ -1,5 +1,5 @@
--- Where the figures show that nothing is cheaper (document 02, No. 14: 'Where near best is best'): a buyer's own test of a plan that passes, whoever drew it. Laws/Exact proves it of
--- whatever passes.
+-- Where the figures show that nothing is cheaper (document 02, No. 14: 'Where near best is best'): a buyer's own test
+-- of a plan that passes, whoever drew it. Laws/Exact proves it of whatever passes.
 use Prim.Native.Nat.{ℕ, _*_, _≤_}
 use mathlib.Core.Path.{_≡_}
 use mathlib.Core.Bool.{Bool, true}

@@ -1,4 +1,5 @@
--- Where near best is best (document 02, No. 14), by computation: the order of tracks by price, then number, and what is taken of it.
+-- Where near best is best (document 02, No. 14), by computation: the order of tracks by price, then number, and what
+-- is taken of it.
 use Prim.Native.Nat.{ℕ}
 use mathlib.Core.Path.{_≡_, refl}
 use mathlib.Core.List.{[], List, _∷_}

@@ -19,6 +19,7 @@ ghost use Rattle.api_read.specs.StpCall.{stpFigures, stpFiguresOf, stpCall};
 ghost use Rattle.api_plan.specs.Call.{planCall, planMarks, planRecords, planCounts};
 ghost use Rattle.api_plan.specs.GrowCall.{growMarks, growCounts, dropCall, dropMarks, droppedCounts};
 ghost use Rattle.api_why.specs.Call.{whyCall, whyRoute, whyFigured};
+ghost use Rattle.closed_rule.specs.Closed.{closedRefusal, resultAfter};
 ghost use Rattle.api_check.specs.Call.{checkFiguresOf, checkCall, checkCounts};
 ghost use Rattle.api_print.specs.Call.{dualCall, dualOut, dualCounts};
 ghost use Rattle.api_print.specs.Call.{textCall, textOut, textCounts, surveyCall, surveyOut, surveyCounts};
@@ -268,6 +269,38 @@ pub extern "C" fn foamsickle_why(
         track,
         route,
         counts,
+    )
+}
+
+// Plans with one track closed, for each track of a list. `result` gets four numbers for each: the refusal or 0, its
+// place, the cost, the bound.
+#[no_mangle]
+pub extern "C" fn foamsickle_closed(
+    groups: &[u8],
+    firsts: &[u32],
+    seconds: &[u32],
+    weights: &[u32],
+    owners: &[u32],
+    others: &[u8],
+    tracks: &[u32],
+    result: &mut [u64],
+) -> u64
+    ensures code { λ r.
+        let s = lentWith groups firsts seconds weights owners others in
+        ⌜ r ≡ codeOf (closedRefusal s (length (old tracks)) (length (old result))) ⌝ }
+    ensures result { λ _.
+        let s = lentWith groups firsts seconds weights owners others in
+        ⌜ new result ≡ resultAfter s (old tracks) (old result) ⌝ }
+{
+    api_closed::closed_call(
+        groups,
+        firsts,
+        seconds,
+        weights,
+        owners,
+        others,
+        tracks,
+        result,
     )
 }
 

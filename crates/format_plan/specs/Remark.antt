@@ -1,4 +1,5 @@
--- What the figures of a printed text show (document 02, No. 14: customers ask when the plan is the cheapest): the line that `plan` and `verify` say on standard error.
+-- What the figures of a printed text show (document 02, No. 14): the line that `plan` and `verify` say on standard
+-- error.
 use Prim.Native.Nat.{ℕ, _*_}
 use mathlib.Core.Bool.{cond}
 use mathlib.Core.List.{List, []}

@@ -1,5 +1,6 @@
--- Where near best is best (document 02, No. 14), in words of the survey: what a finished plan is with exactly two sites, and with all junctions in one list. Ties and prices of 0 are not set
--- apart: both hold of every survey of that kind. Laws/Exact proves it of every call.
+-- When a plan is the cheapest (document 02, No. 14), in words of the survey: what a finished plan is with exactly two
+-- sites, and with all junctions in one list. Nothing is asked of the prices, so that ties and prices of 0 are in.
+-- Laws/Exact proves it of every call.
 use Prim.Native.Nat.{ℕ, _*_, _<_}
 use mathlib.Core.Path.{_≡_}
 use mathlib.Core.Bool.{true}
@@ -12,11 +13,12 @@ use Rattle.check_rule.specs.Check.{keptBy}
 use Rattle.check_rule.specs.Exact.{NoneCheaper, showsCheapest}
 use Rattle.plan_rule.specs.Plan.{PlanCounts}
 
--- 'a cheapest route and the bound is exactly twice its cost': of these marks and figures.
+-- Two sites (document 02, No. 14, its first claim): these marks keep a cheapest route, and these figures show it.
 pub record RouteKept (s : Survey) (marks : List ℕ) (c : PlanCounts) : Type 0 where
   -- the two sites; no other junction is one
   pub sites : TwoTerminals (problemOf s)
-  -- the kept tracks are those of one route between them and no more, and no route between them by surveyed tracks costs less
+  -- the kept tracks are those of one route between them and no more, and no route between them by surveyed tracks
+  -- costs less
   pub route : CheapestRoute (problemOf s) (keptBy marks) (sites .low) (sites .high)
   pub route-cost : c .cost ≡ routeCost (problemOf s) (route .edges)
   pub none-cheaper : NoneCheaper s (c .cost)
@@ -26,7 +28,8 @@ pub record RouteKept (s : Survey) (marks : List ℕ) (c : PlanCounts) : Type 0 w
 abbrev pub HoldsAll : Survey → ℕ → Type 0
 HoldsAll s g = (v : ℕ) → v < vertexCount s → member s g v ≡ true
 
--- 'no set of tracks that joins them costs less, and the picks are those of taking, by price, then number, each track that joins two parts'; none is dropped.
+-- One list of all junctions (its second claim): nothing that joins them is cheaper; picked, and kept, is each track
+-- that joins two parts when they are looked at by price, then number.
 pub record TakenKept (s : Survey) (marks : List ℕ) (c : PlanCounts) : Type 0 where
   pub none-cheaper : NoneCheaper s (c .cost)
   pub picked-taken : (e : ℕ) → pickedIn marks e ≡ taken (problemOf s) e

@@ -2,14 +2,15 @@
 -- `verify` print for any text, and what it is that no cheaper plan exists.
 use Prim.Native.Nat.{ℕ}
 use mathlib.Core.Path.{_≡_}
-use mathlib.Core.List.{List}
+use mathlib.Core.List.{List, _++_}
 use Rattle.base_limits.specs.Verdict.{answer}
 use Rattle.check_rule.specs.Exact.{NoneCheaper}
 use Rattle.check_printed.specs.Verify.{prefixAt, surveyIn}
 use Rattle.format_read.specs.Step.{found}
 use Rattle.format_survey.specs.Line.{widest}
 use Rattle.format_survey.specs.Reading.{SurveyText}
-use Rattle.format_write.specs.Text.{planText, refusalText}
+use Rattle.format_write.specs.Key.{terminalsKey, costKey, boundKey}
+use Rattle.format_write.specs.Text.{lineOf, planText, refusalText}
 use Rattle.plan_rule.specs.Plan.{Plan, planOf}
 use Rattle.plan_draw.specs.Drawing.{recordsOf}
 use Rattle.survey_core.specs.Survey.{problemOf}
@@ -44,6 +45,17 @@ pub data PlanPrints (t : List ℕ) : Type 0 where
 pub data VerifyPrints (t : List ℕ) : Type 0 where
   verifyRefusal : (number place : ℕ) → verifyOutput t ≡ refusalText number place → VerifyPrints t
   verifyPassed : (c : Checked) → verifyOutput t ≡ passedText (c .terminals) (c .cost) (c .bound) → Worth t c → VerifyPrints t
+
+-- The lines `sites=`, `cost=` and `bound=` with these figures.
+abbrev pub figureLines : (k c b : ℕ) → List ℕ
+figureLines k c b = lineOf terminalsKey k ++ lineOf costKey c ++ lineOf boundKey b
+
+-- Figures that obey the accuracy rule for the survey that a text says.
+pub record AccurateFigures (t : List ℕ) (k c b : ℕ) : Type 0 where
+  pub survey : SurveyText
+  pub read : surveyRead t ≡ answer survey
+  pub accurate : Accurate (surveyIn survey) k c
+  pub bounded : DualBound (surveyIn survey) b
 
 -- The text says a survey of which no set of tracks that joins every group costs less than c.
 pub record NoCheaperPlan (t : List ℕ) (c : ℕ) : Type 0 where

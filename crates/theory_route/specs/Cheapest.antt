@@ -1,4 +1,4 @@
--- A cheapest route (document 02, No. 14: 'With exactly two sites, the plan is a cheapest route').
+-- A cheapest route (document 02, No. 14: what the plan is with two sites).
 use Prim.Native.Nat.{ℕ, _+_, _≤_, _<_}
 use mathlib.Core.Path.{_≡_}
 use mathlib.Core.Logic.{_⊎_}
@@ -12,8 +12,8 @@ unfoldable pub routeCost : Problem → List ℕ → ℕ
 routeCost p [] = 0
 routeCost p (e ∷ es) = p .weight e + routeCost p es
 
--- The edges of F are those of one path from u to w that visits no vertex twice, and no more; F costs what that path costs, and no such path by usable
--- edges costs less.
+-- The edges of F are those of one path from u to w that visits no vertex twice, and no more; F costs what that path
+-- costs, and no such path by usable edges costs less.
 pub record CheapestRoute (p : Problem) (F : ℕ → Bool) (u w : ℕ) : Type 0 where
   pub edges : List ℕ
   pub path : IsRoute (p .first) (p .second) F u w edges

@@ -20,3 +20,5 @@ pub mod Order
 pub mod Spanning
 pub mod Cheapest
 pub mod Taken
+pub mod Closed
+pub mod Omitted

@@ -5,5 +5,6 @@ pub mod Spanning
 pub mod Dual
 pub mod Pruning
 pub mod Requirement
+pub mod Closed
 pub mod Rounds
 pub mod Laws

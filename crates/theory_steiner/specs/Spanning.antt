@@ -1,4 +1,5 @@
--- Taking edges one by one, by weight, then number, each that joins two parts (document 02, No. 14: 'Where near best is best').
+-- Taking edges one by one, by weight, then number, each that joins two parts (document 02, No. 14: 'Where near best is
+-- best').
 use Prim.Native.Nat.{ℕ, zero, suc, _<_}
 use mathlib.Core.Path.{_≡_}
 use mathlib.Core.Bool.{Bool, true, false, _&&_, _||_, not, cond}

@@ -1,20 +1,27 @@
 //! Nanoseconds per plan on seeded surveys:
 //!
 //!     bench [--seed S] [--surveys N] [--repeats R] [--sample K]
+//!     bench --closed [--seed S] [--surveys N] [--repeats R]
 //!     bench --instructions [--seed S] [--surveys N]
 //!
-//! First a line for each of nine sizes, 64 to 448 junctions with 2,048 tracks and fewer: the surveys as they are, then with
-//! up to 256 pairs that leave the plan as it is, beside the own groups, and in place of them. Each survey is planned R
-//! times; a line gives the medians and the least times, each as the mean over the surveys. On a busy machine the least
-//! times are the steadier ones. Then K random surveys with few tracks and few sites: the median, the highest but 10 and
-//! the highest but 1 in 100, of the least times. With the feature `native` the outside planner is timed in turn with ours,
-//! on the same surveys, after its answer has been compared, and of the K surveys its times in ours are told.
+//! First a line for each of nine sizes, 64 to 448 junctions with 2,048 tracks and fewer: the surveys as they are, then
+//! with up to 256 pairs that leave the plan as it is, beside the own groups, and in place of them. Each survey is
+//! planned R times; a line gives the medians and the least times, each as the mean over the surveys. On a busy machine
+//! the least times are the steadier ones. Then K random surveys with few tracks and few sites: the median, the highest
+//! but 10 and the highest but 1 in 100, of the least times. With the feature `native` the outside planner is timed in
+//! turn with ours, on the same surveys, after its answer has been compared, and of the K surveys its times in ours are
+//! told; last come lists of 256 closed tracks (No. 12), in plans of the same survey, and with `--closed` these alone.
 //!
 //! `--instructions` counts the instructions of a plan under valgrind, which don't depend on what else the machine does.
 
 use evidence::gen::{shadowed, sparse, timed, Rng};
 use evidence::plan::{fast, owned, record_room, reference, Counts, Plan, Workspace};
 use evidence::{Refusal, Survey, View};
+#[cfg(feature = "native")]
+use evidence::{
+    closed::{MAX_CLOSED, ROW},
+    native::LIBRARY,
+};
 use std::process::{Command, ExitCode};
 use std::time::Instant;
 
@@ -37,6 +44,8 @@ struct Options {
     repeats: usize,
     sample: u64,
     instructions: bool,
+    /// Lists of closed tracks alone.
+    closed: bool,
     /// A planner and a size whose surveys are planned once, for valgrind.
     one: Option<(String, usize, usize)>,
 }
@@ -152,6 +161,42 @@ fn sample(options: &Options, planners: &mut [Timed]) {
     println!();
 }
 
+/// The least of R timings of a call, in nanoseconds.
+#[cfg(feature = "native")]
+fn least(repeats: usize, mut call: impl FnMut()) -> f64 {
+    let once = |_| {
+        let start = Instant::now();
+        call();
+        start.elapsed().as_nanos() as f64
+    };
+    (0..repeats).map(once).fold(f64::INFINITY, f64::min)
+}
+
+/// Lists of 256 closed tracks (No. 12), those that a plan does not pick and those that it picks, in plans of the same
+/// survey: the outside library alone.
+#[cfg(feature = "native")]
+fn closings(options: &Options, (n, m): (usize, usize)) {
+    let (mut unpicked, mut picked) = (Vec::new(), Vec::new());
+    for i in 0..options.surveys {
+        let survey = survey_of(options, (n, m), i);
+        let (mut marks, mut records) = buffers(&survey);
+        let plan = least(options.repeats, || {
+            assert!(evidence::native::plan(survey.view(), &mut marks, &mut records).is_ok());
+        });
+        for (is_picked, ratios) in [(false, &mut unpicked), (true, &mut picked)] {
+            let of_kind: Vec<u32> = (0..m as u32).filter(|&t| (marks[t as usize] != 0) == is_picked).collect();
+            let tracks: Vec<u32> = of_kind.into_iter().cycle().take(MAX_CLOSED).collect();
+            let mut result = vec![0; ROW * tracks.len()];
+            let repeats = if is_picked { 3 } else { options.repeats };
+            ratios.push(least(repeats, || assert_eq!((LIBRARY.closed)(survey.view(), &tracks, &mut result), 0)) / plan);
+        }
+    }
+    let ([middle, _, most], [picked_middle, _, picked_most]) = (spread(unpicked), spread(picked));
+    println!(
+        "{n} junctions, {m} tracks, {MAX_CLOSED} closed tracks in one call, in plans: unpicked {middle:.2} (99 % {most:.2}), picked {picked_middle:.1} (99 % {picked_most:.1})"
+    );
+}
+
 /// Our plan, where valgrind counts.
 #[no_mangle]
 #[inline(never)]
@@ -217,11 +262,15 @@ fn instructions(options: &Options) -> ExitCode {
 }
 
 fn options() -> Option<Options> {
-    let mut options = Options { seed: 1, surveys: 12, repeats: 31, sample: 400, instructions: false, one: None };
+    let mut options = Options { seed: 1, surveys: 12, repeats: 31, sample: 400, instructions: false, closed: false, one: None };
     let mut words = std::env::args().skip(1);
     while let Some(word) = words.next() {
         if word == "--instructions" {
             options.instructions = true;
+            continue;
+        }
+        if word == "--closed" {
+            options.closed = true;
             continue;
         }
         if word == "--one" {
@@ -247,7 +296,7 @@ fn options() -> Option<Options> {
 fn main() -> ExitCode {
     let Some(options) = options() else {
         eprintln!(
-            "bench [--seed S] [--surveys N] [--repeats R] [--sample K]\nbench --instructions [--seed S] [--surveys N]"
+            "bench [--seed S] [--surveys N] [--repeats R] [--sample K]\nbench --closed [--seed S] [--surveys N] [--repeats R]\nbench --instructions [--seed S] [--surveys N]"
         );
         return ExitCode::from(2);
     };
@@ -265,9 +314,13 @@ fn main() -> ExitCode {
     let mut planners: Vec<Timed> = vec![&mut ours];
     #[cfg(feature = "native")]
     planners.push(&mut outside);
-    for counts in SIZES {
-        size(&options, counts, &mut planners);
+    if !options.closed {
+        for counts in SIZES {
+            size(&options, counts, &mut planners);
+        }
+        sample(&options, &mut planners);
     }
-    sample(&options, &mut planners);
+    #[cfg(feature = "native")]
+    closings(&options, (448, 2048));
     ExitCode::SUCCESS
 }

@@ -9,11 +9,11 @@
 //!     compare --self N [--seed S]
 //!     compare --native N [--seed S]
 //!
-//! `--verifier` hands surveys with printed plans behind them, sound and damaged, to a program that checks plans, `--stp` STP
-//! files to one that prints their surveys, `--why` survey texts, and a track as its last argument, to one that prints reasons.
-//! `--argument` is handed to the program. `--case` runs one case, `--emit` writes its input to standard output.
-//! `--self` holds the fast planner against the plain one, with no program; `--native` does so with the planner that the
-//! feature `native` links.
+//! `--verifier` hands surveys with printed plans behind them, sound and damaged, to a program that checks plans,
+//! `--stp` STP files to one that prints their surveys, `--why` survey texts, and a track as its last argument, to one
+//! that prints reasons. `--argument` is handed to the program. `--case` runs one case, `--emit` writes its input to
+//! standard output. `--self` holds the fast planner against the plain one, with no program; `--native` does so with the
+//! planner that the feature `native` links.
 
 use evidence::calls::faults::{harm, PAIR_FAULTS};
 use evidence::check::{check, Passed};

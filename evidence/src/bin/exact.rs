@@ -2,8 +2,9 @@
 //!
 //!     exact [--program PATH] [--count N] [--seed S]
 //!
-//! N surveys with exactly two sites and N with all junctions in one list, ties and prices of 0 dense. The plans are the program's, as it prints them,
-//! and what it says on standard error is held against its figures; without a program they are our own planner's.
+//! N surveys with exactly two sites and N with all junctions in one list, ties and prices of 0 dense. The plans are
+//! the program's, as it prints them, and what it says on standard error is held against its figures; without a program
+//! they are our own planner's.
 
 use evidence::exact::{one_list, remark, two_sites, Drawn};
 use evidence::gen::{exact, Rng};

@@ -5,8 +5,8 @@
 //!     standin verify
 //!     standin why TRACK
 //!
-//! With the name of a blunder it makes that fault, so that `compare` can be seen to find it. `stp` prints the survey of an
-//! STP file, `verify` what the check of a plan behind its survey comes to, `why` the reason for a track of a survey.
+//! With the name of a blunder it makes that fault, so that `compare` can be seen to find it. `stp` prints the survey of
+//! an STP file, `verify` what the check of a plan behind its survey comes to, `why` the reason for a track of a survey.
 
 use evidence::blunder::{self, BLUNDERS};
 use evidence::{plan, print, printed, MAX_INPUT};

@@ -1,5 +1,6 @@
-//! Single calls with their answers written out: what document 01 says of P1 to P12 and of the limits, and small cases beside them, of reading, checking,
-//! printing and pairs, whose answers were worked out by hand from the papers' sentences.
+//! Single calls with their answers written out: what document 01 says of P1 to P12 and of the limits, and small cases
+//! beside them, of reading, checking, printing and pairs, whose answers were worked out by hand from the papers'
+//! sentences.
 
 use super::{Library, CHECK_COUNTS, PLAN_COUNTS, PRINT_COUNTS, READ_COUNTS, STP_COUNTS, WHY_COUNTS};
 use crate::gen::WORKED;

@@ -72,6 +72,7 @@ pub enum Fault {
     PickRemoved,
     RouteShort,
     TrackOut,
+    TracksMany,
     StpCount,
     StpEnd,
     StpPrice,
@@ -241,6 +242,30 @@ pub const WHY_FAULTS: &[Fault] = &[
     PairUnjoinable,
     TrackOut,
 ];
+/// 8 and 19 stand in the rows, and are no refusal of the call.
+pub const CLOSED_FAULTS: &[Fault] = &[
+    Nothing,
+    NoJunction,
+    ManyJunctions,
+    SecondUnequal,
+    PricesUnequal,
+    PairsUnequal,
+    ManyTracks,
+    EndOut,
+    EndsEqual,
+    PriceHigh,
+    PairOut,
+    PairNone,
+    PairOwn,
+    PairsFall,
+    PairTwice,
+    ManyPairs,
+    TracksMany,
+    CountsShort,
+    Unjoinable,
+    PairUnjoinable,
+    TrackOut,
+];
 /// The faults of pairs that are 18.
 pub const PAIR_FAULTS: &[Fault] = &[PairOut, PairNone, PairOwn, PairsFall, PairTwice, ManyPairs];
 /// The faults of also lines, and the refusal of each.
@@ -261,8 +286,8 @@ pub const PRINT_MOAT_FAULTS: &[Fault] = &[Nothing, RecordLength, OutShort, Count
 pub const PRINT_PLAN_FAULTS: &[Fault] = &[Nothing, OutShort, CountsShort];
 pub const PRINT_SURVEY_FAULTS: &[Fault] = &[Nothing, SecondUnequal, PricesUnequal, PairsUnequal, OutShort, CountsShort];
 
-/// The refusals that can be due together in one call: each with those before which it is given. Where two stand in both orders the place decides: of
-/// tracks the lower, and in a text what is complete first.
+/// The refusals that can be due together in one call: each with those before which it is given. Where two stand in both
+/// orders the place decides: of tracks the lower, and in a text what is complete first.
 pub type Pairs = &'static [(u64, &'static [u64])];
 
 pub const READ_PAIRS: Pairs = &[
@@ -324,6 +349,15 @@ pub const WHY_PAIRS: Pairs = &[
     (7, &[8, 19]),
     (8, &[19]),
 ];
+pub const CLOSED_PAIRS: Pairs = &[
+    (1, &[2, 3, 4, 5, 6, 18, 7]),
+    (2, &[3, 4, 5, 6, 18, 7]),
+    (3, &[4, 5, 6, 18, 7]),
+    (4, &[5, 6, 18, 7]),
+    (5, &[4, 6, 18, 7]),
+    (6, &[4, 5, 18, 7]),
+    (18, &[7]),
+];
 pub const PRINT_MOAT_PAIRS: Pairs = &[(9, &[7])];
 pub const PRINT_PLAN_PAIRS: Pairs = &[];
 pub const PRINT_SURVEY_PAIRS: Pairs = &[(2, &[7])];
@@ -345,7 +379,8 @@ fn track(rng: &mut Rng, m: usize) -> usize {
     }
 }
 
-/// The pair of a case: all pairs of a row in turn, and after every third a case with no fault; in full surveys each of the row in turn, alone.
+/// The pair of a case: all pairs of a row in turn, and after every third a case with no fault; in full surveys each of
+/// the row in turn, alone.
 pub fn pair(faults: &[Fault], case: u64) -> [Fault; 2] {
     if is_full(case) {
         return [faults[(case / FULL_EVERY) as usize % faults.len()], Nothing];
@@ -528,8 +563,8 @@ pub fn spoil(rng: &mut Rng, survey: &Survey, marks: &mut Vec<u8>, records: &mut 
     }
 }
 
-/// Puts a fault into the marks of picked tracks, if it is one of those. A loop is closed by a track that is there, or by
-/// a parallel one that comes to the survey.
+/// Puts a fault into the marks of picked tracks, if it is one of those. A loop is closed by a track that is there, or
+/// by a parallel one that comes to the survey.
 pub fn remark(rng: &mut Rng, survey: &mut Survey, marks: &mut Vec<u8>, fault: Fault) {
     let picked: Vec<usize> = (0..marks.len()).filter(|&t| marks[t] == DROPPED).collect();
     match fault {

@@ -1,10 +1,12 @@
-//! Generated calls: a sound input, two faults put into it, and lent buffers with any bytes in them, each from a stream of its own.
+//! Generated calls: a sound input, two faults put into it, and lent buffers with any bytes in them, each from a stream
+//! of its own.
 
 use super::faults::*;
 use super::{
     Figures, Library, CHECK_COUNTS, DROP_COUNTS, PLAN_COUNTS, PRINT_COUNTS, READ_COUNTS, SECOND, SHORT, STP_COUNTS,
     WHY_COUNTS,
 };
+use crate::closed::{MAX_CLOSED, ROW};
 use crate::gen::{damage_stp, directed_stp, line, overlap, stp_file, survey, wanted, Rng, Size};
 use crate::plan::{fast, owned, record_room, DROPPED, NOT_PICKED};
 use crate::print::survey_text;
@@ -36,7 +38,8 @@ pub struct Operation {
     input: fn(&Streams, [Fault; 2]) -> Box<dyn Call>,
 }
 
-/// The random numbers of a case: a stream for each part of an input, so that a fault alone is the same as beside another.
+/// The random numbers of a case: a stream for each part of an input, so that a fault alone is the same as beside
+/// another.
 struct Streams {
     seed: u64,
     case: u64,
@@ -414,6 +417,60 @@ fn why_input(streams: &Streams, faults: [Fault; 2]) -> Box<dyn Call> {
     Box::new(Why { survey, tracks, route: words(rng, route), counts: counts(rng, WHY_COUNTS, faults) })
 }
 
+/// Closed tracks: a list of them, in any order and more than once.
+struct Closed {
+    survey: Survey,
+    tracks: Vec<u32>,
+    result: Vec<u64>,
+}
+
+impl Call for Closed {
+    fn run(&self, library: &Library) -> Answer {
+        let mut result = before_others(&self.result, 0xa5a5);
+        let code = (library.closed)(self.survey.view(), &self.tracks, &mut result[..self.result.len()]);
+        Answer { code, bytes: Vec::new(), words: Vec::new(), counts: result }
+    }
+
+    fn says(&self) -> String {
+        format!("{:?} {:?}", self.survey, self.tracks)
+    }
+}
+
+fn closed_input(streams: &Streams, faults: [Fault; 2]) -> Box<dyn Call> {
+    let rng = &mut streams.base();
+    let mut survey = match rng.below(2_000) {
+        0 => survey(rng, Size::Large),
+        1..5 => line(rng, 40),
+        5..30 => line(rng, 1),
+        _ => sound_lists(rng),
+    };
+    let m = survey.first.len();
+    let large = m > 200;
+    let mut tracks: Vec<u32> = match rng.below(16) {
+        0 => Vec::new(),
+        1 if !large => (0..MAX_CLOSED as u32).map(|i| i % 12 % m.max(1) as u32).collect(),
+        2..8 if m <= 40 => (0..m as u32).collect(),
+        _ => (0..rng.between(1, 8)).map(|_| rng.below(m.max(1)) as u32).collect(),
+    };
+    for (i, fault) in faults.into_iter().enumerate() {
+        let rng = &mut streams.fault(i);
+        harm(rng, &mut survey, fault);
+        match fault {
+            TrackOut => {
+                let out = rng.pick(&[m as u32, m as u32, m as u32 + 1, m as u32 + 256, 1 << 24, u32::MAX]);
+                let at = rng.below(tracks.len() + 1);
+                tracks.insert(at, out);
+                tracks.truncate(MAX_CLOSED);
+            }
+            TracksMany => tracks.resize(MAX_CLOSED + rng.between(1, 3), 0),
+            CountsShort => tracks.resize(tracks.len().max(1), 0),
+            _ => {}
+        }
+    }
+    let result = counts(&mut streams.buffers(), ROW * tracks.len(), faults);
+    Box::new(Closed { survey, tracks, result })
+}
+
 struct Check {
     survey: Survey,
     marks: Vec<u8>,
@@ -558,7 +615,7 @@ fn print_survey_input(streams: &Streams, faults: [Fault; 2]) -> Box<dyn Call> {
     print(streams, faults, need, survey, with)
 }
 
-pub const OPERATIONS: [Operation; 10] = [
+pub const OPERATIONS: [Operation; 11] = [
     Operation { name: "read", faults: READ_FAULTS, pairs: READ_PAIRS, input: read_input },
     Operation { name: "read_stp", faults: STP_FAULTS, pairs: STP_PAIRS, input: read_stp_input },
     Operation { name: "plan", faults: PLAN_FAULTS, pairs: PLAN_PAIRS, input: plan_input },
@@ -566,6 +623,7 @@ pub const OPERATIONS: [Operation; 10] = [
     Operation { name: "grow", faults: PLAN_FAULTS, pairs: PLAN_PAIRS, input: grow_input },
     Operation { name: "drop", faults: DROP_FAULTS, pairs: DROP_PAIRS, input: drop_input },
     Operation { name: "why", faults: WHY_FAULTS, pairs: WHY_PAIRS, input: why_input },
+    Operation { name: "closed", faults: CLOSED_FAULTS, pairs: CLOSED_PAIRS, input: closed_input },
     Operation { name: "print_moat", faults: PRINT_MOAT_FAULTS, pairs: PRINT_MOAT_PAIRS, input: print_moat_input },
     Operation { name: "print_plan", faults: PRINT_PLAN_FAULTS, pairs: PRINT_PLAN_PAIRS, input: print_plan_input },
     Operation {

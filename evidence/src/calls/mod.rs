@@ -1,15 +1,18 @@
-//! Single calls of the library, as they cross to other languages: slices in, one number out, counts in a lent buffer. Each is held against the
-//! second implementation: `document` has the cases of document 01 with their answers, `generated` makes inputs with two faults at once (`faults`),
-//! with lent buffers of every length that matters and any bytes in them before.
+//! Single calls of the library, as they cross to other languages: slices in, one number out, counts in a lent buffer.
+//! Each is held against the second implementation: `document` has the cases of document 01 with their answers,
+//! `generated` makes inputs with two faults at once (`faults`), with lent buffers of every length that matters and any
+//! bytes in them before.
 //!
-//! That a short buffer for counts is 7 is document 01's rule for buffers to be written; at which place of the order it comes is the product's own
-//! decision (with planning's other 7s, and with the 7 of a route; in checking after 18; in reading either text at the nodes line, after 1; in printing with the other 7).
+//! That a short buffer for counts is 7 is document 01's rule for buffers to be written; at which place of the order it
+//! comes is the product's own decision (with planning's other 7s, and with the 7 of a route; in checking after 18; in
+//! reading either text at the nodes line, after 1; in printing with the other 7).
 
 pub mod document;
 pub mod faults;
 pub mod generated;
 
 use crate::check::check;
+use crate::closed::closed;
 use crate::plan::{fast, Counts, Plan};
 use crate::print::{moat_line, plan_lines, survey_text};
 use crate::read::{read, Lent};
@@ -31,12 +34,14 @@ pub struct Library {
     pub grow: fn(View, &mut [u8], &mut [u8], &mut [u64]) -> u64,
     pub drop: fn(View, &mut [u8], &mut [u64]) -> u64,
     pub why: fn(View, u32, &mut [u32], &mut [u64]) -> u64,
+    pub closed: fn(View, &[u32], &mut [u64]) -> u64,
     pub print_moat: fn(&[u8], &mut [u8], &mut [u64]) -> u64,
     pub print_plan: fn(Figures, &[u8], &[u8], &mut [u8], &mut [u64]) -> u64,
     pub print_survey: fn(View, &mut [u8], &mut [u64]) -> u64,
 }
 
-/// Entries of the counts: n, m and the number of pairs of reading, n and m of reading an STP file; sites, cost, bound, rounds and moats of planning; sites, cost and bound of checking; a length of printing.
+/// Entries of the counts: n, m and the number of pairs of reading, n and m of reading an STP file; sites, cost, bound,
+/// rounds and moats of planning; sites, cost and bound of checking; a length of printing.
 pub const READ_COUNTS: usize = 3;
 pub const STP_COUNTS: usize = 2;
 pub const PLAN_COUNTS: usize = 5;
@@ -87,7 +92,8 @@ fn read_stp_call(text: &[u8], lent: stp::Lent, counts: &mut [u64]) -> u64 {
     stored(stp::read(text, lent), counts)
 }
 
-/// Out of line: inlined beside the tests before it, its large frame is set up between the test and the use of a length, and rustc 1.95 loses the length.
+/// Out of line: inlined beside the tests before it, its large frame is set up between the test and the use of a length,
+/// and rustc 1.95 loses the length.
 #[inline(never)]
 fn drawn(survey: View, marks: &mut [u8], records: &mut [u8]) -> Result<Counts, Refusal> {
     fast(survey, marks, records)
@@ -143,6 +149,10 @@ fn why_call(survey: View, track: u32, route: &mut [u32], counts: &mut [u64]) -> 
     stored(why(survey, track, route).map(|r| [r.kind, r.list, r.smaller, r.larger, r.entries, r.round]), counts)
 }
 
+fn closed_call(survey: View, tracks: &[u32], result: &mut [u64]) -> u64 {
+    closed(survey, tracks, result).map_or_else(code, |()| 0)
+}
+
 fn print_moat_call(record: &[u8], out: &mut [u8], counts: &mut [u64]) -> u64 {
     if record.len() == RECORD_BYTES && counts.len() < PRINT_COUNTS {
         return SHORT;
@@ -195,6 +205,7 @@ pub const SECOND: Library = Library {
     grow: grow_call,
     drop: drop_call,
     why: why_call,
+    closed: closed_call,
     print_moat: print_moat_call,
     print_plan: print_plan_call,
     print_survey: print_survey_call,

@@ -1,4 +1,5 @@
-//! Surveys of No. 14: exactly two sites, and all junctions in one list; by own groups and by pairs, with ties and prices of 0 dense.
+//! Surveys of No. 14: exactly two sites, and all junctions in one list; by own groups and by pairs, with ties and
+//! prices of 0 dense.
 
 use super::Rng;
 use crate::{Survey, MAX_PAIRS, MAX_PRICE, MAX_TRACKS};
@@ -62,7 +63,8 @@ fn put_pairs(survey: &mut Survey, mut pairs: BTreeSet<(u32, u8)>) {
     (survey.owners, survey.others) = pairs.into_iter().take(MAX_PAIRS).unzip();
 }
 
-/// A survey with exactly two sites, and these: one list or several of the two, by own groups or by pairs, and lists of one member elsewhere.
+/// A survey with exactly two sites, and these: one list or several of the two, by own groups or by pairs, and lists of
+/// one member elsewhere.
 pub fn two_sites(rng: &mut Rng) -> (Survey, usize, usize) {
     let n = size(rng, 2, 300);
     let mut survey = network(rng, n);

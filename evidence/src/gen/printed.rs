@@ -334,8 +334,8 @@ fn shown(case: PlanCase) -> PlanCase {
     PlanCase { survey, marks, records }
 }
 
-/// A survey's text with a printed plan behind it: first the directed ones, then for every seed its own. Half are finished
-/// plans, half damaged ones of the checker's cases; then no slip, one or two.
+/// A survey's text with a printed plan behind it: first the directed ones, then for every seed its own. Half are
+/// finished plans, half damaged ones of the checker's cases; then no slip, one or two.
 pub fn plan_text_case(seed: u64, case: u64) -> Vec<u8> {
     if let Some(text) = directed_plan_texts().get(case as usize) {
         return text.clone();

@@ -4,7 +4,7 @@ use super::Rng;
 use crate::calls::faults::{Fault, STP_FAULTS};
 use crate::read::Lengths;
 use crate::stp::{parse, HEADER};
-use crate::{MAX_JUNCTIONS, MAX_PRICE, MAX_TRACKS};
+use crate::{MAX_JUNCTIONS, MAX_PRICE, MAX_TRACKS, STP_ROOM};
 use std::sync::OnceLock;
 use Fault::*;
 
@@ -412,9 +412,38 @@ pub fn directed_stp() -> &'static [Vec<u8>] {
     })
 }
 
-/// The file of a case for a program: the directed ones first, then random ones with none to two faults.
+/// Files about as long as what the program reads: whole ones with empty lines behind them, some with a byte between
+/// that makes them malformed, a count that is refused in a long file, and long comments.
+fn long_stp() -> &'static [Vec<u8>] {
+    static ALL: OnceLock<Vec<Vec<u8>>> = OnceLock::new();
+    ALL.get_or_init(|| {
+        let padded = |text: &[u8], length: usize| {
+            let mut text = text.to_vec();
+            text.resize(length, b'\n');
+            text
+        };
+        let sound = &sound_files()[0];
+        let mut all: Vec<Vec<u8>> = [0, 1, 2].map(|more| padded(sound, STP_ROOM - 1 + more)).to_vec();
+        for at in [0, 50, sound.len() + 9, STP_ROOM - 1, STP_ROOM, STP_ROOM + 1] {
+            let mut text = padded(sound, STP_ROOM + 2);
+            text[at] = b'#';
+            all.push(text);
+        }
+        for counts in ["Nodes 0\n", "Nodes 449\n", "Nodes 1\nEdges 2049\n"] {
+            all.push(padded(format!("{HEADER}\nSECTION Graph\n{counts}").as_bytes(), STP_ROOM + 2));
+        }
+        for more in [0, 1, 2] {
+            let bare = file("SECTION Comment\n\nEND\n", "Nodes 1\nEdges 0\n", "Terminals 0\n").len();
+            let remark = "x".repeat(STP_ROOM - 1 + more - bare);
+            all.push(file(&format!("SECTION Comment\n{remark}\nEND\n"), "Nodes 1\nEdges 0\n", "Terminals 0\n"));
+        }
+        all
+    })
+}
+
+/// The file of a case for a program: the directed ones first, then long ones, then random ones with none to two faults.
 pub fn stp_case(seed: u64, case: u64) -> Vec<u8> {
-    if let Some(text) = directed_stp().get(case as usize) {
+    if let Some(text) = directed_stp().iter().chain(long_stp()).nth(case as usize) {
         return text.clone();
     }
     let rng = &mut Rng::of_case(seed ^ 0x73_74_70, case);

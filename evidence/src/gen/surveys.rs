@@ -1,4 +1,5 @@
-//! Surveys: a shape gives the ends, a scheme the prices, another the groups, and a further one the pairs, where there are any.
+//! Surveys: a shape gives the ends, a scheme the prices, another the groups, and a further one the pairs, where there
+//! are any.
 
 use super::Rng;
 use crate::{highest, Survey, END_DIGITS, MAX_JUNCTIONS, MAX_PAIRS, MAX_PRICE, MAX_TRACKS, PRICE_DIGITS};
@@ -487,7 +488,8 @@ pub fn timed(rng: &mut Rng, n: usize, m: usize, scheme: usize) -> Survey {
     survey
 }
 
-/// A survey to time: few tracks for its junctions, prices all over their range, and two to eight sites in one group or two.
+/// A survey to time: few tracks for its junctions, prices all over their range, and two to eight sites in one group or
+/// two.
 pub fn sparse(rng: &mut Rng) -> Survey {
     let n = rng.between(40, MAX_JUNCTIONS);
     let m = n - 1 + rng.below(n / 4 + 1);

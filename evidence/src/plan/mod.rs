@@ -4,7 +4,7 @@ mod fast;
 mod reference;
 
 pub use fast::{fast, Workspace};
-pub use reference::{growth, reference, Growth, Moat, Round};
+pub use reference::{growth, growth_without, reference, Growth, Moat, Round};
 
 use crate::{refuse, Refusal, View, RECORD_BYTES};
 

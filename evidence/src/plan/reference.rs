@@ -52,6 +52,11 @@ fn loads(n: usize, moats: &[Moat]) -> Vec<u64> {
 
 /// The rounds of a survey whose groups can all be joined.
 pub fn growth(survey: View) -> Growth {
+    growth_without(survey, |_| false)
+}
+
+/// The same where some tracks are never candidates, and the others can join all groups (No. 12).
+pub fn growth_without(survey: View, is_closed: impl Fn(usize) -> bool) -> Growth {
     let (n, m) = (survey.n(), survey.m());
     let lists = survey.lists();
     let mut moats: Vec<Moat> = (0..n).map(|v| Moat { members: vec![v], amount: 0 }).collect();
@@ -72,7 +77,7 @@ pub fn growth(survey: View) -> Growth {
 
         // The smallest wait, and among equals the lowest track number.
         let mut best: Option<(u64, usize)> = None;
-        for t in 0..m {
+        for t in (0..m).filter(|&t| !is_closed(t)) {
             let (u, v) = (survey.first[t] as usize, survey.second[t] as usize);
             if component[u] == component[v] {
                 continue;

@@ -97,6 +97,10 @@ mod flat {
             groups: in u8, firsts: in u32, seconds: in u32, weights: in u32, owners: in u32, others: in u8,
             track: by u32, route: out u32, counts: out u64,
         );
+        closed = foamsickle_closed(
+            groups: in u8, firsts: in u32, seconds: in u32, weights: in u32, owners: in u32, others: in u8,
+            tracks: in u32, result: out u64,
+        );
         check = foamsickle_check(
             groups: in u8, firsts: in u32, seconds: in u32, weights: in u32, owners: in u32, others: in u8,
             marks: in u8, records: in u8, counts: out u64,
@@ -150,6 +154,11 @@ pub fn drop(s: Slices, marks: &mut [u8], counts: &mut [u64]) -> u64 {
 /// `counts` takes the mark, the group, its two members, the number of tracks between them and the round.
 pub fn why(s: Slices, track: u32, route: &mut [u32], counts: &mut [u64]) -> u64 {
     flat::why(s.groups, s.firsts, s.seconds, s.weights, s.owners, s.others, track, route, counts)
+}
+
+/// `result` takes for each track the refusal or 0, its place, the cost and the bound.
+pub fn closed(s: Slices, tracks: &[u32], result: &mut [u64]) -> u64 {
+    flat::closed(s.groups, s.firsts, s.seconds, s.weights, s.owners, s.others, tracks, result)
 }
 
 /// `counts` takes sites, cost and bound.

@@ -22,6 +22,7 @@ pub const MAX_EDGES: usize = 2_048;
 pub const MAX_PAIRS: usize = 256;
 pub const RECORD_BYTES: usize = 64;
 pub const DUAL_ROOM: usize = 2_048;
+pub const MAX_CLOSED: usize = 256;
 
 /// Entries of the counts of each operation.
 pub const READ_FIGURES: usize = 3;
@@ -29,6 +30,7 @@ pub const STP_FIGURES: usize = 2;
 pub const PLAN_FIGURES: usize = 5;
 pub const DROP_FIGURES: usize = 2;
 pub const WHY_FIGURES: usize = 6;
+pub const ROW_FIGURES: usize = 4;
 pub const CHECK_FIGURES: usize = 3;
 pub const PRINT_FIGURES: usize = 1;
 
@@ -253,6 +255,18 @@ pub fn why(survey: &Survey, track: u32) -> Result<Reason, Refusal> {
     })
 }
 
+/// Cost and bound of the plan with one track closed, or why there is none, for each track: in list order, and in calls of
+/// at most `MAX_CLOSED`, which change nothing.
+pub fn closed(survey: &Survey, tracks: &[u32]) -> Result<Vec<Result<(u64, u64), Refusal>>, Refusal> {
+    let mut rows = Vec::with_capacity(tracks.len());
+    for part in tracks.chunks(MAX_CLOSED) {
+        let mut result = vec![0; ROW_FIGURES * part.len()];
+        answered(call::closed(survey.slices(), part, &mut result))?;
+        rows.extend(result.chunks(ROW_FIGURES).map(|row| answered(row[0] + 256 * row[1]).map(|()| (row[2], row[3]))));
+    }
+    Ok(rows)
+}
+
 /// A survey that was read: groups, first ends, second ends and prices, and the pairs.
 #[derive(Clone, Debug, PartialEq, Eq)]
 pub struct SurveyText {
@@ -456,6 +470,17 @@ mod tests {
         assert_eq!(kept, Ok(Reason::Kept { group: 1, smaller: 0, larger: 2, route: vec![0, 1] }));
         let apart = Survey::new(&[1, 1], &[], &[], &[]).unwrap();
         assert_eq!(why(&apart, 7), Err(Refusal::Unjoinable(1)));
+    }
+
+    #[test]
+    fn a_track_is_closed() {
+        // Two ways between two sites, a cheap and a dear one, and a third junction with one track.
+        let survey = Survey::new(&[1, 1, 0], &[0, 0, 1], &[1, 1, 2], &[5, 7, 1]).unwrap();
+        let rows = closed(&survey, &[1, 0, 0, 3]);
+        assert_eq!(rows, Ok(vec![Ok((5, 10)), Ok((7, 14)), Ok((7, 14)), Err(Refusal::Track(3))]));
+        let one = Survey::new(&[1, 1], &[0], &[1], &[5]).unwrap();
+        assert_eq!(closed(&one, &[0]), Ok(vec![Err(Refusal::Unjoinable(1))]));
+        assert_eq!(closed(&one, &[]), Ok(vec![]));
     }
 
     #[test]

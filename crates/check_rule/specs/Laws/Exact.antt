@@ -1,5 +1,6 @@
--- What figures that pass the checker show (document 02, No. 14): no set of tracks that joins every group costs less than half the bound, so that a bound of twice the cost leaves no room for a
--- cheaper one; and with k = 2 the accuracy rule's premise is just that.
+-- What figures that pass the checker show (document 02, No. 14): no set of tracks that joins every group costs less
+-- than half the bound, so that a bound of twice the cost leaves no room for a cheaper one; and with k = 2 the accuracy
+-- rule's premise is just that.
 use Prim.Native.Nat.{ℕ, _*_, _-_, _/_, _≤_}
 use native.Mathlib.Omega.{arith}
 use mathlib.Core.Path.{_≡_, refl, ap, sym, _∙_, subst}

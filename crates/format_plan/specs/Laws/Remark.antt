@@ -1,4 +1,5 @@
--- Laws of what is said of printed figures: what the code answers, and what is said where sites, cost and bound are printed.
+-- Laws of what is said of printed figures: what the code answers, and what is said where sites, cost and bound are
+-- printed.
 use Prim.Native.Nat.{ℕ, _+_, _*_, _/_, _≤_, _<_}
 use native.Mathlib.Omega.{arith}
 use mathlib.Core.Path.{_≡_, refl, ap, sym, _∙_}
@@ -57,7 +58,8 @@ unfolding remarkFor shown
 shown-remark c b next true h = rw h refl
 shown-remark c b next false h = rw h refl
 
--- Sites, cost and bound that stand in a text, one line behind the other: the line is said exactly where twice the cost is at most the bound.
+-- Sites, cost and bound that stand in a text, one line behind the other: the line is said exactly where twice the cost
+-- is at most the bound.
 pub printed-remark : (t : List ℕ) (at k c b : ℕ) → OfDigits figureDigits k → OfDigits figureDigits c → OfDigits figureDigits b →
     Stands t at (lineOf terminalsKey k) → Stands t (at + length (lineOf terminalsKey k)) (lineOf costKey c) →
     Stands t (at + length (lineOf terminalsKey k) + length (lineOf costKey c)) (lineOf boundKey b) →

@@ -1,4 +1,5 @@
--- `main`: what is printed is a part of the buffer, by the contract of `plan_whole`, and what is said a part of the line, by that of `remark`.
+-- `main`: what is printed is a part of the buffer, by the contract of `plan_whole`, and what is said a part of the
+-- line, by that of `remark`.
 use mathlib.Core.Path.{sym}
 use lib.Seq.{length-take-le}
 use borrow.Author.Needs.{needs}

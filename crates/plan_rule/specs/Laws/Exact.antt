@@ -1,5 +1,6 @@
--- Where near best is best (document 02, No. 14), of every finished plan: `theory_steiner: two-bound, two-cheapest, picked-is-taken, kept-is-picked, spanning-cheapest` and
--- `theory_route: two-cheapest-route` for the problem that a survey poses, said of the marks. And which surveys have exactly two sites.
+-- Where near best is best (document 02, No. 14), of every finished plan: `theory_steiner: two-bound, two-cheapest,
+-- picked-is-taken, kept-is-picked, spanning-cheapest` and `theory_route: two-cheapest-route` for the problem that a
+-- survey poses, said of the marks. And which surveys have exactly two sites.
 use Prim.Native.Nat.{ℕ, _+_, _*_, _≤_, _<_}
 use native.Mathlib.Omega.{arith}
 use native.Mathlib.Decide.{ℕ-discrete}
@@ -38,7 +39,8 @@ use Rattle.plan_rule.specs.Laws.Passes.{marks-kept, marks-cost, finished
 
 -- ---- which surveys these are
 
--- Two junctions that share a list, where no others do, are exactly two sites: by one list or by several, of their own groups or by pairs.
+-- Two junctions that share a list, where no others do, are exactly two sites: by one list or by several, of their own
+-- groups or by pairs.
 pub two-members : (s : Survey) (u w : ℕ) → u < vertexCount s → w < vertexCount s → (u ≡ w → ⊥) → sameGroup s u w ≡ true →
     ((x y : ℕ) → x < vertexCount s → y < vertexCount s → (x ≡ y → ⊥) → sameGroup s x y ≡ true → (x ≡ u) ⊎ (x ≡ w)) → terminals (problemOf s) ≡ 2
 unfolding terminals countBelow problemOf

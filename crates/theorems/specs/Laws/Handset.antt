@@ -10,7 +10,7 @@ use lib.Seq.{sets, sets-eq, take-at, drop-at, drop-append-add}
 use lib.Dec.{lit<}
 use borrow.Author.Tests.{eq-eqb}
 use Rattle.base_limits.specs.Limits.{recordBytes}
-use Rattle.base_limits.specs.Verdict.{_before_, written, refusal, answer, outcome}
+use Rattle.base_limits.specs.Verdict.{_before_, written, answer, outcome}
 use Rattle.base_limits.specs.declared.Verdict.{Verdict}
 use Rattle.base_limits.specs.declared.Verdict.the-variants.{Fine}
 use Rattle.base_limits.specs.Laws.Verdict.{before-fine, before-none, fine-left, fine-right, refuse-false, answer-fine, refusal-found}

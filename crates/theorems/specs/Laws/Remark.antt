@@ -1,5 +1,6 @@
--- What `plan` and `verify` say on standard error (document 02, No. 14): the line 'no cheaper plan exists' exactly where the figures that they print show it, and then it is so. The programs hand
--- what they print to `format_plan::remark`: a plan's figures stand at its beginning, those of a check behind `passed`.
+-- What `plan` and `verify` say on standard error (document 02, No. 14): the line 'no cheaper plan exists' exactly
+-- where the figures that they print show it, and then it is so. The programs hand what they print to
+-- `format_plan::remark`: a plan's figures stand at its beginning, those of a check behind `passed`.
 use Prim.Native.Nat.{ℕ, _+_}
 use Prim.Native.Char.{code}
 use native.Mathlib.Omega.{arith}

@@ -1,5 +1,6 @@
--- With two terminals the kept edges are a cheapest route between them (document 02, No. 14). Both terminals are one required pair, so a set joins exactly if it
--- links them: the route alone does, no kept edge can be spared, and the accuracy rule with k = 2 leaves no room (`theory_steiner: two-cheapest`).
+-- With two terminals the kept edges are a cheapest route between them (document 02, No. 14). Both terminals are one
+-- required pair, so a set joins exactly if it links them: the route alone does, no kept edge can be spared, and the
+-- accuracy rule with k = 2 leaves no room (`theory_steiner: two-cheapest`).
 use Prim.Native.Nat.{ℕ, _+_, _≤_, _<_}
 use native.Mathlib.Omega.{arith}
 use native.Mathlib.Decide.{ℕ-discrete}

@@ -1,6 +1,7 @@
--- Where any two vertices are required to be linked (document 02, No. 14: all junctions in one group) no set of edges that joins them costs less than the
--- kept ones. A set F that joins is paid as growth goes on: an edge of F inside a component has its weight, one between two components the load, which all
--- vertices share. In each round F pays for at least as many edges as there are picks to come, so it has never paid less than the picks cost.
+-- Where any two vertices are required to be linked (document 02, No. 14: all junctions in one group) no set of edges
+-- that joins them costs less than the kept ones. A set F that joins is paid as growth goes on: an edge of F inside a
+-- component has its weight, one between two components the load, which all vertices share. In each round F pays for at
+-- least as many edges as there are picks to come, so it has never paid less than the picks cost.
 use Prim.Native.Nat.{ℕ, suc, _+_, _*_, _-_, _≤_, _<_}
 use native.Mathlib.Omega.{arith}
 use native.Mathlib.Nat.{mul-le-mul-left}

@@ -1,5 +1,6 @@
--- With two terminals the accuracy rule leaves no room (document 02, No. 14: 'Where near best is best'): k / (2k - 2) is 1, so the bound is exactly twice the
--- cost of the kept edges, and no set that joins costs less. That the kept edges are a route between the two is a law of `theory_route` (`two-cheapest-route`).
+-- With two terminals the accuracy rule leaves no room (document 02, No. 14: 'Where near best is best'): k / (2k - 2)
+-- is 1, so the bound is exactly twice the cost of the kept edges, and no set that joins costs less. That the kept
+-- edges are a route between the two is a law of `theory_route` (`two-cheapest-route`).
 use Prim.Native.Nat.{ℕ, _*_, _-_, _≤_, _<_}
 use native.Mathlib.Omega.{arith}
 use mathlib.Core.Path.{_≡_, sym, subst}

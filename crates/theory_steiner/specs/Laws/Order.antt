@@ -1,5 +1,5 @@
--- The order of edges by weight, then number (document 02, No. 14): of two edges exactly one comes before the other, and `inOrder` holds the usable edges
--- and no others, each before all that follow it.
+-- The order of edges by weight, then number (document 02, No. 14): of two edges exactly one comes before the other,
+-- and `inOrder` holds the usable edges and no others, each before all that follow it.
 use Prim.Native.Nat.{ℕ, zero, suc, _≤_, _<_}
 use native.Mathlib.Omega.{arith}
 use mathlib.Core.Path.{_≡_, refl, ap, sym, _∙_, subst}

@@ -1,6 +1,6 @@
--- Where any two vertices are required to be linked (document 02, No. 14: all junctions in one group) every component is active in every round, so all
--- vertices have one load, and a winner is the first edge between components by weight, then number. An edge is picked exactly if those before it do not
--- link its ends, and none is dropped.
+-- Where any two vertices are required to be linked (document 02, No. 14: all junctions in one group) every component
+-- is active in every round, so all vertices have one load, and a winner is the first edge between components by
+-- weight, then number. An edge is picked exactly if those before it do not link its ends, and none is dropped.
 use Prim.Native.Nat.{ℕ, _+_, _≤_, _<_}
 use native.Mathlib.Omega.{arith}
 use native.Mathlib.Decide.{ℕ-discrete}

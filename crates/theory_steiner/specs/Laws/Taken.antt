@@ -1,6 +1,6 @@
--- Where any two vertices are required to be linked the picked edges are those taken one by one in order (document 02, No. 14: 'the picks are those of
--- taking, by price, then number, each track that joins two parts'). While edges are taken, the taken ones are the picked ones among those seen, and they
--- link whatever those seen link.
+-- Where any two vertices are required to be linked the picked edges are those taken one by one in order (document 02,
+-- No. 14, the second claim). While edges are taken, the taken ones are the picked ones among those seen, and they link
+-- whatever those seen link.
 use Prim.Native.Nat.{ℕ, _<_}
 use mathlib.Core.Path.{_≡_, refl, sym, _∙_, subst}
 use mathlib.Core.Logic.{_⊎_, inl, inr, ⊎-elim}
@@ -48,7 +48,8 @@ with-edge-new F e t f h same = or-right (F f) (t && eqb f e) (and-both t (eqb f 
 
 -- ---- taking
 
--- What is left of the list: usable edges, each before all that follow it; what was seen are the usable edges that are not left, and they come before those left.
+-- What is left of the list: usable edges, each before all that follow it; what was seen are the usable edges that are
+-- not left, and they come before those left.
 record Left (p : Problem) (seen : ℕ → Bool) (es : List ℕ) : Type 0 where
   rising : Rising p es
   edges : (f : ℕ) → List·Memᴰ f es → (f < p .edges) × (p .usable f ≡ true)

@@ -1,0 +1,4 @@
+pub mod LeftOut
+pub mod Entry
+pub mod Rows
+pub mod Call

@@ -1,0 +1,2 @@
+pub mod LeftOut
+pub mod Laws

@@ -1,0 +1,4 @@
+pub mod Groups
+pub mod Entry
+pub mod Rows
+pub mod Promise

@@ -1,0 +1,3 @@
+pub mod Closed
+pub mod Promise
+pub mod Laws
