@@ -442,7 +442,7 @@ fn closed_input(streams: &Streams, faults: [Fault; 2]) -> Box<dyn Call> {
         0 => survey(rng, Size::Large),
         1..5 => line(rng, 40),
         5..30 => line(rng, 1),
-        _ => sound_lists(rng),
+        _ => streams.survey(rng),
     };
     let m = survey.first.len();
     let large = m > 200;

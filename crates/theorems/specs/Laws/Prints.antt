@@ -96,9 +96,9 @@ refusal-elsewhere : (number place k c b : ℕ) → Stands (refusalText number pl
 unfolding refusalText lineOf terminalsKey refusedKey
 refusal-elsewhere number place k c b s = let e = stands-head s in omega arith
 
-plan-lines : (k c b r : ℕ) (marks records : List ℕ) → Stands (planText k c b r marks records) 0 (figureLines k c b)
+plan-figure-lines : (k c b r : ℕ) (marks records : List ℕ) → Stands (planText k c b r marks records) 0 (figureLines k c b)
 unfolding planText countLines
-plan-lines k c b r marks records =
+plan-figure-lines k c b r marks records =
     stands-first (figureLines k c b) _ (stands-first (countLines k c b r) (keptLines marks) (stands-first _ (dualLines records) (stands-whole (planText k c b r marks records))))
 
 -- Whatever figures stand on the first lines of what `plan` prints, they obey the accuracy rule.
@@ -110,7 +110,7 @@ plan-figures t k c b s = by (textPlan t) refl
     by (refusal number place) h = absurd (refusal-elsewhere number place k c b (subst (λ (w : List ℕ). Stands w 0 (figureLines k c b)) (ap outcomeText h) s))
     by (answer p) h =
         let a : AccuratePrint t p = accurate-print t p h in
-        let own = plan-lines (p .terminals) (p .cost) (p .bound) (p .rounds) (p .marks) (recordsOf (p .duals)) in
+        let own = plan-figure-lines (p .terminals) (p .cost) (p .bound) (p .rounds) (p .marks) (recordsOf (p .duals)) in
         let there = subst (λ (w : List ℕ). Stands w 0 (figureLines k c b)) (ap outcomeText h) s in
         let same = figures-same _ 0 (p .terminals) (p .cost) (p .bound) k c b own there in
         record {
