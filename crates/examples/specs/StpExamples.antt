@@ -47,7 +47,7 @@ use Rattle.format_stp.specs.StpReading.{
   stpOutcome,
   stpReading,
 }
-use Rattle.format_stp.specs.StpWord.{Repeated, none, one, OneLine, end, byte, CommentLines, last, line}
+use Rattle.format_stp.specs.StpWord.{none, one, OneLine, end, byte, CommentLines, last, line}
 use Rattle.format_stp.specs.StpWord.{emptyLines, afterEmpty, byByte, guarded, shown, commentFrom, commentAt}
 
 -- ---- whole texts

@@ -6,6 +6,7 @@ pub mod Number
 pub mod RuleLines
 pub mod File
 pub mod Grammar
+pub mod EmptyBehind
 pub mod Only
 pub mod Accepted
 pub mod Beginning

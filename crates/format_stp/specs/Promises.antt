@@ -8,7 +8,7 @@ use lib.ListN.{length, take, drop}
 use Rattle.base_limits.specs.Limits.{maxVertices, maxEdges}
 use Rattle.base_limits.specs.Verdict.{Outcome, refusal, answer}
 use Rattle.format_read.specs.Language.{Each}
-use Rattle.format_survey.specs.Line.{SurveyCounts, firstsOf, secondsOf, weightsOf}
+use Rattle.format_survey.specs.Line.{Lengths, SurveyCounts, firstsOf, secondsOf, weightsOf}
 use Rattle.format_stp.specs.Beginning.{stpLent, StpVerticesOut, StpEdgesOver, StpShort, StpEscapes}
 use Rattle.format_stp.specs.Grammar.{StpText, IsStp}
 use Rattle.format_stp.specs.StpReading.{StpContent}
@@ -53,6 +53,9 @@ pub record StpBuffers : Type 0 where
 abbrev pub stpBuffers : (groups firsts seconds weights : List ℕ) → StpBuffers
 stpBuffers groups firsts seconds weights = record { groups = groups; firsts = firsts; seconds = seconds; weights = weights }
 
+abbrev pub stpLengths : StpBuffers → Lengths
+stpLengths b = stpLent (b .groups) (b .firsts) (b .seconds) (b .weights)
+
 -- What a buffer holds where these values are read into it.
 abbrev pub stpFilled : (values old : List ℕ) → List ℕ
 stpFilled values old = values ++ drop (length values) old
@@ -75,11 +78,11 @@ pub record StpAccepted (t : List ℕ) (old : StpBuffers) (r : Outcome SurveyCoun
 -- The answer and the buffers, before and after.
 pub record StpPromises (t : List ℕ) (old : StpBuffers) (r : Outcome SurveyCounts) (new : StpBuffers) : Type 0 where
   pub accepted : (c : SurveyCounts) → r ≡ answer c → StpAccepted t old r new
-  pub accepts : (x : StpContent) → StpText x t → StpEscapes (stpLent (old .groups) (old .firsts) (old .seconds) (old .weights)) t → StpSays x old r new
-  pub refuses : (IsStp t → ⊥) → StpEscapes (stpLent (old .groups) (old .firsts) (old .seconds) (old .weights)) t → (p : ℕ) × (r ≡ refusal 20 p)
+  pub accepts : (x : StpContent) → StpText x t → StpEscapes (stpLengths old) t → StpSays x old r new
+  pub refuses : (IsStp t → ⊥) → StpEscapes (stpLengths old) t → (p : ℕ) × (r ≡ refusal 20 p)
   pub one : (r ≡ refusal 1 0) ↔ StpVerticesOut t
-  pub three : (r ≡ refusal 3 0) ↔ StpEdgesOver (stpLent (old .groups) (old .firsts) (old .seconds) (old .weights)) t
-  pub seven : (r ≡ refusal 7 0) ↔ StpShort (stpLent (old .groups) (old .firsts) (old .seconds) (old .weights)) t
+  pub three : (r ≡ refusal 3 0) ↔ StpEdgesOver (stpLengths old) t
+  pub seven : (r ≡ refusal 7 0) ↔ StpShort (stpLengths old) t
   pub malformed : (p : ℕ) → r ≡ refusal 20 p → StpMalformedAt t p
   pub gives : (n p : ℕ) → r ≡ refusal n p → StpGives n p
   pub kept : (n p : ℕ) → r ≡ refusal n p → new ≡ old

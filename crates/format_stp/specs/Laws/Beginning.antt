@@ -1,15 +1,15 @@
 -- Reading gives 1, 3 and 7 exactly if the text begins so (specs/Beginning), and every other refusal is 20. What stands behind a refusal does not matter.
-use Prim.Native.Nat.{ℕ, _+_, _≤_, _<_}
+use Prim.Native.Nat.{ℕ, _+_, _<_}
 use native.Mathlib.Omega.{arith}
 use mathlib.Core.Bool.{false}
 use mathlib.Core.List.{List, _∷_, _++_, append-assoc}
-use mathlib.Core.Logic.{_⊎_, inl, inr, ⊎-elim, _↔_}
+use mathlib.Core.Logic.{inl, inr, ⊎-elim, _↔_}
 use mathlib.Core.Path.{_≡_, refl, ap, sym, _∙_, subst}
 use lib.Dec.{eqb}
 use lib.ListN.{length, take}
 use lib.Seq.{take-at, take-take}
-use Rattle.base_limits.specs.Limits.{countDigits, maxVertices, maxEdges}
-use Rattle.base_limits.specs.Verdict.{Outcome, refusal, answer}
+use Rattle.base_limits.specs.Limits.{countDigits}
+use Rattle.base_limits.specs.Verdict.{refusal}
 use Rattle.base_limits.specs.declared.Verdict.{Verdict}
 use Rattle.base_limits.specs.declared.Verdict.the-variants.{Fine, Refused}
 use Rattle.format_write.specs.Key.{newline}
@@ -28,7 +28,7 @@ use Rattle.format_survey.specs.Beginning.{BeginsWith, VerticesFit}
 use Rattle.format_survey.specs.Laws.Beginning.{begins-stands, stands-begins}
 use Rattle.format_survey.specs.Laws.Cause.{VerticesCause, out-of-range, too-long, vertices-cause, EdgesCause, over-limit, too-many, edges-cause, short-refused}
 use Rattle.format_survey.specs.Laws.Tests.{vertices-none, vertices-many, vertices-short, vertices-fine, vertices-passed, edges-many}
-use Rattle.format_survey.specs.Line.{Lengths, verticesTest, edgesTest}
+use Rattle.format_survey.specs.Line.{Lengths}
 use Rattle.format_stp.specs.Beginning.{
   stpLent,
   NodesLine,
@@ -38,7 +38,6 @@ use Rattle.format_stp.specs.Beginning.{
   StpGroupsShort,
   StpEdgesShort,
   StpShort,
-  StpEscapes,
   StpRefusing,
   verticesOut,
   edgesOver,

@@ -9,7 +9,6 @@ use lib.Dec.{ltb}
 use lib.ListN.{take}
 use borrow.Author.Tests.{ltb-true, ltb-false}
 use Rattle.base_finite.specs.Laws.Test.{and-left, and-right}
-use Rattle.format_write.specs.Decimal.{decimal}
 use Rattle.format_write.specs.Key.{newline}
 use Rattle.format_write.specs.Text.{lineOf}
 use Rattle.format_read.specs.Language.{Each, none, more, Text}
@@ -18,7 +17,7 @@ use Rattle.format_read.specs.Laws.Digits.{Digits}
 use Rattle.format_read.specs.Laws.Digits.{none as no-digit, one as one-digit}
 use Rattle.format_read.specs.Number.{numberText}
 use Rattle.format_survey.specs.Line.{Edge}
-use Rattle.format_stp.specs.Grammar.{blanks, Followed, StpOpening, plain, commented, NamedTerminals, StpText, IsStp}
+use Rattle.format_stp.specs.Grammar.{blanks, Followed, StpOpening, plain, commented, NamedTerminals, StpText}
 use Rattle.format_stp.specs.Grammar.{none as no-name, one as one-name}
 use Rattle.format_stp.specs.Laws.Accepted.{GoesOn}
 use Rattle.format_stp.specs.Promises.{StpBegins}

@@ -1,18 +1,18 @@
 -- The left-factored form that is read (specs/Subset) is the same language as the grammar (specs/Grammar): empty lines behind a line are empty lines
 -- before the next.
-use Prim.Native.Nat.{ℕ, zero, suc}
+use Prim.Native.Nat.{ℕ}
 use mathlib.Core.List.{List, [], _∷_, _++_, append-assoc, append-nil}
 use mathlib.Core.Logic.{_↔_}
 use mathlib.Core.Path.{_≡_, refl, ap, sym, _∙_, subst}
-use lib.ListN.{set, replicate}
+use lib.ListN.{replicate}
 use Rattle.format_write.specs.Text.{lineOf}
 use Rattle.format_read.specs.Language.{Seq, Text, Fixed}
 use Rattle.format_stp.specs.Grammar.{blanks, Followed, StpOpening, NamedTerminals, StpText}
 use Rattle.format_stp.specs.Grammar.{plain as natural, commented as remarked, none as no-name, one as one-name}
 use Rattle.format_stp.specs.StpKey.{headerLine, graphLine, sectionWord, commentRest, graphRest, commentLetter, graphLetter, nodesWord, edgesWord, terminalsWord, endLine, terminalsLine, eofLine}
 use Rattle.format_stp.specs.StpReading.{StpContent}
-use Rattle.format_stp.specs.StpWord.{AfterEmpty, CommentLines, Repeated, none, one}
-use Rattle.format_stp.specs.Subset.{StpHead, GraphSection, commented, plain, TerminalIn, terminalText, TerminalLines, StpFactored}
+use Rattle.format_stp.specs.StpWord.{AfterEmpty, Repeated, none, one}
+use Rattle.format_stp.specs.Subset.{StpHead, GraphSection, commented, plain, TerminalLines, StpFactored}
 use Rattle.format_stp.specs.Subset.{none as no-line, one as one-line}
 
 pub seq : {A B : Type 0} {W : A → List ℕ → Type 0} {X : A → B → List ℕ → Type 0} {b : B} (a : A) (u v : List ℕ) → W a u → X a b v → Seq W X b (u ++ v)

@@ -3,13 +3,12 @@ use Prim.Native.Nat.{ℕ}
 use native.Mathlib.Omega.{arith}
 use mathlib.Core.List.{List}
 use mathlib.Core.Logic.{_↔_}
-use mathlib.Core.Path.{_≡_, refl, ap, sym, _∙_, subst}
+use mathlib.Core.Path.{_≡_, refl, ap, sym, _∙_}
 use Rattle.base_limits.specs.Verdict.{Outcome, refusal, answer}
 use Rattle.format_survey.specs.Line.{SurveyCounts, firstsOf, secondsOf, weightsOf}
 use Rattle.format_survey.specs.Reading.{filled}
 use Rattle.format_stp.specs.Answer.{stpCountsOf}
 use Rattle.format_stp.specs.Beginning.{stpLent, StpEscapes, StpRefusing, verticesOut, edgesOver, bufferShort}
-use Rattle.format_stp.specs.Grammar.{StpText, IsStp}
 use Rattle.format_stp.specs.Laws.Accepted.{Unrefused, accepted-in, unrefused-accepted, unrefused-refused, stp-malformed-begins, stp-malformed-stops, stp-malformed-is-none, stp-numbers}
 use Rattle.format_stp.specs.Laws.Beginning.{stp-refused-begins, stp-vertices-out-iff, stp-edges-over-iff, stp-buffer-short-iff}
 use Rattle.format_stp.specs.Laws.Bytes.{begins-by-bytes}

@@ -218,11 +218,6 @@ module _ (s : Survey) (sound : SurveySound s) (joinable : Joins (problemOf s) (a
   unfolding planOf marks
   marks-cost = cost-of-marks
 
-  -- They keep what the definition keeps.
-  pub marks-kept : (e : ℕ) → keptBy (planOf (problemOf s) .marks) e ≡ kept (problemOf s) e
-  unfolding planOf marks
-  marks-kept = kept-of-marks
-
   -- ---- the checker passes
 
   pub finished-passing : Passing s (planOf (problemOf s) .marks) (recordsOf (planOf (problemOf s) .duals))

@@ -4,7 +4,7 @@ use Prim.Native.Nat.{ℕ, _+_, _^_, _≤_, _<_}
 use native.Mathlib.Omega.{arith}
 use mathlib.Core.Bool.{Bool, true, false, cond}
 use mathlib.Core.List.{List, [], map}
-use mathlib.Core.Logic.{_⊎_, inl, inr}
+use mathlib.Core.Logic.{_⊎_, inl, inr, _↔_}
 use mathlib.Core.Path.{_≡_, refl, ap, sym, _∙_, subst}
 use lib.Dec.{ltb}
 use lib.ListN.{length, take, drop, getD, replicate, length-map, List·getD-map, take-append-drop}
@@ -29,6 +29,9 @@ use Rattle.format_survey_print.specs.Laws.Print.{whole-answer, whole-out}
 use Rattle.format_survey_print.specs.Print.{edgeAt, edgesFrom, surveyText, surveyPrinted, surveyPrintedOut}
 use Rattle.format_stp.specs.StpReading.{StpContent, stpReading}
 use Rattle.format_stp.specs.Answer.{stpCountsOf}
+use Rattle.format_stp.specs.Grammar.{StpText}
+use Rattle.format_stp.specs.Laws.Accepted.{accepted-in, in-accepted}
+use Rattle.format_stp.specs.Promises.{StpFits}
 use Rattle.format_stp.specs.Laws.Beginning.{stp-refused-longer}
 use Rattle.format_stp.specs.Laws.Within.{stp-within, stp-sizes}
 use Rattle.text_stp.specs.Stored.{storedSurvey, storedPrinted, storedPrintedOut, StoredWords, unreadWords, readWords}
@@ -120,6 +123,20 @@ cut-or-whole t = by-length (lt-or-ge stpRoom (length t))
     by-length : (stpRoom < length t) ⊎ (length t ≤ stpRoom) → CutOrWhole t
     by-length (inl l) = cut l (readWhole (take stpRoom t)) refl
     by-length (inr l) = whole (read-short t l)
+
+-- A survey is printed exactly if the text is of the subset, its counts are within the limits, and it is not too long; and it is what the text says.
+pub stp-read-iff : (t : List ℕ) (x : StpContent)
+    → (stpRead t ≡ answer x) ↔ ((StpText x t × StpFits (replicate maxVertices 0) (replicate maxEdges 0) (replicate maxEdges 0) (replicate maxEdges 0) x) × (length t ≤ stpRoom))
+unfolding stpRead
+stp-read-iff t x = (
+  λ e.
+      let f = judged-answer (length t) (readWhole (take stpRoom t)) e in
+      let whole = ap readWhole (sym (take-all stpRoom t (f .1))) ∙ f .0 in
+      (accepted-in (replicate maxVertices 0) (replicate maxEdges 0) (replicate maxEdges 0) (replicate maxEdges 0) t x whole, f .1),
+  λ m.
+      judged-short (length t) (readWhole (take stpRoom t)) (m .1) ∙ ap readWhole (take-all stpRoom t (m .1))
+      ∙ in-accepted (replicate maxVertices 0) (replicate maxEdges 0) (replicate maxEdges 0) (replicate maxEdges 0) t x (m .0 .0) (m .0 .1),
+)
 
 -- A refusal's lines fit the room for surveys.
 pub refusal-room : (number place : ℕ) → number < 2 ^ 64 → place < 2 ^ 64 → length (refusalText number place) ≤ surveyRoom
