@@ -16,12 +16,12 @@
 
 use evidence::gen::{shadowed, sparse, timed, Rng};
 use evidence::plan::{fast, owned, record_room, reference, Counts, Plan, Workspace};
-use evidence::{Refusal, Survey, View};
 #[cfg(feature = "native")]
 use evidence::{
     closed::{MAX_CLOSED, ROW},
     native::LIBRARY,
 };
+use evidence::{Refusal, Survey, View};
 use std::process::{Command, ExitCode};
 use std::time::Instant;
 
@@ -268,7 +268,8 @@ fn instructions(options: &Options) -> ExitCode {
 }
 
 fn options() -> Option<Options> {
-    let mut options = Options { seed: 1, surveys: 12, repeats: 31, sample: 400, instructions: false, closed: false, one: None };
+    let mut options =
+        Options { seed: 1, surveys: 12, repeats: 31, sample: 400, instructions: false, closed: false, one: None };
     let mut words = std::env::args().skip(1);
     while let Some(word) = words.next() {
         if word == "--instructions" {
