@@ -1,6 +1,7 @@
 //! Printing (01, "Survey text and printed plan").
 
 use crate::check::{amount, holds};
+use crate::closed::{closed, ROW};
 use crate::plan::{owned, Plan, Planner, KEPT};
 use crate::read::{parse, Lengths};
 use crate::why::{why, Reason};
@@ -117,6 +118,22 @@ pub fn why_program(input: &[u8], track: u32) -> String {
     let mut route = [0; MAX_JUNCTIONS];
     match parse(text, Lengths::ENOUGH).and_then(|survey| why(survey.view(), track, &mut route)) {
         Ok(reason) => reason_lines(track, reason, &route[..reason.entries as usize]),
+        Err(refusal) => refusal_lines(refusal),
+    }
+}
+
+/// What the program of No. 12 prints: a line for each track, `closed=track,cost,bound` or `closed=track,refused,number,place`.
+pub fn closed_program(input: &[u8], tracks: &[u32]) -> String {
+    let text = &input[..input.len().min(MAX_INPUT)];
+    let mut result = vec![0; ROW * tracks.len()];
+    match parse(text, Lengths::ENOUGH).and_then(|survey| closed(survey.view(), tracks, &mut result)) {
+        Ok(()) => {
+            let line = |(row, track): (&[u64], &u32)| match row[0] {
+                0 => format!("closed={track},{},{}\n", row[2], row[3]),
+                number => format!("closed={track},refused,{number},{}\n", row[1]),
+            };
+            result.chunks(ROW).zip(tracks).map(line).collect()
+        }
         Err(refusal) => refusal_lines(refusal),
     }
 }

@@ -5,21 +5,23 @@
 //!     compare --verifier PATH [--count N] [--seed S] [--case C]
 //!     compare --stp PATH [--count N] [--seed S] [--case C]
 //!     compare --why PATH [--count N] [--seed S] [--case C]
+//!     compare --closed PATH [--count N] [--seed S] [--case C]
 //!     compare --emit C [--seed S]
 //!     compare --self N [--seed S]
 //!     compare --native N [--seed S]
 //!
 //! `--verifier` hands surveys with printed plans behind them, sound and damaged, to a program that checks plans,
 //! `--stp` STP files to one that prints their surveys, `--why` survey texts, and a track as its last argument, to one
-//! that prints reasons. `--argument` is handed to the program. `--case` runs one case, `--emit` writes its input to
-//! standard output. `--self` holds the fast planner against the plain one, with no program; `--native` does so with the
-//! planner that the feature `native` links.
+//! that prints reasons, `--closed` survey texts, and tracks as its arguments, to one that prints what closing each
+//! costs. `--argument` is handed to the program. `--case` runs one case, `--emit` writes its input to standard output.
+//! `--self` holds the fast planner against the plain one, with no program; `--native` does so with the planner that the
+//! feature `native` links.
 
 use evidence::calls::faults::{harm, PAIR_FAULTS};
 use evidence::check::{check, Passed};
 use evidence::gen::{directed_texts, overlap, plan_text_case, refused_survey, stp_case, survey, text_case, Rng, Size};
 use evidence::plan::{fast, owned, record_room, reference, Counts, Plan, Planner, DROPPED};
-use evidence::print::{answer, plan_lines, refusal_lines, stp_program, why_program};
+use evidence::print::{answer, closed_program, plan_lines, refusal_lines, stp_program, why_program};
 use evidence::printed::verify_program;
 use evidence::read::{parse, Lengths};
 use evidence::{Refusal, Survey, AMOUNT_BYTES, RECORD_BYTES};
@@ -37,6 +39,7 @@ enum Kind {
     Verify,
     Stp,
     Why,
+    Closed,
 }
 
 struct Options {
@@ -58,6 +61,7 @@ const USAGE: &str =
 compare --verifier PATH [--count N] [--seed S] [--case C]
 compare --stp PATH [--count N] [--seed S] [--case C]
 compare --why PATH [--count N] [--seed S] [--case C]
+compare --closed PATH [--count N] [--seed S] [--case C]
 compare --emit C [--seed S]
 compare --self N [--seed S]
 compare --native N [--seed S]";
@@ -79,8 +83,13 @@ fn options() -> Result<Options, String> {
     let mut words = std::env::args().skip(1);
     while let Some(word) = words.next() {
         let value = words.next().ok_or_else(|| format!("{word} wants a value"))?;
-        let kinds =
-            [("--program", Kind::Plan), ("--verifier", Kind::Verify), ("--stp", Kind::Stp), ("--why", Kind::Why)];
+        let kinds = [
+            ("--program", Kind::Plan),
+            ("--verifier", Kind::Verify),
+            ("--stp", Kind::Stp),
+            ("--why", Kind::Why),
+            ("--closed", Kind::Closed),
+        ];
         if let Some((_, kind)) = kinds.iter().find(|(name, _)| word == *name) {
             (options.program, options.kind) = (Some(value), *kind);
             continue;
@@ -234,6 +243,17 @@ fn case_of(options: &Options, case: u64) -> Case {
             let lines = why_program(&input, track as u32);
             (input, vec![track.to_string()], told(&lines), lines)
         }
+        Kind::Closed => {
+            let input = text_case(options.seed, case + directed_texts().len() as u64);
+            let rng = &mut Rng::of_case(options.seed ^ 0x636c_6f73, case);
+            let m = parse(&input, Lengths::ENOUGH).map_or(0, |survey| survey.first.len());
+            let many = rng.between(1, 6);
+            let track =
+                |rng: &mut Rng| if rng.chance(1, 20) { rng.pick(&[m, 2_048, 9_999_999]) } else { rng.below(m + 1) };
+            let tracks: Vec<u32> = (0..many).map(|_| track(rng) as u32).collect();
+            let lines = closed_program(&input, &tracks);
+            (input, tracks.iter().map(u32::to_string).collect(), told(&lines), lines)
+        }
     }
 }
 
@@ -310,6 +330,7 @@ fn compare(options: &Options, program: &str) -> bool {
         Kind::Verify => println!("{} passed", tally.plans),
         Kind::Stp => println!("{} surveys", tally.plans),
         Kind::Why => println!("{} reasons", tally.plans),
+        Kind::Closed => println!("{} lists of closed tracks", tally.plans),
     }
     for (number, many) in &tally.refused {
         println!("{many} refused {number}");

@@ -403,7 +403,8 @@ mod tests {
 
     #[test]
     fn an_stp_text_is_read() {
-        let head = "33D32945 STP File, STP Format Version 1.0\nSECTION Graph\nNodes 3\nEdges 2\nE 1 2 3\nE 2 3 4\nEND\n";
+        let head =
+            "33D32945 STP File, STP Format Version 1.0\nSECTION Graph\nNodes 3\nEdges 2\nE 1 2 3\nE 2 3 4\nEND\n";
         let text = format!("{head}SECTION Terminals\nTerminals 2\nT 1\nT 3\nEND\nEOF\n");
         assert_eq!(read_stp(text.as_bytes()), read(P3.as_bytes()));
         assert_eq!(read_stp(head.as_bytes()), Err(Refusal::MalformedStp(head.len() as u64)));
