@@ -1,0 +1,46 @@
+// Adds a survey to a season's report: plans it in buffers of its own. Definitions in season_rule.
+ghost use mathlib.Core.Path.{_≡_};
+ghost use Rattle.survey_core.specs.Survey.{lentWith};
+ghost use Rattle.season_rule.specs.Figures.{figures};
+ghost use Rattle.season_rule.specs.Report.{seasonRefusal, addSurvey};
+use crate::add::add_planned;
+use base_limits::MAX_EDGES;
+use base_limits::RECORDS_ROOM;
+use season_rule::Added;
+use season_rule::Report;
+
+mod add;
+mod print;
+
+// The report with this survey added, planned or refused; or 3, and the report as it was, for a 1,001st survey and where
+// a count or a total would pass 64 bits.
+pub fn add_survey(
+    report: Report,
+    groups: &[u8],
+    firsts: &[u32],
+    seconds: &[u32],
+    weights: &[u32],
+    owners: &[u32],
+    others: &[u8],
+) -> Added
+    ensures { λ r.
+        let s = lentWith groups firsts seconds weights owners others in
+        ⌜ r .verdict ≡ seasonRefusal report (figures s) ⌝ }
+    ensures { λ r.
+        let s = lentWith groups firsts seconds weights owners others in
+        ⌜ r .report ≡ addSurvey report s ⌝ }
+{
+    let mut marks = [0u8; MAX_EDGES];
+    let mut records = [0u8; RECORDS_ROOM];
+    let planned = plan_core::plan(
+        groups,
+        firsts,
+        seconds,
+        weights,
+        owners,
+        others,
+        &mut marks,
+        &mut records,
+    );
+    add_planned(report, planned)
+}
