@@ -2,3 +2,4 @@ pub mod Finish
 pub mod Call
 pub mod Stages
 pub mod Picks
+pub mod Figures

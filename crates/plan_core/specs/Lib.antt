@@ -1,3 +1,4 @@
 pub mod Grown
 pub mod Picks
+pub mod Figures
 pub mod Laws

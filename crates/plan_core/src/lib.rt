@@ -10,6 +10,7 @@ use crate::counts::both;
 use plan_rule::Planned;
 
 mod counts;
+pub mod figures;
 mod grow;
 mod lists;
 mod marks;

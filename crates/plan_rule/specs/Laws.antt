@@ -6,3 +6,4 @@ pub mod Same
 pub mod Poured
 pub mod Dropping
 pub mod Stages
+pub mod Figures

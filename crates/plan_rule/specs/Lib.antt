@@ -6,4 +6,5 @@ pub mod Promise
 pub mod DropPromise
 pub mod Stages
 pub mod Answer
+pub mod Figures
 pub mod Laws

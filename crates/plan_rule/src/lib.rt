@@ -21,3 +21,17 @@ pub enum Dropped {
     Finished { terminals: u64, cost: u64 },
     Refused { number: u64, place: usize },
 }
+
+// What planning without moats answers: k, cost, bound and rounds; or a refusal's number and place.
+pub enum Figured {
+    Finished {
+        terminals: u64,
+        cost: u64,
+        bound: u64,
+        rounds: u64,
+    },
+    Refused {
+        number: u64,
+        place: usize,
+    },
+}

@@ -15,3 +15,5 @@ pub mod Accuracy
 pub mod Terminals
 pub mod Minima
 pub mod Required
+pub mod Closed
+pub mod Omitted

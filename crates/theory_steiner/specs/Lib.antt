@@ -4,5 +4,6 @@ pub mod Minima
 pub mod Dual
 pub mod Pruning
 pub mod Requirement
+pub mod Closed
 pub mod Rounds
 pub mod Laws

@@ -8,7 +8,7 @@ use native.Mathlib.Decide.{ℕ-discrete}
 use lib.Dec.{eqb, ltb}
 use borrow.Author.Tests.{eqb-true, eqb-false, eq-eqb, ne-eqb, not-false, ltb-true, lt-ltb}
 use Rattle.base_finite.specs.Laws.Test.{and-left, and-right, and-both, not-true-false, true-not-false}
-use Rattle.theory_graph.specs.Path.{without, crosses, Forest}
+use Rattle.theory_graph.specs.Path.{Linked, without, crosses, Forest}
 use Rattle.theory_graph.specs.Laws.Linked.{linked-mono, Crossing, cut-crossed, crosses-elim, without-mono}
 use Rattle.theory_graph.specs.Laws.Forest.{needed-joins}
 use Rattle.theory_steiner.specs.Problem.{Problem, Sound, EdgeSet, Joins, joined, separates, allUsable}
@@ -32,33 +32,49 @@ allUsable-all p F set e h = and-both (ltb e (p .edges)) (p .usable e) (lt-ltb e 
 
 -- ---- the end of growing
 
+-- A usable edge that leaves an active component is a candidate.
+pub active-left : (p : Problem) (s : State) (c : ℕ) → active p (s .label) c ≡ true → winner p s ≡ nobody → (e : ℕ) → e < p .edges → p .usable e ≡ true →
+    crosses (p .first) (p .second) (λ v. eqb (s .label v) c) e ≡ true → ⊥
+active-left p s c a still e b u x = by (crosses-elim (p .first) (p .second) (λ v. eqb (s .label v) c) e x)
+  where
+    by : ((eqb (s .label (p .first e)) c ≡ true) × (eqb (s .label (p .second e)) c ≡ false))
+        ⊎ ((eqb (s .label (p .first e)) c ≡ false) × (eqb (s .label (p .second e)) c ≡ true)) → ⊥
+    by (inl k) =
+        let f : s .label (p .first e) ≡ c = eqb-true (s .label (p .first e)) c (k .0) in
+        let rest = delay-never p s e (winner-none p s still e b) u (λ same. eqb-false (s .label (p .second e)) c (k .1) (sym same ∙ f)) in
+        true-not-false (active p (s .label) (s .label (p .first e))) (ap (active p (s .label)) f ∙ a) (rest .0)
+    by (inr k) =
+        let f : s .label (p .second e) ≡ c = eqb-true (s .label (p .second e)) c (k .1) in
+        let rest = delay-never p s e (winner-none p s still e b) u (λ same. eqb-false (s .label (p .first e)) c (k .0) (same ∙ f)) in
+        true-not-false (active p (s .label) (s .label (p .second e))) (ap (active p (s .label)) f ∙ a) (rest .1)
+
+-- So, where nothing is left to pick, a path of usable edges from an active component stays in it.
+pub active-closed : (p : Problem) (s : State) (c : ℕ) → active p (s .label) c ≡ true → winner p s ≡ nobody →
+    {u v : ℕ} → Linked (p .first) (p .second) (allUsable p) u v → s .label u ≡ c → s .label v ≡ c
+active-closed p s c a still {u} {v} l h = by (ℕ-discrete (s .label v) c)
+  where
+    by : Dec (s .label v ≡ c) → s .label v ≡ c
+    by (yes same) = same
+    by (no apart) =
+        let x : Crossing (p .first) (p .second) (allUsable p) (λ v. eqb (s .label v) c) =
+        cut-crossed (λ v. eqb (s .label v) c) l (eq-eqb (s .label u) c h) (ne-eqb (s .label v) c apart) in
+        absurd
+        (active-left p s c a still (x .edge) (allUsable-edges p (x .edge) (x .member) .0) (allUsable-edges p (x .edge) (x .member) .1) (x .crossing))
+
 -- An active component is left by a candidate.
 pub active-not-still : (p : Problem) → Joins p (allUsable p) → (s : State) (c : ℕ) → active p (s .label) c ≡ true → winner p s ≡ nobody → ⊥
 unfolding active
 active-not-still p joins s c a still =
     let split : Split p (λ v. eqb (s .label v) c) = separates-elim p (λ v. eqb (s .label v) c) a in
-    let x : Crossing (p .first) (p .second) (allUsable p) (λ v. eqb (s .label v) c) =
-    cut-crossed (λ v. eqb (s .label v) c) (joins (split .u) (split .v) (split .u-below) (split .v-below) (split .required)) (split .inside) (split .outside) in
-    by (x .edge) (allUsable-edges p (x .edge) (x .member) .0) (allUsable-edges p (x .edge) (x .member) .1)
-    (crosses-elim (p .first) (p .second) (λ v. eqb (s .label v) c) (x .edge) (x .crossing))
-  where
-    by : (e : ℕ) → e < p .edges → p .usable e ≡ true →
-        ((eqb (s .label (p .first e)) c ≡ true) × (eqb (s .label (p .second e)) c ≡ false))
-        ⊎ ((eqb (s .label (p .first e)) c ≡ false) × (eqb (s .label (p .second e)) c ≡ true)) → ⊥
-    by e b u (inl k) =
-        let f : s .label (p .first e) ≡ c = eqb-true (s .label (p .first e)) c (k .0) in
-        let rest = delay-never p s e (winner-none p s still e b) u (λ same. eqb-false (s .label (p .second e)) c (k .1) (sym same ∙ f)) in
-        true-not-false (active p (s .label) (s .label (p .first e))) (ap (active p (s .label)) f ∙ a) (rest .0)
-    by e b u (inr k) =
-        let f : s .label (p .second e) ≡ c = eqb-true (s .label (p .second e)) c (k .1) in
-        let rest = delay-never p s e (winner-none p s still e b) u (λ same. eqb-false (s .label (p .first e)) c (k .0) (same ∙ f)) in
-        true-not-false (active p (s .label) (s .label (p .second e))) (ap (active p (s .label)) f ∙ a) (rest .1)
+    eqb-false (s .label (split .v)) c (split .outside)
+    (active-closed p s c a still (joins (split .u) (split .v) (split .u-below) (split .v-below) (split .required))
+    (eqb-true (s .label (split .u)) c (split .inside)))
 
--- Where nothing is active, a required pair has one label.
-pub resting-joined : (p : Problem) (label : ℕ → ℕ) → ((c : ℕ) → active p label c ≡ false) → (u v : ℕ) → u < p .vertices → v < p .vertices →
-    p .required u v ≡ true → label u ≡ label v
+-- A required pair whose first vertex is in no active component has one label.
+pub resting-pair : (p : Problem) (label : ℕ → ℕ) (u v : ℕ) → u < p .vertices → v < p .vertices → p .required u v ≡ true →
+    active p label (label u) ≡ false → label u ≡ label v
 unfolding active
-resting-joined p label rest u v bu bv r = by (ℕ-discrete (label u) (label v))
+resting-pair p label u v bu bv r rest = by (ℕ-discrete (label u) (label v))
   where
     by : Dec (label u ≡ label v) → label u ≡ label v
     by (yes same) = same
@@ -75,7 +91,12 @@ resting-joined p label rest u v bu bv r = by (ℕ-discrete (label u) (label v))
           inside = eq-eqb (label u) (label u) refl;
           outside = ne-eqb (label v) (label u) (λ k. apart (sym k));
         }))
-        (rest (label u)))
+        rest)
+
+-- Where nothing is active, every required pair has.
+pub resting-joined : (p : Problem) (label : ℕ → ℕ) → ((c : ℕ) → active p label c ≡ false) → (u v : ℕ) → u < p .vertices → v < p .vertices →
+    p .required u v ≡ true → label u ≡ label v
+resting-joined p label rest u v bu bv r = resting-pair p label u v bu bv r (rest (label u))
 
 -- The ends of a picked edge are in one component at the end.
 pub grown-ends : (p : Problem) (ok : Sound p) (e : ℕ) → picked p e ≡ true → grown p .label (p .first e) ≡ grown p .label (p .second e)

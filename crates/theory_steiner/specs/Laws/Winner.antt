@@ -21,7 +21,7 @@ pub data Waits (x y : Bool) (r d : ℕ) : Type 0 where
 after-same : (c d : ℕ) → after c ≡ after d → d ≡ c
 after-same c d h = cc
 
-never-after : {A : Type 0} (d : ℕ) → never ≡ after d → A
+pub never-after : {A : Type 0} (d : ℕ) → never ≡ after d → A
 never-after d h = absurd (let z : _≡_ {A = ℕ} 0 1 = cc in omega arith)
 
 waits-of : (x y : Bool) (r d : ℕ) → delayOf x y r ≡ after d → Waits x y r d
