@@ -2,7 +2,7 @@
 ghost use mathlib.Core.Path.{_≡_};
 ghost use Prim.Native.Nat.{_*_, _≤_};
 ghost use Rattle.base_limits.specs.Verdict.{refusal, answer};
-ghost use Rattle.plan_rule.specs.Answer.{plannedOutcome};
+ghost use Rattle.plan_rule.specs.Figures.{figuredOutcome};
 ghost use Rattle.season_rule.specs.Figures.{figuresOf, costOf};
 ghost use Rattle.season_rule.specs.Report.{emptyReport, seasonRefusal, added, mostCost};
 ghost use Rattle.season_rule.specs.Report.{farther as fartherOf};
@@ -11,7 +11,7 @@ use base_buffer::at64;
 use base_buffer::put64;
 use base_limits::Verdict;
 use base_wide::above;
-use plan_rule::Planned;
+use plan_rule::Figured;
 use season_rule::Added;
 use season_rule::Farthest;
 use season_rule::MAX_SURVEYS;
@@ -208,21 +208,20 @@ pub fn add_refusal(report: Report, number: u64, place: usize) -> Added
     }
 }
 
-// A survey of which planning answered so.
-pub fn add_planned(report: Report, planned: Planned) -> Added
-    ensures { λ r. ⌜ r .verdict ≡ seasonRefusal report (figuresOf (plannedOutcome planned)) ⌝ }
+// A survey with these figures, or this refusal.
+pub fn add_figured(report: Report, figured: Figured) -> Added
+    ensures { λ r. ⌜ r .verdict ≡ seasonRefusal report (figuresOf (figuredOutcome figured)) ⌝ }
     ensures { λ r.
-        let o = figuresOf (plannedOutcome planned) in
+        let o = figuresOf (figuredOutcome figured) in
         ⌜ (costOf o ≤ mostCost → r .report ≡ added report o) ⌝ }
 {
-    match planned {
-        Planned::Finished {
+    match figured {
+        Figured::Finished {
             terminals: _,
             cost,
             bound,
             rounds: _,
-            duals: _,
         } => add_plan(report, cost, bound),
-        Planned::Refused { number, place } => add_refusal(report, number, place),
+        Figured::Refused { number, place } => add_refusal(report, number, place),
     }
 }

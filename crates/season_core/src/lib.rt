@@ -1,16 +1,19 @@
-// Adds a survey to a season's report: plans it in buffers of its own. Definitions in season_rule.
+// Adds a survey to a season's report: plans it, without moats, in a buffer of its own for the marks. Definitions in
+// season_rule.
 ghost use mathlib.Core.Path.{_≡_};
 ghost use Rattle.survey_core.specs.Survey.{lentWith};
 ghost use Rattle.season_rule.specs.Figures.{figures};
 ghost use Rattle.season_rule.specs.Report.{seasonRefusal, addSurvey};
-use crate::add::add_planned;
+use crate::add::add_figured;
 use base_limits::MAX_EDGES;
-use base_limits::RECORDS_ROOM;
 use season_rule::Added;
 use season_rule::Report;
 
 mod add;
 mod print;
+
+pub use add::empty_report;
+pub use print::print_report;
 
 // The report with this survey added, planned or refused; or 3, and the report as it was, for a 1,001st survey and where
 // a count or a total would pass 64 bits.
@@ -31,8 +34,7 @@ pub fn add_survey(
         ⌜ r .report ≡ addSurvey report s ⌝ }
 {
     let mut marks = [0u8; MAX_EDGES];
-    let mut records = [0u8; RECORDS_ROOM];
-    let planned = plan_core::plan(
+    let figured = plan_core::figures::figures(
         groups,
         firsts,
         seconds,
@@ -40,7 +42,6 @@ pub fn add_survey(
         owners,
         others,
         &mut marks,
-        &mut records,
     );
-    add_planned(report, planned)
+    add_figured(report, figured)
 }

@@ -1,31 +1,29 @@
--- What the season takes of a survey (document 02, No. 11): planning's cost and bound, or its refusal. Planning has buffers of its own, so 7 does not come
--- (law `figures-planning`).
+-- What the season takes of a survey (document 02, No. 11): the cost and bound of planning's figures, or its refusal. Planning has buffers of its own, so 7 does not
+-- come (law `figures-planning`).
 use Prim.Native.Nat.{ℕ}
 use mathlib.Core.Bool.{Bool, true, false}
 use lib.Dec.{eqb}
-use Rattle.base_limits.specs.Verdict.{_before_, Outcome, refusal, answer, outcome}
-use Rattle.base_limits.specs.declared.Verdict.{Verdict}
-use Rattle.theory_steiner.specs.Problem.{allUsable}
-use Rattle.survey_core.specs.Survey.{Survey, problemOf}
-use Rattle.survey_core.specs.Refusal.{surveyRefusal, groupRefusal}
-use Rattle.plan_rule.specs.Plan.{planOf, PlanCounts}
+use Rattle.base_limits.specs.Verdict.{Outcome, refusal, answer}
+use Rattle.survey_core.specs.Survey.{Survey}
+use Rattle.plan_rule.specs.Plan.{PlanCounts}
+use Rattle.plan_rule.specs.Figures.{FigureCounts, figuring}
 
 -- The bound is in half units, as in document 01.
 pub record Figures : Type 0 where
   pub cost : ℕ
   pub bound : ℕ
 
--- 1, 2, 3, then 4, 5, 6 by track, then 18 by pair, then 8.
-unfoldable pub figuresRefusal : Survey → Verdict
-figuresRefusal s = surveyRefusal s before groupRefusal s 8 (allUsable (problemOf s))
-
-unfoldable pub figures : Survey → Outcome Figures
-figures s = outcome (figuresRefusal s) (record { cost = planOf (problemOf s) .cost; bound = planOf (problemOf s) .bound })
-
--- The figures among the counts that planning answers.
-unfoldable pub figuresOf : Outcome PlanCounts → Outcome Figures
+-- The two numbers among planning's figures, and among the counts that planning answers.
+unfoldable pub figuresOf : Outcome FigureCounts → Outcome Figures
 figuresOf (refusal number place) = refusal number place
 figuresOf (answer c) = answer (record { cost = c .cost; bound = c .bound })
+
+unfoldable pub countsFigures : Outcome PlanCounts → Outcome Figures
+countsFigures (refusal number place) = refusal number place
+countsFigures (answer c) = answer (record { cost = c .cost; bound = c .bound })
+
+unfoldable pub figures : Survey → Outcome Figures
+figures s = figuresOf (figuring s)
 
 -- ---- one survey in sums and counts
 

@@ -22,9 +22,10 @@ use Rattle.survey_core.specs.Sound.{SurveySound}
 use Rattle.survey_core.specs.Refusal.{surveyRefusal, groupRefusal}
 use Rattle.survey_core.specs.Laws.Refusal.{fine-survey, survey-sound}
 use Rattle.plan_rule.specs.Plan.{Plan, planOf, planRefusal, planCountsOf, counting}
+use Rattle.plan_rule.specs.Figures.{figuresRefusal, figureCountsOf, figuring}
 use Rattle.plan_rule.specs.Laws.Number.{before-cases, survey-never}
 use Rattle.plan_rule.specs.Laws.Ready.{buffers-fit}
-use Rattle.season_rule.specs.Figures.{Figures, figuresRefusal, figures, figuresOf, costOf, boundOf}
+use Rattle.season_rule.specs.Figures.{Figures, figures, figuresOf, countsFigures, costOf, boundOf}
 use Rattle.season_rule.specs.Report.{refusalNumbers, mostCost, mostBound}
 
 -- ---- planning's own outcome
@@ -45,18 +46,31 @@ own-buffers s marksLength recordsLength marks records = by (surveyRefusal s) ref
         ∙ before-fine (buffers-fit (length (s .groups)) (length (s .firsts)) marksLength recordsLength (omega arith) (omega arith)) _
         ∙ sym (before-fine h _)
 
-figures-of : (v : Verdict) (p : Plan) → outcome v (record { cost = p .cost; bound = p .bound }) ≡ figuresOf (outcome v (planCountsOf p))
-unfolding outcome figuresOf planCountsOf
-figures-of Fine p = refl
-figures-of (Refused number place) p = refl
+abbrev planFigures : Plan → Figures
+planFigures p = record { cost = p .cost; bound = p .bound }
+
+-- By planning's refusal and its plan.
+figures-by : (s : Survey) → figures s ≡ outcome (figuresRefusal s) (planFigures (planOf (problemOf s)))
+unfolding figures figuring outcome figuresOf figureCountsOf
+figures-by s = of (figuresRefusal s) (planOf (problemOf s))
+  where
+    of : (v : Verdict) (p : Plan) → figuresOf (outcome v (figureCountsOf p)) ≡ outcome v (planFigures p)
+    of Fine p = refl
+    of (Refused number place) p = refl
+
+counts-figures : (v : Verdict) (p : Plan) → outcome v (planFigures p) ≡ countsFigures (outcome v (planCountsOf p))
+unfolding outcome countsFigures planCountsOf
+counts-figures Fine p = refl
+counts-figures (Refused number place) p = refl
 
 -- The figures are among the counts of every call of planning with such buffers.
 pub figures-planning : (s : Survey) (marksLength recordsLength : ℕ) → maxEdges ≤ marksLength → recordsRoom ≤ recordsLength
-    → figures s ≡ figuresOf (counting s marksLength recordsLength)
-unfolding figures counting
+    → figures s ≡ countsFigures (counting s marksLength recordsLength)
+unfolding counting
 figures-planning s marksLength recordsLength marks records =
-    figures-of (figuresRefusal s) (planOf (problemOf s))
-    ∙ ap (λ v. figuresOf (outcome v (planCountsOf (planOf (problemOf s))))) (sym (own-buffers s marksLength recordsLength marks records))
+    figures-by s
+    ∙ counts-figures (figuresRefusal s) (planOf (problemOf s))
+    ∙ ap (λ v. countsFigures (outcome v (planCountsOf (planOf (problemOf s))))) (sym (own-buffers s marksLength recordsLength marks records))
 
 -- ---- the numbers of refusals
 
@@ -67,9 +81,10 @@ pub data Met : ℕ → Type 0 where
   pairs : Met 18
 
 pub met : (s : Survey) {number place : ℕ} → figures s ≡ refusal number place → Met number
-unfolding figures figuresRefusal groupRefusal
+unfolding figuresRefusal groupRefusal
 met s {number} {place} h =
-    ⊎-elim of-survey (λ k. of-groups (k .1)) (before-cases (surveyRefusal s) (groupRefusal s 8 (allUsable (problemOf s))) (refusal-found (figuresRefusal s) _ h))
+    ⊎-elim of-survey (λ k. of-groups (k .1))
+    (before-cases (surveyRefusal s) (groupRefusal s 8 (allUsable (problemOf s))) (refusal-found (figuresRefusal s) _ (sym (figures-by s) ∙ h)))
   where
     of-survey : surveyRefusal s ≡ Refused number place → Met number
     of-survey k = by (lt-or-ge 6 number) (ℕ-discrete number 18)
@@ -121,10 +136,10 @@ module _ (s : Survey) (ok : SurveySound s) where
 
 -- Every survey's outcome.
 pub limited : (s : Survey) → Limited (figures s)
-unfolding figures figuresRefusal outcome costOf boundOf
-limited s = by (figuresRefusal s) refl
+unfolding figuresRefusal outcome costOf boundOf
+limited s = rw (figures-by s) (by (figuresRefusal s) refl)
   where
-    by : (v : Verdict) → figuresRefusal s ≡ v → Limited (outcome v (record { cost = planOf (problemOf s) .cost; bound = planOf (problemOf s) .bound }))
+    by : (v : Verdict) → figuresRefusal s ≡ v → Limited (outcome v (planFigures (planOf (problemOf s))))
     by Fine h =
         let ok : SurveySound s = fine-survey s (fine-left _ _ h) in
         record {
@@ -136,6 +151,5 @@ limited s = by (figuresRefusal s) refl
         record {
           cost-small = omega arith;
           bound-small = omega arith;
-          number-small = λ n p e.
-              met-below (met s (ap (λ v. outcome v (record { cost = planOf (problemOf s) .cost; bound = planOf (problemOf s) .bound })) h ∙ e));
+          number-small = λ n p e. met-below (met s (figures-by s ∙ ap (λ v. outcome v (planFigures (planOf (problemOf s)))) h ∙ e));
         }

@@ -1,4 +1,4 @@
--- `plan_core::refusal` meets its contract: by the surveys, then by each sum.
+-- `plan_refusal` meets its contract: by the surveys, then by each sum.
 use native.Mathlib.Omega.{arith}
 use Prim.Native.Nat.{_+_}
 use borrow.Author.Needs.{needs}
