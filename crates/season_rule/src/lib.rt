@@ -8,6 +8,9 @@ pub const MAX_SURVEYS: u64 = 1000;
 // Numbers of planning's refusals lie below this.
 pub const REFUSAL_NUMBERS: usize = 19;
 
+// Bytes that hold every report's text.
+pub const REPORT_ROOM: usize = 747;
+
 // The plan with the largest ratio of twice its cost to its bound: its position, the first survey being 0, and both
 // numbers; or that no plan has a bound above 0.
 pub enum Farthest {
