@@ -12,6 +12,7 @@ use crate::calls::{Figures, Library, PLAN_COUNTS};
 use crate::handset::{Crossing, Handset};
 use crate::plan::Counts;
 use crate::read::Lent;
+use crate::season::Season;
 use crate::stp;
 use crate::verifying::Verify;
 use crate::{Refusal, View};
@@ -60,6 +61,10 @@ pub const HANDSET: Handset = Handset {
     plan: |crossing, marks, records, result| call::handset_plan(bytes(crossing), marks, records, result),
     check: |crossing, marks, records, result| call::handset_check(bytes(crossing), marks, records, result),
 };
+
+/// Its calls for the season.
+pub const SEASON: Season =
+    Season { add: |report, survey| call::season_add(report, slices(survey)), print: call::season_print };
 
 /// Its check of a printed plan behind its survey.
 pub const VERIFY: Verify = call::verify;

@@ -7,6 +7,7 @@ mod checking;
 mod document;
 mod handset;
 mod reading;
+mod season;
 mod stages;
 mod stored;
 mod stp;

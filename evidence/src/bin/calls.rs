@@ -8,18 +8,24 @@
 use evidence::calls::document;
 use evidence::calls::generated::OPERATIONS;
 use evidence::handset;
+use evidence::season;
 use std::collections::BTreeMap;
 use std::process::ExitCode;
 
 #[cfg(feature = "native")]
-use evidence::native::{HANDSET, LIBRARY};
+use evidence::native::{HANDSET, LIBRARY, SEASON};
 #[cfg(not(feature = "native"))]
 const LIBRARY: evidence::calls::Library = evidence::calls::SECOND;
 #[cfg(not(feature = "native"))]
 const HANDSET: handset::Handset = handset::SECOND;
+#[cfg(not(feature = "native"))]
+const SEASON: season::Season = season::SECOND;
+
+/// Whole seasons of 1,003 calls each.
+const SEASONS: u64 = 10;
 
 /// The calls of which so many cases are compared; the check of printed plans is of the library alone.
-const COMPARED: u64 = (OPERATIONS.len() + handset::CALLS.len()) as u64 + cfg!(feature = "native") as u64;
+const COMPARED: u64 = (OPERATIONS.len() + handset::CALLS.len() + season::CALLS.len()) as u64 + cfg!(feature = "native") as u64;
 
 /// Holds a call of so many cases against the second implementation, and says how often each refusal came.
 fn run(name: &str, count: u64, seed: u64, compare: impl Fn(u64) -> Result<u64, String>) -> Result<(), String> {
@@ -41,6 +47,10 @@ fn compare(count: u64, seed: u64) -> Result<(), String> {
     for (name, checks) in handset::CALLS {
         run(name, count, seed, |case| handset::compare(&HANDSET, seed, case, checks))?;
     }
+    for (name, prints) in season::CALLS {
+        run(name, count, seed, |case| season::compare(&SEASON, seed, case, prints))?;
+    }
+    run("seasons of 1,000 surveys", SEASONS, seed, |case| season::compare_whole(&SEASON, seed, case))?;
     #[cfg(feature = "native")]
     run("verify", count, seed, |case| evidence::verifying::compare(evidence::native::VERIFY, seed, case))?;
     Ok(())
