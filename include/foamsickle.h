@@ -73,6 +73,10 @@ extern "C" {
 #define FOAMSICKLE_MAX_CLOSED 256
 #define FOAMSICKLE_ROW_FIGURES 4
 
+/* Bytes of a season's report, and bytes that hold the text of every one. */
+#define FOAMSICKLE_REPORT_BYTES 208
+#define FOAMSICKLE_REPORT_ROOM 747
+
 /* Bytes of the handset's `result`: planning, checking. */
 #define FOAMSICKLE_PLAN_BYTES (8 * FOAMSICKLE_PLAN_FIGURES)
 #define FOAMSICKLE_CHECK_BYTES (8 * FOAMSICKLE_CHECK_FIGURES)
@@ -289,6 +293,33 @@ uint64_t foamsickle_unpack_table(
  * Needed: FOAMSICKLE_CHECK_FIGURES counts. */
 uint64_t foamsickle_verify(
     const uint8_t *text, size_t text_length,
+    uint64_t *counts, size_t counts_length);
+
+/* Adds a survey to a season's report: plans it and counts it, planned or refused. The report is FOAMSICKLE_REPORT_BYTES
+ * bytes, all 0 before the first survey; any bytes are a report. Its numbers have eight bytes each, lowest first: surveys,
+ * planned ones, their cost, their bound; how many were refused under each number, from 0 to 18; and of the plan with the
+ * largest ratio of twice the cost to the bound, the earliest among equals: its position, the first survey being 0, twice
+ * its cost and its bound, all 0 for none.
+ * Writes the report. A refusal of the survey itself is counted in it, and is no refusal of the call.
+ * Refuses 7 (report too short), then 3 (it has 1,000 surveys, or a count or a total would pass 64 bits, which from a report
+ * of 0 bytes never occurs). */
+uint64_t foamsickle_season_add(
+    uint8_t *report, size_t report_length,
+    const uint8_t *groups, size_t groups_length,
+    const uint32_t *firsts, size_t firsts_length,
+    const uint32_t *seconds, size_t seconds_length,
+    const uint32_t *weights, size_t weights_length,
+    const uint32_t *owners, size_t owners_length,
+    const uint8_t *others, size_t others_length);
+
+/* Prints a season's report: lines planned=, cost=, bound=, refused=number,count for each number met, and
+ * far=position,twice cost,bound or far=none.
+ * Writes the text into out; counts[0] its length.
+ * Refuses 7 (report too short, the text does not fit out, or counts is empty).
+ * Enough for every report: FOAMSICKLE_REPORT_ROOM bytes. */
+uint64_t foamsickle_season_print(
+    const uint8_t *report, size_t report_length,
+    uint8_t *out, size_t out_length,
     uint64_t *counts, size_t counts_length);
 
 /* foamsickle_plan for callers with bytes alone: firsts, seconds, weights and owners have four bytes for each number,

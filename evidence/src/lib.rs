@@ -1,7 +1,7 @@
 //! Track planning by moats, a second time: every operation of document 01 ("01" below), with requests of document 02
 //! ("No. 2": groups as lists that may overlap; "No. 6": prices for bridge decks; "No. 7": growing and dropping on their
-//! own; "No. 8": larger districts), written from those papers alone, in their words and their order. The product is
-//! held against what stands here.
+//! own; "No. 8": larger districts; "No. 11": the season), written from those papers alone, in their words and their order.
+//! The product is held against what stands here.
 //!
 //! | module  | what it answers |
 //! |---------|-----------------|
@@ -15,6 +15,7 @@
 //! | `print` | a moat line, a printed plan, a refusal, and the whole program's answer |
 //! | `brute` | the cheapest joining set of a tiny survey |
 //! | `exact` | a cheapest route and a cheapest set that joins all junctions (No. 14) |
+//! | `season` | the season's report, adding a survey to it and printing it (No. 11) |
 //! | `handset` | planning and checking over bytes alone, and their generated cases |
 //! | `gen`   | seeded surveys, texts and plans, sound and damaged |
 //! | `printed` | a printed plan behind its survey's text: reading it back and checking it |
@@ -35,6 +36,7 @@ pub mod plan;
 pub mod print;
 pub mod printed;
 pub mod read;
+pub mod season;
 pub mod stages;
 pub mod stp;
 pub mod table;

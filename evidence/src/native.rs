@@ -13,6 +13,7 @@ use crate::calls::{Figures, Library, PLAN_COUNTS};
 use crate::handset::{Crossing, Handset};
 use crate::plan::Counts;
 use crate::read::Lent;
+use crate::season::Season;
 use crate::stp;
 use crate::table::Tables;
 use crate::verifying::Verify;
@@ -66,6 +67,10 @@ pub const HANDSET: Handset = Handset {
 
 /// Its track tables for the memory card.
 pub const TABLES: Tables = Tables { pack: call::pack_table, unpack: call::unpack_table };
+
+/// Its calls for the season.
+pub const SEASON: Season =
+    Season { add: |report, survey| call::season_add(report, slices(survey)), print: call::season_print };
 
 /// Its check of a printed plan behind its survey.
 pub const VERIFY: Verify = call::verify;

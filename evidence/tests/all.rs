@@ -10,6 +10,7 @@ mod exact;
 mod full;
 mod handset;
 mod reading;
+mod season;
 mod stages;
 mod stored;
 mod stp;

@@ -11,4 +11,5 @@ mod result_check;
 mod words;
 
 pub use check::handset_check;
+pub use counts::write_counts;
 pub use plan::handset_plan;

@@ -25,6 +25,7 @@ ghost use Rattle.api_print.specs.Call.{dualCall, dualOut, dualCounts};
 ghost use Rattle.api_print.specs.Call.{textCall, textOut, textCounts, surveyCall, surveyOut, surveyCounts};
 ghost use Rattle.api_check.specs.VerifyCall.{verifyCall};
 ghost use Rattle.format_table.specs.Table.{tableRefusal, packedOut, unpackedOut};
+ghost use Rattle.api_season.specs.Call.{seasonCall, seasonBytes, printCall, printOut, printCounts};
 ghost use Rattle.api_handset.specs.Slices.{lentSlices};
 ghost use Rattle.api_handset.specs.Call.{handsetPlan, handsetMarks, handsetRecords, handsetPlanResult};
 ghost use Rattle.api_handset.specs.Call.{handsetCheck, handsetCheckResult};
@@ -431,6 +432,37 @@ pub extern "C" fn foamsickle_verify(text: &[u8], counts: &mut [u64]) -> u64
     ensures counts { λ _. ⌜ new counts ≡ countsFor (verifyCall (old text) (old counts)) checkFiguresOf (old counts) ⌝ }
 {
     api_check::verify_call(text, counts)
+}
+
+// Adds a survey to a season's report, planned or refused; all bytes 0 are the first report.
+#[no_mangle]
+pub extern "C" fn foamsickle_season_add(
+    report: &mut [u8],
+    groups: &[u8],
+    firsts: &[u32],
+    seconds: &[u32],
+    weights: &[u32],
+    owners: &[u32],
+    others: &[u8],
+) -> u64
+    ensures code { λ r.
+        let s = lentWith groups firsts seconds weights owners others in
+        ⌜ r ≡ codeOf (seasonCall (old report) s) ⌝ }
+    ensures report { λ _.
+        let s = lentWith groups firsts seconds weights owners others in
+        ⌜ new report ≡ seasonBytes (old report) s ⌝ }
+{
+    api_season::season_call(report, groups, firsts, seconds, weights, owners, others)
+}
+
+// Prints a season's report. `counts` gets the text's length.
+#[no_mangle]
+pub extern "C" fn foamsickle_season_print(report: &[u8], out: &mut [u8], counts: &mut [u64]) -> u64
+    ensures code { λ r. ⌜ r ≡ codeOf (printCall (old report) (old out) (old counts)) ⌝ }
+    ensures out { λ _. ⌜ new out ≡ printOut (old report) (old out) (old counts) ⌝ }
+    ensures counts { λ _. ⌜ new counts ≡ printCounts (old report) (old out) (old counts) ⌝ }
+{
+    api_season::print_season_call(report, out, counts)
 }
 
 // Plans a survey. `result` gets k, cost, bound, rounds and the number of moats.

@@ -7,12 +7,12 @@
 
 use evidence::calls::document;
 use evidence::calls::generated::OPERATIONS;
-use evidence::{handset, table, verifying};
+use evidence::{handset, season, table, verifying};
 use std::collections::BTreeMap;
 use std::process::ExitCode;
 
 #[cfg(feature = "native")]
-use evidence::native::{HANDSET, LIBRARY, TABLES, VERIFY};
+use evidence::native::{HANDSET, LIBRARY, SEASON, TABLES, VERIFY};
 #[cfg(not(feature = "native"))]
 const LIBRARY: evidence::calls::Library = evidence::calls::SECOND;
 #[cfg(not(feature = "native"))]
@@ -21,10 +21,16 @@ const HANDSET: handset::Handset = handset::SECOND;
 const VERIFY: verifying::Verify = verifying::second;
 #[cfg(not(feature = "native"))]
 const TABLES: table::Tables = table::SECOND;
+#[cfg(not(feature = "native"))]
+const SEASON: season::Season = season::SECOND;
 
-/// The calls of which so many cases are compared: the operations, those of the handset and of tables, the check of
-/// printed plans.
-const COMPARED: u64 = (OPERATIONS.len() + handset::CALLS.len() + table::CALLS.len() + 1) as u64;
+/// Whole seasons of 1,003 calls each.
+const SEASONS: u64 = 10;
+
+/// The calls of which so many cases are compared: the operations, those of the handset, of tables and of the season, the
+/// check of printed plans.
+const COMPARED: u64 =
+    (OPERATIONS.len() + handset::CALLS.len() + table::CALLS.len() + season::CALLS.len() + 1) as u64;
 
 /// Holds a call of so many cases against the second implementation, and says how often each refusal came.
 fn run(name: &str, count: u64, seed: u64, compare: impl Fn(u64) -> Result<u64, String>) -> Result<(), String> {
@@ -49,6 +55,10 @@ fn compare(count: u64, seed: u64) -> Result<(), String> {
     for (name, unpacks) in table::CALLS {
         run(name, count, seed, |case| table::compare(&TABLES, seed, case, unpacks))?;
     }
+    for (name, prints) in season::CALLS {
+        run(name, count, seed, |case| season::compare(&SEASON, seed, case, prints))?;
+    }
+    run("seasons of 1,000 surveys", SEASONS, seed, |case| season::compare_whole(&SEASON, seed, case))?;
     run("verify", count, seed, |case| verifying::compare(VERIFY, seed, case))
 }
 

@@ -117,6 +117,11 @@ mod flat {
         pack_table = foamsickle_pack_table(table: in u8, out: out u8);
         unpack_table = foamsickle_unpack_table(table: in u8, out: out u8);
         verify = foamsickle_verify(text: in u8, counts: out u64);
+        season_add = foamsickle_season_add(
+            report: out u8, groups: in u8, firsts: in u32, seconds: in u32, weights: in u32, owners: in u32,
+            others: in u8,
+        );
+        season_print = foamsickle_season_print(report: in u8, out: out u8, counts: out u64);
         handset_plan = foamsickle_handset_plan(
             groups: in u8, firsts: in u8, seconds: in u8, weights: in u8, owners: in u8, others: in u8, marks: out u8,
             records: out u8, result: out u8,
@@ -129,7 +134,7 @@ mod flat {
 }
 
 /// `counts` of `read_stp` takes n and m; what the others do include/foamsickle.h says.
-pub use flat::{pack_table, print_dual, print_plan, read_stp, unpack_table, verify};
+pub use flat::{pack_table, print_dual, print_plan, read_stp, season_print, unpack_table, verify};
 
 /// `counts` takes n, m and the number of pairs.
 pub fn read(text: &[u8], b: Buffers, counts: &mut [u64]) -> u64 {
@@ -169,6 +174,11 @@ pub fn check(s: Slices, marks: &[u8], records: &[u8], counts: &mut [u64]) -> u64
 /// `counts` takes the text's length.
 pub fn print_survey(s: Slices, out: &mut [u8], counts: &mut [u64]) -> u64 {
     flat::print_survey(s.groups, s.firsts, s.seconds, s.weights, s.owners, s.others, out, counts)
+}
+
+/// `report` is read and written.
+pub fn season_add(report: &mut [u8], s: Slices) -> u64 {
+    flat::season_add(report, s.groups, s.firsts, s.seconds, s.weights, s.owners, s.others)
 }
 
 /// `result` takes sites, cost, bound, rounds and moats, eight bytes each.

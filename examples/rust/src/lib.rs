@@ -23,6 +23,8 @@ pub const MAX_PAIRS: usize = 256;
 pub const RECORD_BYTES: usize = 64;
 pub const DUAL_ROOM: usize = 2_048;
 pub const MAX_CLOSED: usize = 256;
+pub const REPORT_BYTES: usize = 208;
+pub const REPORT_ROOM: usize = 747;
 
 /// Entries of the counts of each operation.
 pub const READ_FIGURES: usize = 3;
@@ -372,6 +374,28 @@ pub fn unpack_table(table: &[u8]) -> Result<Vec<u8>, Refusal> {
     Ok(out)
 }
 
+/// The report over a season's surveys.
+#[derive(Clone, Debug, PartialEq, Eq)]
+pub struct Season([u8; REPORT_BYTES]);
+
+impl Default for Season {
+    fn default() -> Season {
+        Season([0; REPORT_BYTES])
+    }
+}
+
+impl Season {
+    /// Plans a survey and counts it, planned or refused; refuses the 1,001st.
+    pub fn add(&mut self, survey: &Survey) -> Result<(), Refusal> {
+        answered(call::season_add(&mut self.0, survey.slices()))
+    }
+
+    /// The report's text.
+    pub fn print(&self) -> Result<Vec<u8>, Refusal> {
+        printed(REPORT_ROOM, |out, counts| call::season_print(&self.0, out, counts))
+    }
+}
+
 /// Checks a plan's text against a survey's.
 pub fn verify(survey: &[u8], plan: &[u8]) -> Result<Found, Refusal> {
     let mut counts = [0; CHECK_FIGURES];
@@ -496,6 +520,14 @@ mod tests {
             assert_eq!(drop_unneeded(&survey, &mut marks), Ok((2, u64::from(dear))));
             assert_eq!(check(&survey, &marks, &grown.records), checked);
         }
+    }
+
+    #[test]
+    fn a_season_counts() {
+        let mut season = Season::default();
+        season.add(&Survey::new(&[1, 0, 1], &[0, 1], &[1, 2], &[3, 4]).unwrap()).unwrap();
+        season.add(&Survey::new(&[1, 1], &[], &[], &[]).unwrap()).unwrap();
+        assert_eq!(season.print().unwrap(), b"planned=1\ncost=7\nbound=14\nrefused=8,1\nfar=0,14,14\n");
     }
 
     #[test]

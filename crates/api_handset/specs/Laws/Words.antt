@@ -91,13 +91,13 @@ words-part bytes n N {table} fits h =
 -- ---- counts
 
 -- Stores of two runs, one behind the other.
-sets-append : (l : List ℕ) (i : ℕ) (xs ys : List ℕ) → sets l i (xs ++ ys) ≡ sets (sets l i xs) (i + length xs) ys
+pub sets-append : (l : List ℕ) (i : ℕ) (xs ys : List ℕ) → sets l i (xs ++ ys) ≡ sets (sets l i xs) (i + length xs) ys
 sets-append l i [] ys = let e : i + 0 ≡ i = omega arith in ap (λ k. sets l k ys) (sym e)
 sets-append l i (x ∷ xs) ys =
     let e : suc i + length xs ≡ i + suc (length xs) = omega arith in
     sets-append (set l i x) (suc i) xs ys ∙ ap (λ k. sets (sets (set l i x) (suc i) xs) k ys) e
 
-spelled-append : (xs ys : List ℕ) → spelledCounts (xs ++ ys) ≡ spelledCounts xs ++ spelledCounts ys
+pub spelled-append : (xs ys : List ℕ) → spelledCounts (xs ++ ys) ≡ spelledCounts xs ++ spelledCounts ys
 unfolding spelledCounts
 spelled-append [] ys = refl
 spelled-append (x ∷ xs) ys = ap (λ l. lowBytes figureBytes x ++ l) (spelled-append xs ys) ∙ sym (append-assoc (lowBytes figureBytes x) (spelledCounts xs) (spelledCounts ys))

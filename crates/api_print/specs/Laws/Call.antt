@@ -116,10 +116,10 @@ module _ (first : Verdict) (text out counts : List ℕ) {room : ℕ} (lent : roo
 some-last : (w : List ℕ) (b : ℕ) → 0 < length (w ++ (b ∷ []))
 some-last w b = let a = length-append w (b ∷ []) in omega arith
 
-some-left : (w x : List ℕ) → 0 < length w → 0 < length (w ++ x)
+pub some-left : (w x : List ℕ) → 0 < length w → 0 < length (w ++ x)
 some-left w x h = let a = length-append w x in omega arith
 
-some-line : (key : List ℕ) (x : ℕ) → 0 < length (lineOf key x)
+pub some-line : (key : List ℕ) (x : ℕ) → 0 < length (lineOf key x)
 unfolding lineOf
 some-line key x = some-last (key ++ decimal x) newline
 
@@ -163,7 +163,8 @@ dual-into part out counts lent e o k c = print-into (cut part) (dualLine part) o
 
 -- ---- a plan
 
-text-into : (text out counts : List ℕ) → 0 < length text → {room : ℕ} {r : Printed} {code : ℕ} {held counts′ : List ℕ} → room ≡ lentOn (length counts) printFigures (length out)
+-- Any text that is not empty.
+pub text-into : (text out counts : List ℕ) → 0 < length text → {room : ℕ} {r : Printed} {code : ℕ} {held counts′ : List ℕ} → room ≡ lentOn (length counts) printFigures (length out)
     → r ≡ printed text (take (room - 0) out) → held ≡ printedOut text (take (room - 0) out) → code ≡ capped (printedCode r) → counts′ ≡ printedCounts r counts
     → (code ≡ codeOf (textCall text out counts)) × ((held ++ drop (room - 0) out ≡ textOut text out counts) × (counts′ ≡ textCounts text out counts))
 unfolding textCall textOut textCounts printed printedOut _before_

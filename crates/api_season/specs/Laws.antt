@@ -1,0 +1,4 @@
+pub mod Bytes
+pub mod Call
+pub mod RoundTrip
+pub mod Season

@@ -1,0 +1,19 @@
+-- `put_pair`: the key, the two numbers with the comma between, the newline.
+use Prim.Native.Nat.{_≤_}
+use native.Mathlib.Omega.{arith}
+use lib.ListN.{length}
+use Rattle.format_write.specs.Wrote.{farthest}
+use Rattle.format_write.specs.Laws.Wrote.{wrote-then, wrote-as}
+use Rattle.season_core.specs.Laws.Lines.{pair-line}
+use borrow.Author.Needs.{needs}
+use Rattle.season_core.proofs.print.put_pair.Statement.{statement}
+use Rattle.season_core.proofs.print.put_pair.Tie as tie
+
+returns : tie.Need-returns
+returns c =
+    let a = c .before .before .before .before .before .before .before .before .before .before .before .before .before .before .before .before .before .before .before .before .before .before .args in
+    let small : length (a .out .now) ≤ farthest = omega arith in
+    wrote-as (wrote-then small (wrote-then small (wrote-then small (wrote-then small (c .before .before .before .before .before .before .before .before .before .before .before .before .before .before .before .before .before .before .put-bytes .ensures) (c .before .before .before .before .before .before .before .before .before .before .before .before .before .before .put-number .ensures)) (c .before .before .before .before .before .before .before .before .before .before .put .ensures)) (c .before .before .before .before .before .before .put-number2 .ensures)) (c .before .before .put2 .ensures)) (pair-line (a .key .now) (a .x) (a .y))
+
+pub put-pair-spec : {M : Type 1} → statement M
+put-pair-spec = tie.close (tie.spec (λ c κs. search needs) (λ c κs. search needs) (λ c κs. search needs) (λ c κs. search needs) (λ c κs. search needs) (λ c. search needs) returns)

@@ -1,0 +1,5 @@
+pub mod Room
+pub mod Farther
+pub mod Lines
+pub mod PrintRoom
+pub mod Survey

@@ -1,0 +1,4 @@
+pub mod Figures
+pub mod Report
+pub mod Season
+pub mod Text

@@ -1,0 +1,3 @@
+pub mod Added
+pub mod Front
+pub mod Print
