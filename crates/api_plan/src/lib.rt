@@ -5,13 +5,15 @@ ghost use Rattle.base_buffer.specs.Lent.{old, new};
 ghost use Rattle.survey_core.specs.Survey.{lentWith};
 ghost use Rattle.api_code.specs.Code.{codeOf};
 ghost use Rattle.api_plan.specs.Call.{planCall, planMarks, planRecords, planCounts};
+pub use drop::drop_call;
+pub use grow::grow_call;
 use plan_rule::Planned;
 
+mod closed;
 mod drop;
 mod grow;
 
-pub use drop::drop_call;
-pub use grow::grow_call;
+pub use closed::closed_call;
 
 // Entries of the counts.
 pub const PLAN_FIGURES: usize = 5;

@@ -293,7 +293,7 @@ pub extern "C" fn foamsickle_closed(
         let s = lentWith groups firsts seconds weights owners others in
         ⌜ new result ≡ resultAfter s (old tracks) (old result) ⌝ }
 {
-    api_closed::closed_call(
+    api_plan::closed_call(
         groups,
         firsts,
         seconds,

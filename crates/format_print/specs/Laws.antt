@@ -1,3 +1,4 @@
 pub mod Print
 pub mod Room
 pub mod Answer
+pub mod Row

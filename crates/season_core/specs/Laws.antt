@@ -3,3 +3,4 @@ pub mod Farther
 pub mod Lines
 pub mod PrintRoom
 pub mod Survey
+pub mod Columns

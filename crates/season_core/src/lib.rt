@@ -5,15 +5,15 @@ ghost use Rattle.survey_core.specs.Survey.{lentWith};
 ghost use Rattle.season_rule.specs.Figures.{figures};
 ghost use Rattle.season_rule.specs.Report.{seasonRefusal, addSurvey};
 use crate::add::add_figured;
+pub use add::empty_report;
 use base_limits::MAX_EDGES;
+pub use print::print_report;
 use season_rule::Added;
 use season_rule::Report;
 
 mod add;
 mod print;
-
-pub use add::empty_report;
-pub use print::print_report;
+mod wide;
 
 // The report with this survey added, planned or refused; or 3, and the report as it was, for a 1,001st survey and where
 // a count or a total would pass 64 bits.

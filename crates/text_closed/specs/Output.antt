@@ -8,7 +8,7 @@ use Rattle.base_limits.specs.declared.Verdict.{Verdict}
 use Rattle.base_limits.specs.declared.Verdict.the-variants.{Fine, Refused}
 use Rattle.format_survey.specs.Reading.{SurveyText}
 use Rattle.format_write.specs.Text.{refusalText}
-use Rattle.format_closed.specs.RowText.{rowLines}
+use Rattle.format_print.specs.RowText.{rowLines}
 use Rattle.survey_core.specs.Survey.{Survey, surveyWith}
 use Rattle.closed_rule.specs.Closed.{maxClosed, rowFigures, closedRefusal, resultAfter}
 use Rattle.text_plan.specs.Output.{surveyRead}

@@ -41,6 +41,6 @@ pub fn closed_survey(
     );
     match found {
         Verdict::Refused { number, place } => format_print::print_refusal(number, place, out),
-        Verdict::Fine => format_closed::print_rows(tracks, &result, out),
+        Verdict::Fine => format_print::print_rows(tracks, &result, out),
     }
 }

@@ -10,7 +10,7 @@ use Rattle.format_write.specs.Text.{refusalText}
 use Rattle.format_print.specs.declared.Printed.{Printed}
 use Rattle.format_print.specs.Print.{printed, printedOut}
 use Rattle.format_survey.specs.Reading.{SurveyText}
-use Rattle.format_closed.specs.RowText.{rowLines}
+use Rattle.format_print.specs.RowText.{rowLines}
 use Rattle.survey_core.specs.Survey.{Survey}
 use Rattle.closed_rule.specs.Closed.{closedRefusal, resultAfter}
 use Rattle.text_plan.specs.Output.{surveyRead}
