@@ -25,7 +25,8 @@ const SEASON: season::Season = season::SECOND;
 const SEASONS: u64 = 10;
 
 /// The calls of which so many cases are compared; the check of printed plans is of the library alone.
-const COMPARED: u64 = (OPERATIONS.len() + handset::CALLS.len() + season::CALLS.len()) as u64 + cfg!(feature = "native") as u64;
+const COMPARED: u64 =
+    (OPERATIONS.len() + handset::CALLS.len() + season::CALLS.len()) as u64 + cfg!(feature = "native") as u64;
 
 /// Holds a call of so many cases against the second implementation, and says how often each refusal came.
 fn run(name: &str, count: u64, seed: u64, compare: impl Fn(u64) -> Result<u64, String>) -> Result<(), String> {
