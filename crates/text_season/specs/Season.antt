@@ -1,5 +1,5 @@
--- Survey texts one after the other, and what the program `season` prints of them (document 02, No. 11). Each text ends where its last line ends. The program holds as many bytes
--- at a time as the longest text has.
+-- Survey texts one after the other, and what the program `season` prints of them (document 02, No. 11). Each text ends
+-- where its last line ends.
 use Prim.Native.Nat.{ℕ, zero, suc, _+_}
 use mathlib.Core.List.{List, [], _∷_, _++_}
 use lib.ListN.{drop}
