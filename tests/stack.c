@@ -57,6 +57,8 @@ static void prepare_stp(void) {
     stp_length = (size_t)(at - stp) + (size_t)sprintf(at, "END\nEOF\n");
 }
 
+static uint8_t report[FOAMSICKLE_REPORT_BYTES];
+
 static void nothing(void) { answer = 0; }
 
 static void plan(void) {
@@ -146,6 +148,16 @@ static void pack_table(void) { answer = foamsickle_pack_table(table[0], sizeof t
 
 static void unpack_table(void) { answer = foamsickle_unpack_table(table[1], sizeof table[1], table[0], sizeof table[0]); }
 
+static void season_add(void) {
+    answer = foamsickle_season_add(report, sizeof report, groups, N, firsts, M, seconds, M, weights, M, owners, PAIRS, others,
+                                   PAIRS);
+}
+
+static void season_print(void) {
+    uint8_t lines[FOAMSICKLE_REPORT_ROOM];
+    answer = foamsickle_season_print(report, sizeof report, lines, sizeof lines, counts, FOAMSICKLE_PRINT_FIGURES);
+}
+
 static void *run(void *call) {
     (*(void (**)(void))call)();
     return NULL;
@@ -189,6 +201,8 @@ int main(int argc, char **argv) {
         {"foamsickle_verify", verify},
         {"foamsickle_pack_table", pack_table},
         {"foamsickle_unpack_table", unpack_table},
+        {"foamsickle_season_add", season_add},
+        {"foamsickle_season_print", season_print},
     };
     size_t limit = argc == 2 ? (size_t)strtoul(argv[1], NULL, 10) : FOAMSICKLE_STACK;
     uint8_t *area = aligned_alloc(4096, AREA);

@@ -1,4 +1,5 @@
-//! The season's report (No. 11): adding a survey to it and printing it, over a report of bytes, and their generated cases.
+//! The season's report (No. 11): adding a survey to it and printing it, over a report of bytes, and their generated
+//! cases.
 
 use crate::calls::code;
 use crate::calls::faults::{harm, pair, PLAN_FAULTS};
@@ -173,7 +174,8 @@ fn any_survey(rng: &mut Rng) -> Survey {
     survey
 }
 
-/// A farthest plan beside that of a survey: none, the same ratio, enlarged until a cross product passes 64 bits, one that misses it by little, or any.
+/// A farthest plan beside that of a survey: none, the same ratio, enlarged until a cross product passes 64 bits, one
+/// that misses it by little, or any.
 fn any_far(rng: &mut Rng, plan: Option<(u64, u64)>) -> Far {
     let position = rng.word() >> rng.below(64);
     match (plan, rng.below(8)) {
@@ -215,8 +217,7 @@ fn any_report(rng: &mut Rng, plan: Option<(u64, u64)>) -> Vec<u8> {
             }
             let [planned, cost, bound] = [0; 3].map(|_: u64| any_count(rng));
             let far = Some(any_far(rng, plan));
-            bytes[..REPORT_BYTES]
-                .copy_from_slice(&Report { surveys, planned, cost, bound, refused, far }.bytes());
+            bytes[..REPORT_BYTES].copy_from_slice(&Report { surveys, planned, cost, bound, refused, far }.bytes());
         }
     }
     bytes.truncate(length);
@@ -236,7 +237,9 @@ fn compare_add(season: &Season, rng: &mut Rng) -> Result<u64, String> {
     };
     let (ours, theirs) = (run(&SECOND), run(season));
     if ours != theirs {
-        return Err(format!("season_add of {survey:?} to {report:?}: the second implementation has {ours:?}, the library {theirs:?}"));
+        return Err(format!(
+            "season_add of {survey:?} to {report:?}: the second implementation has {ours:?}, the library {theirs:?}"
+        ));
     }
     Ok(ours.0 % 256)
 }
@@ -258,7 +261,9 @@ fn compare_print(season: &Season, rng: &mut Rng) -> Result<u64, String> {
     };
     let (ours, theirs) = (run(&SECOND), run(season));
     if ours != theirs {
-        return Err(format!("season_print of {report:?}: the second implementation has {ours:?}, the library {theirs:?}"));
+        return Err(format!(
+            "season_print of {report:?}: the second implementation has {ours:?}, the library {theirs:?}"
+        ));
     }
     Ok(ours.0 % 256)
 }
@@ -273,7 +278,9 @@ pub fn compare_whole(season: &Season, seed: u64, case: u64) -> Result<u64, Strin
         let answers = [(SECOND.add)(&mut ours, survey.view()), (season.add)(&mut theirs, survey.view())];
         let due = if position < MAX_SURVEYS { 0 } else { 3 };
         if answers != [due; 2] || ours != theirs {
-            return Err(format!("survey {position} of a season, {survey:?}: answers {answers:?}, reports {ours:?} and {theirs:?}"));
+            return Err(format!(
+                "survey {position} of a season, {survey:?}: answers {answers:?}, reports {ours:?} and {theirs:?}"
+            ));
         }
         if position >= MAX_SURVEYS {
             continue;

@@ -1,5 +1,5 @@
-//! The season, a second time: reports worked by hand from No. 11's sentences; the generated cases meet every refusal that is counted; and libraries with
-//! one fault each are told from the second implementation.
+//! The season, a second time: reports worked by hand from No. 11's sentences; the generated cases meet every refusal that
+//! is counted; and libraries with one fault each are told from the second implementation.
 
 use evidence::calls::code;
 use evidence::season::{
@@ -38,14 +38,8 @@ fn a_season_worked_by_hand() {
 #[test]
 fn the_longest_report() {
     let far = Some(Far { position: u64::MAX, twice: u64::MAX, bound: u64::MAX });
-    let full = Report {
-        surveys: 0,
-        planned: u64::MAX,
-        cost: u64::MAX,
-        bound: u64::MAX,
-        refused: [u64::MAX; REFUSALS],
-        far,
-    };
+    let full =
+        Report { surveys: 0, planned: u64::MAX, cost: u64::MAX, bound: u64::MAX, refused: [u64::MAX; REFUSALS], far };
     assert_eq!(full.text().len(), 747);
     assert_eq!(Report::of_bytes(&full.bytes()), full);
 }
@@ -73,7 +67,11 @@ fn every_refusal_is_met() {
 }
 
 /// A library that adds by another rule.
-fn adds(report: &mut [u8], survey: View, rule: fn(&Report, Result<(u64, u64), Refusal>) -> Result<Report, Refusal>) -> u64 {
+fn adds(
+    report: &mut [u8],
+    survey: View,
+    rule: fn(&Report, Result<(u64, u64), Refusal>) -> Result<Report, Refusal>,
+) -> u64 {
     if report.len() < REPORT_BYTES {
         return 7;
     }
@@ -100,7 +98,9 @@ fn by(report: &Report, outcome: Outcome, beats: fn(Far, Far) -> bool) -> Result<
 
 fn low_limbs(report: &mut [u8], survey: View) -> u64 {
     adds(report, survey, |report, outcome| {
-        by(report, outcome, |before, plan| plan.twice.wrapping_mul(before.bound) > before.twice.wrapping_mul(plan.bound))
+        by(report, outcome, |before, plan| {
+            plan.twice.wrapping_mul(before.bound) > before.twice.wrapping_mul(plan.bound)
+        })
     })
 }
 
@@ -190,7 +190,8 @@ fn all_numbers(report: &[u8], out: &mut [u8], counts: &mut [u64]) -> u64 {
 #[test]
 fn faults_are_found() {
     let differs = |season: &Season| {
-        let single = (0..CASES).any(|case| CALLS.iter().any(|&(_, prints)| compare(season, SEED, case, prints).is_err()));
+        let single =
+            (0..CASES).any(|case| CALLS.iter().any(|&(_, prints)| compare(season, SEED, case, prints).is_err()));
         single || compare_whole(season, SEED, 0).is_err()
     };
     assert!(!differs(&SECOND));

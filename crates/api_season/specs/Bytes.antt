@@ -1,5 +1,5 @@
--- The report as a lent slice of bytes (document 02, No. 11): numbers of eight bytes, lowest first. All bytes 0 are the empty report, and any bytes are
--- a report.
+-- The report as a lent slice of bytes (document 02, No. 11): numbers of eight bytes, lowest first. All bytes 0 are the
+-- empty report, and any bytes are a report.
 use Prim.Native.Nat.{ℕ, _+_, _*_, _<_}
 use mathlib.Core.Bool.{cond}
 use mathlib.Core.List.{List, [], _∷_, _++_}
@@ -14,7 +14,8 @@ use Rattle.season_rule.specs.Report.{refusalNumbers, wordLimit}
 use Rattle.season_rule.specs.Text.{Words}
 use Rattle.api_handset.specs.Words.{figureBytes, spelledCounts}
 
--- numbers of a report: surveys, planned, cost and bound; refusals by number; position, twice the cost and bound of the farthest plan
+-- numbers of a report: surveys, planned, cost and bound; refusals by number; position, twice the cost and bound of the
+-- farthest plan
 abbrev pub headFigures : ℕ
 headFigures = 4
 
@@ -57,7 +58,7 @@ reportNumbers r = (r .surveys ∷ r .planned ∷ r .cost ∷ r .bound ∷ []) ++
 unfoldable pub withReport : List ℕ → Report → List ℕ
 withReport bytes r = spelledCounts (reportNumbers r) ++ drop reportBytes bytes
 
--- ---- reports that come back as they were written (law `report-back`): those of calls from all bytes 0 (law `calls-stored`)
+-- ---- reports that come back as they were written (law `report-back`), as those of calls from all bytes 0 do
 
 pub data FarSome : Farthest → Type 0 where
   nothing : FarSome Nothing

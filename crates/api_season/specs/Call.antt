@@ -1,4 +1,5 @@
--- The season's calls with a report of bytes: what they answer and leave in their buffers (document 02, No. 11). A slice that is too short for a report is 7.
+-- The season's calls with a report of bytes: what they answer and leave in their buffers (document 02, No. 11). A slice
+-- that is too short for a report is 7.
 use Prim.Native.Nat.{ℕ}
 use mathlib.Core.List.{List, [], _∷_}
 use lib.ListN.{length}

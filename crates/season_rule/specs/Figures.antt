@@ -1,5 +1,5 @@
--- What the season takes of a survey (document 02, No. 11): the cost and bound of planning's figures, or its refusal. Planning has buffers of its own, so 7 does not
--- come (law `figures-planning`).
+-- What the season takes of a survey (document 02, No. 11): the cost and bound of planning's figures, or its refusal.
+-- Planning has buffers of its own, so 7 does not come (law `figures-planning`).
 use Prim.Native.Nat.{ℕ}
 use mathlib.Core.Bool.{Bool, true, false}
 use lib.Dec.{eqb}

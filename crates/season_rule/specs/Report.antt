@@ -1,5 +1,6 @@
--- The report so far, and what adding a survey makes of it (document 02, No. 11). 3 leaves it unchanged: for a 1,001st survey, and where a count or a total would
--- pass 64 bits, which from an empty report never occurs (law `season-goes-on`).
+-- The report so far, and what adding a survey makes of it (document 02, No. 11). 3 leaves it unchanged: for a 1,001st
+-- survey, and where a count or a total would pass 64 bits, which from an empty report never occurs (law
+-- `season-goes-on`).
 use Prim.Native.Nat.{ℕ, _+_, _*_, _^_}
 use mathlib.Core.Bool.{Bool, _&&_, _||_, cond}
 use mathlib.Core.List.{List, [], _∷_}
@@ -26,8 +27,8 @@ refusalNumbers = 19
 abbrev pub wordLimit : ℕ
 wordLimit = 2 ^ 64
 
--- no plan's cost is larger, and no bound (law `limited`): each track at the highest price; as many component numbers as there can be, each with the largest wait in
--- every round
+-- no plan's cost is larger, and no bound (law `limited`): each track at the highest price; as many component numbers as
+-- there can be, each with the largest wait in every round
 abbrev pub mostCost : ℕ
 mostCost = maxEdges * maxWeight
 
@@ -37,8 +38,8 @@ mostBound = 2 * maxVertices * (maxVertices * maxValue)
 unfoldable pub emptyReport : Report
 emptyReport = record { surveys = 0; planned = 0; cost = 0; bound = 0; refused = replicate refusalNumbers 0; farthest = Nothing }
 
--- A plan takes the place where its ratio, twice the cost to the bound, is larger: the earliest stays among equals. The ratios are compared by cross products, over
--- numbers of any size. A plan with bound 0 takes no part.
+-- A plan takes the place where its ratio, twice the cost to the bound, is larger: the earliest stays among equals. The
+-- ratios are compared by cross products, over numbers of any size. A plan with bound 0 takes no part.
 unfoldable pub farther : Farthest → (position twice bound : ℕ) → Farthest
 farther Nothing position twice bound = cond (ltb 0 bound) (At position twice bound) Nothing
 farther (At p t b) position twice bound = cond (ltb 0 bound && ltb (t * bound) (twice * b)) (At position twice bound) (At p t b)

@@ -1,4 +1,5 @@
--- What the report over a list of surveys says (document 02, No. 11), in words of the single plans: laws `season-totals`, `season-farthest`.
+-- What the report over a list of surveys says (document 02, No. 11), in words of the single plans: laws
+-- `season-totals`, `season-farthest`.
 use Prim.Native.Nat.{ℕ, zero, suc, _*_, _≤_, _<_}
 use mathlib.Core.Path.{_≡_}
 use mathlib.Core.List.{List, map}
@@ -30,7 +31,8 @@ pub record Totals (n : ℕ) (o : ℕ → Outcome Figures) (r : Report) : Type 0 
   pub refused-long : length (r .refused) ≡ refusalNumbers
   pub refused-are : (k : ℕ) → k < refusalNumbers → getD (r .refused) k 0 ≡ countBelow n (λ i. isRefused k (o i))
 
--- The plan at this position has the largest ratio of twice the cost to the bound, by cross products, and is the earliest that has it.
+-- The plan at this position has the largest ratio of twice the cost to the bound, by cross products, and is the
+-- earliest that has it.
 pub record Largest (n : ℕ) (o : ℕ → Outcome Figures) (position twice bound : ℕ) : Type 0 where
   pub below : position < n
   pub plan : Figures

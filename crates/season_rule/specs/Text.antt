@@ -42,8 +42,9 @@ reportText r = lineOf plannedKey (r .planned) ++ lineOf costKey (r .cost) ++ lin
 
 -- ---- how long it is
 
--- bytes of the longest report (laws `report-text-le`, `longest-report`): three totals with 19 bytes of keys; a line for each number, with 10 bytes beside the count and
--- the number's digits, of which 0 to 18 have 28; and the farthest plan, with 7 bytes beside its three numbers
+-- bytes of the longest report (laws `report-text-le`, `longest-report`): three totals with 19 bytes of keys; a line for
+-- each number, with 10 bytes beside the count and the number's digits, of which 0 to 18 have 28; and the farthest plan,
+-- with 7 bytes beside its three numbers
 abbrev pub reportRoom : ℕ
 reportRoom = 19 + 3 * (wordDigits + 1) + (refusalNumbers * (10 + wordDigits) + 28) + (7 + 3 * wordDigits)
 

@@ -1,5 +1,6 @@
--- The survey at the front of a text, added to a report (document 02, No. 11): texts stand one after the other, and each ends where its last line ends. Reading's
--- refusal has its place from the first byte of that text; the season's own 3 stands at 0.
+-- The survey at the front of a text, added to a report (document 02, No. 11): texts stand one after the other, and each
+-- ends where its last line ends. Reading's refusal has its place from the first byte of that text; the season's own 3
+-- stands at 0.
 use Prim.Native.Nat.{ℕ}
 use mathlib.Core.Bool.{cond}
 use mathlib.Core.List.{List}
@@ -41,6 +42,7 @@ unfoldable pub answerText : Verdict → Report → List ℕ
 answerText Fine r = reportText r
 answerText (Refused number place) r = refusalText number place
 
--- How many bytes of a buffer that are: none where the text does not fit, which in `reportRoom` bytes never occurs (laws `report-text-le`, `longest-report`).
+-- How many bytes of a buffer that are: none where the text does not fit, which in `reportRoom` bytes never occurs (laws
+-- `report-text-le`, `longest-report`).
 unfoldable pub printedBytes : (text out : List ℕ) → ℕ
 printedBytes text out = cond (ltb (length out) (length text)) 0 (length text)

@@ -1,3 +1,4 @@
 pub mod Added
 pub mod Front
 pub mod Print
+pub mod Season

@@ -1,4 +1,5 @@
--- A report as bytes: single numbers read, and three runs of numbers written one behind the other. Used by the proofs of module bytes.
+-- A report as bytes: single numbers read, and three runs of numbers written one behind the other. Used by the proofs of
+-- module bytes.
 use Prim.Native.Nat.{ℕ, suc, _+_, _*_, _-_, _/_, _≤_, _<_}
 use native.Mathlib.Omega.{arith}
 use mathlib.Core.Path.{_≡_, refl, ap, sym, _∙_}

@@ -1,4 +1,5 @@
--- The calls are the season: from all bytes 0, the slice after any list of surveys is that of the season's report, and each call answers as the season does.
+-- The calls are the season: from all bytes 0, the slice after any list of surveys is that of the season's report, and
+-- each call answers as the season does.
 use Prim.Native.Nat.{ℕ, _+_, _*_, _<_, _≤_}
 use native.Mathlib.Omega.{arith}
 use native.Mathlib.Decide.{ℕ-discrete}

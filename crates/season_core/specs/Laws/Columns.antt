@@ -1,4 +1,5 @@
--- Products by halves of 32 bits: the columns make the product, their sums have 64 bits, and two products are compared word by word.
+-- Products by halves of 32 bits: the columns make the product, their sums have 64 bits, and two products are compared
+-- word by word.
 use Prim.Native.Nat.{ℕ, _+_, _*_, _/_, _%_, _^_, _≤_, _<_}
 use native.Mathlib.Omega.{arith}
 use native.Mathlib.Nat.{mul-le-mul}

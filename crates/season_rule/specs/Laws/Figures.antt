@@ -1,4 +1,5 @@
--- The figures of a survey are planning's, in buffers of its own: 7 never comes, and cost and bound are so small that a thousand of them have 64 bits.
+-- The figures of a survey are planning's, in buffers of its own: 7 never comes, and cost and bound are so small that a
+-- thousand of them have 64 bits.
 use Prim.Native.Nat.{ℕ, _+_, _*_, _≤_, _<_}
 use native.Mathlib.Omega.{arith}
 use native.Mathlib.Nat.{mul-le-mul}

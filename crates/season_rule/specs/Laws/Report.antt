@@ -1,4 +1,5 @@
--- Adding one survey: it goes on where the report has room, the counts and totals stay those of the single plans, and the farthest plan stays the farthest.
+-- Adding one survey: it goes on where the report has room, the counts and totals stay those of the single plans, and
+-- the farthest plan stays the farthest.
 use Prim.Native.Nat.{ℕ, zero, suc, _+_, _*_, _≤_, _<_}
 use native.Mathlib.Omega.{arith}
 use native.Mathlib.Nat.{mul-le-mul-right, mul-lt-mul-of-pos-right, lt-of-mul-lt-mul-right}

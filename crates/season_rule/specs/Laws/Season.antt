@@ -1,5 +1,6 @@
--- The report over a list of at most 1,000 surveys, each added by one call, from the empty report: totals are the sums over the single plans, the farthest plan is
--- the farthest, and 3 comes for a 1,001st survey alone (document 02, No. 11).
+-- The report over a list of at most 1,000 surveys, each added by one call, from the empty report: totals are the sums
+-- over the single plans, the farthest plan is the farthest, and 3 comes for a 1,001st survey alone (document 02, No.
+-- 11).
 use Prim.Native.Nat.{ℕ, zero, suc, _+_, _≤_, _<_}
 use native.Mathlib.Omega.{arith}
 use mathlib.Core.Path.{_≡_, ap, sym, _∙_}
