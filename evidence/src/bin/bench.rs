@@ -2,6 +2,7 @@
 //!
 //!     bench [--seed S] [--surveys N] [--repeats R] [--sample K]
 //!     bench --closed [--seed S] [--surveys N] [--repeats R]
+//!     bench --season [--seed S] [--repeats R]
 //!     bench --instructions [--seed S] [--surveys N]
 //!
 //! First a line for each of nine sizes, 64 to 448 junctions with 2,048 tracks and fewer: the surveys as they are, then
@@ -10,7 +11,8 @@
 //! the least times are the steadier ones. Then K random surveys with few tracks and few sites: the median, the highest
 //! but 10 and the highest but 1 in 100, of the least times. With the feature `native` the outside planner is timed in
 //! turn with ours, on the same surveys, after its answer has been compared, and of the K surveys its times in ours are
-//! told; last come lists of 256 closed tracks (No. 12), in plans of the same survey, and with `--closed` these alone.
+//! told; last come lists of 256 closed tracks (No. 12), in plans of the same survey, and with `--closed` these alone,
+//! and a season of 1,000 surveys (No. 11), with `--season` alone.
 //!
 //! `--instructions` counts the instructions of a plan under valgrind, which don't depend on what else the machine does.
 
@@ -19,7 +21,7 @@ use evidence::plan::{fast, owned, record_room, reference, Counts, Plan, Workspac
 #[cfg(feature = "native")]
 use evidence::{
     closed::{MAX_CLOSED, ROW},
-    native::LIBRARY,
+    native::{LIBRARY, SEASON},
 };
 use evidence::{Refusal, Survey, View};
 use std::process::{Command, ExitCode};
@@ -46,6 +48,8 @@ struct Options {
     instructions: bool,
     /// Lists of closed tracks alone.
     closed: bool,
+    /// A season alone.
+    season: bool,
     /// A planner and a size whose surveys are planned once, for valgrind.
     one: Option<(String, usize, usize)>,
 }
@@ -203,6 +207,33 @@ fn closings(options: &Options, (n, m): (usize, usize)) {
     );
 }
 
+/// A season of 1,000 surveys (No. 11) in the sum of their single plans: the outside library alone, the least of some
+/// passes over all surveys, in turn.
+#[cfg(feature = "native")]
+fn season(options: &Options, (n, m): (usize, usize)) {
+    let surveys: Vec<Survey> = (0..1_000).map(|i| survey_of(options, (n, m), i)).collect();
+    let (mut marks, mut records) = buffers(&surveys[0]);
+    let (mut plans, mut added) = (f64::INFINITY, f64::INFINITY);
+    for _ in 0..options.repeats.min(5) {
+        plans = plans.min(least(1, || {
+            for survey in &surveys {
+                assert!(evidence::native::plan(survey.view(), &mut marks, &mut records).is_ok());
+            }
+        }));
+        added = added.min(least(1, || {
+            let mut report = [0; 208];
+            for survey in &surveys {
+                assert_eq!((SEASON.add)(&mut report, survey.view()), 0);
+            }
+        }));
+    }
+    println!(
+        "{n} junctions, {m} tracks, a season of {} surveys: {:.2} times the single plans",
+        surveys.len(),
+        added / plans
+    );
+}
+
 /// Our plan, where valgrind counts.
 #[no_mangle]
 #[inline(never)]
@@ -268,8 +299,16 @@ fn instructions(options: &Options) -> ExitCode {
 }
 
 fn options() -> Option<Options> {
-    let mut options =
-        Options { seed: 1, surveys: 12, repeats: 31, sample: 400, instructions: false, closed: false, one: None };
+    let mut options = Options {
+        seed: 1,
+        surveys: 12,
+        repeats: 31,
+        sample: 400,
+        instructions: false,
+        closed: false,
+        season: false,
+        one: None,
+    };
     let mut words = std::env::args().skip(1);
     while let Some(word) = words.next() {
         if word == "--instructions" {
@@ -278,6 +317,10 @@ fn options() -> Option<Options> {
         }
         if word == "--closed" {
             options.closed = true;
+            continue;
+        }
+        if word == "--season" {
+            options.season = true;
             continue;
         }
         if word == "--one" {
@@ -303,7 +346,7 @@ fn options() -> Option<Options> {
 fn main() -> ExitCode {
     let Some(options) = options() else {
         eprintln!(
-            "bench [--seed S] [--surveys N] [--repeats R] [--sample K]\nbench --closed [--seed S] [--surveys N] [--repeats R]\nbench --instructions [--seed S] [--surveys N]"
+            "bench [--seed S] [--surveys N] [--repeats R] [--sample K]\nbench --closed [--seed S] [--surveys N] [--repeats R]\nbench --season [--seed S] [--repeats R]\nbench --instructions [--seed S] [--surveys N]"
         );
         return ExitCode::from(2);
     };
@@ -321,13 +364,20 @@ fn main() -> ExitCode {
     let mut planners: Vec<Timed> = vec![&mut ours];
     #[cfg(feature = "native")]
     planners.push(&mut outside);
-    if !options.closed {
+    if !options.closed && !options.season {
         for counts in SIZES {
             size(&options, counts, &mut planners);
         }
         sample(&options, &mut planners);
     }
     #[cfg(feature = "native")]
-    closings(&options, (448, 2048));
+    {
+        if !options.season {
+            closings(&options, (448, 2048));
+        }
+        if !options.closed {
+            season(&options, (448, 2048));
+        }
+    }
     ExitCode::SUCCESS
 }

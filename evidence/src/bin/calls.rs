@@ -29,8 +29,7 @@ const SEASONS: u64 = 10;
 
 /// The calls of which so many cases are compared: the operations, those of the handset, of tables and of the season, the
 /// check of printed plans.
-const COMPARED: u64 =
-    (OPERATIONS.len() + handset::CALLS.len() + table::CALLS.len() + season::CALLS.len() + 1) as u64;
+const COMPARED: u64 = (OPERATIONS.len() + handset::CALLS.len() + table::CALLS.len() + season::CALLS.len() + 1) as u64;
 
 /// Holds a call of so many cases against the second implementation, and says how often each refusal came.
 fn run(name: &str, count: u64, seed: u64, compare: impl Fn(u64) -> Result<u64, String>) -> Result<(), String> {
