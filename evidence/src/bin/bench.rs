@@ -207,31 +207,26 @@ fn closings(options: &Options, (n, m): (usize, usize)) {
     );
 }
 
-/// A season of 1,000 surveys (No. 11) in the sum of their single plans: the outside library alone, the least of some
-/// passes over all surveys, in turn.
+/// A season of 1,000 surveys (No. 11) in the sum of their single plans: the outside library alone, of each survey the
+/// least time of its plan and of adding it to the report so far.
 #[cfg(feature = "native")]
 fn season(options: &Options, (n, m): (usize, usize)) {
-    let surveys: Vec<Survey> = (0..1_000).map(|i| survey_of(options, (n, m), i)).collect();
-    let (mut marks, mut records) = buffers(&surveys[0]);
-    let (mut plans, mut added) = (f64::INFINITY, f64::INFINITY);
-    for _ in 0..options.repeats.min(5) {
-        plans = plans.min(least(1, || {
-            for survey in &surveys {
-                assert!(evidence::native::plan(survey.view(), &mut marks, &mut records).is_ok());
-            }
-        }));
-        added = added.min(least(1, || {
-            let mut report = [0; 208];
-            for survey in &surveys {
-                assert_eq!((SEASON.add)(&mut report, survey.view()), 0);
-            }
-        }));
+    let (mut plans, mut added) = (0.0, 0.0);
+    let mut report = [0; 208];
+    for i in 0..1_000 {
+        let survey = survey_of(options, (n, m), i);
+        let (mut marks, mut records) = buffers(&survey);
+        plans += least(options.repeats, || {
+            assert!(evidence::native::plan(survey.view(), &mut marks, &mut records).is_ok());
+        });
+        let mut next = report;
+        added += least(options.repeats, || {
+            next = report;
+            assert_eq!((SEASON.add)(&mut next, survey.view()), 0);
+        });
+        report = next;
     }
-    println!(
-        "{n} junctions, {m} tracks, a season of {} surveys: {:.2} times the single plans",
-        surveys.len(),
-        added / plans
-    );
+    println!("{n} junctions, {m} tracks, a season of 1000 surveys: {:.2} times the single plans", added / plans);
 }
 
 /// Our plan, where valgrind counts.
