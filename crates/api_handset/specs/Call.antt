@@ -7,9 +7,9 @@ use Rattle.base_limits.specs.Verdict.{_before_, written}
 use Rattle.base_limits.specs.declared.Verdict.{Verdict}
 use Rattle.survey_core.specs.Survey.{Survey}
 use Rattle.check_rule.specs.Check.{checkRefusal, checkedOf}
-use Rattle.plan_rule.specs.Plan.{planRefusal}
+use Rattle.plan_rule.specs.Plan.{planRefusal, marksAfter, recordsAfter}
 use Rattle.api_code.specs.Code.{withCounts}
-use Rattle.api_plan.specs.Call.{planFigures, drawnMarks, drawnRecords, drawnFigures}
+use Rattle.api_plan.specs.Call.{planFigures, drawnFigures}
 use Rattle.api_check.specs.Call.{checkFigures, checkFiguresOf}
 use Rattle.api_handset.specs.Words.{figureBytes, spelledCounts}
 use Rattle.api_handset.specs.Slices.{Slices, surveySpelled, raggedRefusal}
@@ -48,10 +48,10 @@ unfoldable pub handsetPlan : Slices → (marks records result : List ℕ) → Ve
 handsetPlan b marks records result = raggedRefusal b before planWith (surveySpelled b) marks records result
 
 unfoldable pub handsetMarks : Slices → (marks records result : List ℕ) → List ℕ
-handsetMarks b marks records result = written (handsetPlan b marks records result) (drawnMarks (surveySpelled b) marks) marks
+handsetMarks b marks records result = written (handsetPlan b marks records result) (marksAfter (surveySpelled b) marks records) marks
 
 unfoldable pub handsetRecords : Slices → (marks records result : List ℕ) → List ℕ
-handsetRecords b marks records result = written (handsetPlan b marks records result) (drawnRecords (surveySpelled b) records) records
+handsetRecords b marks records result = written (handsetPlan b marks records result) (recordsAfter (surveySpelled b) marks records) records
 
 unfoldable pub handsetPlanResult : Slices → (marks records result : List ℕ) → List ℕ
 handsetPlanResult b marks records result = resultAfter (handsetPlan b marks records result) (drawnFigures (surveySpelled b)) result

@@ -4,7 +4,8 @@ ghost use Rattle.base_buffer.specs.Lent.{old, new};
 ghost use Rattle.base_limits.specs.Verdict.{written};
 ghost use Rattle.survey_core.specs.Survey.{lentWith};
 ghost use Rattle.api_code.specs.Code.{codeOf};
-ghost use Rattle.api_plan.specs.Call.{drawnMarks, drawnRecords, drawnFigures};
+ghost use Rattle.plan_rule.specs.Plan.{marksAfter, recordsAfter};
+ghost use Rattle.api_plan.specs.Call.{drawnFigures};
 ghost use Rattle.api_handset.specs.Call.{resultAfter, planWith};
 use api_plan::PLAN_FIGURES;
 use base_limits::VALUE_BYTES;
@@ -28,10 +29,10 @@ pub fn plan_words(
         ⌜ r ≡ codeOf (planWith s (old marks) (old records) (old result)) ⌝ }
     ensures { λ _. let s = lentWith groups firsts seconds weights owners others in
         let v = planWith s (old marks) (old records) (old result) in
-        ⌜ new marks ≡ written v (drawnMarks s (old marks)) (old marks) ⌝ }
+        ⌜ new marks ≡ written v (marksAfter s (old marks) (old records)) (old marks) ⌝ }
     ensures { λ _. let s = lentWith groups firsts seconds weights owners others in
         let v = planWith s (old marks) (old records) (old result) in
-        ⌜ new records ≡ written v (drawnRecords s (old records)) (old records) ⌝ }
+        ⌜ new records ≡ written v (recordsAfter s (old marks) (old records)) (old records) ⌝ }
     ensures { λ _. let s = lentWith groups firsts seconds weights owners others in
         let v = planWith s (old marks) (old records) (old result) in
         ⌜ new result ≡ resultAfter v (drawnFigures s) (old result) ⌝ }

@@ -1,11 +1,12 @@
 -- Reading with lent counts: what the call answers and leaves in its buffers, by the library's own definitions.
 use Prim.Native.Nat.{ℕ}
+use mathlib.Core.Bool.{cond}
 use mathlib.Core.List.{List, [], _∷_}
+use lib.Dec.{ltb}
 use Rattle.base_limits.specs.Verdict.{Outcome}
 use Rattle.format_survey.specs.Line.{Lengths}
 use Rattle.format_survey.specs.Reading.{SurveyText, reading}
 use Rattle.format_survey.specs.Answer.{TextCounts}
-use Rattle.api_code.specs.Code.{lentOn}
 
 -- entries of the counts of reading: n, m and the number of pairs
 abbrev pub readFigures : ℕ
@@ -18,7 +19,7 @@ readFiguresOf c = c .vertices ∷ c .edges ∷ c .pairs ∷ []
 unfoldable pub lentFor : Lengths → (counts : ℕ) → Lengths
 lentFor lent counts =
     record {
-      groups = lentOn counts readFigures (lent .groups);
+      groups = cond (ltb counts readFigures) 0 (lent .groups);
       firsts = lent .firsts;
       seconds = lent .seconds;
       weights = lent .weights;

@@ -64,6 +64,12 @@ module _ {call : Verdict} (v : Verdict) (same : call ≡ (v before Refused 7 0))
       by Fine e = sym (ap (λ y. written y new old) e)
       by (Refused number place) e = sym (ap (λ y. written y new old) e)
 
+-- What a call leaves where it is not refused, of what the library leaves by the same verdict.
+pub written-twice : (v : Verdict) (new old : List ℕ) → written v (written v new old) old ≡ written v new old
+unfolding written
+written-twice Fine new old = refl
+written-twice (Refused number place) new old = refl
+
 -- The library's answer, finished or refused.
 module _ {A : Type 0} {call w : Verdict} (same : call ≡ w) (a : A) where
   pub finished-code : {b : A} → outcome w a ≡ answer b → 0 ≡ codeOf call

@@ -13,10 +13,10 @@ use Rattle.api_handset.specs.Laws.Result.{across-code, across-written, r
 use Rattle.survey_core.specs.Survey.{Survey}
 use Rattle.survey_core.specs.Refusal.{surveyRefusal}
 use Rattle.check_rule.specs.Check.{checkRefusal, checkedOf}
-use Rattle.plan_rule.specs.Plan.{planRefusal}
+use Rattle.plan_rule.specs.Plan.{planRefusal, marksAfter, recordsAfter}
 use Rattle.api_code.specs.Code.{placeUnit, codeOf, capped, withCounts, lentOn}
 use Rattle.api_code.specs.Laws.Encodable.{Encodable, exact-code, encodable-before, encodable-refuse, at-zero}
-use Rattle.api_plan.specs.Call.{planFigures, planFiguresOf, planCall, drawnMarks, drawnRecords, drawnFigures, planMarks, planRecords, planCounts}
+use Rattle.api_plan.specs.Call.{planFigures, planFiguresOf, planCall, drawnFigures, planMarks, planRecords, planCounts}
 use Rattle.api_plan.specs.Laws.Call.{plan-encodable}
 use Rattle.api_check.specs.Call.{checkFigures, checkFiguresOf, checkCall, checkCounts}
 use Rattle.api_check.specs.Laws.Call.{check-encodable}
@@ -54,15 +54,15 @@ module _ (s : Survey) (marks records result zeros : List ℕ) where
     plan-words-code called = across-code s (planRefusal s (length marks) (length records)) planFigures (lit< tt) zeros result size lent called
 
     pub plan-words-marks : {after : List ℕ} → after ≡ planMarks s marks records (take (room - 0) zeros)
-        → after ≡ written (planWith s marks records result) (drawnMarks s marks) marks
+        → after ≡ written (planWith s marks records result) (marksAfter s marks records) marks
     unfolding planCall planWith planMarks
-    plan-words-marks h = across-written s (planRefusal s (length marks) (length records)) planFigures (lit< tt) zeros result size lent (drawnMarks s marks) marks h
+    plan-words-marks h = across-written s (planRefusal s (length marks) (length records)) planFigures (lit< tt) zeros result size lent (marksAfter s marks records) marks h
 
     pub plan-words-records : {after : List ℕ} → after ≡ planRecords s marks records (take (room - 0) zeros)
-        → after ≡ written (planWith s marks records result) (drawnRecords s records) records
+        → after ≡ written (planWith s marks records result) (recordsAfter s marks records) records
     unfolding planCall planWith planRecords
     plan-words-records h =
-        across-written s (planRefusal s (length marks) (length records)) planFigures (lit< tt) zeros result size lent (drawnRecords s records) records h
+        across-written s (planRefusal s (length marks) (length records)) planFigures (lit< tt) zeros result size lent (recordsAfter s marks records) records h
 
     module _ {found : ℕ} (called : found ≡ codeOf (planCall s marks records (take (room - 0) zeros))) where
       pub plan-words-kept : 0 < found → (figures : List ℕ) → result ≡ resultAfter (planWith s marks records result) figures result
@@ -154,15 +154,15 @@ module _ (b : Slices) (marks records result : List ℕ) where
     unfolding handsetPlan planWith withCounts
     plan-even-code k = even-code b fine seen rest k
 
-    pub plan-even-marks : {after : List ℕ} → after ≡ written (planWith t marks records result) (drawnMarks t marks) marks
+    pub plan-even-marks : {after : List ℕ} → after ≡ written (planWith t marks records result) (marksAfter t marks records) marks
         → after ≡ handsetMarks b marks records result
     unfolding handsetMarks handsetPlan planWith withCounts
-    plan-even-marks k = even-written b fine seen rest (λ s. drawnMarks s marks) marks k
+    plan-even-marks k = even-written b fine seen rest (λ s. marksAfter s marks records) marks k
 
-    pub plan-even-records : {after : List ℕ} → after ≡ written (planWith t marks records result) (drawnRecords t records) records
+    pub plan-even-records : {after : List ℕ} → after ≡ written (planWith t marks records result) (recordsAfter t marks records) records
         → after ≡ handsetRecords b marks records result
     unfolding handsetRecords handsetPlan planWith withCounts
-    plan-even-records k = even-written b fine seen rest (λ s. drawnRecords s records) records k
+    plan-even-records k = even-written b fine seen rest (λ s. recordsAfter s marks records) records k
 
     pub plan-even-result : {after : List ℕ} → after ≡ resultAfter (planWith t marks records result) (drawnFigures t) result
         → after ≡ handsetPlanResult b marks records result

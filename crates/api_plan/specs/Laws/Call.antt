@@ -17,13 +17,23 @@ use Rattle.plan_rule.specs.declared.Planned.the-variants.{Finished, Refused as 
 use Rattle.api_code.specs.Code.{placeUnit, codeOf, capped, countsAfter}
 use Rattle.api_code.specs.Laws.Encodable.{Encodable, encodable-before, encodable-refuse, at-zero, survey-encodable, group-encodable}
 use Rattle.api_code.specs.Laws.Ends.{counts-long, counts-short, counts-encodable}
-use Rattle.api_code.specs.Laws.Ends.{short-code, short-kept, finished-code, finished-counts, refused-code, refused-counts}
-use Rattle.api_plan.specs.Call.{planFigures, planFiguresOf, planCall, drawnMarks, drawnRecords, drawnFigures, planMarks, planRecords, planCounts}
+use Rattle.api_code.specs.Laws.Ends.{short-code, short-kept, written-twice, finished-code, finished-counts, refused-code, refused-counts}
+use Rattle.api_plan.specs.Call.{planFigures, planFiguresOf, planCall, drawnFigures, planMarks, planRecords, planCounts}
 
 pub plan-encodable : (s : Survey) (marks records : ℕ) → Encodable (planRefusal s marks records)
 unfolding planRefusal
 plan-encodable s marks records =
     encodable-before _ _ (survey-encodable s) λ _. encodable-before _ _ (encodable-refuse _ (at-zero 7 (lit< tt) (lit< tt))) λ _. group-encodable s 8 _ (lit< tt) (lit< tt)
+
+-- What planning leaves is left by its own verdict.
+module _ (s : Survey) (marks records : List ℕ) where
+  pub marks-left : written (planRefusal s (length marks) (length records)) (marksAfter s marks records) marks ≡ marksAfter s marks records
+  unfolding marksAfter
+  marks-left = written-twice _ _ marks
+
+  pub records-left : written (planRefusal s (length marks) (length records)) (recordsAfter s marks records) records ≡ recordsAfter s marks records
+  unfolding recordsAfter
+  records-left = written-twice _ _ records
 
 module _ (s : Survey) (marks records counts : List ℕ) where
   pub plan-long : planFigures ≤ length counts → planCall s marks records counts ≡ planRefusal s (length marks) (length records)
@@ -57,12 +67,12 @@ module _ (s : Survey) (marks records counts : List ℕ) where
 
   module _ (long : planFigures ≤ length counts) where
     pub plan-marks : {l : List ℕ} → l ≡ marksAfter s marks records → l ≡ planMarks s marks records counts
-    unfolding planMarks drawnMarks marksAfter
-    plan-marks h = h ∙ sym (ap (λ y. written y (drawnMarks s marks) marks) (plan-long s marks records counts long))
+    unfolding planMarks
+    plan-marks h = h ∙ sym (ap (λ y. written y (marksAfter s marks records) marks) (plan-long s marks records counts long) ∙ marks-left s marks records)
 
     pub plan-records : {l : List ℕ} → l ≡ recordsAfter s marks records → l ≡ planRecords s marks records counts
-    unfolding planRecords drawnRecords recordsAfter
-    plan-records h = h ∙ sym (ap (λ y. written y (drawnRecords s records) records) (plan-long s marks records counts long))
+    unfolding planRecords
+    plan-records h = h ∙ sym (ap (λ y. written y (recordsAfter s marks records) records) (plan-long s marks records counts long) ∙ records-left s marks records)
 
     module _ {r : Planned} (answered : planOutcome r ≡ counting s (length marks) (length records)) where
       pub plan-finished : (k c b n d : ℕ) → r ≡ Finished k c b n d → 0 ≡ codeOf (planCall s marks records counts)

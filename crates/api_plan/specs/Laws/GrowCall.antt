@@ -14,7 +14,7 @@ use Rattle.survey_core.specs.Refusal.{surveyRefusal}
 use Rattle.survey_core.specs.Laws.Refusal.{fine-survey}
 use Rattle.survey_components.specs.Forest.{loopRefusal}
 use Rattle.plan_rule.specs.Growing.{growing, marksGrown}
-use Rattle.plan_rule.specs.Dropping.{dropRefusal, dropping, neededMarks, marksDropped}
+use Rattle.plan_rule.specs.Dropping.{dropRefusal, dropping, marksDropped}
 use Rattle.plan_rule.specs.Answer.{plannedOutcome, droppedOutcome}
 use Rattle.plan_rule.specs.declared.Planned.{Planned}
 use Rattle.plan_rule.specs.declared.Planned.the-variants.{Finished, Refused as PlanRefused}
@@ -23,10 +23,10 @@ use Rattle.plan_rule.specs.declared.Dropped.the-variants.{Finished as DropFinis
 use Rattle.api_code.specs.Code.{placeUnit, codeOf, capped, countsAfter}
 use Rattle.api_code.specs.Laws.Encodable.{Encodable, encodable-before, encodable-refuse, encodable-lowest, at-zero, at-place, survey-encodable, group-encodable}
 use Rattle.api_code.specs.Laws.Ends.{counts-long, counts-short, counts-encodable}
-use Rattle.api_code.specs.Laws.Ends.{short-code, short-kept, finished-code, finished-counts, refused-code, refused-counts}
+use Rattle.api_code.specs.Laws.Ends.{short-code, short-kept, written-twice, finished-code, finished-counts, refused-code, refused-counts}
 use Rattle.api_plan.specs.Call.{planFigures, planFiguresOf, planCall}
 use Rattle.api_plan.specs.Laws.Call.{plan-encodable, plan-long, plan-short}
-use Rattle.api_plan.specs.GrowCall.{grownMarks, grownFigures, growMarks, growCounts, dropFigures, dropFiguresOf, dropCall, dropMarks, droppedCounts}
+use Rattle.api_plan.specs.GrowCall.{growMarks, growCounts, dropFigures, dropFiguresOf, dropCall, dropMarks, droppedCounts}
 
 -- ---- growing
 
@@ -42,8 +42,8 @@ module _ (s : Survey) (marks records counts : List ℕ) where
 
   module _ (long : planFigures ≤ length counts) where
     pub grow-marks : {l : List ℕ} → l ≡ marksGrown s marks records → l ≡ growMarks s marks records counts
-    unfolding growMarks grownMarks marksGrown
-    grow-marks h = h ∙ sym (ap (λ y. written y (grownMarks s marks) marks) (plan-long s marks records counts long))
+    unfolding growMarks marksGrown
+    grow-marks h = h ∙ sym (ap (λ y. written y (marksGrown s marks records) marks) (plan-long s marks records counts long) ∙ written-twice _ _ marks)
 
     module _ {r : Planned} (answered : plannedOutcome r ≡ growing s (length marks) (length records)) where
       pub grow-finished : (k c b n d : ℕ) → r ≡ Finished k c b n d → 0 ≡ codeOf (planCall s marks records counts)
@@ -52,7 +52,7 @@ module _ (s : Survey) (marks records counts : List ℕ) where
 
       pub grow-stored : (k c b n d : ℕ) → r ≡ Finished k c b n d → {l : List ℕ} → l ≡ sets counts 0 (k ∷ c ∷ b ∷ n ∷ d ∷ [])
           → l ≡ growCounts s marks records counts
-      unfolding growing plannedOutcome growCounts grownFigures planFiguresOf
+      unfolding growing plannedOutcome growCounts planFiguresOf
       grow-stored k c b n d h e = finished-counts (plan-long s marks records counts long) _ (sym answered ∙ ap plannedOutcome h) planFiguresOf counts e
 
       pub grow-refused : (number place : ℕ) → r ≡ PlanRefused number place → {x : ℕ} → x ≡ capped (number + placeUnit * place)
@@ -106,7 +106,7 @@ module _ (s : Survey) (marks counts : List ℕ) where
   module _ (long : dropFigures ≤ length counts) where
     pub drop-marks : {l : List ℕ} → l ≡ marksDropped s marks → l ≡ dropMarks s marks counts
     unfolding dropMarks marksDropped
-    drop-marks h = h ∙ sym (ap (λ y. written y (neededMarks s marks) marks) (drop-long long))
+    drop-marks h = h ∙ sym (ap (λ y. written y (marksDropped s marks) marks) (drop-long long) ∙ written-twice _ _ marks)
 
     module _ {r : Dropped} (answered : droppedOutcome r ≡ dropping s marks) where
       pub drop-finished : (k c : ℕ) → r ≡ DropFinished k c → 0 ≡ codeOf (dropCall s marks counts)

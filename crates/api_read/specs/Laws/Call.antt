@@ -79,7 +79,7 @@ no-room-refused t lent none = by-outcome (reading t lent) refl
 -- Counts that do not fit are 7 once the nodes line is complete, where its number is none that 1 refuses.
 pub read-short-seven : (t : List ℕ) (lent : Lengths) (counts n next : ℕ) → counts < readFigures → numberLine nodesKey countDigits t 0 ≡ found n next → 0 < n → n ≤ maxVertices
     → readCall t lent counts ≡ refusal 7 0
-unfolding readCall lentFor lentOn countsAt countLine testsFor checked
+unfolding readCall lentFor countsAt countLine testsFor checked
 read-short-seven t lent counts n next short line some few =
     let tested : checked (verticesTest 0 n) n next ≡ refused 7 0 = ap (λ (v : Verdict). checked v n next) (vertices-short 0 n (λ z. omega arith) few (omega arith)) in
     rw (lt-ltb counts readFigures short) (reading-refused t _ (then-refused _ (then-found _ line ∙ tested)))
@@ -111,14 +111,16 @@ module _ (t groups firsts seconds weights owners others counts : List ℕ) {room
   abbrev part : Outcome SurveyText
   part = reading t (lengthsOf (take (room - 0) groups) firsts seconds weights owners others)
 
+  lent-size : length (take (room - 0) groups) ≡ lentOn (length counts) readFigures (length groups)
+  lent-size = length-take-le (room - 0) groups (let l = lent-le _ _ _ lent in omega arith) ∙ sub-zero room ∙ lent
+
   lent-read : part ≡ call
-  unfolding readCall lentFor
+  unfolding readCall lentFor lentOn
   lent-read =
-      let size : length (take (room - 0) groups) ≡ lentOn (length counts) readFigures (length groups) = length-take-le (room - 0) groups (let l = lent-le _ _ _ lent in omega arith) ∙ sub-zero room ∙ lent in
-      ap (λ (n : ℕ). reading t (record { groups = n; firsts = length firsts; seconds = length seconds; weights = length weights; owners = length owners; others = length others })) size
+      ap (λ (n : ℕ). reading t (record { groups = n; firsts = length firsts; seconds = length seconds; weights = length weights; owners = length owners; others = length others })) lent-size
 
   short-read : ltb (length counts) readFigures ≡ true → (number place : ℕ) × (call ≡ refusal number place)
-  unfolding readCall lentFor lentOn
+  unfolding readCall lentFor
   short-read h = no-room-refused t _ (rw h refl)
 
   module _ {held firsts′ seconds′ weights′ owners′ others′ : List ℕ} {found : Outcome TextCounts}

@@ -35,7 +35,7 @@ use Rattle.why_rule.specs.Laws.Promise.{why-promises}
 use Rattle.api_code.specs.Code.{codeOf, withCounts, countsAfter}
 use Rattle.api_code.specs.Laws.Encodable.{code-zero, zero-code}
 use Rattle.api_plan.specs.Call.{planFigures, planFiguresOf, planCall, drawnFigures, planMarks, planRecords, planCounts}
-use Rattle.api_plan.specs.GrowCall.{grownFigures, growCounts, dropFigures, dropFiguresOf, dropCall, dropMarks, droppedCounts}
+use Rattle.api_plan.specs.GrowCall.{growCounts, dropFigures, dropFiguresOf, dropCall, dropMarks, droppedCounts}
 use Rattle.api_plan.specs.Laws.Call.{plan-call-encodable, plan-marks, plan-records}
 use Rattle.api_plan.specs.Laws.GrowCall.{drop-call-encodable, grow-marks, drop-marks}
 use Rattle.api_check.specs.Call.{checkFigures, checkFiguresOf, checkCall, checkCounts}
@@ -213,9 +213,9 @@ module _ (s : Survey) (marks counts : List ℕ) (zero : codeOf (dropCall s marks
 
 module _ (s : Survey) (marks records counts : List ℕ) (zero : codeOf (planCall s marks records counts) ≡ 0) where
   grow-counts : plannedIn (growCounts s marks records counts) ≡ grownCountsOf (planOf (problemOf s))
-  unfolding growCounts grownFigures planFiguresOf grownCountsOf
+  unfolding growCounts planFiguresOf grownCountsOf
   grow-counts =
-      ap (λ (l : List ℕ). plannedIn l) (stored-counts (plan-fine s marks records counts zero) (grownFigures s) counts)
+      ap (λ (l : List ℕ). plannedIn l) (stored-counts (plan-fine s marks records counts zero) (planFiguresOf (grownCountsOf (planOf (problemOf s)))) counts)
       ∙ planned-stored counts _ _ _ _ _ (plan-parts s marks records counts zero .0)
 
   module _ (numbered : ByteGroups s) (lent : List ℕ) (long : dropFigures ≤ length lent) where

@@ -34,8 +34,8 @@ use Rattle.plan_rule.specs.Laws.Promise.{counting-finished}
 use Rattle.api_code.specs.Code.{codeOf, withCounts}
 use Rattle.api_code.specs.Laws.Encodable.{Encodable, encodable-before, encodable-refuse, at-zero, code-zero, zero-code}
 use Rattle.api_code.specs.Laws.Ends.{counts-long, counts-encodable}
-use Rattle.api_plan.specs.Call.{planFiguresOf, drawnMarks, drawnRecords, drawnFigures}
-use Rattle.api_plan.specs.Laws.Call.{plan-encodable}
+use Rattle.api_plan.specs.Call.{planFiguresOf, drawnFigures}
+use Rattle.api_plan.specs.Laws.Call.{plan-encodable, marks-left, records-left}
 use Rattle.api_check.specs.Call.{checkFiguresOf}
 use Rattle.api_check.specs.Laws.Call.{check-encodable}
 use Rattle.api_handset.specs.Words.{wordBytes, figureBytes, spelledCounts}
@@ -186,7 +186,7 @@ module _ (b : Slices) (whole : Whole b) (marks records result : List ℕ) where
 
   module _ (numbered : ByteGroups (surveySpelled b)) where
     pub library-plans : planBytes ≤ length result → LibraryPlans b marks records result
-    unfolding handsetMarks handsetRecords marksAfter recordsAfter drawnMarks drawnRecords drawnFigures planFiguresOf counting handsetPlanResult resultAfter written
+    unfolding handsetMarks handsetRecords marksAfter recordsAfter drawnFigures planFiguresOf counting handsetPlanResult resultAfter written
     library-plans long =
         let s = surveySpelled b in
         let v = plan-verdict long in
@@ -195,8 +195,8 @@ module _ (b : Slices) (whole : Whole b) (marks records result : List ℕ) where
         answer-fine (planRefusal s (length marks) (length records)) (planCountsOf (planOf (problemOf s))) c h in
         record {
           verdict = v;
-          marks-are = ap (λ x. written x (drawnMarks s marks) marks) v;
-          records-are = ap (λ x. written x (drawnRecords s records) records) v;
+          marks-are = ap (λ x. written x (marksAfter s marks records) marks) v ∙ marks-left s marks records;
+          records-are = ap (λ x. written x (recordsAfter s marks records) records) v ∙ records-left s marks records;
           counts-are = λ c h.
               let f = found c h in
               ap (λ (l : List ℕ). plannedSpelled l) (result-stored (v ∙ f .0) (drawnFigures s) result)
@@ -311,12 +311,12 @@ module _ (b : Slices) (marks records result : List ℕ) (none : codeOf (handsetP
         (ap (λ v. outcome v (planCountsOf (planOf (problemOf (surveySpelled b))))) (plan-parts .1) ∙ ap (λ (c : PlanCounts). answer c) (sym plan-counts))
 
     plan-marks : marksAfter (surveySpelled b) marks records ≡ handsetMarks b marks records result
-    unfolding handsetMarks marksAfter drawnMarks written
-    plan-marks = ap (λ v. written v (drawnMarks (surveySpelled b) marks) marks) (plan-parts .1 ∙ sym plan-fine)
+    unfolding handsetMarks written
+    plan-marks = sym (ap (λ v. written v (marksAfter (surveySpelled b) marks records) marks) plan-fine)
 
     plan-records : recordsAfter (surveySpelled b) marks records ≡ handsetRecords b marks records result
-    unfolding handsetRecords recordsAfter drawnRecords written
-    plan-records = ap (λ v. written v (drawnRecords (surveySpelled b) records) records) (plan-parts .1 ∙ sym plan-fine)
+    unfolding handsetRecords written
+    plan-records = sym (ap (λ v. written v (recordsAfter (surveySpelled b) marks records) records) plan-fine)
 
     plan-passes : checking (surveySpelled b) (take (edgeCount (surveySpelled b)) (handsetMarks b marks records result))
         (take (recordBytes * figureIn (handsetPlanResult b marks records result) 4) (handsetRecords b marks records result))
