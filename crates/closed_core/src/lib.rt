@@ -40,7 +40,7 @@ fn store_rows(
         ⌜ new result ≡ rowsOf s (old tracks) ++ drop (rowFigures * length (old tracks)) (old result) ⌝ }
 {
     let mut marks = [0u8; MAX_EDGES];
-    let whole = plan_core::figures::figures(
+    let whole = plan_core::figures::sound_figures(
         groups,
         firsts,
         seconds,

@@ -1,7 +1,7 @@
 // A survey with one track left out, and its figures.
-ghost use Rattle.base_buffer.specs.Lent.{old};
+ghost use Rattle.base_buffer.specs.Lent.{old, new};
 ghost use mathlib.Core.Path.{_≡_};
-ghost use Prim.Native.Nat.{_≤_, _<_};
+ghost use Prim.Native.Nat.{_-_, _≤_, _<_};
 ghost use lib.ListN.{getD, length, replicate};
 ghost use Rattle.base_buffer.specs.Store.{remade};
 ghost use Rattle.base_limits.specs.Limits.{maxEdges};
@@ -13,28 +13,40 @@ ghost use Rattle.closed_core.specs.LeftOut.{leftOut};
 use base_limits::MAX_EDGES;
 use plan_rule::Figured;
 
-// The old number of track e, where c is left out.
-fn skip(c: usize, e: usize) -> usize
-    requires { ⌜ e < maxEdges ⌝ }
-    ensures { λ r. ⌜ r ≡ skipping c e ⌝ }
+// The numbers before entry c, at their places.
+fn copy_below(list: &[u32], c: usize, left: &mut [u32; MAX_EDGES])
+    requires { ⌜ (c < length (now list)) × (length (now list) ≤ maxEdges) × (now left ≡ replicate maxEdges 0) ⌝ }
+    ensures { λ r. ⌜ new left ≡ remade (λ e x. getD (old list) (skipping c e) 0) c (old left) ⌝ }
 {
-    if e < c {
-        return e;
-    }
-    e + 1
-}
-
-// The first `count` numbers of a list without entry c.
-fn leave_out(list: &[u32], c: usize, count: usize) -> [u32; MAX_EDGES]
-    requires { ⌜ count ≤ maxEdges ⌝ }
-    ensures { λ r. ⌜ r ≡ remade (λ e x. getD (old list) (skipping c e) 0) count (replicate maxEdges 0) ⌝ }
-{
-    let mut left = [0u32; MAX_EDGES];
     let mut e = 0;
-    while e < count {
-        base_buffer::put32(&mut left, e, base_buffer::at32(list, skip(c, e)));
+    while e < c {
+        left[e] = list[e];
         e += 1;
     }
+}
+
+// The numbers after entry c, each one place lower, up to `count` of them in all.
+fn copy_above(list: &[u32], c: usize, count: usize, left: &mut [u32; MAX_EDGES])
+    requires { ⌜ (c ≤ count) × (count < length (now list)) × (length (now list) ≤ maxEdges) ⌝ }
+    requires { ⌜ now left ≡ remade (λ e x. getD (now list) (skipping c e) 0) c (replicate maxEdges 0) ⌝ }
+    ensures { λ r. ⌜ new left ≡ remade (λ e x. getD (old list) (skipping c e) 0) count (replicate maxEdges 0) ⌝ }
+{
+    let mut e = c;
+    while e < count {
+        left[e] = list[e + 1];
+        e += 1;
+    }
+}
+
+// The numbers of a list without entry c.
+fn leave_out(list: &[u32], c: usize) -> [u32; MAX_EDGES]
+    requires { ⌜ (c < length (now list)) × (length (now list) ≤ maxEdges) ⌝ }
+    ensures { λ r. let count = length (old list) - 1 in
+        ⌜ r ≡ remade (λ e x. getD (old list) (skipping c e) 0) count (replicate maxEdges 0) ⌝ }
+{
+    let mut left = [0u32; MAX_EDGES];
+    copy_below(list, c, &mut left);
+    copy_above(list, c, list.len() - 1, &mut left);
     left
 }
 
@@ -55,11 +67,11 @@ pub fn figures_without(
         ⌜ figuredOutcome r ≡ figuring (leftOut s c) ⌝ }
 {
     let count = firsts.len() - 1;
-    let open_firsts = leave_out(firsts, c, count);
-    let open_seconds = leave_out(seconds, c, count);
-    let open_weights = leave_out(weights, c, count);
+    let open_firsts = leave_out(firsts, c);
+    let open_seconds = leave_out(seconds, c);
+    let open_weights = leave_out(weights, c);
     let mut marks = [0u8; MAX_EDGES];
-    plan_core::figures::figures(
+    plan_core::figures::sound_figures(
         groups,
         &open_firsts[0..count],
         &open_seconds[0..count],

@@ -1,4 +1,4 @@
 pub mod Grown
 pub mod Picks
-pub mod Figures
+pub mod Planned
 pub mod Laws

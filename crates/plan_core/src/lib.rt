@@ -17,6 +17,7 @@ mod grow;
 mod lists;
 mod marks;
 mod picks;
+mod planned;
 mod poured;
 mod prune;
 mod refusal;

@@ -12,6 +12,13 @@ use Rattle.survey_components.specs.Labels.{pickedIn}
 abbrev pub unweighted : (groups firsts seconds : List ℕ) → Problem
 unweighted groups firsts seconds = problemOf (surveyFrom groups firsts seconds [])
 
+-- Picked edges of a survey within the limits.
+pub record Picks (groups firsts seconds picked : List ℕ) : Type 0 where
+  pub few : length groups ≤ maxVertices
+  pub edges-few : length firsts ≤ maxEdges
+  pub sound : Sound (unweighted groups firsts seconds)
+  pub bounded : Bounded (unweighted groups firsts seconds) (pickedIn picked)
+
 -- A forest of surveyed edges that joins every required pair.
 pub record Prunable (groups firsts seconds picked : List ℕ) : Type 0 where
   pub few : length groups ≤ maxVertices

@@ -1,15 +1,19 @@
 // Which picked tracks of a forest are needed: each has a cut of its own, and 64 of them are judged at once. Definitions
-// in specs/Side, Needed, Judge and the like. `prune` writes the marks, or answers 1 to 6, 9, 21 or 14.
+// in specs/Side, Needed, Judge and the like. `prune_picks` writes the marks, or answers 21 or 14; `prune` judges the
+// survey and the picks first.
 ghost use Rattle.base_buffer.specs.Lent.{old, new};
 ghost use mathlib.Core.Path.{_≡_};
+ghost use mathlib.Core.List.{[]};
 ghost use lib.ListN.{length};
 ghost use Rattle.base_finite.specs.Below.{tabulate};
 ghost use Rattle.base_limits.specs.Limits.{maxVertices};
-ghost use Rattle.survey_core.specs.Survey.{lentSurvey};
+ghost use Rattle.base_limits.specs.Verdict.{_before_, written};
+ghost use Rattle.survey_core.specs.Survey.{surveyFrom, lentSurvey};
+ghost use Rattle.survey_core.specs.Refusal.{groupRefusal};
 ghost use Rattle.survey_groups.specs.Mate.{mateOf};
 ghost use Rattle.survey_components.specs.Labels.{pickedIn};
-ghost use Rattle.survey_components.specs.Forest.{forestRefusal};
-ghost use Rattle.plan_drop.specs.Prunable.{Prunable, unweighted};
+ghost use Rattle.survey_components.specs.Forest.{loopRefusal, forestRefusal};
+ghost use Rattle.plan_drop.specs.Prunable.{Picks, Prunable, unweighted};
 ghost use Rattle.plan_drop.specs.Judge.{batchMarks, prunedMarks, marksPruned};
 use base_limits::MAX_VERTICES;
 use base_limits::Verdict;
@@ -99,9 +103,32 @@ fn prune_forest(groups: &[u8], firsts: &[u32], seconds: &[u32], picked: &[u8], m
     }
 }
 
-// Marks every surveyed edge: 0 not picked, 1 picked and dropped, 2 needed. Refused, with no mark written, where 1 to 6
-// apply, 9 for picks not m long, 21 for a picked track that closes a loop, 14 for a group that the picked tracks leave
-// apart.
+// Marks every edge of a survey that 1 to 6 do not refuse, of picks of its tracks: 0 not picked, 1 picked and dropped, 2
+// needed. Refused, with no mark written, are 21 for a picked track that closes a loop, 14 for a group that the picked
+// tracks leave apart.
+pub fn prune_picks(
+    groups: &[u8],
+    firsts: &[u32],
+    seconds: &[u32],
+    picked: &[u8],
+    marks: &mut [u8],
+) -> Verdict
+    requires { ⌜ Picks (now groups) (now firsts) (now seconds) (now picked) ⌝ }
+    ensures { λ r. let s = surveyFrom (old groups) (old firsts) (old seconds) [] in
+        ⌜ r ≡ (loopRefusal s (pickedIn (old picked)) before groupRefusal s 14 (pickedIn (old picked))) ⌝ }
+    ensures { λ r. let p = unweighted (old groups) (old firsts) (old seconds) in
+        let pruned = prunedMarks p (pickedIn (old picked)) (length (old firsts)) (old marks) in
+        ⌜ new marks ≡ written r pruned (old marks) ⌝ }
+{
+    let found = survey_components::loop_refusal(groups, firsts, seconds, picked);
+    let Verdict::Fine = found else {
+        return found;
+    };
+    prune_forest(groups, firsts, seconds, picked, marks);
+    Verdict::Fine
+}
+
+// The same of any survey and any picks: 1 to 6 and 9 for picks not m long come before 21 and 14.
 pub fn prune(
     groups: &[u8],
     firsts: &[u32],

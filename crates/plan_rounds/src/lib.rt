@@ -1,6 +1,6 @@
 // Growing over arrays: rounds until no candidate is left, at most n - 1. What a round makes of any arrays is
-// specs/Round, what they represent specs/Represents, what a growth leaves specs/Grown. `grow` answers the number of
-// rounds and the sum of all moats, and leaves values, picks and their order.
+// specs/Round, what they represent specs/Represents, what a growth leaves specs/Grown. `grow_rounds` answers the number of
+// rounds and the sum of all moats, and leaves values, picks and their order; `grow` judges the survey first.
 ghost use Rattle.base_buffer.specs.Lent.{old, new};
 ghost use mathlib.Core.Path.{_≡_};
 ghost use Prim.Native.Nat.{_<_, _^_};
@@ -43,8 +43,9 @@ fn note_pick(picked: &mut [u8; MAX_EDGES], order: &mut [u32; MAX_VERTICES], e: u
     put32(order, r, e as u32);
 }
 
-// Rounds until no candidate is left, at most n - 1, from arrays that hold nothing yet.
-fn grow_rounds(
+// Rounds until no candidate is left, at most n - 1, of a survey that 1 to 6 do not refuse, from arrays that hold nothing
+// yet.
+pub fn grow_rounds(
     groups: &[u8],
     firsts: &[u32],
     seconds: &[u32],

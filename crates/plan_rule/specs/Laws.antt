@@ -8,4 +8,3 @@ pub mod Same
 pub mod Poured
 pub mod Dropping
 pub mod Stages
-pub mod Figures

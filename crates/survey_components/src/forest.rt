@@ -50,7 +50,7 @@ fn join_picked(
 }
 
 // 21 at the lowest picked track whose ends are linked already, then 14.
-fn loop_refusal(groups: &[u8], firsts: &[u32], seconds: &[u32], picked: &[u8]) -> Verdict
+pub fn loop_refusal(groups: &[u8], firsts: &[u32], seconds: &[u32], picked: &[u8]) -> Verdict
     requires { ⌜ EndsBelow (now groups) (now firsts) (now seconds) ⌝ }
     ensures { λ r. let s = surveyFrom (old groups) (old firsts) (old seconds) [] in
         let picks = pickedIn (old picked) in

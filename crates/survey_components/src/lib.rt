@@ -1,18 +1,21 @@
 // Sets of tracks by their marks, the components that a set makes, as labels in a buffer, and its loops. Definitions in
-// specs/Labels, Roots, Met, Forest and Buffer. `set_labels` leaves labels, `forest_refusal` answers 21 or 14.
+// specs/Labels, Roots, Met, Forest and Buffer. `joined_labels` leaves labels, `loop_refusal` answers 21 or 14, of a survey
+// that 1 to 6 do not refuse; `set_labels` and `forest_refusal` judge it first.
 ghost use Rattle.base_buffer.specs.Lent.{old, new};
 ghost use mathlib.Core.Path.{_≡_};
 ghost use Prim.Native.Nat.{ℕ};
 ghost use mathlib.Core.Bool.{cond};
+ghost use mathlib.Core.List.{[]};
 ghost use lib.ListN.{getD, length, replicate};
 ghost use Rattle.base_finite.specs.Below.{tabulate};
 ghost use Rattle.theory_graph.specs.Component.{components};
 ghost use Rattle.base_limits.specs.Limits.{maxVertices};
 ghost use Rattle.base_limits.specs.Verdict.{written};
-ghost use Rattle.survey_core.specs.Survey.{lentSurvey};
+ghost use Rattle.survey_core.specs.Survey.{surveyFrom, lentSurvey};
 ghost use Rattle.survey_core.specs.Refusal.{surveyRefusal};
 ghost use Rattle.survey_components.specs.Labels.{chosenMark, chosen, pickedIn, EndsFit, labelsOf};
 ghost use Rattle.survey_components.specs.Met.{endsMet};
+ghost use Rattle.survey_components.specs.Forest.{EndsBelow};
 use crate::join::is_kept;
 use crate::join::join_ends;
 use base_buffer::at32;
@@ -26,6 +29,7 @@ mod labels;
 mod level;
 
 pub use forest::forest_refusal;
+pub use forest::loop_refusal;
 pub use labels::climb;
 pub use labels::merge;
 pub use labels::own_labels;
@@ -92,7 +96,25 @@ fn label_components(set: Chosen, firsts: &[u32], seconds: &[u32], marks: &[u8], 
     crate::level::level(labels, firsts.len());
 }
 
-// The labels of the components that the edges of the set make; zeros where one of 1 to 6 comes.
+// The labels of the components that the edges of the set make.
+pub fn joined_labels(
+    groups: &[u8],
+    firsts: &[u32],
+    seconds: &[u32],
+    set: Chosen,
+    marks: &[u8],
+) -> [u32; MAX_VERTICES]
+    requires { ⌜ EndsBelow (now groups) (now firsts) (now seconds) ⌝ }
+    ensures { λ r. let s = surveyFrom (old groups) (old firsts) (old seconds) [] in
+        ⌜ r ≡ labelsOf s (chosen set (old marks)) ⌝ }
+{
+    let mut labels = [0u32; MAX_VERTICES];
+    own_labels(&mut labels);
+    label_components(set, firsts, seconds, marks, &mut labels[0..groups.len()]);
+    labels
+}
+
+// The same of any survey; zeros where one of 1 to 6 comes.
 pub fn set_labels(
     groups: &[u8],
     firsts: &[u32],
@@ -104,12 +126,9 @@ pub fn set_labels(
     ensures { λ r. let s = lentSurvey groups firsts seconds weights in
         ⌜ r ≡ written (surveyRefusal s) (labelsOf s (chosen set (old marks))) (replicate maxVertices 0) ⌝ }
 {
-    let mut labels = [0u32; MAX_VERTICES];
     let found = survey_refusal::edges::survey_refusal(groups, firsts, seconds, weights);
     let Verdict::Fine = found else {
-        return labels;
+        return [0u32; MAX_VERTICES];
     };
-    own_labels(&mut labels);
-    label_components(set, firsts, seconds, marks, &mut labels[0..groups.len()]);
-    labels
+    joined_labels(groups, firsts, seconds, set, marks)
 }

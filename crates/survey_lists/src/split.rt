@@ -7,7 +7,8 @@ ghost use Rattle.base_finite.specs.Below.{tabulate};
 ghost use Rattle.base_limits.specs.Limits.{groupNumbers};
 ghost use Rattle.base_limits.specs.Verdict.{_before_};
 ghost use Rattle.survey_core.specs.Lists.{lentLists};
-ghost use Rattle.survey_core.specs.Survey.{groupsAlone, lentWith};
+ghost use Rattle.survey_core.specs.Survey.{groupsAlone, surveyWith, lentWith};
+ghost use Rattle.survey_core.specs.Sound.{SurveySound};
 ghost use Rattle.survey_core.specs.Refusal.{surveyRefusal, groupRefusal};
 ghost use Rattle.survey_groups.specs.Spread.{notedIn, spread};
 ghost use Rattle.survey_components.specs.Labels.{chosen};
@@ -82,8 +83,29 @@ pub fn split_list(
     survey_groups::first_split(&table, number)
 }
 
-// 1 to 6 and 18, and then the lowest list that the set of tracks does not join, under the number given: 8 of all
-// tracks, 14 of the kept ones.
+// The lowest list that the set of tracks does not join, of a survey that 1 to 6 and 18 do not refuse, under the number
+// given: 8 of all tracks, 14 of the kept ones.
+pub fn unjoined_refusal(
+    groups: &[u8],
+    firsts: &[u32],
+    seconds: &[u32],
+    weights: &[u32],
+    owners: &[u32],
+    others: &[u8],
+    set: Chosen,
+    marks: &[u8],
+    number: u64,
+) -> Verdict
+    requires { ⌜ SurveySound
+        (surveyWith (now groups) (now firsts) (now seconds) (now weights) (now owners) (now others)) ⌝ }
+    ensures { λ r. let s = lentWith groups firsts seconds weights owners others in
+        ⌜ r ≡ groupRefusal s number (chosen set (old marks)) ⌝ }
+{
+    let labels = survey_components::joined_labels(groups, firsts, seconds, set, marks);
+    split_list(groups, owners, others, &labels, number)
+}
+
+// 1 to 6 and 18, and then that list.
 pub fn group_refusal(
     groups: &[u8],
     firsts: &[u32],
@@ -102,6 +124,15 @@ pub fn group_refusal(
     let Verdict::Fine = found else {
         return found;
     };
-    let labels = survey_components::set_labels(groups, firsts, seconds, weights, set, marks);
-    split_list(groups, owners, others, &labels, number)
+    unjoined_refusal(
+        groups,
+        firsts,
+        seconds,
+        weights,
+        owners,
+        others,
+        set,
+        marks,
+        number,
+    )
 }

@@ -18,14 +18,17 @@ Inv-loop groups firsts seconds weights owners others tracks result₀ marks whol
 abbrev μ-loop : tie.MeasureT-loop
 μ-loop groups firsts seconds weights owners others tracks result₀ marks whole i₀ result i = length tracks - i
 
+sound-figures-requires : tie.Need-sound-figures-requires Inv-loop μ-loop
+sound-figures-requires c κs = c .before .before .before .before .before .before .before .before .before .pre .0
+
 loop-holds : tie.Need-loop-holds Inv-loop μ-loop
 loop-holds c = (omega arith, rows-none _ _ _ (c .before .before .before .before .before .before .before .before .before .before .pre .1 .1))
 
 slice-aggregate-entry : tie.Need-slice-aggregate-entry Inv-loop μ-loop
-slice-aggregate-entry c = sym (ap length (c .before .before .before .figures .ensures .1) ∙ figured-long _ (c .before .before .before .before .before .before .before .before .before .before .before .before .before .pre .0))
+slice-aggregate-entry c = sym (ap length (c .before .before .before .sound-figures .ensures .1) ∙ figured-long _ (c .before .before .before .before .before .before .before .before .before .before .before .before .before .pre .0))
 
 entry-requires : tie.Need-entry-requires Inv-loop μ-loop
-entry-requires c κs = (c .before .before .before .before .before .before .before .before .before .before .before .before .before .before .pre .0, (c .before .before .before .before .figures .ensures .0, c .before .before .before .before .figures .ensures .1))
+entry-requires c κs = (c .before .before .before .before .before .before .before .before .before .before .before .before .before .before .pre .0, (c .before .before .before .before .sound-figures .ensures .0, c .before .before .before .before .sound-figures .ensures .1))
 
 mul-store-row : tie.Need-mul-store-row Inv-loop μ-loop
 mul-store-row c = let few = c .before .before .before .before .before .before .before .before .before .before .before .before .before .before .before .before .pre .1 .0 in let below = c .before .before .before .before .loop-test .taken in search (needs, few, below)
@@ -52,7 +55,7 @@ store-rows-spec =
     (tie.spec
     Inv-loop
     μ-loop
-    (λ c κs. search needs)
+    sound-figures-requires
     loop-holds
     slice-aggregate-entry
     (λ c κs. search needs)

@@ -1,7 +1,8 @@
 -- A track left out of a survey is an edge left out of its problem, which is an edge closed: the same groups can be joined, and the plans cost the same and
 -- have the same bound. `figures_without` and `entry` cite it.
-use Prim.Native.Nat.{ℕ, _-_, _≤_, _<_}
+use Prim.Native.Nat.{ℕ, _+_, _-_, _≤_, _<_}
 use native.Mathlib.Nat.{sub-zero}
+use native.Mathlib.Numerals.{add-one}
 use native.Mathlib.Omega.{arith}
 use mathlib.Core.Path.{_≡_, refl, ap, sym, _∙_, subst}
 use mathlib.Core.Logic.{_↔_, ⊎-elim}
@@ -21,7 +22,7 @@ use Rattle.theory_graph.specs.Path.{Linked}
 use Rattle.theory_steiner.specs.Problem.{Problem, Bounded, allUsable}
 use Rattle.theory_steiner.specs.Closed.{closing, skipping, omitting}
 use Rattle.theory_steiner.specs.Laws.Finish.{allUsable-edges}
-use Rattle.theory_steiner.specs.Laws.Omitted.{skipping-below, omitted-linked, omitted-plan}
+use Rattle.theory_steiner.specs.Laws.Omitted.{skipping-low, skipping-high, skipping-below, omitted-linked, omitted-plan}
 use Rattle.survey_core.specs.Survey.{Survey, surveyWith, listsOf, vertexCount, edgeCount, member, sameGroup, problemOf, JoinsGroup}
 use Rattle.survey_core.specs.Sound.{EdgeSound, SurveySound}
 use Rattle.survey_core.specs.Refusal.{surveyRefusal, groupRefusal}
@@ -67,9 +68,12 @@ omitted-part m c l few {left} h =
     room : m - 1 ≤ length (replicate {A = ℕ} maxEdges 0)
     room = subst (λ x. m - 1 ≤ x) (sym (length-replicate {A = ℕ} maxEdges 0)) (omega arith)
 
--- An entry that is read at its old number.
-pub read-skipped : (l : List ℕ) {x i j : ℕ} → i ≡ j → x ≡ getD l i 0 → x ≡ getD l j 0
-read-skipped l same h = h ∙ ap (λ (i : ℕ). getD l i 0) same
+-- An entry that is read at its old number: its own below c, one more from c on.
+pub read-below : (l : List ℕ) (c e : ℕ) → e < c → getD l e 0 ≡ getD l (skipping c e) 0
+read-below l c e b = ap (λ (i : ℕ). getD l i 0) (sym (skipping-low c e b))
+
+pub read-above : (l : List ℕ) (c e : ℕ) → c ≤ e → getD l (e + 1) 0 ≡ getD l (skipping c e) 0
+read-above l c e b = ap (λ (i : ℕ). getD l i 0) (add-one e ∙ sym (skipping-high c e b))
 
 module _ (s : Survey) (sound : SurveySound s) (c : ℕ) (known : c < length (s .firsts)) where
   first-at : (e : ℕ) → getD (leftOut s c .firsts) e 0 ≡ getD (s .firsts) (skipping c e) 0
@@ -171,20 +175,21 @@ module _ (s : Survey) (sound : SurveySound s) (c : ℕ) (known : c < length (s .
       ∙ ap (λ v. outcome v (closedCountsOf (planOf (closing (problemOf s) c)))) left-out-refusal
 
 -- The survey that is planned in place of the one with the track closed: its tracks are copied.
-pub left-out-lent : (s : Survey) (c : ℕ) → length (s .firsts) ≤ maxEdges → {firsts seconds weights : List ℕ} {o : Outcome FigureCounts}
+pub left-out-lent : (s : Survey) (c : ℕ) → SurveySound s → {firsts seconds weights : List ℕ}
     → firsts ≡ remade (λ e x. getD (s .firsts) (skipping c e) 0) (length (s .firsts) - 1) (replicate maxEdges 0)
-    → seconds ≡ remade (λ e x. getD (s .seconds) (skipping c e) 0) (length (s .firsts) - 1) (replicate maxEdges 0)
-    → weights ≡ remade (λ e x. getD (s .weights) (skipping c e) 0) (length (s .firsts) - 1) (replicate maxEdges 0)
-    → o ≡ figuring
-    (surveyWith (s .groups) (take (length (s .firsts) - 1 - 0) firsts) (take (length (s .firsts) - 1 - 0) seconds) (take (length (s .firsts) - 1 - 0) weights)
-    (s .owners) (s .others))
-    → o ≡ figuring (leftOut s c)
-left-out-lent s c few {firsts} {seconds} {weights} a b d h =
+    → seconds ≡ remade (λ e x. getD (s .seconds) (skipping c e) 0) (length (s .seconds) - 1) (replicate maxEdges 0)
+    → weights ≡ remade (λ e x. getD (s .weights) (skipping c e) 0) (length (s .weights) - 1) (replicate maxEdges 0)
+    → surveyWith (s .groups) (take (length (s .firsts) - 1 - 0) firsts) (take (length (s .firsts) - 1 - 0) seconds) (take (length (s .firsts) - 1 - 0) weights)
+    (s .owners) (s .others)
+    ≡ leftOut s c
+left-out-lent s c sound {firsts} {seconds} {weights} a b d =
     let m = length (s .firsts) in
-    h
-    ∙ ap (λ (l : List ℕ). figuring (surveyWith (s .groups) l (take (m - 1 - 0) seconds) (take (m - 1 - 0) weights) (s .owners) (s .others))) (omitted-part m c (s .firsts) few a)
-    ∙ ap (λ (l : List ℕ). figuring (surveyWith (s .groups) (omitted m c (s .firsts)) l (take (m - 1 - 0) weights) (s .owners) (s .others))) (omitted-part m c (s .seconds) few b)
-    ∙ ap (λ (l : List ℕ). figuring (surveyWith (s .groups) (omitted m c (s .firsts)) (omitted m c (s .seconds)) l (s .owners) (s .others))) (omitted-part m c (s .weights) few d)
+    let few = sound .edges-few in
+    let second : seconds ≡ remade (λ e x. getD (s .seconds) (skipping c e) 0) (m - 1) (replicate maxEdges 0) = rw (sound .seconds-long) b in
+    let weight : weights ≡ remade (λ e x. getD (s .weights) (skipping c e) 0) (m - 1) (replicate maxEdges 0) = rw (sound .weights-long) d in
+    ap (λ (l : List ℕ). surveyWith (s .groups) l (take (m - 1 - 0) seconds) (take (m - 1 - 0) weights) (s .owners) (s .others)) (omitted-part m c (s .firsts) few a)
+    ∙ ap (λ (l : List ℕ). surveyWith (s .groups) (omitted m c (s .firsts)) l (take (m - 1 - 0) weights) (s .owners) (s .others)) (omitted-part m c (s .seconds) few second)
+    ∙ ap (λ (l : List ℕ). surveyWith (s .groups) (omitted m c (s .firsts)) (omitted m c (s .seconds)) l (s .owners) (s .others)) (omitted-part m c (s .weights) few weight)
 
 -- The same for the number that was asked for.
 pub left-out-asked : (s : Survey) → SurveySound s → {c track : ℕ} → c ≡ track → c < length (s .firsts) → {f : Outcome FigureCounts} {o : Outcome ClosedCounts}

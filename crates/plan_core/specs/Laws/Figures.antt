@@ -1,45 +1,41 @@
--- A call of planning without its moats: refused, with nothing written, or the figures and marks of the plan of the lists. `figures` cites it.
-use Prim.Native.Nat.{ℕ, _-_, _≤_}
-use mathlib.Core.Path.{_≡_, refl, ap, sym, _∙_}
-use mathlib.Core.List.{[], List, _++_}
-use lib.ListN.{length, take, drop}
-use Rattle.base_limits.specs.Limits.{maxVertices, maxEdges}
+-- A call of planning without its moats: refused, with nothing written, or the figures and marks of the plan of the lists. `figures` and its parts cite it.
+use Prim.Native.Nat.{ℕ, _≤_}
+use mathlib.Core.Path.{_≡_, refl, ap, sym, _∙_, subst}
+use mathlib.Core.Bool.{Bool, true, false, cond}
+use mathlib.Core.List.{List, [], _++_}
+use native.Mathlib.Omega.{arith}
+use lib.ListN.{length, drop}
+use Rattle.base_finite.specs.Laws.Test.{same-test, true-not-false}
 use Rattle.base_limits.specs.Verdict.{Outcome, refusal, answer, outcome, written, _before_}
 use Rattle.base_limits.specs.declared.Verdict.{Verdict}
 use Rattle.base_limits.specs.declared.Verdict.the-variants.{Fine, Refused}
-use Rattle.base_limits.specs.Laws.Verdict.{answer-fine, fine-left}
-use Rattle.survey_core.specs.Survey.{Survey, surveyFrom, groupsAlone, listsOf, edgeCount, problemOf}
-use Rattle.survey_core.specs.Sound.{ByteGroups}
+use Rattle.base_limits.specs.Laws.Verdict.{before-fine, before-refused}
+use Rattle.theory_steiner.specs.Problem.{Joins, Bounded, allUsable, terminals, cost}
+use Rattle.theory_steiner.specs.Growth.{grown}
+use Rattle.theory_steiner.specs.Laws.Joined.{joined-iff}
+use Rattle.survey_core.specs.Survey.{Survey, surveyFrom, groupsAlone, listsOf, vertexCount, edgeCount, problemOf}
+use Rattle.survey_core.specs.Sound.{ByteGroups, SurveySound}
 use Rattle.survey_core.specs.Refusal.{surveyRefusal, groupRefusal}
-use Rattle.survey_core.specs.Laws.Refusal.{fine-survey}
-use Rattle.theory_steiner.specs.Problem.{allUsable, terminals}
+use Rattle.survey_core.specs.Laws.Refusal.{survey-fine}
+use Rattle.survey_core.specs.Laws.Group.{group-fine, joins-fine}
 use Rattle.survey_components.specs.Labels.{chosen}
 use Rattle.survey_components.specs.declared.Chosen.the-variants.{All}
-use Rattle.survey_lists.specs.Pouring.{poured, roomOf}
-use Rattle.plan_draw.specs.Drawing.{recordsOver}
-use Rattle.plan_rule.specs.Plan.{planOf, planRefusal, PlanCounts}
-use Rattle.plan_rule.specs.Growing.{grownCountsOf, growing, marksGrown}
-use Rattle.plan_rule.specs.Dropping.{DropCounts, dropping, marksDropped}
+use Rattle.survey_lists.specs.Pouring.{pouredGroups, pouredSurvey}
+use Rattle.survey_lists.specs.Laws.Plan.{poured-sound, poured-joins}
+use Rattle.check_rule.specs.Check.{keptBy}
+use Rattle.plan_rule.specs.Plan.{Plan, planOf}
 use Rattle.plan_rule.specs.Figures.{FigureCounts, figuresRefusal, figureCountsOf, figuring, marksFigured}
-use Rattle.plan_rule.specs.Laws.Ready.{groups-of-all}
-use Rattle.plan_rule.specs.Laws.Figures.{recordsFor, figures-planned, figures-dropped, figures-marks}
-use Rattle.plan_core.specs.Grown.{GrownInto, moatsIn}
-use Rattle.plan_core.specs.Figures.{PickedInto, thenFigures}
-use Rattle.plan_core.specs.Laws.Call.{growing-finished}
+use Rattle.plan_rule.specs.Laws.Ready.{all-bounded, groups-of-all}
+use Rattle.plan_rule.specs.Laws.Same.{plan-terminals, plan-poured}
+use Rattle.plan_core.specs.Planned.{joinable, marksJoined, MarkedInto, figuresJoined}
+use Rattle.plan_core.specs.Laws.Planned.{planned-cost}
 
--- 1 to 6, 18 and 8 as the code finds them.
-pub figures-found : (s : Survey) (marks : List ℕ) {v : Verdict} → v ≡ (surveyRefusal s before groupRefusal s 8 (chosen All marks)) → v ≡ figuresRefusal s
-unfolding figuresRefusal
-figures-found s marks h = h ∙ ap (λ w. surveyRefusal s before w) (sym (groups-of-all s 8 marks))
+-- ---- refused
 
--- Where nothing stops it, tracks and junctions are few enough for arrays of the most.
-pub figures-fit : (s : Survey) → figuresRefusal s ≡ Fine → length (s .firsts) ≤ maxEdges
+-- 1 to 6 and 18
+pub survey-refuses : (s : Survey) {v : Verdict} {number place : ℕ} → v ≡ surveyRefusal s → v ≡ Refused number place → figuresRefusal s ≡ Refused number place
 unfolding figuresRefusal
-figures-fit s fine = fine-survey s (fine-left (surveyRefusal s) (groupRefusal s 8 (allUsable (problemOf s))) fine) .edges-few
-
-pub figures-few : (s : Survey) → figuresRefusal s ≡ Fine → length (s .groups) ≤ maxVertices
-unfolding figuresRefusal
-figures-few s fine = fine-survey s (fine-left (surveyRefusal s) (groupRefusal s 8 (allUsable (problemOf s))) fine) .few
+survey-refuses s is h = before-refused (sym is ∙ h) _
 
 pub figures-refused : (s : Survey) (marks : List ℕ) {number place : ℕ} → figuresRefusal s ≡ Refused number place
     → (refusal number place ≡ figuring s) × (marks ≡ marksFigured s marks)
@@ -49,61 +45,115 @@ figures-refused s marks h = (
   sym (ap (λ v. written v (planOf (problemOf s) .marks ++ drop (edgeCount s) marks) marks) h),
 )
 
-module _ (s : Survey) (numbered : ByteGroups s) (marks : List ℕ) (fine : figuresRefusal s ≡ Fine) (fits : edgeCount s ≤ length marks) where
-  module _ {room marked : List ℕ} {bound rounds : ℕ} (room-is : room ≡ roomOf (length (s .groups)) (poured (listsOf s)))
-      (left : PickedInto (surveyFrom (take (length (s .groups) - 0) room) (s .firsts) (s .seconds) (s .weights)) marks bound rounds marked) where
+-- ---- over poured lists
+
+module _ (s : Survey) (marks : List ℕ) {joins : Bool} {rounds bound : ℕ} {values order marked : List ℕ} (left : MarkedInto s marks rounds bound joins values order marked) where
+  pub figures-parted : joins ≡ false → refusal 8 0 ≡ figuresJoined s
+  unfolding figuresJoined
+  figures-parted h = ap (λ (t : Bool). cond t (answer (figureCountsOf (planOf (problemOf s)))) (refusal 8 0)) (sym h ∙ left .joins-is)
+
+  module _ (h : joins ≡ true) where
+    planned-marks : marked ≡ planOf (problemOf s) .marks ++ drop (length (s .firsts)) marks
+    unfolding marksJoined
+    planned-marks =
+        left .marks-are ∙ ap (λ (t : Bool). cond t (planOf (problemOf s) .marks ++ drop (length (s .firsts)) marks) marks) (sym (left .joins-is) ∙ h)
+
+    -- k, cost, bound and rounds are the plan's.
+    pub figures-joined : {k c r : ℕ} → k ≡ planOf (problemOf s) .terminals
+        → c ≡ cost (problemOf (surveyFrom [] (s .firsts) [] (s .weights))) (keptBy marked) → r ≡ rounds
+        → answer (record { terminals = k; cost = c; bound = bound; rounds = r }) ≡ figuresJoined s
+    unfolding figuresJoined figureCountsOf planOf grown problemOf vertexCount
+    figures-joined k-is c-is r-is =
+        rw (k-is, planned-cost s (drop (length (s .firsts)) marks) planned-marks c-is, left .grew .bound-is, r-is, left .grew .rounds-are)
+        (ap (λ (t : Bool). cond t (answer (figureCountsOf (planOf (problemOf s)))) (refusal 8 0)) (sym h ∙ left .joins-is))
+
+-- ---- the lists
+
+module _ (s : Survey) (sound : SurveySound s) where
+  joins-list : joinable s ≡ true → Joins (problemOf s) (allUsable (problemOf s))
+  joins-list = joined-iff (problemOf s) (allUsable (problemOf s)) (all-bounded s) .0
+
+  joinable-fine : joinable s ≡ true → figuresRefusal s ≡ Fine
+  unfolding figuresRefusal
+  joinable-fine h = before-fine (survey-fine s sound) _ ∙ joins-fine s 8 (allUsable (problemOf s)) (all-bounded s) (joins-list h)
+
+  -- What all tracks leave apart is 8.
+  pub unjoined-eight : (marks : List ℕ) {v : Verdict} → v ≡ groupRefusal s 8 (chosen All marks) → v ≡ figuresRefusal s
+  unfolding figuresRefusal
+  unjoined-eight marks h = h ∙ sym (before-fine (survey-fine s sound) _ ∙ groups-of-all s 8 marks)
+
+  -- And it comes.
+  pub unjoined-comes : ByteGroups s → joinable s ≡ false → (marks : List ℕ) {v : Verdict} → v ≡ groupRefusal s 8 (chosen All marks) → v ≡ Fine → {A : Type 0} → A
+  unjoined-comes numbered parted marks is h =
+      true-not-false (joinable s)
+      (joined-iff (problemOf s) (allUsable (problemOf s)) (all-bounded s) .1
+      (group-fine s 8 (allUsable (problemOf s)) (all-bounded s) numbered (groups-of-all s 8 marks ∙ sym is ∙ h)))
+      parted
+
+  unjoined-by : ByteGroups s → (v : Verdict) → figuresRefusal s ≡ v → joinable s ≡ false → (marks : List ℕ) → marks ≡ marksFigured s marks
+  unjoined-by numbered Fine h parted marks = unjoined-comes numbered parted [] {v = groupRefusal s 8 (chosen All [])} refl (unjoined-eight [] refl ∙ h)
+  unjoined-by numbered (Refused number place) h parted marks = figures-refused s marks h .1
+
+  module _ {part : List ℕ} (part-is : part ≡ pouredGroups (listsOf s)) where
     abbrev into : Survey
-    into = surveyFrom (take (length (s .groups) - 0) room) (s .firsts) (s .seconds) (s .weights)
+    into = surveyFrom part (s .firsts) (s .seconds) (s .weights)
 
-    abbrev counts : PlanCounts
-    counts =
-        record {
-          terminals = terminals (problemOf (groupsAlone (into .groups)));
-          cost = 0;
-          bound = left .growth .bound;
-          rounds = left .growth .rounds;
-          duals = length (moatsIn into (left .growth) (length (recordsFor s)));
-        }
+    into-is : into ≡ pouredSurvey s
+    into-is = ap (λ (groups : List ℕ). surveyFrom groups (s .firsts) (s .seconds) (s .weights)) part-is
 
-    grown : (answer counts ≡ growing s (length marks) (length (recordsFor s))) × (marked ≡ marksGrown s marks (recordsFor s))
-    grown =
-        let drawn = recordsOver (moatsIn into (left .growth) (length (recordsFor s))) (recordsFor s) in
-        let all : GrownInto into marks (recordsFor s) (answer counts) marked drawn =
-        record { growth = left .growth; grew = left .grew; marks-are = left .marks-are; records-are = refl; counts-are = refl } in
-        let done = growing-finished s marks (recordsFor s) numbered (figures-planned s numbered marks fine fits) room-is all in
-        (done .0, done .1 .0)
+    pub into-sound : SurveySound into
+    into-sound = subst SurveySound (sym into-is) (poured-sound s sound)
 
-    same-counts : grownCountsOf (planOf (problemOf s)) ≡ counts
-    unfolding growing
-    same-counts =
-        answer-fine (planRefusal s (length marks) (length (recordsFor s))) (grownCountsOf (planOf (problemOf s))) counts (sym (grown .0)) .1
+    poured-iff : Joins (problemOf (pouredSurvey s)) (allUsable (problemOf (pouredSurvey s))) → Joins (problemOf s) (allUsable (problemOf s))
+    unfolding allUsable problemOf edgeCount
+    poured-iff = poured-joins s (sound .pairs) (allUsable (problemOf s)) (all-bounded s) .1
 
-    bound-planned : bound ≡ planOf (problemOf s) .bound
-    unfolding grownCountsOf
-    bound-planned = left .bound-is ∙ sym (ap (λ (c : PlanCounts). c .bound) same-counts)
+    poured-iff-back : Joins (problemOf s) (allUsable (problemOf s)) → Joins (problemOf (pouredSurvey s)) (allUsable (problemOf (pouredSurvey s)))
+    unfolding allUsable problemOf edgeCount
+    poured-iff-back = poured-joins s (sound .pairs) (allUsable (problemOf s)) (all-bounded s) .0
 
-    rounds-planned : rounds ≡ planOf (problemOf s) .rounds
-    unfolding grownCountsOf
-    rounds-planned = left .rounds-are ∙ sym (ap (λ (c : PlanCounts). c .rounds) same-counts)
+    -- The poured groups can be joined exactly if the lists can.
+    joinable-poured : joinable into ≡ joinable s
+    joinable-poured =
+        ap joinable into-is
+        ∙ same-test (joinable (pouredSurvey s)) (joinable s)
+        (λ h. joined-iff (problemOf s) (allUsable (problemOf s)) (all-bounded s) .1
+        (poured-iff (joined-iff (problemOf (pouredSurvey s)) (allUsable (problemOf (pouredSurvey s))) (all-bounded (pouredSurvey s)) .0 h)))
+        (λ h. joined-iff (problemOf (pouredSurvey s)) (allUsable (problemOf (pouredSurvey s))) (all-bounded (pouredSurvey s)) .1 (poured-iff-back (joins-list h)))
 
-    -- Dropping is lent the first m marks.
-    pub figures-finished : {d : Outcome DropCounts} {part : List ℕ} {o : Outcome FigureCounts} → d ≡ dropping s (take (length (s .firsts) - 0) marked)
-        → part ≡ marksDropped s (take (length (s .firsts) - 0) marked) → o ≡ thenFigures bound rounds d
-        → (o ≡ figuring s) × (part ++ drop (length (s .firsts) - 0) marked ≡ marksFigured s marks)
-    unfolding figuring outcome figureCountsOf thenFigures
-    figures-finished {d} {part} {o} d-is part-is o-is = (
-      o-is
-          ∙ ap (thenFigures bound rounds) (figures-dropped s numbered marks fine fits (grown .1) d-is)
-          ∙ rw (bound-planned, rounds-planned, fine),
-      figures-marks s numbered marks fine fits (grown .1) part-is,
-    )
+    joined-by : (t : Bool) (f : FigureCounts) {c : FigureCounts} → cond t (answer f) (refusal 8 0) ≡ answer c → t ≡ true
+    joined-by true f h = refl
+    joined-by false f h = absurd (let z : _≡_ {A = ℕ} 0 1 = cc in omega arith)
 
--- The answer of both, by cases.
-pub figures-answered : {d : Outcome DropCounts} {t w b r x : ℕ} → d ≡ answer (record { terminals = t; cost = w }) → x ≡ r
-    → answer (record { terminals = t; cost = w; bound = b; rounds = x }) ≡ thenFigures b r d
-unfolding thenFigures
-figures-answered h k = rw (h, k)
+    parted-by : (t : Bool) (f : FigureCounts) {number place : ℕ} → cond t (answer f) (refusal 8 0) ≡ refusal number place → t ≡ false
+    parted-by true f h = absurd (let z : _≡_ {A = ℕ} 0 1 = cc in omega arith)
+    parted-by false f h = refl
 
-pub figures-stopped : (b r : ℕ) {d : Outcome DropCounts} {number place : ℕ} → d ≡ refusal number place → refusal number place ≡ thenFigures b r d
-unfolding thenFigures
-figures-stopped b r h = rw h
+    pub lists-parted : {o : Outcome FigureCounts} {number place : ℕ} → o ≡ figuresJoined into → o ≡ refusal number place → joinable s ≡ false
+    unfolding figuresJoined
+    lists-parted o-is h = sym joinable-poured ∙ parted-by (joinable into) (figureCountsOf (planOf (problemOf into))) (sym o-is ∙ h)
+
+    module _ {o : Outcome FigureCounts} (marks : List ℕ) {marked : List ℕ} (o-is : o ≡ figuresJoined into) (marked-is : marked ≡ marksJoined into marks) where
+      -- No mark is written.
+      pub parted-marks : ByteGroups s → {number place : ℕ} → o ≡ refusal number place → marked ≡ marksFigured s marks
+      unfolding marksJoined
+      parted-marks numbered h =
+          let parted : joinable s ≡ false = lists-parted o-is h in
+          marked-is
+          ∙ ap (λ (t : Bool). cond t (planOf (problemOf into) .marks ++ drop (length (s .firsts)) marks) marks) (joinable-poured ∙ parted)
+          ∙ unjoined-by numbered (figuresRefusal s) refl parted marks
+
+      pub figures-finished : {c : FigureCounts} → o ≡ answer c → (o ≡ figuring s) × (marked ≡ marksFigured s marks)
+      unfolding figuresJoined marksJoined figuring outcome marksFigured written edgeCount
+      figures-finished h =
+          let joins : joinable into ≡ true = joined-by (joinable into) (figureCountsOf (planOf (problemOf into))) (sym o-is ∙ h) in
+          let fine : figuresRefusal s ≡ Fine = joinable-fine (sym joinable-poured ∙ joins) in (
+            o-is
+                ∙ ap (λ (t : Bool). cond t (answer (figureCountsOf (planOf (problemOf into)))) (refusal 8 0)) joins
+                ∙ ap (λ (q : Plan). answer (figureCountsOf q)) (plan-poured s sound part-is)
+                ∙ sym (ap (λ v. outcome v (figureCountsOf (planOf (problemOf s)))) fine),
+            marked-is
+                ∙ ap (λ (t : Bool). cond t (planOf (problemOf into) .marks ++ drop (length (s .firsts)) marks) marks) joins
+                ∙ ap (λ (q : Plan). q .marks ++ drop (length (s .firsts)) marks) (plan-poured s sound part-is)
+                ∙ sym (ap (λ v. written v (planOf (problemOf s) .marks ++ drop (length (s .firsts)) marks) marks) fine),
+          )

@@ -2,12 +2,12 @@
 use Prim.Native.Nat.{ℕ, _<_}
 use mathlib.Core.Path.{_≡_, refl, ap, sym, _∙_, subst}
 use mathlib.Core.Bool.{Bool, not}
-use mathlib.Core.List.{List}
+use mathlib.Core.List.{List, []}
 use lib.ListN.{length}
 use lib.Dec.{eqb}
 use borrow.Author.Tests.{eqb-true, eq-eqb, not-false}
 use Rattle.theory_graph.specs.Path.{Forest}
-use Rattle.base_limits.specs.Verdict.{written}
+use Rattle.base_limits.specs.Verdict.{_before_, written}
 use Rattle.base_limits.specs.declared.Verdict.{Verdict}
 use Rattle.base_limits.specs.declared.Verdict.the-variants.{Fine, Refused}
 use Rattle.base_limits.specs.Laws.Verdict.{before-fine, fine-left, fine-right, refuse-false, fine-refuse}
@@ -15,13 +15,14 @@ use Rattle.theory_steiner.specs.Problem.{Sound, Joins, joined, Bounded}
 use Rattle.theory_steiner.specs.Pruning.{needed}
 use Rattle.survey_core.specs.Survey.{Survey, surveyFrom, vertexCount, edgeCount, member, sameGroup, problemOf}
 use Rattle.survey_core.specs.Sound.{SurveySound, ByteGroups}
+use Rattle.survey_core.specs.Refusal.{groupRefusal}
 use Rattle.survey_core.specs.Laws.Refusal.{survey-fine, fine-survey, survey-sound}
 use Rattle.survey_core.specs.Laws.Group.{group-fine, joins-fine}
 use Rattle.survey_components.specs.Labels.{pickedIn}
-use Rattle.survey_components.specs.Forest.{forestRefusal}
+use Rattle.survey_components.specs.Forest.{loopRefusal, forestRefusal, EndsBelow}
 use Rattle.survey_components.specs.Laws.Picked.{picked-below}
 use Rattle.survey_components.specs.Laws.Forest.{forest-fine, fine-forest}
-use Rattle.plan_drop.specs.Prunable.{Prunable, unweighted}
+use Rattle.plan_drop.specs.Prunable.{Picks, Prunable, unweighted}
 use Rattle.plan_drop.specs.Judge.{prunedMarks, marksPruned}
 
 module _ (s : Survey) (picked : List ℕ) where
@@ -57,7 +58,7 @@ module _ (groups firsts seconds weights : List ℕ) where
   unfolding problemOf sameGroup member vertexCount edgeCount
   joins-unweighted F h u v bu bv r = h u v bu bv r
 
-  pruned-unweighted : (F : ℕ → Bool) (m : ℕ) (marks : List ℕ) → prunedMarks (unweighted groups firsts seconds) F m marks ≡ prunedMarks (problemOf s) F m marks
+  pub pruned-unweighted : (F : ℕ → Bool) (m : ℕ) (marks : List ℕ) → prunedMarks (unweighted groups firsts seconds) F m marks ≡ prunedMarks (problemOf s) F m marks
   unfolding prunedMarks needed joined problemOf sameGroup member vertexCount edgeCount
   pruned-unweighted F m marks = refl
 
@@ -80,6 +81,12 @@ module _ (groups firsts seconds weights : List ℕ) where
           forest = fine-forest s (pickedIn picked) bounded (fine-left _ _ last);
         }
 
+    -- Picks of a survey that 1 to 6 leave.
+    pub survey-picks : SurveySound s → Bounded (problemOf s) (pickedIn picked) → Picks groups firsts seconds picked
+    unfolding problemOf edgeCount
+    survey-picks sound bounded =
+        record { few = sound .few; edges-few = sound .edges-few; sound = sound-unweighted (survey-sound s sound); bounded = bounded }
+
     -- Otherwise they are the definition's.
     pub marks-written : {v : Verdict} → v ≡ forestRefusal s picked → (marks : List ℕ) {after : List ℕ} → v ≡ Fine
         → after ≡ prunedMarks (unweighted groups firsts seconds) (pickedIn picked) (length firsts) marks → after ≡ marksPruned s picked marks
@@ -87,3 +94,24 @@ module _ (groups firsts seconds weights : List ℕ) where
     marks-written v-is marks h is =
         is ∙ pruned-unweighted (pickedIn picked) (length firsts) marks
         ∙ sym (ap (λ x. written x (prunedMarks (problemOf s) (pickedIn picked) (length firsts) marks) marks) (sym v-is ∙ h))
+
+module _ (groups firsts seconds picked : List ℕ) (ok : Picks groups firsts seconds picked) where
+  abbrev plain : Survey
+  plain = surveyFrom groups firsts seconds []
+
+  pub picks-ends : EndsBelow groups firsts seconds
+  unfolding problemOf vertexCount edgeCount
+  picks-ends = record { few = ok .few; first-below = ok .sound .first-below; second-below = ok .sound .second-below }
+
+  -- Neither 21 nor 14.
+  pub picks-prunable : ByteGroups plain → (loopRefusal plain (pickedIn picked) before groupRefusal plain 14 (pickedIn picked)) ≡ Fine
+      → Prunable groups firsts seconds picked
+  picks-prunable numbered h =
+      record {
+        few = ok .few;
+        edges-few = ok .edges-few;
+        sound = ok .sound;
+        bounded = ok .bounded;
+        joins = group-fine plain 14 (pickedIn picked) (ok .bounded) numbered (fine-right _ _ h);
+        forest = fine-forest plain (pickedIn picked) (ok .bounded) (fine-left _ _ h);
+      }

@@ -68,6 +68,14 @@ use Rattle.plan_rule.specs.DropPromise.{
 }
 use Rattle.plan_rule.specs.Laws.Number.{before-cases, Never, refuse-never, lowest-never, survey-never}
 
+-- A mark of 2 is that of a needed edge.
+pub mark-kept : (x y : Bool) → (y ≡ true → x ≡ true) → eqb (markOf x y) 2 ≡ y
+unfolding markOf
+mark-kept true true h = refl
+mark-kept true false h = refl
+mark-kept false false h = refl
+mark-kept false true h = h refl
+
 module _ (s : Survey) (marks : List ℕ) where
   abbrev F : ℕ → Bool
   F = pickedIn marks
@@ -263,13 +271,6 @@ module _ (s : Survey) (marks : List ℕ) where
       }
 
   -- ---- the marks that are left
-
-  mark-kept : (x y : Bool) → (y ≡ true → x ≡ true) → eqb (markOf x y) 2 ≡ y
-  unfolding markOf
-  mark-kept true true h = refl
-  mark-kept true false h = refl
-  mark-kept false false h = refl
-  mark-kept false true h = h refl
 
   needed-picked : (e : ℕ) → needed (problemOf s) F e ≡ true → F e ≡ true
   unfolding needed

@@ -38,7 +38,7 @@ use Rattle.plan_rule.specs.Laws.Ready.{fine-ready}
 use Rattle.plan_rule.specs.Laws.Promise.{planning-promises}
 use Rattle.plan_rule.specs.Laws.Dropping.{droppable-fine}
 
-one-or-none : (t : Bool) → not (eqb (counted t 1) 0) ≡ t
+pub one-or-none : (t : Bool) → not (eqb (counted t 1) 0) ≡ t
 unfolding counted
 one-or-none true = refl
 one-or-none false = refl

@@ -40,14 +40,13 @@ use Rattle.base_limits.specs.Laws.Verdict.{
 use Rattle.theory_steiner.specs.Problem.{Bounded}
 use Rattle.survey_core.specs.Survey.{Survey, surveyFrom, groupsAlone, vertexCount, edgeCount, member, groupJoined, componentsOf, problemOf}
 use Rattle.survey_core.specs.Refusal.{surveyRefusal, groupRefusal}
-use Rattle.survey_core.specs.Sound.{SurveySound}
 use Rattle.survey_core.specs.Laws.Refusal.{fine-survey}
 use Rattle.survey_components.specs.Roots.{endsHung, oneRoot, levelled}
 use Rattle.survey_components.specs.Laws.Buffer.{components-stored}
 use Rattle.survey_components.specs.Laws.Front.{table-front}
 use Rattle.survey_components.specs.Laws.Roots.{Trees, trees-none, trees-more, trees-one, trees-labels}
 use Rattle.survey_components.specs.Labels.{pickedIn}
-use Rattle.survey_components.specs.Laws.Labels.{refusal-by-table}
+use Rattle.survey_components.specs.Laws.Labels.{refusal-by-table, sound-ends}
 use Rattle.survey_components.specs.Forest.{closesLoop, loopRefusal, forestRefusal, EndsBelow}
 
 -- ---- forests
@@ -222,9 +221,7 @@ unfolding loopRefusal groupRefusal groupJoined componentsOf member problemOf ver
 unweighted-refusal groups firsts seconds weights F = refl
 
 pub ends-below : (s : Survey) {v : Verdict} → v ≡ surveyRefusal s → v ≡ Fine → EndsBelow (s .groups) (s .firsts) (s .seconds)
-ends-below s is fine =
-    let sound : SurveySound s = fine-survey s (sym is ∙ fine) in
-    record { few = sound .few; first-below = λ e b. sound .edges e b .first-below; second-below = λ e b. sound .edges e b .second-below }
+ends-below s is fine = sound-ends s (fine-survey s (sym is ∙ fine))
 
 module _ (s : Survey) (picked : List ℕ) {v : Verdict} (v-is : v ≡ surveyRefusal s) (fine : v ≡ Fine) where
   -- 9

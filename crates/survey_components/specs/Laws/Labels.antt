@@ -3,7 +3,7 @@ use Prim.Native.Nat.{ℕ, _-_, _<_, _≤_}
 use native.Mathlib.Omega.{arith}
 use mathlib.Core.Path.{_≡_, refl, ap, sym, _∙_}
 use mathlib.Core.Bool.{Bool, _&&_, _||_, not}
-use mathlib.Core.List.{List, _++_}
+use mathlib.Core.List.{List, [], _++_}
 use lib.ListN.{length, getD, take, drop, replicate, length-replicate}
 use lib.Dec.{eqb}
 use Rattle.base_finite.specs.Below.{allBelow, tabulate}
@@ -15,13 +15,13 @@ use Rattle.base_limits.specs.declared.Verdict.{Verdict}
 use Rattle.base_limits.specs.declared.Verdict.the-variants.{Fine, Refused}
 use Rattle.base_limits.specs.Laws.Verdict.{lowest-cong}
 use Rattle.survey_core.specs.Survey.{Survey, surveyWith, surveyFrom, vertexCount, edgeCount, member, groupJoined, listsAlone, componentsOf, problemOf}
-use Rattle.survey_core.specs.Refusal.{surveyRefusal, groupRefusal}
+use Rattle.survey_core.specs.Refusal.{groupRefusal}
 use Rattle.survey_core.specs.Sound.{SurveySound}
-use Rattle.survey_core.specs.Laws.Refusal.{fine-survey, fine-plain}
 use Rattle.survey_components.specs.Buffer.{EndsWithin}
 use Rattle.survey_components.specs.Laws.Front.{components-outside, table-front, table-front-changed}
 use Rattle.survey_components.specs.Laws.Buffer.{components-stored}
 use Rattle.survey_components.specs.Labels.{EndsFit, labelsOf}
+use Rattle.survey_components.specs.Forest.{EndsBelow}
 
 -- A group is joined by labels that agree on the vertices.
 joined-cong : (s : Survey) (f g : ℕ → ℕ) (k : ℕ) → ((v : ℕ) → v < vertexCount s → f v ≡ g v) → groupJoined s f k ≡ groupJoined s g k
@@ -77,35 +77,44 @@ unfolding written labelsOf
 length-labels s F Fine h = ap length h ∙ length-tabulate maxVertices _
 length-labels s F (Refused number place) h = ap length h ∙ length-replicate {A = ℕ} maxVertices 0
 
--- The lists of a sound survey, by the labels of its tracks.
-pub lists-by-labels : (groups firsts seconds weights owners others : List ℕ) (F : ℕ → Bool) (number : ℕ) {labels : List ℕ}
-    → surveyRefusal (surveyWith groups firsts seconds weights owners others) ≡ Fine
-    → labels ≡ written (surveyRefusal (surveyFrom groups firsts seconds weights)) (labelsOf (surveyFrom groups firsts seconds weights) F) (replicate maxVertices 0)
+-- The same where they are known to be labels.
+pub long-labels : (s : Survey) (F : ℕ → Bool) {labels : List ℕ} → labels ≡ labelsOf s F → length labels ≡ maxVertices
+unfolding labelsOf
+long-labels s F h = ap length h ∙ length-tabulate maxVertices _
+
+-- Labels go by the ends alone.
+pub labels-plain : (groups firsts seconds weights : List ℕ) (F : ℕ → Bool) → labelsOf (surveyFrom groups firsts seconds []) F ≡ labelsOf (surveyFrom groups firsts seconds weights) F
+unfolding labelsOf
+labels-plain groups firsts seconds weights F = refl
+
+-- The lists of a survey, by the labels of its tracks.
+pub lists-by-labels : (groups firsts seconds weights owners others : List ℕ) (F : ℕ → Bool) (number : ℕ) {labels : List ℕ} → length groups ≤ maxVertices
+    → labels ≡ labelsOf (surveyFrom groups firsts seconds []) F
     → lowestBelow groupNumbers (λ g. refuseIf (not (groupJoined (listsAlone groups owners others) (λ v. getD labels v 0) g)) number g)
     ≡ groupRefusal (surveyWith groups firsts seconds weights owners others) number F
-unfolding written labelsOf
-lists-by-labels groups firsts seconds weights owners others F number fine h =
-    refusal-by-labels (surveyWith groups firsts seconds weights owners others) F number
-    (fine-survey (surveyWith groups firsts seconds weights owners others) fine .few)
-    (h
-    ∙ ap (λ v. written v (labelsOf (surveyFrom groups firsts seconds weights) F) (replicate maxVertices 0))
-    (fine-plain groups firsts seconds weights owners others fine))
+unfolding labelsOf
+lists-by-labels groups firsts seconds weights owners others F number few h =
+    refusal-by-labels (surveyWith groups firsts seconds weights owners others) F number few h
 
--- ---- labels of the vertices of a sound survey, in a buffer for every survey
+-- ---- labels of the vertices of a survey whose ends are vertices, in a buffer for every survey
 
--- Every end is a vertex.
-pub ends-within : (s : Survey) → SurveySound s → EndsWithin (length (s .groups)) (length (s .firsts)) (λ e. getD (s .firsts) e 0) (λ e. getD (s .seconds) e 0)
-ends-within s sound = record { first-within = λ e b. sound .edges e b .first-below; second-within = λ e b. sound .edges e b .second-below }
+-- Every end of a sound survey is a vertex.
+pub sound-ends : (s : Survey) → SurveySound s → EndsBelow (s .groups) (s .firsts) (s .seconds)
+sound-ends s sound =
+    record { few = sound .few; first-below = λ e b. sound .edges e b .first-below; second-below = λ e b. sound .edges e b .second-below }
 
-module _ (s : Survey) (sound : SurveySound s) {labels : List ℕ} (numbered : labels ≡ tabulate maxVertices (λ v. v)) where
+module _ (s : Survey) (ok : EndsBelow (s .groups) (s .firsts) (s .seconds)) {labels : List ℕ} (numbered : labels ≡ tabulate maxVertices (λ v. v)) where
+  ends-within : EndsWithin (length (s .groups)) (length (s .firsts)) (λ e. getD (s .firsts) e 0) (λ e. getD (s .seconds) e 0)
+  ends-within = record { first-within = ok .first-below; second-within = ok .second-below }
+
   front-long : length (take (length (s .groups) - 0) labels) ≡ length (s .groups)
-  front-long = ap length (table-front (length (s .groups)) maxVertices (λ v. v) (sound .few) numbered) ∙ length-tabulate (length (s .groups)) (λ v. v)
+  front-long = ap length (table-front (length (s .groups)) maxVertices (λ v. v) (ok .few) numbered) ∙ length-tabulate (length (s .groups)) (λ v. v)
 
   pub front-fits : EndsFit (s .firsts) (s .seconds) (take (length (s .groups) - 0) labels)
   front-fits =
       record {
-        own = rw front-long (table-front (length (s .groups)) maxVertices (λ v. v) (sound .few) numbered);
-        ends = rw front-long (ends-within s sound);
+        own = rw front-long (table-front (length (s .groups)) maxVertices (λ v. v) (ok .few) numbered);
+        ends = rw front-long ends-within;
       }
 
   -- The places behind the vertices keep their numbers.
@@ -115,6 +124,6 @@ module _ (s : Survey) (sound : SurveySound s) {labels : List ℕ} (numbered : la
   unfolding labelsOf
   front-labelled F h =
       let label : ℕ → ℕ = components maxVertices (λ e. getD (s .firsts) e 0) (λ e. getD (s .seconds) e 0) F (length (s .firsts)) in
-      table-front-changed (length (s .groups)) maxVertices (λ v. v) label (sound .few) numbered
-      (λ v b. sym (components-outside maxVertices (length (s .groups)) _ _ F (length (s .firsts)) (ends-within s sound) v b))
+      table-front-changed (length (s .groups)) maxVertices (λ v. v) label (ok .few) numbered
+      (λ v b. sym (components-outside maxVertices (length (s .groups)) _ _ F (length (s .firsts)) ends-within v b))
       (h ∙ ap (λ k. tabulate k label) front-long)

@@ -1,7 +1,10 @@
 -- `figures_without` meets its contract: the three lists without the track, planned (`left-out-lent`).
 use native.Mathlib.Omega.{arith}
-use Rattle.survey_core.specs.Survey.{surveyWith}
-use Rattle.closed_core.specs.Laws.LeftOut.{left-out-lent}
+use mathlib.Core.Path.{_≡_, ap, sym, _∙_, subst}
+use Rattle.survey_core.specs.Survey.{Survey, surveyWith}
+use Rattle.survey_core.specs.Sound.{SurveySound}
+use Rattle.plan_rule.specs.Figures.{figuring}
+use Rattle.closed_core.specs.Laws.LeftOut.{left-out-sound, left-out-lent}
 use borrow.Author.Needs.{needs}
 use Rattle.closed_core.proofs.omit.figures_without.Statement.{statement}
 use Rattle.closed_core.proofs.omit.figures_without.Tie as tie
@@ -10,27 +13,45 @@ sub-count : tie.Need-sub-count
 sub-count c = let known = c .before .before .before .before .before .before .pre .1 in search (needs, known)
 
 leave-out-requires : tie.Need-leave-out-requires
-leave-out-requires c κs = let few = c .before .before .before .before .before .before .pre .0 .edges-few in omega (arith, few)
+leave-out-requires c κs = (c .before .before .before .before .before .before .pre .1, c .before .before .before .before .before .before .pre .0 .edges-few)
 
 leave-out-requires-2 : tie.Need-leave-out-requires-2
-leave-out-requires-2 c κs = let few = c .before .before .before .before .before .before .before .pre .0 .edges-few in omega (arith, few)
+leave-out-requires-2 c κs =
+    let sound = c .before .before .before .before .before .before .before .pre .0 in
+    let few = sound .edges-few in
+    let long = sound .seconds-long in
+    (omega (arith, long, c .before .before .before .before .before .before .before .pre .1), omega (arith, few, long))
 
 leave-out-requires-3 : tie.Need-leave-out-requires-3
-leave-out-requires-3 c κs = let few = c .before .before .before .before .before .before .before .before .pre .0 .edges-few in omega (arith, few)
+leave-out-requires-3 c κs =
+    let sound = c .before .before .before .before .before .before .before .before .pre .0 in
+    let few = sound .edges-few in
+    let long = sound .weights-long in
+    (omega (arith, long, c .before .before .before .before .before .before .before .before .pre .1), omega (arith, few, long))
 
-part-figures-end : tie.Need-part-figures-end
-part-figures-end c = let few = c .before .before .before .before .before .before .before .before .before .before .pre .0 .edges-few in search (needs, few)
+part-sound-figures-end : tie.Need-part-sound-figures-end
+part-sound-figures-end c = let few = c .before .before .before .before .before .before .before .before .before .before .pre .0 .edges-few in search (needs, few)
 
-part-figures-end-2 : tie.Need-part-figures-end-2
-part-figures-end-2 c = let few = c .before .before .before .before .before .before .before .before .before .before .before .before .pre .0 .edges-few in search (needs, few)
+part-sound-figures-end-2 : tie.Need-part-sound-figures-end-2
+part-sound-figures-end-2 c = let few = c .before .before .before .before .before .before .before .before .before .before .before .before .pre .0 .edges-few in search (needs, few)
 
-part-figures-end-3 : tie.Need-part-figures-end-3
-part-figures-end-3 c = let few = c .before .before .before .before .before .before .before .before .before .before .before .before .before .before .pre .0 .edges-few in search (needs, few)
+part-sound-figures-end-3 : tie.Need-part-sound-figures-end-3
+part-sound-figures-end-3 c = let few = c .before .before .before .before .before .before .before .before .before .before .before .before .before .before .pre .0 .edges-few in search (needs, few)
+
+sound-figures-requires : tie.Need-sound-figures-requires
+sound-figures-requires c κs =
+    let a = c .before .before .before .before .before .before .before .before .before .before .before .before .before .before .before .before .args in
+    let sound = c .before .before .before .before .before .before .before .before .before .before .before .before .before .before .before .before .pre .0 in
+    subst SurveySound
+    (sym (left-out-lent (surveyWith (a .groups .now) (a .firsts .now) (a .seconds .now) (a .weights .now) (a .owners .now) (a .others .now)) (a .c) sound (c .before .before .before .before .before .before .before .before .before .leave-out .ensures) (c .before .before .before .before .before .before .before .before .leave-out2 .ensures) (c .before .before .before .before .before .before .before .leave-out3 .ensures)))
+    (left-out-sound _ sound _ (c .before .before .before .before .before .before .before .before .before .before .before .before .before .before .before .before .pre .1))
 
 returns : tie.Need-returns
 returns c =
     let a = c .before .before .before .before .before .before .before .before .before .before .before .before .before .before .before .before .before .args in
-    left-out-lent (surveyWith (a .groups .now) (a .firsts .now) (a .seconds .now) (a .weights .now) (a .owners .now) (a .others .now)) (a .c) (c .before .before .before .before .before .before .before .before .before .before .before .before .before .before .before .before .before .pre .0 .edges-few) (c .before .before .before .before .before .before .before .before .before .before .leave-out .ensures) (c .before .before .before .before .before .before .before .before .before .leave-out2 .ensures) (c .before .before .before .before .before .before .before .before .leave-out3 .ensures) (c .figures .ensures .0)
+    c .sound-figures .ensures .0
+    ∙ ap figuring
+    (left-out-lent (surveyWith (a .groups .now) (a .firsts .now) (a .seconds .now) (a .weights .now) (a .owners .now) (a .others .now)) (a .c) (c .before .before .before .before .before .before .before .before .before .before .before .before .before .before .before .before .before .pre .0) (c .before .before .before .before .before .before .before .before .before .before .leave-out .ensures) (c .before .before .before .before .before .before .before .before .before .leave-out2 .ensures) (c .before .before .before .before .before .before .before .before .leave-out3 .ensures))
 
 pub figures-without-spec : {M : Type 1} → statement M
 figures-without-spec =
@@ -42,12 +63,12 @@ figures-without-spec =
     leave-out-requires-3
     (λ c. search needs)
     (λ c. search needs)
-    part-figures-end
+    part-sound-figures-end
     (λ c. search needs)
     (λ c. search needs)
-    part-figures-end-2
+    part-sound-figures-end-2
     (λ c. search needs)
     (λ c. search needs)
-    part-figures-end-3
-    (λ c κs. search needs)
+    part-sound-figures-end-3
+    sound-figures-requires
     returns)

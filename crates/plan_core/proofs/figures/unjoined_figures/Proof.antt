@@ -1,0 +1,32 @@
+-- `unjoined_figures` meets its contract: 8 comes (`unjoined-comes`), and is planning's.
+use mathlib.Core.Path.{sym, _∙_}
+use mathlib.Core.List.{[]}
+use native.Mathlib.Omega.{arith}
+use Rattle.plan_rule.specs.Figures.{figuredOutcome}
+use Rattle.plan_core.specs.Laws.Figures.{figures-refused, unjoined-eight, unjoined-comes}
+use borrow.Author.Needs.{needs}
+use Rattle.plan_core.proofs.figures.unjoined_figures.Statement.{statement}
+use Rattle.plan_core.proofs.figures.unjoined_figures.Tie as tie
+
+-- it would not come
+returns : tie.Need-returns
+returns c =
+    unjoined-comes _ (c .before .before .before .before .before .before .before .before .before .before .pre .0) (record { own-byte = λ v. omega (arith, c .before .before .before .before .before .before .before .before .before .shared-slice-known .given v); other-byte = λ i. omega (arith, c .before .before .before .before .shared-slice-known6 .given i) })
+    (c .before .before .before .before .before .before .before .before .before .before .pre .1) _ (c .before .before .unjoined-refusal .ensures) (c .enum-told .given .1)
+
+-- 8
+returns-2 : tie.Need-returns-2
+unfolding figuredOutcome
+returns-2 c =
+    figures-refused _ [] (sym (unjoined-eight _ (c .before .before .before .before .before .before .before .before .before .before .before .pre .0) _ (c .before .before .before .unjoined-refusal .ensures)) ∙ c .before .found .given .1) .0
+
+pub unjoined-figures-spec : {M : Type 1} → statement M
+unjoined-figures-spec =
+    tie.close
+    (tie.spec
+    (λ c. search needs)
+    (λ c κs. search needs)
+    (λ c. search needs)
+    (λ c. search needs)
+    returns
+    returns-2)
