@@ -70,9 +70,9 @@ module _ (strengths : List ℕ) where
       strength-fine (getD strengths i 0) (i + 1) (subst (λ k. StrengthSound (getD strengths k 0)) same h)
 
   module _ (long : length strengths ≡ strengthCount) where
-    long-passes : strengthsRefusal strengths ≡ lowestBelow strengthCount (λ i. strengthRefusal (getD strengths i 0) (i + 1))
+    pub list-decides : strengthsRefusal strengths ≡ lowestBelow strengthCount (λ i. strengthRefusal (getD strengths i 0) (i + 1))
     unfolding strengthsRefusal
-    long-passes = before-fine (refuse-false (rw (eq-eqb (length strengths) strengthCount long)) 24 0) _
+    list-decides = before-fine (refuse-false (rw (eq-eqb (length strengths) strengthCount long)) 24 0) _
 
     -- The lowest group whose strength is 0 or over 15.
     pub unfit-refused : (g : ℕ) → LowestUnfit strengths g → strengthsRefusal strengths ≡ Refused 24 g
@@ -81,14 +81,14 @@ module _ (strengths : List ℕ) where
         let some = h .some in
         let most = h .most in
         let same : g - 1 + 1 ≡ g = omega arith in
-        long-passes
+        list-decides
         ∙ subst (λ p. lowestBelow strengthCount found ≡ Refused 24 p) same
         (lowest-found strengthCount (g - 1) found (omega arith)
         (lowest-none (g - 1) found (λ i b. at-fine i (h .lower (i + 1) (omega arith) (omega arith))))
         (strength-unfit (getD strengths (g - 1) 0) (g - 1 + 1) (h .unfit)))
 
   pub strengths-fine : StrengthsSound strengths → strengthsRefusal strengths ≡ Fine
-  strengths-fine h = long-passes (h .long) ∙ lowest-none strengthCount found (λ i b. at-fine i (h .each (i + 1) (omega arith) (omega arith)))
+  strengths-fine h = list-decides (h .long) ∙ lowest-none strengthCount found (λ i b. at-fine i (h .each (i + 1) (omega arith) (omega arith)))
 
   pub length-refused : (length strengths ≡ strengthCount → ⊥) → strengthsRefusal strengths ≡ Refused 24 0
   unfolding strengthsRefusal
