@@ -26,7 +26,7 @@ use Rattle.winter_rule.specs.Promise.{StrengthSound, StrengthsSound, Low
 
 -- ---- one strength
 
-fine-strength : (x g : ℕ) → strengthRefusal x g ≡ Fine → StrengthSound x
+pub fine-strength : (x g : ℕ) → strengthRefusal x g ≡ Fine → StrengthSound x
 unfolding strengthRefusal
 fine-strength x g h =
     let t = fine-refuse (eqb x 0 || ltb maxStrength x) 24 g h in
