@@ -59,11 +59,12 @@ extern "C" {
 #define FOAMSICKLE_SURVEY_ROOM 65536
 #define FOAMSICKLE_VERIFY_ROOM 2097152
 
-/* Entries of `counts`: planning and growing, dropping, asking why, checking and verifying, reading, reading STP,
- * printing. */
+/* Entries of `counts`: planning and growing, dropping, asking why, copies for strengths, checking and verifying,
+ * reading, reading STP, printing. */
 #define FOAMSICKLE_PLAN_FIGURES 5
 #define FOAMSICKLE_DROP_FIGURES 2
 #define FOAMSICKLE_WHY_FIGURES 6
+#define FOAMSICKLE_WINTER_FIGURES 1
 #define FOAMSICKLE_CHECK_FIGURES 3
 #define FOAMSICKLE_READ_FIGURES 3
 #define FOAMSICKLE_STP_FIGURES 2
@@ -72,6 +73,10 @@ extern "C" {
 /* Numbers in the list of closed tracks, at most; and of `result` for each. */
 #define FOAMSICKLE_MAX_CLOSED 256
 #define FOAMSICKLE_ROW_FIGURES 4
+
+/* Strengths of a call, that of group 1 first; the highest. */
+#define FOAMSICKLE_STRENGTHS 255
+#define FOAMSICKLE_MAX_STRENGTH 15
 
 /* Bytes of a season's report, and bytes that hold the text of every one. */
 #define FOAMSICKLE_REPORT_BYTES 208
@@ -210,6 +215,25 @@ uint64_t foamsickle_closed(
     const uint8_t *others, size_t others_length,
     const uint32_t *tracks, size_t tracks_length,
     uint64_t *result, size_t result_length);
+
+/* Copies of tracks for groups that carry a strength from 1 to 15: every division of the junctions with members of a
+ * group on both sides is crossed by at least its strength of copies, and a track may be copied, at full price each time.
+ * Writes the first m copies (0 to 15 of each track), and counts[0] their total price. No copies that meet the strengths
+ * have a price which, times 4 (2 sites - 2), is below sites times this one.
+ * Refuses 1 to 6 and 18 as above, then 24 (strengths not FOAMSICKLE_STRENGTHS long, place 0; or place: the lowest group
+ * with strength 0 or over FOAMSICKLE_MAX_STRENGTH, with members or without), then 7 (copies or counts too short), then 8
+ * as in planning.
+ * Needed: m copies, FOAMSICKLE_WINTER_FIGURES counts. */
+uint64_t foamsickle_winter(
+    const uint8_t *groups, size_t groups_length,
+    const uint32_t *firsts, size_t firsts_length,
+    const uint32_t *seconds, size_t seconds_length,
+    const uint32_t *weights, size_t weights_length,
+    const uint32_t *owners, size_t owners_length,
+    const uint8_t *others, size_t others_length,
+    const uint8_t *strengths, size_t strengths_length,
+    uint8_t *copies, size_t copies_length,
+    uint64_t *counts, size_t counts_length);
 
 /* Checks marks and moat records, whoever drew them, against a survey.
  * Writes counts[0] sites, counts[1] cost of the kept tracks, counts[2] bound.

@@ -1,5 +1,6 @@
-// Planning, growing and dropping for a caller that gets one number back and the counts in a lent buffer. Definitions in
-// specs/Call and specs/GrowCall. `plan_call`, `grow_call` and `drop_call` answer 0, or number + 256 * place.
+// Planning, growing, dropping, and copies for groups with strengths, for a caller that gets one number back and the
+// counts in a lent buffer. Definitions in specs/Call, specs/GrowCall and specs/WinterCall. `plan_call`, `grow_call`,
+// `drop_call` and `winter_call` answer 0, or number + 256 * place.
 ghost use mathlib.Core.Path.{_≡_};
 ghost use Rattle.base_buffer.specs.Lent.{old, new};
 ghost use Rattle.survey_core.specs.Survey.{lentWith};
@@ -12,8 +13,10 @@ use plan_rule::Planned;
 mod closed;
 mod drop;
 mod grow;
+mod winter;
 
 pub use closed::closed_call;
+pub use winter::winter_call;
 
 // Entries of the counts.
 pub const PLAN_FIGURES: usize = 5;

@@ -18,6 +18,7 @@ ghost use Rattle.format_stp.specs.Answer.{stpCountsOf};
 ghost use Rattle.api_read.specs.StpCall.{stpFigures, stpFiguresOf, stpCall};
 ghost use Rattle.api_plan.specs.Call.{planCall, planMarks, planRecords, planCounts};
 ghost use Rattle.api_plan.specs.GrowCall.{growMarks, growCounts, dropCall, dropMarks, droppedCounts};
+ghost use Rattle.api_plan.specs.WinterCall.{winterCall, winterCopies, winterCounts};
 ghost use Rattle.api_why.specs.Call.{whyCall, whyRoute, whyFigured};
 ghost use Rattle.closed_rule.specs.Closed.{closedRefusal, resultAfter};
 ghost use Rattle.api_check.specs.Call.{checkFiguresOf, checkCall, checkCounts};
@@ -302,6 +303,43 @@ pub extern "C" fn foamsickle_closed(
         others,
         tracks,
         result,
+    )
+}
+
+// Copies of tracks that meet the strengths of all groups, 255 of them, that of group 1 first. `copies` gets a byte for
+// each track, `counts` the total price.
+#[no_mangle]
+pub extern "C" fn foamsickle_winter(
+    groups: &[u8],
+    firsts: &[u32],
+    seconds: &[u32],
+    weights: &[u32],
+    owners: &[u32],
+    others: &[u8],
+    strengths: &[u8],
+    copies: &mut [u8],
+    counts: &mut [u64],
+) -> u64
+    ensures code { λ r.
+        let s = lentWith groups firsts seconds weights owners others in
+        ⌜ r ≡ codeOf (winterCall s (old strengths) (old copies) (old counts)) ⌝ }
+    ensures copies { λ _.
+        let s = lentWith groups firsts seconds weights owners others in
+        ⌜ new copies ≡ winterCopies s (old strengths) (old copies) (old counts) ⌝ }
+    ensures counts { λ _.
+        let s = lentWith groups firsts seconds weights owners others in
+        ⌜ new counts ≡ winterCounts s (old strengths) (old copies) (old counts) ⌝ }
+{
+    api_plan::winter_call(
+        groups,
+        firsts,
+        seconds,
+        weights,
+        owners,
+        others,
+        strengths,
+        copies,
+        counts,
     )
 }
 

@@ -12,6 +12,7 @@ pub mod Dual
 pub mod WeakDuality
 pub mod Degree
 pub mod Accuracy
+pub mod Strength
 pub mod Terminals
 pub mod Minima
 pub mod Required

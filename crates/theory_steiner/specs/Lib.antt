@@ -7,4 +7,5 @@ pub mod Pruning
 pub mod Requirement
 pub mod Closed
 pub mod Rounds
+pub mod Strength
 pub mod Laws

@@ -23,6 +23,8 @@ pub const MAX_PAIRS: usize = 256;
 pub const RECORD_BYTES: usize = 64;
 pub const DUAL_ROOM: usize = 2_048;
 pub const MAX_CLOSED: usize = 256;
+pub const STRENGTHS: usize = 255;
+pub const MAX_STRENGTH: u8 = 15;
 pub const REPORT_BYTES: usize = 208;
 pub const REPORT_ROOM: usize = 747;
 
@@ -33,6 +35,7 @@ pub const PLAN_FIGURES: usize = 5;
 pub const DROP_FIGURES: usize = 2;
 pub const WHY_FIGURES: usize = 6;
 pub const ROW_FIGURES: usize = 4;
+pub const WINTER_FIGURES: usize = 1;
 pub const CHECK_FIGURES: usize = 3;
 pub const PRINT_FIGURES: usize = 1;
 
@@ -83,6 +86,8 @@ pub enum Refusal {
     Loop(u64),
     /// 23: a table is not whole tracks
     PartOfTrack,
+    /// 24: the strength of this group is 0 or over 15; of group 0: the strengths are not 255
+    Strength(u64),
     /// any other number and its place, as of a printed plan: 25 to 28
     Other(u8, u64),
 }
@@ -115,6 +120,7 @@ impl Refusal {
             20 => MalformedStp(place),
             21 => Loop(place),
             23 => PartOfTrack,
+            24 => Strength(place),
             number => Other(number as u8, place),
         }
     }
@@ -267,6 +273,15 @@ pub fn closed(survey: &Survey, tracks: &[u32]) -> Result<Vec<Result<(u64, u64), 
         rows.extend(result.chunks(ROW_FIGURES).map(|row| answered(row[0] + 256 * row[1]).map(|()| (row[2], row[3]))));
     }
     Ok(rows)
+}
+
+/// How often each track is copied so that every division of a group is crossed by its strength of copies, and what the
+/// copies cost. The strength of group 1 stands first.
+pub fn winter(survey: &Survey, strengths: &[u8; STRENGTHS]) -> Result<(Vec<u8>, u64), Refusal> {
+    let mut copies = vec![0; survey.slices().firsts.len()];
+    let mut counts = [0; WINTER_FIGURES];
+    answered(call::winter(survey.slices(), strengths, &mut copies, &mut counts))?;
+    Ok((copies, counts[0]))
 }
 
 /// A survey that was read: groups, first ends, second ends and prices, and the pairs.
@@ -506,6 +521,18 @@ mod tests {
         let one = Survey::new(&[1, 1], &[0], &[1], &[5]).unwrap();
         assert_eq!(closed(&one, &[0]), Ok(vec![Err(Refusal::Unjoinable(1))]));
         assert_eq!(closed(&one, &[]), Ok(vec![]));
+    }
+
+    #[test]
+    fn strengths_are_met() {
+        // A cheap and a dear way between two sites: as often the cheap one as the strength says.
+        let survey = Survey::new(&[1, 1], &[0, 0], &[1, 1], &[5, 7]).unwrap();
+        let mut strengths = [1; STRENGTHS];
+        assert_eq!(winter(&survey, &strengths), Ok((vec![1, 0], 5)));
+        strengths[0] = MAX_STRENGTH;
+        assert_eq!(winter(&survey, &strengths), Ok((vec![15, 0], 75)));
+        strengths[254] = 0;
+        assert_eq!(winter(&survey, &strengths), Err(Refusal::Strength(255)));
     }
 
     #[test]

@@ -191,29 +191,32 @@ module _ (p : Problem) (ok : Sound p) (some : 0 < p .vertices) (joinable : Joins
   unfolding grown
   grown-bound = bound-by-rounds p ok (p .vertices)
 
-  round-ratio : (k : ℕ) → k ≡ terminals p → (i : ℕ) → i < p .vertices → (x : Winner) → winner p (stateAt p i) ≡ x →
+  round-ratio : (k : ℕ) → terminals p ≤ k → (i : ℕ) → i < p .vertices → (x : Winner) → winner p (stateAt p i) ≡ x →
       k * (delayOrZero x * activeDegree p (stateAt p i)) ≤ 2 * ((k - 1) * (delayOrZero x * activeCount p (stateAt p i)))
   unfolding delayOrZero
-  round-ratio k same i b nobody w = omega arith
-  round-ratio k same i b (edge e d) w =
+  round-ratio k most i b nobody w = omega arith
+  round-ratio k most i b (edge e d) w =
       ratio k (activeDegree p (stateAt p i)) (activeCount p (stateAt p i)) d (degree-bound p ok some joinable i (omega arith) e d w)
       (omega (arith, active-le-terminals p ok (stateAt p i)))
 
-  -- k times the cost is at most k - 1 times the bound.
-  pub kept-accurate : terminals p * cost p (kept p) ≤ (terminals p - 1) * dualBound p (grown p)
+  -- k times the cost is at most k - 1 times the bound, for the number of terminals and for any number above it.
+  pub kept-accurate-at : (k : ℕ) → terminals p ≤ k → k * cost p (kept p) ≤ (k - 1) * dualBound p (grown p)
   unfolding roundDelay
-  kept-accurate =
+  kept-accurate-at k most =
       omega (
         arith,
-        ap (λ x. terminals p * x) cost-by-rounds,
-        ap (λ x. (terminals p - 1) * x) grown-bound,
-        sum-scale (p .vertices) (terminals p) (λ i. roundDelay p i * activeDegree p (stateAt p i)),
-        sum-scale (p .vertices) (terminals p - 1) (λ i. roundDelay p i * activeCount p (stateAt p i)),
-        sum-scale (p .vertices) 2 (λ i. (terminals p - 1) * (roundDelay p i * activeCount p (stateAt p i))),
-        sum-le (p .vertices) (λ i. terminals p * (roundDelay p i * activeDegree p (stateAt p i)))
-            (λ i. 2 * ((terminals p - 1) * (roundDelay p i * activeCount p (stateAt p i))))
-            (λ i b. round-ratio (terminals p) refl i b (winner p (stateAt p i)) refl),
+        ap (λ x. k * x) cost-by-rounds,
+        ap (λ x. (k - 1) * x) grown-bound,
+        sum-scale (p .vertices) k (λ i. roundDelay p i * activeDegree p (stateAt p i)),
+        sum-scale (p .vertices) (k - 1) (λ i. roundDelay p i * activeCount p (stateAt p i)),
+        sum-scale (p .vertices) 2 (λ i. (k - 1) * (roundDelay p i * activeCount p (stateAt p i))),
+        sum-le (p .vertices) (λ i. k * (roundDelay p i * activeDegree p (stateAt p i)))
+            (λ i. 2 * ((k - 1) * (roundDelay p i * activeCount p (stateAt p i))))
+            (λ i b. round-ratio k most i b (winner p (stateAt p i)) refl),
       )
+
+  pub kept-accurate : terminals p * cost p (kept p) ≤ (terminals p - 1) * dualBound p (grown p)
+  kept-accurate = kept-accurate-at (terminals p) (omega arith)
 
   -- Where there is no terminal the kept edges cost nothing.
   pub no-terminal-free : terminals p ≡ 0 → cost p (kept p) ≡ 0

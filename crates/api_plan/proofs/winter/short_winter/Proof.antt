@@ -1,0 +1,25 @@
+-- `short_winter` meets its contract: 1 to 6, 18 and 24 as one number, else 7.
+use Rattle.survey_core.specs.Survey.{surveyWith}
+use Rattle.api_plan.specs.Laws.WinterCall.{short-refused, short-seven}
+use borrow.Author.Needs.{needs}
+use Rattle.api_plan.proofs.winter.short_winter.Statement.{statement}
+use Rattle.api_plan.proofs.winter.short_winter.Tie as tie
+
+returns : tie.Need-returns
+returns c =
+    short-refused (surveyWith (c .before .before .before .before .before .before .before .before .before .before .before .before .args .groups .now) (c .before .before .before .before .before .before .before .before .before .before .before .before .args .firsts .now) (c .before .before .before .before .before .before .before .before .before .before .before .before .args .seconds .now) (c .before .before .before .before .before .before .before .before .before .before .before .before .args .weights .now) (c .before .before .before .before .before .before .before .before .before .before .before .before .args .owners .now) (c .before .before .before .before .before .before .before .before .before .before .before .before .args .others .now)) (c .before .before .before .before .before .before .before .before .before .before .before .before .args .strengths .now) (c .before .before .before .before .given-refusal .ensures) _ _ (c .before .before .found .given .1) (c .code .ensures)
+
+returns-2 : tie.Need-returns-2
+returns-2 c =
+    short-seven (surveyWith (c .before .before .before .before .before .before .before .before .before .before .args .groups .now) (c .before .before .before .before .before .before .before .before .before .before .args .firsts .now) (c .before .before .before .before .before .before .before .before .before .before .args .seconds .now) (c .before .before .before .before .before .before .before .before .before .before .args .weights .now) (c .before .before .before .before .before .before .before .before .before .before .args .owners .now) (c .before .before .before .before .before .before .before .before .before .before .args .others .now)) (c .before .before .before .before .before .before .before .before .before .before .args .strengths .now) (c .before .before .given-refusal .ensures) (c .enum-told .given .1)
+
+pub short-winter-spec : {M : Type 1} → statement M
+short-winter-spec =
+    tie.close
+    (tie.spec
+    (λ c κs. search needs)
+    (λ c. search needs)
+    (λ c κs. search needs)
+    (λ c. search needs)
+    returns
+    returns-2)

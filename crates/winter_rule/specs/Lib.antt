@@ -1,0 +1,3 @@
+pub mod Winter
+pub mod Promise
+pub mod Laws
