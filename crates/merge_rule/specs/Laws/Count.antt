@@ -38,7 +38,7 @@ module _ (side : List ℕ) (m k : ℕ) (below : (i : ℕ) → i < k → getD sid
       same : (v : ℕ) → (v ≡ getD side i 0 → ⊥) → (anyBelow i (λ j. eqb (getD side j 0) v) || eqb (getD side i 0) v) ≡ anyBelow i (λ j. eqb (getD side j 0) v)
       same v other = rw (ne-eqb (getD side i 0) v (λ e. other (sym e))) (or-false (anyBelow i (λ j. eqb (getD side j 0) v)))
 
-  tied-count : (i : ℕ) → i ≤ k → countBelow m (isTiedBelow side i) ≡ i
+  pub tied-count : (i : ℕ) → i ≤ k → countBelow m (isTiedBelow side i) ≡ i
   unfolding isTiedBelow anyBelow
   tied-count zero h = count-none m (isTiedBelow side 0) (λ v b. refl)
   tied-count (suc i) h = let ih : countBelow m (isTiedBelow side i) ≡ i = tied-count i (omega arith) in omega (arith, tied-more i (omega arith))

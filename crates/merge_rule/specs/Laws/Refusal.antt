@@ -1,12 +1,14 @@
 -- What the refusals leave of ties, and of two surveys and their ties (document 02, No. 9).
 use Prim.Native.Nat.{ℕ, _<_, _≤_}
+use native.Mathlib.Omega.{arith}
 use mathlib.Core.Path.{_≡_, _∙_}
 use mathlib.Core.Bool.{false, _||_}
 use mathlib.Core.List.{List}
 use lib.ListN.{length, getD}
 use lib.Dec.{eqb, ltb, leb}
 use borrow.Author.Tests.{eq-eqb, le-ltb, lt-leb, eqb-true, ltb-false, leb-false, not-false}
-use Rattle.base_finite.specs.Laws.Below.{any-intro, any-elim, Found}
+use Rattle.base_finite.specs.Below.{countBelow}
+use Rattle.base_finite.specs.Laws.Below.{any-intro, any-elim, Found, count-le}
 use Rattle.base_finite.specs.Laws.Test.{true-not-false, not-true-false, or-false-left, or-false-right}
 use Rattle.base_limits.specs.Limits.{maxVertices, maxEdges, maxPairs}
 use Rattle.base_limits.specs.Verdict.{refuseIf, _before_}
@@ -18,6 +20,7 @@ use Rattle.merge_rule.specs.Ties.{Ties, isTiedBelow}
 use Rattle.merge_rule.specs.Merged.{merged}
 use Rattle.merge_rule.specs.Refusal.{SurveyCounts, countsOf, Room, tieRefusal, tiesRefusal, largeRefusal, roomRefusal, mergeRefusal}
 use Rattle.merge_rule.specs.Sound.{TiesSound, Mergeable, RoomFor}
+use Rattle.merge_rule.specs.Laws.Count.{tied-count}
 
 -- ---- ties
 
@@ -83,6 +86,18 @@ module _ (n m : ℕ) (ties : Ties) where
         first-once = λ i j c b. each j b .first-once i c;
         second-once = λ i j c b. each j b .second-once i c;
       }
+
+  -- No more than n ties pass: a longer list ends in 22, at place n if not before.
+  pub ties-before-few : (i : ℕ) → ((j : ℕ) → j < i → tieRefusal n m ties j ≡ Fine) → i ≤ n
+  ties-before-few i none =
+      let count : countBelow n (isTiedBelow (ties .firsts) i) ≡ i =
+      tied-count (ties .firsts) n i (λ j b. fine-tie j (none j b) .first-below) (λ j k c b. fine-tie k (none k b) .first-once j c) i (omega arith) in
+      omega (arith, count, count-le n (isTiedBelow (ties .firsts) i))
+
+  pub long-ties-refused : n < length (ties .firsts) → tiesRefusal n m ties ≡ Fine → ⊥
+  unfolding tiesRefusal
+  long-ties-refused long h =
+      omega (arith, long, ties-before-few (length (ties .firsts)) (none-lowest (length (ties .firsts)) (tieRefusal n m ties) (fine-right _ _ h)))
 
   pub ties-fine : TiesSound n m ties → tiesRefusal n m ties ≡ Fine
   unfolding tiesRefusal
