@@ -59,8 +59,8 @@ extern "C" {
 #define FOAMSICKLE_SURVEY_ROOM 65536
 #define FOAMSICKLE_VERIFY_ROOM 2097152
 
-/* Entries of `counts`: planning and growing, dropping, asking why, copies for strengths, checking and verifying,
- * reading, reading STP, printing. */
+/* Entries of `counts`: planning and growing, dropping, asking why, copies for strengths, merging, checking and
+ * verifying, reading, reading STP, printing. */
 #define FOAMSICKLE_PLAN_FIGURES 5
 #define FOAMSICKLE_DROP_FIGURES 2
 #define FOAMSICKLE_WHY_FIGURES 6
@@ -68,6 +68,7 @@ extern "C" {
 #define FOAMSICKLE_CHECK_FIGURES 3
 #define FOAMSICKLE_READ_FIGURES 3
 #define FOAMSICKLE_STP_FIGURES 2
+#define FOAMSICKLE_MERGE_FIGURES 3
 #define FOAMSICKLE_PRINT_FIGURES 1
 
 /* Numbers in the list of closed tracks, at most; and of `result` for each. */
@@ -233,6 +234,40 @@ uint64_t foamsickle_winter(
     const uint8_t *others, size_t others_length,
     const uint8_t *strengths, size_t strengths_length,
     uint8_t *copies, size_t copies_length,
+    uint64_t *counts, size_t counts_length);
+
+/* Makes one survey of two neighbouring ones: the second's slices have second_ before their names. Tie i says that
+ * junction tie_firsts[i] of the first and tie_seconds[i] of the second are one; there may be no ties.
+ * Writes the result's six slices: junctions of the first keep their numbers, the untied ones of the second follow,
+ * rising; tracks of the first come first. Equal group numbers are one group. The own group of a tied junction is the
+ * first's, or the second's where that is 0; every other of its groups in either survey is a pair, once. Pairs rise by
+ * owner, then group. counts[0] n, counts[1] m, counts[2] the number of pairs.
+ * Refuses the first's 1 to 6 and 18 as above, then the second's, then 2 (tie_firsts and tie_seconds differ in length; 0),
+ * 22 (the lowest tie that is out of range or names a junction already tied on that side), then for the result 1, 3, 18
+ * (a 257th pair; 256) and 7 (counts or a slice of the result too short). No survey is judged for 8.
+ * Needed: FOAMSICKLE_MERGE_FIGURES counts; FOAMSICKLE_MAX_VERTICES, FOAMSICKLE_MAX_EDGES and FOAMSICKLE_MAX_PAIRS entries
+ * hold every result. */
+uint64_t foamsickle_merge(
+    const uint8_t *groups, size_t groups_length,
+    const uint32_t *firsts, size_t firsts_length,
+    const uint32_t *seconds, size_t seconds_length,
+    const uint32_t *weights, size_t weights_length,
+    const uint32_t *owners, size_t owners_length,
+    const uint8_t *others, size_t others_length,
+    const uint8_t *second_groups, size_t second_groups_length,
+    const uint32_t *second_firsts, size_t second_firsts_length,
+    const uint32_t *second_seconds, size_t second_seconds_length,
+    const uint32_t *second_weights, size_t second_weights_length,
+    const uint32_t *second_owners, size_t second_owners_length,
+    const uint8_t *second_others, size_t second_others_length,
+    const uint32_t *tie_firsts, size_t tie_firsts_length,
+    const uint32_t *tie_seconds, size_t tie_seconds_length,
+    uint8_t *out_groups, size_t out_groups_length,
+    uint32_t *out_firsts, size_t out_firsts_length,
+    uint32_t *out_seconds, size_t out_seconds_length,
+    uint32_t *out_weights, size_t out_weights_length,
+    uint32_t *out_owners, size_t out_owners_length,
+    uint8_t *out_others, size_t out_others_length,
     uint64_t *counts, size_t counts_length);
 
 /* Checks marks and moat records, whoever drew them, against a survey.

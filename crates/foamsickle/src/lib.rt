@@ -3,7 +3,7 @@
 // include/foamsickle.h.
 ghost use mathlib.Core.Path.{_≡_};
 ghost use Rattle.base_buffer.specs.Lent.{old, new};
-ghost use Rattle.survey_core.specs.Survey.{lentWith};
+ghost use Rattle.survey_core.specs.Survey.{surveyWith, lentWith};
 ghost use Rattle.format_write.specs.Text.{planText};
 ghost use lib.ListN.{length};
 ghost use Prim.Native.Nat.{_≤_};
@@ -21,6 +21,9 @@ ghost use Rattle.api_plan.specs.GrowCall.{growMarks, growCounts, dropCall, drop
 ghost use Rattle.api_plan.specs.WinterCall.{winterCall, winterCopies, winterCounts};
 ghost use Rattle.api_why.specs.Call.{whyCall, whyRoute, whyFigured};
 ghost use Rattle.closed_rule.specs.Closed.{closedRefusal, resultAfter};
+ghost use Rattle.merge_rule.specs.Ties.{tiesFrom};
+ghost use Rattle.merge_rule.specs.Refusal.{roomOf};
+ghost use Rattle.api_merge.specs.Call.{callRefusal, mergeOut, mergeCounts};
 ghost use Rattle.api_check.specs.Call.{checkFiguresOf, checkCall, checkCounts};
 ghost use Rattle.api_print.specs.Call.{dualCall, dualOut, dualCounts};
 ghost use Rattle.api_print.specs.Call.{textCall, textOut, textCounts, surveyCall, surveyOut, surveyCounts};
@@ -339,6 +342,78 @@ pub extern "C" fn foamsickle_winter(
         others,
         strengths,
         copies,
+        counts,
+    )
+}
+
+// Makes one survey of two neighbouring ones, given ties: a junction of the first and the one of the second at the same
+// place. The six buffers of the result get its own groups, first ends, second ends, prices and pairs; `counts` gets n, m
+// and the number of pairs.
+#[no_mangle]
+pub extern "C" fn foamsickle_merge(
+    groups: &[u8],
+    firsts: &[u32],
+    seconds: &[u32],
+    weights: &[u32],
+    owners: &[u32],
+    others: &[u8],
+    second_groups: &[u8],
+    second_firsts: &[u32],
+    second_seconds: &[u32],
+    second_weights: &[u32],
+    second_owners: &[u32],
+    second_others: &[u8],
+    tie_firsts: &[u32],
+    tie_seconds: &[u32],
+    out_groups: &mut [u8],
+    out_firsts: &mut [u32],
+    out_seconds: &mut [u32],
+    out_weights: &mut [u32],
+    out_owners: &mut [u32],
+    out_others: &mut [u8],
+    counts: &mut [u64],
+) -> u64
+    ensures code { λ r.
+        let a = lentWith groups firsts seconds weights owners others in
+        let b = lentWith «second_groups» «second_firsts» «second_seconds» «second_weights» «second_owners» «second_others» in
+        let ties = tiesFrom (old «tie_firsts») (old «tie_seconds») in
+        let out = lentWith «out_groups» «out_firsts» «out_seconds» «out_weights» «out_owners» «out_others» in
+        ⌜ r ≡ codeOf (callRefusal a b ties (roomOf out) (length (old counts))) ⌝ }
+    ensures buffers { λ _.
+        let a = lentWith groups firsts seconds weights owners others in
+        let b = lentWith «second_groups» «second_firsts» «second_seconds» «second_weights» «second_owners» «second_others» in
+        let ties = tiesFrom (old «tie_firsts») (old «tie_seconds») in
+        let out = lentWith «out_groups» «out_firsts» «out_seconds» «out_weights» «out_owners» «out_others» in
+        ⌜ surveyWith (new «out_groups») (new «out_firsts») (new «out_seconds») (new «out_weights») (new «out_owners»)
+        (new «out_others») ≡ mergeOut a b ties out (length (old counts)) ⌝ }
+    ensures counts { λ _.
+        let a = lentWith groups firsts seconds weights owners others in
+        let b = lentWith «second_groups» «second_firsts» «second_seconds» «second_weights» «second_owners» «second_others» in
+        let ties = tiesFrom (old «tie_firsts») (old «tie_seconds») in
+        let out = lentWith «out_groups» «out_firsts» «out_seconds» «out_weights» «out_owners» «out_others» in
+        ⌜ new counts ≡ mergeCounts a b ties (roomOf out) (old counts) ⌝ }
+{
+    api_merge::merge_call(
+        groups,
+        firsts,
+        seconds,
+        weights,
+        owners,
+        others,
+        second_groups,
+        second_firsts,
+        second_seconds,
+        second_weights,
+        second_owners,
+        second_others,
+        tie_firsts,
+        tie_seconds,
+        out_groups,
+        out_firsts,
+        out_seconds,
+        out_weights,
+        out_owners,
+        out_others,
         counts,
     )
 }

@@ -105,6 +105,13 @@ mod flat {
             groups: in u8, firsts: in u32, seconds: in u32, weights: in u32, owners: in u32, others: in u8,
             strengths: in u8, copies: out u8, counts: out u64,
         );
+        merge = foamsickle_merge(
+            groups: in u8, firsts: in u32, seconds: in u32, weights: in u32, owners: in u32, others: in u8,
+            second_groups: in u8, second_firsts: in u32, second_seconds: in u32, second_weights: in u32,
+            second_owners: in u32, second_others: in u8, tie_firsts: in u32, tie_seconds: in u32,
+            out_groups: out u8, out_firsts: out u32, out_seconds: out u32, out_weights: out u32, out_owners: out u32,
+            out_others: out u8, counts: out u64,
+        );
         check = foamsickle_check(
             groups: in u8, firsts: in u32, seconds: in u32, weights: in u32, owners: in u32, others: in u8,
             marks: in u8, records: in u8, counts: out u64,
@@ -173,6 +180,40 @@ pub fn closed(s: Slices, tracks: &[u32], result: &mut [u64]) -> u64 {
 /// `copies` takes a byte for each track, `counts` the total price.
 pub fn winter(s: Slices, strengths: &[u8], copies: &mut [u8], counts: &mut [u64]) -> u64 {
     flat::winter(s.groups, s.firsts, s.seconds, s.weights, s.owners, s.others, strengths, copies, counts)
+}
+
+/// `counts` takes n, m and the number of pairs of the result.
+pub fn merge(
+    first: Slices,
+    second: Slices,
+    tie_firsts: &[u32],
+    tie_seconds: &[u32],
+    out: Buffers,
+    counts: &mut [u64],
+) -> u64 {
+    flat::merge(
+        first.groups,
+        first.firsts,
+        first.seconds,
+        first.weights,
+        first.owners,
+        first.others,
+        second.groups,
+        second.firsts,
+        second.seconds,
+        second.weights,
+        second.owners,
+        second.others,
+        tie_firsts,
+        tie_seconds,
+        out.groups,
+        out.firsts,
+        out.seconds,
+        out.weights,
+        out.owners,
+        out.others,
+        counts,
+    )
 }
 
 /// `counts` takes sites, cost and bound.

@@ -36,6 +36,7 @@ pub const DROP_FIGURES: usize = 2;
 pub const WHY_FIGURES: usize = 6;
 pub const ROW_FIGURES: usize = 4;
 pub const WINTER_FIGURES: usize = 1;
+pub const MERGE_FIGURES: usize = 3;
 pub const CHECK_FIGURES: usize = 3;
 pub const PRINT_FIGURES: usize = 1;
 
@@ -84,6 +85,8 @@ pub enum Refusal {
     MalformedStp(u64),
     /// 21: this picked track closes a loop with picked tracks of lower number
     Loop(u64),
+    /// 22: this tie is out of range, or names a junction that is tied already
+    Tie(u64),
     /// 23: a table is not whole tracks
     PartOfTrack,
     /// 24: the strength of this group is 0 or over 15; of group 0: the strengths are not 255
@@ -119,6 +122,7 @@ impl Refusal {
             19 => Track(place),
             20 => MalformedStp(place),
             21 => Loop(place),
+            22 => Tie(place),
             23 => PartOfTrack,
             24 => Strength(place),
             number => Other(number as u8, place),
@@ -302,12 +306,14 @@ impl SurveyText {
     }
 }
 
-/// Reads a survey's text.
-pub fn read(text: &[u8]) -> Result<SurveyText, Refusal> {
+/// The survey that a call writes into buffers which hold every one; the call answers n, m and the number of pairs.
+fn written<const FIGURES: usize>(
+    call: impl FnOnce(Buffers, &mut [u64; FIGURES]) -> u64,
+) -> Result<SurveyText, Refusal> {
     let mut groups = vec![0; MAX_VERTICES];
     let [mut firsts, mut seconds, mut weights] = [(); 3].map(|_| vec![0; MAX_EDGES]);
     let (mut owners, mut others) = (vec![0; MAX_PAIRS], vec![0; MAX_PAIRS]);
-    let mut counts = [0; READ_FIGURES];
+    let mut counts = [0; FIGURES];
     let buffers = Buffers {
         groups: &mut groups,
         firsts: &mut firsts,
@@ -316,15 +322,27 @@ pub fn read(text: &[u8]) -> Result<SurveyText, Refusal> {
         owners: &mut owners,
         others: &mut others,
     };
-    answered(call::read(text, buffers, &mut counts))?;
-    let [n, m, pairs] = counts.map(|count| count as usize);
-    groups.truncate(n);
+    answered(call(buffers, &mut counts))?;
+    groups.truncate(counts[0] as usize);
     for buffer in [&mut firsts, &mut seconds, &mut weights] {
-        buffer.truncate(m);
+        buffer.truncate(counts[1] as usize);
     }
-    owners.truncate(pairs);
-    others.truncate(pairs);
+    owners.truncate(counts[2] as usize);
+    others.truncate(counts[2] as usize);
     Ok(SurveyText { groups, firsts, seconds, weights, owners, others })
+}
+
+/// Reads a survey's text.
+pub fn read(text: &[u8]) -> Result<SurveyText, Refusal> {
+    written::<READ_FIGURES>(|buffers, counts| call::read(text, buffers, counts))
+}
+
+/// One survey of two neighbouring ones. A tie is a junction of the first and the one of the second at the same place.
+pub fn merge(first: &Survey, second: &Survey, ties: &[(u32, u32)]) -> Result<SurveyText, Refusal> {
+    let (firsts, seconds): (Vec<u32>, Vec<u32>) = ties.iter().copied().unzip();
+    written::<MERGE_FIGURES>(|buffers, counts| {
+        call::merge(first.slices(), second.slices(), &firsts, &seconds, buffers, counts)
+    })
 }
 
 /// Reads an STP file of SteinLib: the terminals are group 1, and there are no pairs.
@@ -533,6 +551,19 @@ mod tests {
         assert_eq!(winter(&survey, &strengths), Ok((vec![15, 0], 75)));
         strengths[254] = 0;
         assert_eq!(winter(&survey, &strengths), Err(Refusal::Strength(255)));
+    }
+
+    #[test]
+    fn two_surveys_are_merged() {
+        // A road of two tracks and one of one track; the far end of the first is the near end of the second.
+        let first = Survey::new(&[1, 0, 2], &[0, 1], &[1, 2], &[5, 7]).unwrap();
+        let second = Survey::new(&[3, 1], &[0], &[1], &[4]).unwrap();
+        assert_eq!(plan(&first).map(|p| p.found.cost), Ok(0));
+        let whole = merge(&first, &second, &[(2, 0)]).unwrap();
+        assert_eq!((&whole.groups[..], &whole.firsts[..], &whole.seconds[..]), (&[1, 0, 2, 1][..], &[0, 1, 2][..], &[1, 2, 3][..]));
+        assert_eq!((&whole.weights[..], &whole.owners[..], &whole.others[..]), (&[5, 7, 4][..], &[2][..], &[3][..]));
+        assert_eq!(plan(&whole.survey().unwrap()).map(|p| p.found.cost), Ok(16));
+        assert_eq!(merge(&first, &second, &[(2, 0), (1, 0)]).err(), Some(Refusal::Tie(1)));
     }
 
     #[test]

@@ -1,0 +1,31 @@
+-- `copy_at` meets its contract: one more store in each turn (`run-more`).
+use Prim.Native.Nat.{_≤_, _-_}
+use native.Mathlib.Omega.{arith}
+use mathlib.Core.Path.{_≡_, refl, ap, sym, _∙_}
+use lib.Seq.{sets}
+use lib.ListN.{length, take}
+use Rattle.merge_core.specs.Laws.Stored.{run-more, run-end, run-long}
+use borrow.Author.Needs.{needs}
+use Rattle.merge_core.proofs.write.copy_at.Statement.{statement}
+use Rattle.merge_core.proofs.write.copy_at.Tie as tie
+
+abbrev Inv-loop : tie.InvT-loop
+Inv-loop list at out₀ i₀ out i = (i ≤ length list) × (out ≡ sets out₀ at (take i list))
+
+abbrev μ-loop : tie.MeasureT-loop
+μ-loop list at out₀ i₀ out i = length list - i
+
+loop-holds : tie.Need-loop-holds Inv-loop μ-loop
+loop-holds c = (omega arith, refl)
+
+loop-again : tie.Need-loop-again Inv-loop μ-loop
+loop-again c = (omega arith, (c .before .before .put32 .ensures) ∙ run-more _ _ _ _ (c .before .before .before .before .before .before .loop .inv .1) (c .before .before .before .before .before .loop-test .taken) (c .before .before .before .at32 .ensures))
+
+same-length : tie.Need-same-length Inv-loop μ-loop
+same-length c = run-long (c .before .before .before .before .args .out .now) (c .before .before .before .before .args .list .now) (c .before .before .before .before .args .at) (c .before .loop .i) (c .before .loop .inv .1)
+
+returns : tie.Need-returns Inv-loop μ-loop
+returns c = run-end _ _ _ _ (c .before .loop .inv .1) (c .loop-test .left)
+
+pub copy-at-spec : {M : Type 1} → statement M
+copy-at-spec = tie.close (tie.spec Inv-loop μ-loop loop-holds (λ c. search needs) (λ c κs. search needs) (λ c κs. search needs) (λ c. search needs) (λ c. search needs) loop-again same-length returns)

@@ -1,0 +1,10 @@
+pub mod Those
+pub mod Placed
+pub mod Count
+pub mod Refusal
+pub mod Member
+pub mod Sound
+pub mod ReadOut
+pub mod Rising
+pub mod Shifted
+pub mod Promise

@@ -1,0 +1,9 @@
+pub mod Ties
+pub mod Merged
+pub mod Refusal
+pub mod ReadOut
+pub mod Sound
+pub mod Promise
+pub mod Shifted
+pub mod Laws
+pub mod Examples
