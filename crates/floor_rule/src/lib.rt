@@ -1,0 +1,17 @@
+// A floor under the cost of every set of tracks that joins every group: dual ascent over directed cuts (specs/Ascent),
+// over the survey's lists poured together (specs/Number), with the plan's figures (specs/Floor), and what is promised
+// of it (specs/Promise). It holds the type of the answer, and no function.
+
+// What is answered: the floor, k, what the plan costs and its bound; or a refusal's number and place.
+pub enum Floored {
+    Finished {
+        floor: u64,
+        terminals: u64,
+        cost: u64,
+        bound: u64,
+    },
+    Refused {
+        number: u64,
+        place: usize,
+    },
+}
