@@ -104,20 +104,28 @@ unfoldable pub visit : (firsts seconds share : List ℕ) → (n root l v : ℕ) 
 visit firsts seconds share n root l v s =
     cond (eqb (missing share (s .got) l) 0) s (raisedBy firsts seconds (reaching firsts seconds (s .rests) n v) share root l s)
 
+-- A visit to v, if it is a member of group l.
+unfoldable pub visitMember : (groups firsts seconds share : List ℕ) → (root l v : ℕ) → State → State
+visitMember groups firsts seconds share root l v s =
+    cond (eqb (getD groups v 0) l) (visit firsts seconds share (length groups) root l v s) s
+
 -- The members of group l below i.
 unfoldable pub visitMembers : (groups firsts seconds share : List ℕ) → (root l i : ℕ) → State → State
 visitMembers groups firsts seconds share root l zero s = s
 visitMembers groups firsts seconds share root l (suc v) s =
-    let before = visitMembers groups firsts seconds share root l v s in
-    cond (eqb (getD groups v 0) l) (visit firsts seconds share (length groups) root l v before) before
+    visitMember groups firsts seconds share root l v (visitMembers groups firsts seconds share root l v s)
 
--- The groups from k up, below i.
+-- The members of group l, if it is not below k and has not got its share.
+unfoldable pub visitGroup : (groups firsts seconds share : List ℕ) → (root k l : ℕ) → State → State
+visitGroup groups firsts seconds share root k l s =
+    cond (ltb l k || eqb (missing share (s .got) l) 0) s
+    (visitMembers groups firsts seconds share root l (length groups) s)
+
+-- The groups below i.
 unfoldable pub visitGroups : (groups firsts seconds share : List ℕ) → (root k i : ℕ) → State → State
 visitGroups groups firsts seconds share root k zero s = s
 visitGroups groups firsts seconds share root k (suc l) s =
-    let before = visitGroups groups firsts seconds share root k l s in
-    cond (ltb l k || eqb (missing share (before .got) l) 0) before
-    (visitMembers groups firsts seconds share root l (length groups) before)
+    visitGroup groups firsts seconds share root k l (visitGroups groups firsts seconds share root k l s)
 
 unfoldable pub passes : (groups firsts seconds share : List ℕ) → (root k n : ℕ) → State → State
 passes groups firsts seconds share root k zero s = s

@@ -8,7 +8,7 @@ use Rattle.theory_graph.specs.Component.{merged, components}
 use Rattle.theory_directed.specs.Directed.{enters}
 use Rattle.survey_core.specs.Survey.{surveyWith, surveyFrom}
 use Rattle.survey_lists.specs.Pouring.{homeBelow, home, pouredLabel, pouredGroups}
-use Rattle.floor_rule.specs.Ascent.{lesser, edgeOf, tailOf, headOf, entersAt, flagAt, sweep, sweeps, reaching, leastRest, loaded, raised, raisedBy, visit, visitMembers, visitGroups, passes, prices, atFirst, lowestIn, ascended, lowered, afterList, inCompany, firstShares, sharesAfter, ascentFloor}
+use Rattle.floor_rule.specs.Ascent.{lesser, edgeOf, tailOf, headOf, entersAt, flagAt, sweep, sweeps, reaching, leastRest, loaded, raised, raisedBy, visit, visitMember, visitMembers, visitGroup, visitGroups, passes, prices, atFirst, lowestIn, ascended, lowered, afterList, inCompany, firstShares, sharesAfter, ascentFloor}
 use Rattle.floor_rule.specs.Number.{lowerNumber, lowestOwn, lowestPaired, numberOf, numberedGroups}
 use Rattle.floor_rule.specs.Floor.{ascentOf}
 
@@ -16,7 +16,7 @@ use Rattle.floor_rule.specs.Floor.{ascentOf}
 pub crossing-groups-floor : ascentOf (surveyFrom (1 ∷ 2 ∷ 1 ∷ 2 ∷ []) (0 ∷ 1 ∷ 2 ∷ []) (1 ∷ 2 ∷ 3 ∷ []) (4 ∷ 2 ∷ 4 ∷ [])) ≡ 10
 unfolding
     counted sumBelow countBelow tabulate lookup memo remade merged components enters homeBelow home pouredLabel pouredGroups
-    lesser edgeOf tailOf headOf entersAt flagAt sweep sweeps reaching leastRest loaded raised raisedBy visit visitMembers visitGroups passes
+    lesser edgeOf tailOf headOf entersAt flagAt sweep sweeps reaching leastRest loaded raised raisedBy visit visitMember visitMembers visitGroup visitGroups passes
     prices atFirst lowestIn ascended lowered afterList inCompany firstShares sharesAfter ascentFloor
     lowerNumber lowestOwn lowestPaired numberOf numberedGroups ascentOf
 crossing-groups-floor = refl
@@ -25,7 +25,7 @@ crossing-groups-floor = refl
 pub overlapping-lists-floor : ascentOf (surveyWith (9 ∷ 9 ∷ 2 ∷ []) (0 ∷ 1 ∷ 0 ∷ []) (1 ∷ 2 ∷ 2 ∷ []) (3 ∷ 4 ∷ 5 ∷ []) (1 ∷ []) (2 ∷ [])) ≡ 7
 unfolding
     counted sumBelow countBelow tabulate lookup memo remade merged components enters homeBelow home pouredLabel pouredGroups
-    lesser edgeOf tailOf headOf entersAt flagAt sweep sweeps reaching leastRest loaded raised raisedBy visit visitMembers visitGroups passes
+    lesser edgeOf tailOf headOf entersAt flagAt sweep sweeps reaching leastRest loaded raised raisedBy visit visitMember visitMembers visitGroup visitGroups passes
     prices atFirst lowestIn ascended lowered afterList inCompany firstShares sharesAfter ascentFloor
     lowerNumber lowestOwn lowestPaired numberOf numberedGroups ascentOf
 overlapping-lists-floor = refl
@@ -34,7 +34,7 @@ overlapping-lists-floor = refl
 pub spokes-floor : ascentOf (surveyFrom (0 ∷ 1 ∷ 1 ∷ 1 ∷ []) (0 ∷ 0 ∷ 0 ∷ 1 ∷ 1 ∷ 2 ∷ []) (1 ∷ 2 ∷ 3 ∷ 2 ∷ 3 ∷ 3 ∷ []) (3 ∷ 3 ∷ 3 ∷ 5 ∷ 5 ∷ 5 ∷ [])) ≡ 9
 unfolding
     counted sumBelow countBelow tabulate lookup memo remade merged components enters homeBelow home pouredLabel pouredGroups
-    lesser edgeOf tailOf headOf entersAt flagAt sweep sweeps reaching leastRest loaded raised raisedBy visit visitMembers visitGroups passes
+    lesser edgeOf tailOf headOf entersAt flagAt sweep sweeps reaching leastRest loaded raised raisedBy visit visitMember visitMembers visitGroup visitGroups passes
     prices atFirst lowestIn ascended lowered afterList inCompany firstShares sharesAfter ascentFloor
     lowerNumber lowestOwn lowestPaired numberOf numberedGroups ascentOf
 spokes-floor = refl

@@ -21,7 +21,7 @@ use Rattle.theory_steiner.specs.Problem.{Problem, EdgeSet, Joins, cost}
 use Rattle.theory_directed.specs.Directed.{Groups, peopled, Grouped, Cut, EachCut, none, more, amount, enters, arcLoad, Fits, Rooted, Certified}
 use Rattle.theory_directed.specs.Laws.Directed.{directed-duality}
 use Rattle.survey_core.specs.Survey.{Survey, vertexCount, edgeCount, problemOf}
-use Rattle.floor_rule.specs.Ascent.{maxArcs, maxCost, lesser, arcCount, edgeOf, tailOf, headOf, flagged, entersAt, reaching, leastRest, loaded, State, stateWith, missing, raised, raisedBy, visit, visitMembers, visitGroups, passes, passCount, prices, atFirst, rootOf, ascended, lowered, afterList, inCompany, firstShares, sharesAfter, ascentFloor}
+use Rattle.floor_rule.specs.Ascent.{maxArcs, maxCost, lesser, arcCount, edgeOf, tailOf, headOf, flagged, entersAt, reaching, leastRest, loaded, State, stateWith, missing, raised, raisedBy, visit, visitMember, visitMembers, visitGroup, visitGroups, passes, passCount, prices, atFirst, rootOf, ascended, lowered, afterList, inCompany, firstShares, sharesAfter, ascentFloor}
 use Rattle.floor_rule.specs.Laws.Root.{lowest-le, lowest-member, lowest-below, company-some, company-member}
 use Rattle.floor_rule.specs.Laws.Cut.{lesser-left, lesser-right, reaching-self, least-le, loaded-at, length-loaded, arc-forth, arc-back}
 
@@ -146,7 +146,7 @@ module _ (t : Survey) (groups : List ℕ) (long : length groups ≡ vertexCount 
 
     behind-members : (s : State) (l i : ℕ) → Behind s → l < groupNumbers → inCompany groups l ≡ true → i ≤ length groups
         → Behind (visitMembers groups (t .firsts) (t .seconds) share (rootOf groups k) l i s)
-    unfolding visitMembers
+    unfolding visitMembers visitMember
     behind-members s l zero h b company c = h
     behind-members s l (suc v) h b company c = by (behind-members s l v h b company (omega arith)) (either (eqb (getD groups v 0) l))
       where
@@ -157,7 +157,7 @@ module _ (t : Survey) (groups : List ℕ) (long : length groups ≡ vertexCount 
         by x (inr m) = rw m x
 
     behind-groups : (s : State) (i : ℕ) → Behind s → i ≤ groupNumbers → Behind (visitGroups groups (t .firsts) (t .seconds) share (rootOf groups k) k i s)
-    unfolding visitGroups
+    unfolding visitGroups visitGroup
     behind-groups s zero h c = h
     behind-groups s (suc l) h c = by (behind-groups s l h (omega arith)) (either (ltb l k || eqb (missing share (before .got) l) 0))
       where
