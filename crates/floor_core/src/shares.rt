@@ -1,0 +1,183 @@
+// The shares of the groups: lists of cuts, from the last group to the first.
+ghost use Rattle.base_buffer.specs.Lent.{old, new};
+ghost use mathlib.Core.Path.{_≡_};
+ghost use mathlib.Core.Bool.{cond};
+ghost use Prim.Native.Nat.{ℕ, suc, _≤_, _<_};
+ghost use lib.ListN.{length, getD};
+ghost use lib.Dec.{eqb, ltb};
+ghost use Rattle.base_finite.specs.Below.{counted, countBelow, sumBelow};
+ghost use Rattle.base_limits.specs.Limits.{maxVertices, maxEdges, groupNumbers};
+ghost use Rattle.floor_rule.specs.Ascent.{maxCost, lesser, lowestIn, rootOf, inCompany, firstShares, lowered, afterList, sharesAfter, ascentFloor};
+use crate::ascent::ascend;
+use base_buffer::at8;
+use base_buffer::at64;
+use base_buffer::index8;
+use base_buffer::put64;
+use base_limits::GROUP_NUMBERS;
+use floor_rule::MAX_COST;
+
+// The lowest so far, or the one behind v, if v is the lowest so far and no member.
+fn lower_in(groups: &[u8], l: usize, low: usize, v: usize) -> usize
+    requires { ⌜ v < length (now groups) ⌝ }
+    requires { ⌜ low ≡ lowestIn (now groups) l v ⌝ }
+    ensures { λ r. ⌜ r ≡ lowestIn (old groups) l (suc v) ⌝ }
+{
+    if low != v {
+        return low;
+    }
+    if index8(at8(groups, v)) == l {
+        return low;
+    }
+    v + 1
+}
+
+// The lowest member of group l.
+pub fn root_of(groups: &[u8], l: usize) -> usize
+    ensures { λ r. ⌜ r ≡ rootOf (old groups) l ⌝ }
+{
+    let mut low = 0;
+    let mut v = 0;
+    while v < groups.len() {
+        low = lower_in(groups, l, low, v);
+        v += 1;
+    }
+    low
+}
+
+// 1 for a member.
+fn member(groups: &[u8], l: usize, v: usize) -> usize
+    ensures { λ r. ⌜ r ≡ counted (eqb (getD (old groups) v 0) l) 1 ⌝ }
+{
+    if index8(at8(groups, v)) == l {
+        return 1;
+    }
+    0
+}
+
+fn members(groups: &[u8], l: usize) -> usize
+    ensures { λ r. ⌜ r ≡ countBelow (length (old groups)) (λ v. eqb (getD (old groups) v 0) l) ⌝ }
+{
+    let mut count = 0;
+    let mut v = 0;
+    while v < groups.len() {
+        count += member(groups, l, v);
+        v += 1;
+    }
+    count
+}
+
+// Whatever there is for a group of two members or more.
+fn first_share(groups: &[u8], l: usize) -> u64
+    ensures { λ r. ⌜ r ≡ counted (inCompany (old groups) l) maxCost ⌝ }
+{
+    if l == 0 {
+        return 0;
+    }
+    if members(groups, l) <= 1 {
+        return 0;
+    }
+    MAX_COST
+}
+
+fn first_shares(groups: &[u8]) -> [u64; GROUP_NUMBERS]
+    ensures { λ r. ⌜ r ≡ firstShares (old groups) ⌝ }
+{
+    let mut share = [0u64; GROUP_NUMBERS];
+    let mut l = 0;
+    while l < GROUP_NUMBERS {
+        put64(&mut share, l, first_share(groups, l));
+        l += 1;
+    }
+    share
+}
+
+// What group l keeps of its share.
+fn kept_share(got: &[u64], k: usize, whole: u64, l: usize) -> u64
+    ensures { λ r. ⌜ r ≡ cond (ltb l k) whole (lesser whole (getD (old got) l 0)) ⌝ }
+{
+    if l < k {
+        return whole;
+    }
+    let part = at64(got, l);
+    if part < whole {
+        return part;
+    }
+    whole
+}
+
+fn lower(got: &[u64], k: usize, share: &mut [u64])
+    ensures { λ _. ⌜ new share ≡ lowered (old got) k (old share) ⌝ }
+{
+    let mut l = 0;
+    while l < GROUP_NUMBERS {
+        let whole = at64(share, l);
+        put64(share, l, kept_share(got, k, whole, l));
+        l += 1;
+    }
+}
+
+// The list of group k.
+fn after_list(
+    groups: &[u8],
+    firsts: &[u32],
+    seconds: &[u32],
+    weights: &[u32],
+    share: &mut [u64],
+    k: usize,
+)
+    requires { ⌜ length (now groups) ≤ maxVertices ⌝ }
+    requires { ⌜ length (now firsts) ≤ maxEdges ⌝ }
+    ensures { λ _. ⌜ new share ≡ afterList
+        (old groups) (old firsts) (old seconds) (old weights) k (old share) ⌝ }
+{
+    if at64(share, k) == 0 {
+        return;
+    }
+    let got = ascend(groups, firsts, seconds, weights, share, k);
+    lower(&got, k, share);
+}
+
+// The shares after all lists.
+fn shares(groups: &[u8], firsts: &[u32], seconds: &[u32], weights: &[u32]) -> [u64; GROUP_NUMBERS]
+    requires { ⌜ length (now groups) ≤ maxVertices ⌝ }
+    requires { ⌜ length (now firsts) ≤ maxEdges ⌝ }
+    ensures { λ r. ⌜ r ≡ sharesAfter (old groups) (old firsts) (old seconds) (old weights) groupNumbers ⌝ }
+{
+    let mut share = first_shares(groups);
+    let mut j = 0;
+    while j < GROUP_NUMBERS {
+        j += 1;
+        after_list(
+            groups,
+            firsts,
+            seconds,
+            weights,
+            &mut share,
+            GROUP_NUMBERS - j,
+        );
+    }
+    share
+}
+
+fn total(share: &[u64]) -> u64
+    requires { ⌜ ((l : ℕ) → l < groupNumbers → getD (now share) l 0 ≤ maxCost) ⌝ }
+    ensures { λ r. ⌜ r ≡ sumBelow groupNumbers (λ l. getD (old share) l 0) ⌝ }
+{
+    let mut sum = 0;
+    let mut l = 0;
+    while l < GROUP_NUMBERS {
+        sum += at64(share, l);
+        l += 1;
+    }
+    sum
+}
+
+// The floor of the ascent.
+pub fn ascent_floor(groups: &[u8], firsts: &[u32], seconds: &[u32], weights: &[u32]) -> u64
+    requires { ⌜ length (now groups) ≤ maxVertices ⌝ }
+    requires { ⌜ length (now firsts) ≤ maxEdges ⌝ }
+    ensures { λ r. ⌜ r ≡ ascentFloor (old groups) (old firsts) (old seconds) (old weights) ⌝ }
+{
+    let share = shares(groups, firsts, seconds, weights);
+    total(&share)
+}

@@ -1,0 +1,5 @@
+pub mod Root
+pub mod Cut
+pub mod Ascent
+pub mod Number
+pub mod Promise
