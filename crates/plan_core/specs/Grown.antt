@@ -1,14 +1,13 @@
--- What growing leaves for any survey: the growth, the picks as marks, the moats of its trace as records, and the counts.
+-- What growing leaves: the growth, the picks as marks, the moats of its trace as records, and the counts.
 use Prim.Native.Nat.{ℕ}
 use mathlib.Core.Path.{_≡_}
 use mathlib.Core.List.{List}
 use lib.ListN.{length, getD}
-use Rattle.base_limits.specs.Verdict.{Outcome, answer, written}
+use Rattle.base_limits.specs.Verdict.{Outcome, answer}
 use Rattle.base_buffer.specs.Store.{remade}
 use Rattle.theory_steiner.specs.Problem.{terminals}
 use Rattle.theory_steiner.specs.Dual.{Dual}
 use Rattle.survey_core.specs.Survey.{Survey, groupsAlone, problemOf}
-use Rattle.survey_core.specs.Refusal.{surveyRefusal}
 use Rattle.plan_rounds.specs.Grown.{Growth, GrownAfter}
 use Rattle.plan_draw.specs.Trace.{traceFrom, drawnDuals}
 use Rattle.plan_draw.specs.Drawing.{recordsOver}
@@ -18,10 +17,10 @@ use Rattle.plan_rule.specs.Plan.{PlanCounts}
 abbrev pub moatsIn : Survey → Growth → (recordsLength : ℕ) → List Dual
 moatsIn s g = drawnDuals (traceFrom (length (s .groups)) (s .firsts) (s .seconds) (g .values) (g .order) (g .rounds))
 
--- From buffers that held these marks and records to the answer and what they hold then. A refused survey has a growth of no rounds.
+-- From buffers that held these marks and records to the answer and what they hold then.
 pub record GrownInto (s : Survey) (marks records : List ℕ) (o : Outcome PlanCounts) (marked drawn : List ℕ) : Type 0 where
   pub growth : Growth
-  pub grew : GrownAfter (problemOf s) (written (surveyRefusal s) (length (s .groups)) 0) growth
+  pub grew : GrownAfter (problemOf s) (length (s .groups)) growth
   pub marks-are : marked ≡ remade (λ e mark. getD (growth .picked) e 0) (length (s .firsts)) marks
   pub records-are : drawn ≡ recordsOver (moatsIn s growth (length records)) records
   pub counts-are :

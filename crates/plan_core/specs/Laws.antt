@@ -1,6 +1,7 @@
 pub mod Finish
+pub mod Planned
 pub mod Call
 pub mod Stages
 pub mod Picks
-pub mod Planned
 pub mod Figures
+pub mod Whole

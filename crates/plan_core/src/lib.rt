@@ -1,5 +1,5 @@
-// Planning: growing, then dropping. Definitions and promises are plan_rule's; specs/Grown and Picks say what growing
-// leaves of any survey. `plan`, `grow_plan` and `prune_plan` answer counts and fill marks and records, or refuse.
+// Planning: growing, then dropping. Definitions and promises are plan_rule's; specs/Grown, Planned and
+// Picks say what the parts leave. `plan`, `grow_plan` and `prune_plan` answer counts and fill marks and records, or refuse.
 ghost use Rattle.base_buffer.specs.Lent.{old, new};
 ghost use mathlib.Core.Path.{_≡_};
 ghost use lib.ListN.{length};
@@ -8,7 +8,9 @@ ghost use Rattle.plan_rule.specs.Plan.{counting, marksAfter, recordsAfter};
 ghost use Rattle.plan_rule.specs.Answer.{plannedOutcome};
 ghost use Rattle.plan_rule.specs.Promise.{Promises};
 ghost use Rattle.plan_rule.specs.Stages.{InStages};
-use crate::counts::both;
+use crate::refusal::lent_refusal;
+use crate::whole::lent_plan;
+use base_limits::Verdict;
 use plan_rule::Planned;
 
 mod counts;
@@ -21,6 +23,7 @@ mod planned;
 mod poured;
 mod prune;
 mod refusal;
+mod whole;
 
 pub use grow::grow_plan;
 pub use prune::prune_plan;
@@ -55,7 +58,20 @@ pub fn plan(
         let s = lentWith groups firsts seconds weights owners others in
         ⌜ InStages s (old marks) (old records) ⌝ }
 {
-    let grown = crate::grow::grow_plan(
+    let found = lent_refusal(
+        groups,
+        firsts,
+        seconds,
+        weights,
+        owners,
+        others,
+        marks.len(),
+        records.len(),
+    );
+    if let Verdict::Refused { number, place } = found {
+        return Planned::Refused { number, place };
+    }
+    lent_plan(
         groups,
         firsts,
         seconds,
@@ -64,19 +80,5 @@ pub fn plan(
         others,
         marks,
         records,
-    );
-    if let Planned::Refused { number, place } = grown {
-        return Planned::Refused { number, place };
-    }
-    let m = firsts.len();
-    let dropped = crate::prune::prune_plan(
-        groups,
-        firsts,
-        seconds,
-        weights,
-        owners,
-        others,
-        &mut marks[0..m],
-    );
-    both(grown, dropped)
+    )
 }

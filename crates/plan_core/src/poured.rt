@@ -1,7 +1,7 @@
-// Growing over poured lists: the rounds, the picked tracks as marks, the moats as records. For a survey that is refused
-// there are no rounds.
+// Growing over poured lists: the rounds, the picked tracks as marks, the moats as records.
 ghost use Rattle.base_buffer.specs.Lent.{old, new};
-ghost use Rattle.survey_core.specs.Survey.{lentSurvey};
+ghost use Rattle.survey_core.specs.Survey.{surveyFrom, lentSurvey};
+ghost use Rattle.survey_core.specs.Sound.{SurveySound};
 ghost use Rattle.plan_rule.specs.Answer.{plannedOutcome};
 ghost use Rattle.plan_core.specs.Grown.{GrownInto};
 use crate::picks::copy_picks;
@@ -19,6 +19,7 @@ pub fn grow_poured(
     marks: &mut [u8],
     records: &mut [u8],
 ) -> Planned
+    requires { ⌜ SurveySound (surveyFrom (now groups) (now firsts) (now seconds) (now weights)) ⌝ }
     ensures { λ r.
         let s = lentSurvey groups firsts seconds weights in
         ⌜ GrownInto s (old marks) (old records) (plannedOutcome r) (new marks) (new records) ⌝ }
@@ -26,7 +27,7 @@ pub fn grow_poured(
     let mut values = [0u64; MAX_DUALS];
     let mut picked = [0u8; MAX_EDGES];
     let mut order = [0u32; MAX_VERTICES];
-    let grown = plan_rounds::grow(
+    let grown = plan_rounds::grow_rounds(
         groups,
         firsts,
         seconds,

@@ -34,7 +34,7 @@ fn prune_marked(
     let lists = &poured[0..n];
     let all = kept_picks(marks, m);
     let picks = &all[0..m];
-    let pruned = plan_drop::prune(lists, firsts, seconds, weights, picks, marks);
+    let pruned = plan_drop::prune_picks(lists, firsts, seconds, picks, marks);
     let found = list_refusal(
         pruned,
         groups,

@@ -7,6 +7,7 @@ ghost use Rattle.base_limits.specs.Limits.{maxVertices, recordBytes, dualsFor};
 ghost use Rattle.base_limits.specs.Verdict.{refuseIf};
 ghost use Rattle.survey_core.specs.Survey.{lentWith};
 ghost use Rattle.plan_rule.specs.Plan.{planRefusal};
+ghost use Rattle.plan_core.specs.Planned.{lentRefusal};
 use base_limits::RECORD_BYTES;
 use base_limits::Verdict;
 use survey_components::Chosen;
@@ -34,7 +35,27 @@ fn room_refusal(n: usize, m: usize, marks: usize, records: usize) -> Verdict
     Verdict::Fine
 }
 
-// 1, 2, 3, then 4, 5, 6 by track, then 18 by pair, then 7, then 8.
+// 1, 2, 3, then 4, 5, 6 by track, then 18 by pair, then 7.
+pub fn lent_refusal(
+    groups: &[u8],
+    firsts: &[u32],
+    seconds: &[u32],
+    weights: &[u32],
+    owners: &[u32],
+    others: &[u8],
+    marks: usize,
+    records: usize,
+) -> Verdict
+    ensures { λ r. ⌜ r ≡ lentRefusal (lentWith groups firsts seconds weights owners others) marks records ⌝ }
+{
+    let unsound = survey_refusal::survey_refusal(groups, firsts, seconds, weights, owners, others);
+    let Verdict::Fine = unsound else {
+        return unsound;
+    };
+    room_refusal(groups.len(), firsts.len(), marks, records)
+}
+
+// Then 8.
 pub fn plan_refusal(
     groups: &[u8],
     firsts: &[u32],
@@ -47,15 +68,20 @@ pub fn plan_refusal(
 ) -> Verdict
     ensures { λ r. ⌜ r ≡ planRefusal (lentWith groups firsts seconds weights owners others) marks records ⌝ }
 {
-    let unsound = survey_refusal::survey_refusal(groups, firsts, seconds, weights, owners, others);
-    let Verdict::Fine = unsound else {
-        return unsound;
+    let found = lent_refusal(
+        groups,
+        firsts,
+        seconds,
+        weights,
+        owners,
+        others,
+        marks,
+        records,
+    );
+    let Verdict::Fine = found else {
+        return found;
     };
-    let short = room_refusal(groups.len(), firsts.len(), marks, records);
-    let Verdict::Fine = short else {
-        return short;
-    };
-    survey_lists::group_refusal(
+    survey_lists::unjoined_refusal(
         groups,
         firsts,
         seconds,

@@ -1,34 +1,30 @@
 -- A call of planning without its moats: refused, with nothing written, or the figures and marks of the plan of the lists. `figures` and its parts cite it.
-use Prim.Native.Nat.{ℕ, _≤_}
-use mathlib.Core.Path.{_≡_, refl, ap, sym, _∙_, subst}
+use Prim.Native.Nat.{ℕ}
+use mathlib.Core.Path.{_≡_, refl, ap, sym, _∙_}
 use mathlib.Core.Bool.{Bool, true, false, cond}
 use mathlib.Core.List.{List, [], _++_}
-use native.Mathlib.Omega.{arith}
 use lib.ListN.{length, drop}
-use Rattle.base_finite.specs.Laws.Test.{same-test, true-not-false}
 use Rattle.base_limits.specs.Verdict.{Outcome, refusal, answer, outcome, written, _before_}
 use Rattle.base_limits.specs.declared.Verdict.{Verdict}
 use Rattle.base_limits.specs.declared.Verdict.the-variants.{Fine, Refused}
 use Rattle.base_limits.specs.Laws.Verdict.{before-fine, before-refused}
-use Rattle.theory_steiner.specs.Problem.{Joins, Bounded, allUsable, terminals, cost}
+use Rattle.theory_steiner.specs.Problem.{allUsable, cost}
 use Rattle.theory_steiner.specs.Growth.{grown}
-use Rattle.theory_steiner.specs.Laws.Joined.{joined-iff}
-use Rattle.survey_core.specs.Survey.{Survey, surveyFrom, groupsAlone, listsOf, vertexCount, edgeCount, problemOf}
+use Rattle.survey_core.specs.Survey.{Survey, surveyFrom, listsOf, vertexCount, edgeCount, problemOf}
 use Rattle.survey_core.specs.Sound.{ByteGroups, SurveySound}
 use Rattle.survey_core.specs.Refusal.{surveyRefusal, groupRefusal}
 use Rattle.survey_core.specs.Laws.Refusal.{survey-fine}
-use Rattle.survey_core.specs.Laws.Group.{group-fine, joins-fine}
+use Rattle.survey_core.specs.Laws.Group.{joins-fine}
 use Rattle.survey_components.specs.Labels.{chosen}
 use Rattle.survey_components.specs.declared.Chosen.the-variants.{All}
-use Rattle.survey_lists.specs.Pouring.{pouredGroups, pouredSurvey}
-use Rattle.survey_lists.specs.Laws.Plan.{poured-sound, poured-joins}
+use Rattle.survey_lists.specs.Pouring.{pouredGroups}
 use Rattle.check_rule.specs.Check.{keptBy}
 use Rattle.plan_rule.specs.Plan.{Plan, planOf}
 use Rattle.plan_rule.specs.Figures.{FigureCounts, figuresRefusal, figureCountsOf, figuring, marksFigured}
 use Rattle.plan_rule.specs.Laws.Ready.{all-bounded, groups-of-all}
-use Rattle.plan_rule.specs.Laws.Same.{plan-terminals, plan-poured}
+use Rattle.plan_rule.specs.Laws.Same.{plan-poured}
 use Rattle.plan_core.specs.Planned.{joinable, marksJoined, MarkedInto, figuresJoined}
-use Rattle.plan_core.specs.Laws.Planned.{planned-cost}
+use Rattle.plan_core.specs.Laws.Planned.{planned-cost, joinable-joins, unjoined-comes, joinable-poured, joined-by, parted-by}
 
 -- ---- refused
 
@@ -70,68 +66,26 @@ module _ (s : Survey) (marks : List ℕ) {joins : Bool} {rounds bound : ℕ} {va
 -- ---- the lists
 
 module _ (s : Survey) (sound : SurveySound s) where
-  joins-list : joinable s ≡ true → Joins (problemOf s) (allUsable (problemOf s))
-  joins-list = joined-iff (problemOf s) (allUsable (problemOf s)) (all-bounded s) .0
-
   joinable-fine : joinable s ≡ true → figuresRefusal s ≡ Fine
   unfolding figuresRefusal
-  joinable-fine h = before-fine (survey-fine s sound) _ ∙ joins-fine s 8 (allUsable (problemOf s)) (all-bounded s) (joins-list h)
+  joinable-fine h = before-fine (survey-fine s sound) _ ∙ joins-fine s 8 (allUsable (problemOf s)) (all-bounded s) (joinable-joins s h)
 
   -- What all tracks leave apart is 8.
   pub unjoined-eight : (marks : List ℕ) {v : Verdict} → v ≡ groupRefusal s 8 (chosen All marks) → v ≡ figuresRefusal s
   unfolding figuresRefusal
   unjoined-eight marks h = h ∙ sym (before-fine (survey-fine s sound) _ ∙ groups-of-all s 8 marks)
 
-  -- And it comes.
-  pub unjoined-comes : ByteGroups s → joinable s ≡ false → (marks : List ℕ) {v : Verdict} → v ≡ groupRefusal s 8 (chosen All marks) → v ≡ Fine → {A : Type 0} → A
-  unjoined-comes numbered parted marks is h =
-      true-not-false (joinable s)
-      (joined-iff (problemOf s) (allUsable (problemOf s)) (all-bounded s) .1
-      (group-fine s 8 (allUsable (problemOf s)) (all-bounded s) numbered (groups-of-all s 8 marks ∙ sym is ∙ h)))
-      parted
-
   unjoined-by : ByteGroups s → (v : Verdict) → figuresRefusal s ≡ v → joinable s ≡ false → (marks : List ℕ) → marks ≡ marksFigured s marks
-  unjoined-by numbered Fine h parted marks = unjoined-comes numbered parted [] {v = groupRefusal s 8 (chosen All [])} refl (unjoined-eight [] refl ∙ h)
+  unjoined-by numbered Fine h parted marks = unjoined-comes s numbered parted (groups-of-all s 8 [] ∙ unjoined-eight [] refl ∙ h)
   unjoined-by numbered (Refused number place) h parted marks = figures-refused s marks h .1
 
   module _ {part : List ℕ} (part-is : part ≡ pouredGroups (listsOf s)) where
     abbrev into : Survey
     into = surveyFrom part (s .firsts) (s .seconds) (s .weights)
 
-    into-is : into ≡ pouredSurvey s
-    into-is = ap (λ (groups : List ℕ). surveyFrom groups (s .firsts) (s .seconds) (s .weights)) part-is
-
-    pub into-sound : SurveySound into
-    into-sound = subst SurveySound (sym into-is) (poured-sound s sound)
-
-    poured-iff : Joins (problemOf (pouredSurvey s)) (allUsable (problemOf (pouredSurvey s))) → Joins (problemOf s) (allUsable (problemOf s))
-    unfolding allUsable problemOf edgeCount
-    poured-iff = poured-joins s (sound .pairs) (allUsable (problemOf s)) (all-bounded s) .1
-
-    poured-iff-back : Joins (problemOf s) (allUsable (problemOf s)) → Joins (problemOf (pouredSurvey s)) (allUsable (problemOf (pouredSurvey s)))
-    unfolding allUsable problemOf edgeCount
-    poured-iff-back = poured-joins s (sound .pairs) (allUsable (problemOf s)) (all-bounded s) .0
-
-    -- The poured groups can be joined exactly if the lists can.
-    joinable-poured : joinable into ≡ joinable s
-    joinable-poured =
-        ap joinable into-is
-        ∙ same-test (joinable (pouredSurvey s)) (joinable s)
-        (λ h. joined-iff (problemOf s) (allUsable (problemOf s)) (all-bounded s) .1
-        (poured-iff (joined-iff (problemOf (pouredSurvey s)) (allUsable (problemOf (pouredSurvey s))) (all-bounded (pouredSurvey s)) .0 h)))
-        (λ h. joined-iff (problemOf (pouredSurvey s)) (allUsable (problemOf (pouredSurvey s))) (all-bounded (pouredSurvey s)) .1 (poured-iff-back (joins-list h)))
-
-    joined-by : (t : Bool) (f : FigureCounts) {c : FigureCounts} → cond t (answer f) (refusal 8 0) ≡ answer c → t ≡ true
-    joined-by true f h = refl
-    joined-by false f h = absurd (let z : _≡_ {A = ℕ} 0 1 = cc in omega arith)
-
-    parted-by : (t : Bool) (f : FigureCounts) {number place : ℕ} → cond t (answer f) (refusal 8 0) ≡ refusal number place → t ≡ false
-    parted-by true f h = absurd (let z : _≡_ {A = ℕ} 0 1 = cc in omega arith)
-    parted-by false f h = refl
-
     pub lists-parted : {o : Outcome FigureCounts} {number place : ℕ} → o ≡ figuresJoined into → o ≡ refusal number place → joinable s ≡ false
     unfolding figuresJoined
-    lists-parted o-is h = sym joinable-poured ∙ parted-by (joinable into) (figureCountsOf (planOf (problemOf into))) (sym o-is ∙ h)
+    lists-parted o-is h = sym (joinable-poured s sound part-is) ∙ parted-by (joinable into) (figureCountsOf (planOf (problemOf into))) (sym o-is ∙ h)
 
     module _ {o : Outcome FigureCounts} (marks : List ℕ) {marked : List ℕ} (o-is : o ≡ figuresJoined into) (marked-is : marked ≡ marksJoined into marks) where
       -- No mark is written.
@@ -140,14 +94,14 @@ module _ (s : Survey) (sound : SurveySound s) where
       parted-marks numbered h =
           let parted : joinable s ≡ false = lists-parted o-is h in
           marked-is
-          ∙ ap (λ (t : Bool). cond t (planOf (problemOf into) .marks ++ drop (length (s .firsts)) marks) marks) (joinable-poured ∙ parted)
+          ∙ ap (λ (t : Bool). cond t (planOf (problemOf into) .marks ++ drop (length (s .firsts)) marks) marks) (joinable-poured s sound part-is ∙ parted)
           ∙ unjoined-by numbered (figuresRefusal s) refl parted marks
 
       pub figures-finished : {c : FigureCounts} → o ≡ answer c → (o ≡ figuring s) × (marked ≡ marksFigured s marks)
       unfolding figuresJoined marksJoined figuring outcome marksFigured written edgeCount
       figures-finished h =
           let joins : joinable into ≡ true = joined-by (joinable into) (figureCountsOf (planOf (problemOf into))) (sym o-is ∙ h) in
-          let fine : figuresRefusal s ≡ Fine = joinable-fine (sym joinable-poured ∙ joins) in (
+          let fine : figuresRefusal s ≡ Fine = joinable-fine (sym (joinable-poured s sound part-is) ∙ joins) in (
             o-is
                 ∙ ap (λ (t : Bool). cond t (answer (figureCountsOf (planOf (problemOf into)))) (refusal 8 0)) joins
                 ∙ ap (λ (q : Plan). answer (figureCountsOf q)) (plan-poured s sound part-is)

@@ -1,4 +1,4 @@
--- From what growing leaves for any survey to what it answers where nothing stops it: the picked edges are its marks, and the trace's duals the plan's duals. `Laws/Call` cites it.
+-- From what growing leaves to what it answers where nothing stops it: the picked edges are its marks, and the trace's duals the plan's duals. `Laws/Call` cites it.
 use Prim.Native.Nat.{ℕ, _+_, _*_, _-_, _≤_, _<_}
 use mathlib.Core.Path.{_≡_, refl, ap, sym, _∙_, subst}
 use mathlib.Core.Logic.{⊎-elim}
@@ -11,14 +11,13 @@ use borrow.Author.Tests.{lt-ltb}
 use Rattle.base_finite.specs.Below.{counted, tabulate}
 use Rattle.base_finite.specs.Laws.Below.{length-tabulate, getD-tabulate, lt-or-ge, counted-true}
 use Rattle.base_limits.specs.Limits.{maxVertices, maxEdges, recordBytes, dualsFor}
-use Rattle.base_limits.specs.Verdict.{Outcome, answer, written}
+use Rattle.base_limits.specs.Verdict.{Outcome, answer}
 use Rattle.theory_steiner.specs.Problem.{Problem, Sound}
 use Rattle.theory_steiner.specs.Growth.{edge, winner, stateAt, grown}
 use Rattle.theory_steiner.specs.Pruning.{picked}
 use Rattle.theory_steiner.specs.Laws.Rounds.{rounds-lt, grown-reached}
 use Rattle.survey_core.specs.Survey.{Survey, surveyFrom, vertexCount, edgeCount, problemOf}
-use Rattle.survey_core.specs.Refusal.{surveyRefusal}
-use Rattle.survey_core.specs.Laws.Refusal.{survey-fine, survey-sound}
+use Rattle.survey_core.specs.Laws.Refusal.{survey-sound}
 use Rattle.base_buffer.specs.Store.{remade}
 use Rattle.base_buffer.specs.Laws.Store.{tabulate-cong, length-remade, remade-passed, remade-ahead}
 use Rattle.plan_rounds.specs.Represents.{pickAt, winnerEdge}
@@ -62,7 +61,7 @@ remade-front f m l b =
 -- ---- after growing
 
 module _ {s : Survey} {marksLength recordsLength : ℕ} (ready : Ready s marksLength recordsLength) {g : Growth}
-    (grew : GrownAfter (problemOf s) (written (surveyRefusal s) (length (s .groups)) 0) g) where
+    (grew : GrownAfter (problemOf s) (length (s .groups)) g) where
   abbrev P : Problem
   P = problemOf s
 
@@ -81,8 +80,8 @@ module _ {s : Survey} {marksLength recordsLength : ℕ} (ready : Ready s marksLe
   few = ready .survey .few
 
   to-the-end : GrownAfter P (P .vertices) g
-  unfolding written problemOf vertexCount
-  to-the-end = subst (λ v. GrownAfter (problemOf s) (written v (length (s .groups)) 0) g) (survey-fine s (ready .survey)) grew
+  unfolding problemOf vertexCount
+  to-the-end = grew
 
   order-at : (r e d : ℕ) → r < g .rounds → winner P (stateAt P r) ≡ edge e d → getD (g .order) r 0 ≡ e
   unfolding pickAt winnerEdge grown
@@ -106,15 +105,15 @@ module _ {s : Survey} {marksLength recordsLength : ℕ} (ready : Ready s marksLe
   drawable records long =
       trace-drawable (problemOf s) ok trace traces records some few (subst (λ x. recordBytes * dualsFor (length (s .groups)) ≤ x) (sym long) (ready .records-fit))
 
-  rounds-plan : g .rounds ≡ planOf P .rounds
+  pub rounds-plan : g .rounds ≡ planOf P .rounds
   unfolding grown planOf
   rounds-plan = to-the-end .rounds-are
 
-  bound-plan : g .bound ≡ planOf P .bound
+  pub bound-plan : g .bound ≡ planOf P .bound
   unfolding grown planOf
   bound-plan = to-the-end .bound-is
 
-  duals-plan : (records : List ℕ) → length records ≡ recordsLength → drawnDuals trace (length records) ≡ planOf P .duals
+  pub duals-plan : (records : List ℕ) → length records ≡ recordsLength → drawnDuals trace (length records) ≡ planOf P .duals
   unfolding planOf
   duals-plan records long = drawn-all trace records (drawable records long) ∙ trace-duals P ok trace traces
 

@@ -25,18 +25,19 @@ use Rattle.theory_steiner.specs.Pruning.{needed, markOf}
 use Rattle.survey_core.specs.Survey.{Survey, surveyFrom, listsOf, groupsAlone, vertexCount, edgeCount, problemOf}
 use Rattle.survey_core.specs.Sound.{ByteGroups}
 use Rattle.survey_core.specs.Refusal.{surveyRefusal, groupRefusal}
-use Rattle.survey_core.specs.Laws.Refusal.{survey-fine}
 use Rattle.survey_core.specs.Laws.Group.{group-refused}
 use Rattle.survey_components.specs.Labels.{chosen, chosenMark, pickedIn}
 use Rattle.survey_components.specs.declared.Chosen.the-variants.{Kept}
-use Rattle.survey_components.specs.Forest.{closesLoop, loopRefusal, forestRefusal}
+use Rattle.survey_components.specs.Forest.{closesLoop, loopRefusal}
+use Rattle.survey_components.specs.Laws.Forest.{unweighted-refusal}
 use Rattle.survey_components.specs.Laws.Picked.{picked-below}
 use Rattle.survey_lists.specs.Pouring.{pouredGroups, pouredSurvey}
 use Rattle.survey_lists.specs.Laws.Pouring.{length-poured}
-use Rattle.survey_lists.specs.Laws.Plan.{poured-sound}
 use Rattle.survey_lists.specs.Laws.Split.{poured-refusal}
 use Rattle.check_rule.specs.Check.{keptBy}
-use Rattle.plan_drop.specs.Judge.{prunedMarks, marksPruned}
+use Rattle.plan_drop.specs.Prunable.{Picks, unweighted}
+use Rattle.plan_drop.specs.Judge.{prunedMarks}
+use Rattle.plan_drop.specs.Laws.Prunable.{survey-picks, pruned-unweighted}
 use Rattle.plan_rule.specs.Plan.{Plan, planOf}
 use Rattle.plan_rule.specs.Dropping.{dropRefusal, DropCounts, dropCountsOf, dropping, neededMarks, marksDropped}
 use Rattle.plan_rule.specs.DropPromise.{Marked, Droppable, DropPromises}
@@ -45,6 +46,7 @@ use Rattle.plan_rule.specs.Laws.Same.{plan-terminals, plan-poured, poured-neede
 use Rattle.plan_rule.specs.declared.Dropped.the-variants.{Finished, Refused as DropRefused}
 use Rattle.plan_rule.specs.Answer.{droppedOutcome}
 use Rattle.plan_core.specs.Picks.{markedRefusal, byLists}
+use Rattle.plan_core.specs.Laws.Planned.{into-sound}
 
 -- ---- the tests up to 10
 
@@ -154,19 +156,24 @@ module _ (s : Survey) (marks : List ℕ) (marked : Marked s marks) {all : List �
         (λ (n : ℕ). lowestBelow (length (s .firsts)) (λ e. refuseIf (closesLoop n (λ e. getD (s .firsts) e 0) (λ e. getD (s .seconds) e 0) (pickedIn marks) e) 21 e))
         (length-poured (listsOf s))
 
-    forest-poured : forestRefusal (pouredSurvey s) picks ≡ (loopRefusal s F before groupRefusal (pouredSurvey s) 14 F)
-    unfolding forestRefusal edgeCount
-    forest-poured =
-        before-fine (survey-fine (pouredSurvey s) (poured-sound s (marked .survey))) _
-        ∙ before-fine (refuse-false (ap not (eq-eqb (length picks) (length (s .firsts)) picks-long)) 9 0) _
-        ∙ ap (λ (G : ℕ → Bool). loopRefusal (pouredSurvey s) G before groupRefusal (pouredSurvey s) 14 G) picks-same
+    -- Picks that pruning takes.
+    pub picks-taken : Picks part (s .firsts) (s .seconds) picks
+    unfolding problemOf edgeCount
+    picks-taken =
+        survey-picks part (s .firsts) (s .seconds) (s .weights) picks (into-sound s (marked .survey) part-is)
+        (subst (Bounded (problemOf into)) (sym picks-same) bounded)
+
+    forest-is :
+        (loopRefusal (surveyFrom part (s .firsts) (s .seconds) []) (pickedIn picks) before groupRefusal (surveyFrom part (s .firsts) (s .seconds) []) 14 (pickedIn picks))
+        ≡ (loopRefusal s F before groupRefusal (pouredSurvey s) 14 F)
+    forest-is =
+        unweighted-refusal part (s .firsts) (s .seconds) (s .weights) (pickedIn picks)
+        ∙ ap (λ (G : ℕ → Bool). loopRefusal into G before groupRefusal into 14 G) picks-same
+        ∙ ap (λ (q : Survey). loopRefusal q F before groupRefusal q 14 F) into-is
         ∙ ap (λ (v : Verdict). v before groupRefusal (pouredSurvey s) 14 F) loops-same
 
-    forest-is : forestRefusal into picks ≡ (loopRefusal s F before groupRefusal (pouredSurvey s) 14 F)
-    forest-is = ap (λ (q : Survey). forestRefusal q picks) into-is ∙ forest-poured
-
-    lists-is : (surveyRefusal s before groupRefusal s 14 (chosen Kept picks)) ≡ groupRefusal s 14 F
-    lists-is = before-fine (survey-fine s (marked .survey)) _ ∙ ap (λ (G : ℕ → Bool). groupRefusal s 14 G) picks-kept
+    lists-is : groupRefusal s 14 (chosen Kept picks) ≡ groupRefusal s 14 F
+    lists-is = ap (λ (G : ℕ → Bool). groupRefusal s 14 G) picks-kept
 
     -- How what is found of the poured groups stands to what is found of the lists.
     record Judged (v w : Verdict) : Type 0 where
@@ -199,35 +206,39 @@ module _ (s : Survey) (marks : List ℕ) (marked : Marked s marks) {all : List �
     judged : Judged (loopRefusal s F before groupRefusal (pouredSurvey s) 14 F) (loopRefusal s F before groupRefusal s 14 F)
     judged = judged-by (loopRefusal s F) (groupRefusal (pouredSurvey s) 14 F) refl refl
 
-    -- What the code finds is dropping's verdict.
-    pub judged-verdict : {v found : Verdict} → v ≡ forestRefusal into picks
-        → found ≡ byLists v (surveyRefusal s before groupRefusal s 14 (chosen Kept picks)) → found ≡ dropRefusal s marks
-    judged-verdict is found-is =
-        found-is
-        ∙ ap (λ (x : Verdict). byLists x (surveyRefusal s before groupRefusal s 14 (chosen Kept picks))) (is ∙ forest-is)
-        ∙ ap (byLists (loopRefusal s F before groupRefusal (pouredSurvey s) 14 F)) lists-is
-        ∙ judged .answers
-        ∙ sym (marked-later s marks marked)
+    module _ {v : Verdict}
+        (v-is : v ≡ (loopRefusal (surveyFrom part (s .firsts) (s .seconds) []) (pickedIn picks) before groupRefusal (surveyFrom part (s .firsts) (s .seconds) []) 14 (pickedIn picks))) where
+      -- What the code finds is dropping's verdict.
+      pub judged-verdict : {found : Verdict} → found ≡ byLists v (groupRefusal s 14 (chosen Kept picks)) → found ≡ dropRefusal s marks
+      judged-verdict found-is =
+          found-is
+          ∙ ap (λ (x : Verdict). byLists x (groupRefusal s 14 (chosen Kept picks))) (v-is ∙ forest-is)
+          ∙ ap (byLists (loopRefusal s F before groupRefusal (pouredSurvey s) 14 F)) lists-is
+          ∙ judged .answers
+          ∙ sym (marked-later s marks marked)
 
-    marks-made : prunedMarks (problemOf (pouredSurvey s)) (pickedIn picks) (edgeCount (pouredSurvey s)) marks ≡ neededMarks s marks
-    unfolding prunedMarks neededMarks edgeCount
-    marks-made =
-        ap (λ (G : ℕ → Bool). remade (λ e mark. markOf (G e) (needed (problemOf (pouredSurvey s)) G e)) (length (s .firsts)) marks) picks-same
-        ∙ remade-table (λ e mark. markOf (F e) (needed (problemOf (pouredSurvey s)) F e)) (length (s .firsts)) marks
-        (λ e. markOf (F e) (needed (problemOf s) F e)) (marked .marks-long)
-        (λ e b. ap (markOf (F e)) (sym (poured-needed s (marked .survey .pairs) F bounded e)))
+      abbrev made : List ℕ
+      made = prunedMarks (unweighted part (s .firsts) (s .seconds)) (pickedIn picks) (length (s .firsts)) marks
 
-    marks-poured : marksPruned (pouredSurvey s) picks marks ≡ marksDropped s marks
-    unfolding marksPruned marksDropped
-    marks-poured =
-        ap (λ (v : Verdict). written v (prunedMarks (problemOf (pouredSurvey s)) (pickedIn picks) (edgeCount (pouredSurvey s)) marks) marks) forest-poured
-        ∙ judged .writes (prunedMarks (problemOf (pouredSurvey s)) (pickedIn picks) (edgeCount (pouredSurvey s)) marks)
-        ∙ ap (λ (l : List ℕ). written (loopRefusal s F before groupRefusal s 14 F) l marks) marks-made
-        ∙ ap (λ (v : Verdict). written v (neededMarks s marks) marks) (sym (marked-later s marks marked))
+      marks-made : made ≡ neededMarks s marks
+      unfolding prunedMarks neededMarks edgeCount
+      marks-made =
+          pruned-unweighted part (s .firsts) (s .seconds) (s .weights) (pickedIn picks) (length (s .firsts)) marks
+          ∙ ap (λ (q : Survey). prunedMarks (problemOf q) (pickedIn picks) (length (s .firsts)) marks) into-is
+          ∙ ap (λ (G : ℕ → Bool). remade (λ e mark. markOf (G e) (needed (problemOf (pouredSurvey s)) G e)) (length (s .firsts)) marks) picks-same
+          ∙ remade-table (λ e mark. markOf (F e) (needed (problemOf (pouredSurvey s)) F e)) (length (s .firsts)) marks
+          (λ e. markOf (F e) (needed (problemOf s) F e)) (marked .marks-long)
+          (λ e b. ap (markOf (F e)) (sym (poured-needed s (marked .survey .pairs) F bounded e)))
 
-    -- And so are the marks.
-    pub judged-marks : {after : List ℕ} → after ≡ marksPruned into picks marks → after ≡ marksDropped s marks
-    judged-marks is = is ∙ ap (λ (q : Survey). marksPruned q picks marks) into-is ∙ marks-poured
+      -- And so are the marks.
+      pub judged-marks : {after : List ℕ} → after ≡ written v made marks → after ≡ marksDropped s marks
+      unfolding marksDropped
+      judged-marks is =
+          is
+          ∙ ap (λ (x : Verdict). written x made marks) (v-is ∙ forest-is)
+          ∙ judged .writes made
+          ∙ ap (λ (l : List ℕ). written (loopRefusal s F before groupRefusal s 14 F) l marks) marks-made
+          ∙ ap (λ (x : Verdict). written x (neededMarks s marks) marks) (sym (marked-later s marks marked))
 
     weights-alone : (K : ℕ → Bool) → cost (problemOf (surveyFrom [] (s .firsts) [] (s .weights))) K ≡ cost (problemOf s) K
     unfolding cost problemOf edgeCount

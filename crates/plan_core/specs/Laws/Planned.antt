@@ -3,7 +3,7 @@
 use Prim.Native.Nat.{ℕ, _≤_, _<_}
 use native.Mathlib.Omega.{arith}
 use mathlib.Core.Path.{_≡_, refl, ap, sym, _∙_, subst, fun-ext}
-use mathlib.Core.Logic.{⊎-elim}
+use mathlib.Core.Logic.{_↔_, ⊎-elim}
 use mathlib.Core.Bool.{Bool, true, false, _&&_, not, cond}
 use mathlib.Core.List.{List, [], _++_}
 use lib.ListN.{length, getD, drop, List·getD-append, List·getD-eq-default}
@@ -11,10 +11,10 @@ use lib.Dec.{eqb}
 use borrow.Author.Tests.{lt-ltb}
 use Rattle.base_finite.specs.Below.{counted, tabulate}
 use Rattle.base_finite.specs.Laws.Below.{lt-or-ge, length-tabulate, getD-tabulate, sum-cong}
-use Rattle.base_finite.specs.Laws.Test.{and-left, and-both, not-true-false, true-not-false}
+use Rattle.base_finite.specs.Laws.Test.{and-left, and-both, not-true-false, true-not-false, same-test}
 use Rattle.base_buffer.specs.Store.{remade}
 use Rattle.base_limits.specs.Limits.{maxEdges}
-use Rattle.base_limits.specs.Verdict.{_before_, written}
+use Rattle.base_limits.specs.Verdict.{_before_, refusal, answer, written}
 use Rattle.base_limits.specs.declared.Verdict.{Verdict}
 use Rattle.base_limits.specs.declared.Verdict.the-variants.{Fine, Refused}
 use Rattle.base_limits.specs.Laws.Verdict.{before-fine, fine-right, no-refusal}
@@ -26,7 +26,7 @@ use Rattle.theory_steiner.specs.Laws.Joined.{joined-iff}
 use Rattle.theory_steiner.specs.Laws.Partition.{picked-usable}
 use Rattle.theory_steiner.specs.Laws.Rounds.{grown-reached}
 use Rattle.theory_steiner.specs.Laws.Finish.{picked-joins, picked-acyclic}
-use Rattle.survey_core.specs.Survey.{Survey, surveyFrom, vertexCount, edgeCount, problemOf}
+use Rattle.survey_core.specs.Survey.{Survey, surveyFrom, listsOf, vertexCount, edgeCount, problemOf}
 use Rattle.survey_core.specs.Sound.{SurveySound, ByteGroups}
 use Rattle.survey_core.specs.Refusal.{groupRefusal}
 use Rattle.survey_core.specs.Laws.Refusal.{survey-sound}
@@ -34,6 +34,8 @@ use Rattle.survey_core.specs.Laws.Group.{group-fine, joins-fine}
 use Rattle.survey_components.specs.Labels.{pickedIn}
 use Rattle.survey_components.specs.Forest.{loopRefusal}
 use Rattle.survey_components.specs.Laws.Forest.{forest-fine, unweighted-refusal}
+use Rattle.survey_lists.specs.Pouring.{pouredGroups, pouredSurvey}
+use Rattle.survey_lists.specs.Laws.Plan.{poured-sound, poured-joins}
 use Rattle.check_rule.specs.Check.{keptBy}
 use Rattle.plan_rounds.specs.Grown.{Growth, GrownAfter}
 use Rattle.plan_drop.specs.Prunable.{Picks, unweighted}
@@ -166,3 +168,45 @@ module _ (s : Survey) where
       c-is
       ∙ ap (λ (l : List ℕ). cost (problemOf (surveyFrom [] (s .firsts) [] (s .weights))) (keptBy l)) marks-are
       ∙ sum-cong (length (s .firsts)) _ _ (λ e b. ap (λ t. counted t (getD (s .weights) e 0)) (kept-marked rest e b))
+
+-- ---- the lists
+
+module _ (s : Survey) where
+  pub joinable-joins : joinable s ≡ true → Joins (problemOf s) (allUsable (problemOf s))
+  joinable-joins = joined-iff (problemOf s) (allUsable (problemOf s)) (all-bounded s) .0
+
+  joins-joinable : Joins (problemOf s) (allUsable (problemOf s)) → joinable s ≡ true
+  joins-joinable = joined-iff (problemOf s) (allUsable (problemOf s)) (all-bounded s) .1
+
+  -- 8 comes of lists that cannot be joined.
+  pub unjoined-comes : ByteGroups s → joinable s ≡ false → groupRefusal s 8 (allUsable (problemOf s)) ≡ Fine → {A : Type 0} → A
+  unjoined-comes numbered parted h =
+      true-not-false (joinable s) (joins-joinable (group-fine s 8 (allUsable (problemOf s)) (all-bounded s) numbered h)) parted
+
+module _ (s : Survey) (sound : SurveySound s) {part : List ℕ} (part-is : part ≡ pouredGroups (listsOf s)) where
+  into-is : surveyFrom part (s .firsts) (s .seconds) (s .weights) ≡ pouredSurvey s
+  into-is = ap (λ (groups : List ℕ). surveyFrom groups (s .firsts) (s .seconds) (s .weights)) part-is
+
+  pub into-sound : SurveySound (surveyFrom part (s .firsts) (s .seconds) (s .weights))
+  into-sound = subst SurveySound (sym into-is) (poured-sound s sound)
+
+  joins-both : Joins (problemOf s) (allUsable (problemOf s)) ↔ Joins (problemOf (pouredSurvey s)) (allUsable (problemOf (pouredSurvey s)))
+  unfolding allUsable problemOf edgeCount
+  joins-both = poured-joins s (sound .pairs) (allUsable (problemOf s)) (all-bounded s)
+
+  -- The poured groups can be joined exactly if the lists can.
+  pub joinable-poured : joinable (surveyFrom part (s .firsts) (s .seconds) (s .weights)) ≡ joinable s
+  joinable-poured =
+      ap joinable into-is
+      ∙ same-test (joinable (pouredSurvey s)) (joinable s)
+      (λ h. joins-joinable s (joins-both .1 (joinable-joins (pouredSurvey s) h)))
+      (λ h. joins-joinable (pouredSurvey s) (joins-both .0 (joinable-joins s h)))
+
+-- Which of the two was answered.
+pub joined-by : {A : Type 0} (t : Bool) (f : A) {c : A} → cond t (answer f) (refusal 8 0) ≡ answer c → t ≡ true
+joined-by true f h = refl
+joined-by false f h = absurd (let z : _≡_ {A = ℕ} 0 1 = cc in omega arith)
+
+pub parted-by : {A : Type 0} (t : Bool) (f : A) {number place : ℕ} → cond t (answer f) (refusal 8 0) ≡ refusal number place → t ≡ false
+parted-by true f h = absurd (let z : _≡_ {A = ℕ} 0 1 = cc in omega arith)
+parted-by false f h = refl

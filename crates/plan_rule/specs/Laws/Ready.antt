@@ -76,22 +76,3 @@ groups-of-all s number marks =
     ap (λ label. lowestBelow groupNumbers (λ g. refuseIf (not (groupJoined s label g)) number g))
     (components-cong (vertexCount s) (problemOf s .first) (problemOf s .second) (allUsable (problemOf s)) (chosen All marks) (edgeCount s)
     (λ e b. rw (lt-ltb e (edgeCount s) b)))
-
--- ---- the refusals as the code finds them: v is the survey's, w that of 7
-
-module _ (s : Survey) (marksLength recordsLength : ℕ) {v : Verdict} (v-is : v ≡ surveyRefusal s) where
-  pub survey-stops : {number place : ℕ} → v ≡ Refused number place → v ≡ planRefusal s marksLength recordsLength
-  unfolding planRefusal
-  survey-stops h = h ∙ sym (before-refused (sym v-is ∙ h) _)
-
-  module _ {w : Verdict} (h : v ≡ Fine)
-      (w-is : w ≡ refuseIf (ltb marksLength (edgeCount s) || ltb recordsLength (recordBytes * dualsFor (vertexCount s))) 7 0) where
-    pub room-stops : {number place : ℕ} → w ≡ Refused number place → w ≡ planRefusal s marksLength recordsLength
-    unfolding planRefusal
-    room-stops k = k ∙ sym (before-fine (sym v-is ∙ h) _ ∙ before-refused (sym w-is ∙ k) _)
-
-    pub groups-decide : (marks : List ℕ) {x : Verdict} → w ≡ Fine → x ≡ (surveyRefusal s before groupRefusal s 8 (chosen All marks)) → x ≡ planRefusal s marksLength recordsLength
-    unfolding planRefusal
-    groups-decide marks k e =
-        let sound = sym v-is ∙ h in
-        e ∙ before-fine sound _ ∙ sym (before-fine sound _ ∙ before-fine (sym w-is ∙ k) _ ∙ groups-of-all s 8 marks)

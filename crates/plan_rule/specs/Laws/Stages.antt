@@ -1,6 +1,5 @@
 -- Growing and then dropping, lent just the m marks, is planning (document 02, No. 7): answer, marks and records. What growing leaves is a forest that joins every list, so dropping accepts it.
-use Prim.Native.Nat.{ℕ, _-_, _≤_, _<_}
-use native.Mathlib.Nat.{sub-zero}
+use Prim.Native.Nat.{ℕ, _≤_, _<_}
 use native.Mathlib.Omega.{arith}
 use mathlib.Core.Path.{_≡_, refl, ap, sym, _∙_, subst, fun-ext}
 use mathlib.Core.Logic.{⊎-elim}
@@ -195,68 +194,12 @@ module _ (s : Survey) (numbered : ByteGroups s) (marks records : List ℕ) where
         marks-finished = λ c h. stages-marks (answer-fine v (grownCountsOf (planOf P)) c h .0);
       }
 
--- ---- the calls
+-- ---- the call
 
-module _ (s : Survey) (numbered : ByteGroups s) (marks records : List ℕ) {g : Outcome PlanCounts} {grown-marks grown-records : List ℕ}
-    (g-is : g ≡ growing s (length marks) (length records)) (marks-are : grown-marks ≡ marksGrown s marks records)
-    (records-are : grown-records ≡ recordsAfter s marks records) where
-  abbrev stages : InStages s marks records
-  stages = planning-stages s numbered marks records
-
-  -- Growing refuses, and nothing more is done.
-  pub stages-refused : {number place : ℕ} → g ≡ refusal number place
-      → (refusal number place ≡ counting s (length marks) (length records))
-      × ((grown-marks ≡ marksAfter s marks records)
-      × ((grown-records ≡ recordsAfter s marks records) × (Promises s marks records (refusal number place) × InStages s marks records)))
-  stages-refused {number} {place} h =
-      let r : growing s (length marks) (length records) ≡ refusal number place = sym g-is ∙ h in
-      let e : refusal number place ≡ counting s (length marks) (length records) = sym (stages .refuses number place .1 r) in
-      let k = stages .marks-refused number place r in
-      (e, (marks-are ∙ k .0 ∙ sym (k .1 .0), (records-are, (planning-promises s numbered marks records (refusal number place) e, stages))))
-
-  -- Growing finishes, and dropping is lent the first m marks.
-  pub stages-finished : {c : PlanCounts} {o : Outcome PlanCounts} {d : Outcome DropCounts} {part : List ℕ} → g ≡ answer c
-      → d ≡ dropping s (take (length (s .firsts) - 0) grown-marks) → part ≡ marksDropped s (take (length (s .firsts) - 0) grown-marks)
-      → o ≡ thenDropping g d
-      → (o ≡ counting s (length marks) (length records))
-      × ((part ++ drop (length (s .firsts) - 0) grown-marks ≡ marksAfter s marks records)
-      × ((grown-records ≡ recordsAfter s marks records) × (Promises s marks records o × InStages s marks records)))
-  unfolding edgeCount grownPart
-  stages-finished {c} {o} {d} {part} h d-is part-is o-is = (
-    e,
-    (
-      ap (λ (l : List ℕ). l ++ drop (length (s .firsts) - 0) grown-marks) (part-is ∙ ap (marksDropped s) lent)
-          ∙ ap (λ (l : List ℕ). marksDropped s (take (length (s .firsts)) (marksGrown s marks records)) ++ l) rest
-          ∙ sym (stages .marks-finished c (sym g-is ∙ h)),
-      (records-are, (planning-promises s numbered marks records o e, stages)),
-    ),
-  )
-    where
-      lent : take (length (s .firsts) - 0) grown-marks ≡ take (length (s .firsts)) (marksGrown s marks records)
-      lent = ap (λ (n : ℕ). take n grown-marks) (sub-zero (length (s .firsts))) ∙ ap (take (length (s .firsts))) marks-are
-
-      rest : drop (length (s .firsts) - 0) grown-marks ≡ drop (length (s .firsts)) (marksGrown s marks records)
-      rest = ap (λ (n : ℕ). drop n grown-marks) (sub-zero (length (s .firsts))) ∙ ap (drop (length (s .firsts))) marks-are
-
-      e : o ≡ counting s (length marks) (length records)
-      e =
-          o-is
-          ∙ ap (λ (x : Outcome PlanCounts). thenDropping x d) g-is
-          ∙ ap (thenDropping (growing s (length marks) (length records))) (d-is ∙ ap (dropping s) lent)
-          ∙ sym (stages .answers)
-
--- The answer of both, by cases.
-pub both-refused : {number place : ℕ} {g : Outcome PlanCounts} (d : Outcome DropCounts) → g ≡ refusal number place → g ≡ thenDropping g d
-unfolding thenDropping
-both-refused d h = rw h
-
-pub both-finished : {g : Outcome PlanCounts} {d : Outcome DropCounts} {t c b r u k w : ℕ} → g ≡ answer (record { terminals = t; cost = c; bound = b; rounds = r; duals = u })
-    → d ≡ answer (record { terminals = k; cost = w })
-    → answer (record { terminals = k; cost = w; bound = b; rounds = r; duals = u }) ≡ thenDropping g d
-unfolding thenDropping
-both-finished h k = rw (h, k)
-
-pub both-dropped : {g : Outcome PlanCounts} {d : Outcome DropCounts} {c : PlanCounts} {number place : ℕ} → g ≡ answer c → d ≡ refusal number place
-    → refusal number place ≡ thenDropping g d
-unfolding thenDropping
-both-dropped h k = rw (h, k)
+-- With its promises, and in stages.
+pub planned-call : (s : Survey) → ByteGroups s → (marks records : List ℕ) {o : Outcome PlanCounts} {marked drawn : List ℕ} → o ≡ counting s (length marks) (length records)
+    → marked ≡ marksAfter s marks records → drawn ≡ recordsAfter s marks records
+    → (o ≡ counting s (length marks) (length records))
+    × ((marked ≡ marksAfter s marks records) × ((drawn ≡ recordsAfter s marks records) × (Promises s marks records o × InStages s marks records)))
+planned-call s numbered marks records {o} is marked-is drawn-is =
+    (is, (marked-is, (drawn-is, (planning-promises s numbered marks records o is, planning-stages s numbered marks records))))

@@ -3,7 +3,8 @@ use mathlib.Core.Path.{ap, sym, _∙_}
 use native.Mathlib.Omega.{arith}
 use Rattle.survey_lists.specs.Laws.Room.{part-poured}
 use Rattle.plan_rule.specs.Figures.{figuredOutcome}
-use Rattle.plan_core.specs.Laws.Figures.{into-sound, lists-parted, parted-marks, figures-finished}
+use Rattle.plan_core.specs.Laws.Planned.{into-sound}
+use Rattle.plan_core.specs.Laws.Figures.{lists-parted, parted-marks, figures-finished}
 use borrow.Author.Needs.{needs}
 use Rattle.plan_core.proofs.figures.sound_figures.Statement.{statement}
 use Rattle.plan_core.proofs.figures.sound_figures.Tie as tie

@@ -3,7 +3,9 @@ use mathlib.Core.Path.{sym, _∙_}
 use mathlib.Core.List.{[]}
 use native.Mathlib.Omega.{arith}
 use Rattle.plan_rule.specs.Figures.{figuredOutcome}
-use Rattle.plan_core.specs.Laws.Figures.{figures-refused, unjoined-eight, unjoined-comes}
+use Rattle.plan_rule.specs.Laws.Ready.{groups-of-all}
+use Rattle.plan_core.specs.Laws.Planned.{unjoined-comes}
+use Rattle.plan_core.specs.Laws.Figures.{figures-refused, unjoined-eight}
 use borrow.Author.Needs.{needs}
 use Rattle.plan_core.proofs.figures.unjoined_figures.Statement.{statement}
 use Rattle.plan_core.proofs.figures.unjoined_figures.Tie as tie
@@ -11,8 +13,8 @@ use Rattle.plan_core.proofs.figures.unjoined_figures.Tie as tie
 -- it would not come
 returns : tie.Need-returns
 returns c =
-    unjoined-comes _ (c .before .before .before .before .before .before .before .before .before .before .pre .0) (record { own-byte = λ v. omega (arith, c .before .before .before .before .before .before .before .before .before .shared-slice-known .given v); other-byte = λ i. omega (arith, c .before .before .before .before .shared-slice-known6 .given i) })
-    (c .before .before .before .before .before .before .before .before .before .before .pre .1) _ (c .before .before .unjoined-refusal .ensures) (c .enum-told .given .1)
+    unjoined-comes _ (record { own-byte = λ v. omega (arith, c .before .before .before .before .before .before .before .before .before .shared-slice-known .given v); other-byte = λ i. omega (arith, c .before .before .before .before .shared-slice-known6 .given i) })
+    (c .before .before .before .before .before .before .before .before .before .before .pre .1) (groups-of-all _ 8 _ ∙ sym (c .before .before .unjoined-refusal .ensures) ∙ c .enum-told .given .1)
 
 -- 8
 returns-2 : tie.Need-returns-2

@@ -10,7 +10,7 @@ returns c = lists-fine _ (c .enum-told .given .1)
 
 -- 14
 returns-2 : tie.Need-returns-2
-returns-2 c = lists-apart (c .before .before .before .found .given .1) (c .before .if1 .taken) (c .group-refusal .ensures)
+returns-2 c = lists-apart (c .before .before .before .found .given .1) (c .before .if1 .taken) (c .unjoined-refusal .ensures)
 
 -- any other
 returns-3 : tie.Need-returns-3
