@@ -1,0 +1,27 @@
+-- `stopped_given` meets its contract, by the case that the step is.
+use mathlib.Core.Path.{sym, ap}
+use Rattle.format_read.specs.Step.{stopped}
+use Rattle.format_read.specs.Answer.{numberStep}
+use Rattle.text_winter.specs.Given.{Given, givenStep}
+use borrow.Author.Needs.{needs}
+use Rattle.text_winter.proofs.given.stopped_given.Statement.{statement}
+use Rattle.text_winter.proofs.given.stopped_given.Tie as tie
+
+returns : tie.Need-returns
+unfolding givenStep numberStep stopped
+returns c =
+    sym (ap (λ x. stopped {B = Given} (numberStep x)) (c .before .step .given .1))
+
+returns-2 : tie.Need-returns-2
+unfolding givenStep numberStep stopped
+returns-2 c =
+    sym (ap (λ x. stopped {B = Given} (numberStep x)) (c .before .step2 .given .1))
+
+pub stopped-given-spec : {M : Type 1} → statement M
+stopped-given-spec =
+    tie.close
+    (tie.spec
+    (λ c. search needs)
+    (λ c. search needs)
+    returns
+    returns-2)

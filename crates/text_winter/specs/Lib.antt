@@ -1,0 +1,4 @@
+pub mod Given
+pub mod Render
+pub mod Output
+pub mod Laws
