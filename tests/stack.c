@@ -93,6 +93,19 @@ static void closed(void) {
                                2 * FOAMSICKLE_ROW_FIGURES);
 }
 
+/* The survey, and its junctions with their pairs and no track, each tied to itself. */
+static void merge(void) {
+    static uint32_t ties[N], out_firsts[M], out_seconds[M], out_weights[M], out_owners[PAIRS];
+    static uint8_t out_groups[N], out_others[PAIRS];
+    static uint64_t merged[FOAMSICKLE_MERGE_FIGURES];
+    for (uint32_t v = 0; v < N; v++)
+        ties[v] = v;
+    answer = foamsickle_merge(groups, N, firsts, M, seconds, M, weights, M, owners, PAIRS, others, PAIRS, groups, N, firsts, 0,
+                              seconds, 0, weights, 0, owners, PAIRS, others, PAIRS, ties, N, ties, N, out_groups, N, out_firsts,
+                              M, out_seconds, M, out_weights, M, out_owners, PAIRS, out_others, PAIRS, merged,
+                              FOAMSICKLE_MERGE_FIGURES);
+}
+
 static void check(void) {
     answer = foamsickle_check(groups, N, firsts, M, seconds, M, weights, M, owners, PAIRS, others, PAIRS, marks, M, records,
                               moat_bytes, counts, FOAMSICKLE_CHECK_FIGURES);
@@ -190,6 +203,7 @@ int main(int argc, char **argv) {
         {"foamsickle_plan", plan},
         {"foamsickle_why", why},
         {"foamsickle_closed", closed},
+        {"foamsickle_merge", merge},
         {"foamsickle_check", check},
         {"foamsickle_handset_plan", handset_plan},
         {"foamsickle_handset_check", handset_check},

@@ -105,9 +105,16 @@ groups-marked l v flags {now} now-is x-is y-is after-is =
 
 -- ---- the whole row
 
-pub one-long : (l : Lists) (w : ℕ) {one : List ℕ} → one ≡ marked (λ g. isPaired l g w || eqb (own l w) g) (replicate groupNumbers 0)
-    → length one ≡ groupNumbers
-one-long l w h = ap length h ∙ length-marked _ (replicate groupNumbers 0) ∙ length-replicate {A = ℕ} groupNumbers 0
+-- The flags keep their length.
+pub one-long : (s : ℕ → Bool) {one : List ℕ} → one ≡ marked s (replicate groupNumbers 0) → length one ≡ groupNumbers
+one-long s h = ap length h ∙ length-marked s (replicate groupNumbers 0) ∙ length-replicate {A = ℕ} groupNumbers 0
+
+pub two-long : (s t : ℕ → Bool) {one two : List ℕ} → one ≡ marked s (replicate groupNumbers 0) → two ≡ marked t one → length two ≡ groupNumbers
+two-long s t {one} h k = ap length k ∙ length-marked t one ∙ one-long s h
+
+pub three-long : (s t : ℕ → Bool) (x : ℕ) {one two three : List ℕ} → one ≡ marked s (replicate groupNumbers 0) → two ≡ marked t one → three ≡ set two x 0
+    → length three ≡ groupNumbers
+three-long s t x {two = two} h k e = ap length e ∙ length-set two x 0 ∙ two-long s t h k
 
 module _ (first second : Lists) (w v : ℕ) where
   held : ℕ → Bool
@@ -126,15 +133,6 @@ module _ (first second : Lists) (w v : ℕ) where
       by : (b : Bool) → cond b 1 0 ≡ counted b 1
       by true = refl
       by false = refl
-
-  -- The flags keep their length.
-  pub two-long : {one two : List ℕ} → one ≡ marked (λ g. isPaired first g w || eqb (own first w) g) (replicate groupNumbers 0)
-      → two ≡ marked (λ g. isPaired second g v || eqb (own second v) g) one → length two ≡ groupNumbers
-  two-long {one} h k = ap length k ∙ length-marked _ one ∙ one-long first w h
-
-  pub three-long : (x : ℕ) {one two three : List ℕ} → one ≡ marked (λ g. isPaired first g w || eqb (own first w) g) (replicate groupNumbers 0)
-      → two ≡ marked (λ g. isPaired second g v || eqb (own second v) g) one → three ≡ set two x 0 → length three ≡ groupNumbers
-  three-long x {one} {two} {three} h k e = ap length e ∙ length-set two x 0 ∙ two-long h k
 
   pub row-found : {one two three four : List ℕ} {o x : ℕ} → one ≡ marked (λ g. isPaired first g w || eqb (own first w) g) (replicate groupNumbers 0)
       → two ≡ marked (λ g. isPaired second g v || eqb (own second v) g) one → o ≡ ownWith (first .groups) (second .groups) w v → x ≡ o
