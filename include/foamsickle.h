@@ -60,7 +60,7 @@ extern "C" {
 #define FOAMSICKLE_VERIFY_ROOM 2097152
 
 /* Entries of `counts`: planning and growing, dropping, asking why, checking and verifying, reading, reading STP,
- * printing. */
+ * printing, the floor. */
 #define FOAMSICKLE_PLAN_FIGURES 5
 #define FOAMSICKLE_DROP_FIGURES 2
 #define FOAMSICKLE_WHY_FIGURES 6
@@ -68,6 +68,7 @@ extern "C" {
 #define FOAMSICKLE_READ_FIGURES 3
 #define FOAMSICKLE_STP_FIGURES 2
 #define FOAMSICKLE_PRINT_FIGURES 1
+#define FOAMSICKLE_FLOOR_FIGURES 4
 
 /* Numbers in the list of closed tracks, at most; and of `result` for each. */
 #define FOAMSICKLE_MAX_CLOSED 256
@@ -210,6 +211,20 @@ uint64_t foamsickle_closed(
     const uint8_t *others, size_t others_length,
     const uint32_t *tracks, size_t tracks_length,
     uint64_t *result, size_t result_length);
+
+/* A floor under the cost of every set of tracks that joins every group: no such set costs less, and where the floor is
+ * the cost the plan is a cheapest one. It is found from the survey alone, by dual ascent over directed cuts.
+ * Writes counts[0] floor, counts[1] sites, counts[2] cost of the plan, counts[3] bound, in half units.
+ * Refuses 1 to 6 and 18 as above, then 7 (counts too short), then 8 (place: the lowest group that cannot be joined).
+ * Needed: FOAMSICKLE_FLOOR_FIGURES counts. */
+uint64_t foamsickle_floor(
+    const uint8_t *groups, size_t groups_length,
+    const uint32_t *firsts, size_t firsts_length,
+    const uint32_t *seconds, size_t seconds_length,
+    const uint32_t *weights, size_t weights_length,
+    const uint32_t *owners, size_t owners_length,
+    const uint8_t *others, size_t others_length,
+    uint64_t *counts, size_t counts_length);
 
 /* Checks marks and moat records, whoever drew them, against a survey.
  * Writes counts[0] sites, counts[1] cost of the kept tracks, counts[2] bound.

@@ -1,3 +1,4 @@
 pub mod Call
 pub mod GrowCall
 pub mod ClosedCall
+pub mod FloorCall

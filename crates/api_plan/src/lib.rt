@@ -11,9 +11,11 @@ use plan_rule::Planned;
 
 mod closed;
 mod drop;
+mod floor;
 mod grow;
 
 pub use closed::closed_call;
+pub use floor::floor_call;
 
 // Entries of the counts.
 pub const PLAN_FIGURES: usize = 5;

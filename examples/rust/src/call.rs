@@ -101,6 +101,10 @@ mod flat {
             groups: in u8, firsts: in u32, seconds: in u32, weights: in u32, owners: in u32, others: in u8,
             tracks: in u32, result: out u64,
         );
+        floor = foamsickle_floor(
+            groups: in u8, firsts: in u32, seconds: in u32, weights: in u32, owners: in u32, others: in u8,
+            counts: out u64,
+        );
         check = foamsickle_check(
             groups: in u8, firsts: in u32, seconds: in u32, weights: in u32, owners: in u32, others: in u8,
             marks: in u8, records: in u8, counts: out u64,
@@ -164,6 +168,11 @@ pub fn why(s: Slices, track: u32, route: &mut [u32], counts: &mut [u64]) -> u64 
 /// `result` takes for each track the refusal or 0, its place, the cost and the bound.
 pub fn closed(s: Slices, tracks: &[u32], result: &mut [u64]) -> u64 {
     flat::closed(s.groups, s.firsts, s.seconds, s.weights, s.owners, s.others, tracks, result)
+}
+
+/// `counts` takes the floor, sites, cost and bound.
+pub fn floor(s: Slices, counts: &mut [u64]) -> u64 {
+    flat::floor(s.groups, s.firsts, s.seconds, s.weights, s.owners, s.others, counts)
 }
 
 /// `counts` takes sites, cost and bound.

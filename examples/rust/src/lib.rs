@@ -35,6 +35,7 @@ pub const WHY_FIGURES: usize = 6;
 pub const ROW_FIGURES: usize = 4;
 pub const CHECK_FIGURES: usize = 3;
 pub const PRINT_FIGURES: usize = 1;
+pub const FLOOR_FIGURES: usize = 4;
 
 /// Why an operation refused; the field is the place.
 #[derive(Clone, Copy, Debug, PartialEq, Eq)]
@@ -267,6 +268,32 @@ pub fn closed(survey: &Survey, tracks: &[u32]) -> Result<Vec<Result<(u64, u64), 
         rows.extend(result.chunks(ROW_FIGURES).map(|row| answered(row[0] + 256 * row[1]).map(|()| (row[2], row[3]))));
     }
     Ok(rows)
+}
+
+/// A floor under every set of tracks that joins every group, with the plan's figures.
+#[derive(Clone, Copy, Debug, PartialEq, Eq)]
+pub struct Floor {
+    /// No set of tracks that joins every group costs less.
+    pub floor: u64,
+    pub sites: u64,
+    pub cost: u64,
+    /// In half units.
+    pub bound: u64,
+}
+
+impl Floor {
+    /// No set of tracks that joins every group costs less than the plan.
+    pub fn cheapest(&self) -> bool {
+        self.floor == self.cost
+    }
+}
+
+/// Finds the floor of a survey.
+pub fn floor(survey: &Survey) -> Result<Floor, Refusal> {
+    let mut counts = [0; FLOOR_FIGURES];
+    answered(call::floor(survey.slices(), &mut counts))?;
+    let [floor, sites, cost, bound] = counts;
+    Ok(Floor { floor, sites, cost, bound })
 }
 
 /// A survey that was read: groups, first ends, second ends and prices, and the pairs.
@@ -506,6 +533,20 @@ mod tests {
         let one = Survey::new(&[1, 1], &[0], &[1], &[5]).unwrap();
         assert_eq!(closed(&one, &[0]), Ok(vec![Err(Refusal::Unjoinable(1))]));
         assert_eq!(closed(&one, &[]), Ok(vec![]));
+    }
+
+    #[test]
+    fn a_floor_is_found() {
+        // P9: three spokes of 3 are cheapest, and the plan takes two tracks of 5.
+        let (firsts, seconds) = ([0, 0, 0, 1, 1, 2], [1, 2, 3, 2, 3, 3]);
+        let spokes = Survey::new(&[0, 1, 1, 1], &firsts, &seconds, &[3, 3, 3, 5, 5, 5]).unwrap();
+        let found = floor(&spokes).unwrap();
+        assert_eq!((found.floor, found.sites, found.cost), (9, 3, 10));
+        assert!(!found.cheapest());
+        let one = Survey::new(&[1, 1], &[0], &[1], &[5]).unwrap();
+        assert_eq!(floor(&one), Ok(Floor { floor: 5, sites: 2, cost: 5, bound: 10 }));
+        let apart = Survey::new(&[1, 1], &[], &[], &[]).unwrap();
+        assert_eq!(floor(&apart), Err(Refusal::Unjoinable(1)));
     }
 
     #[test]
