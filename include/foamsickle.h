@@ -59,8 +59,8 @@ extern "C" {
 #define FOAMSICKLE_SURVEY_ROOM 65536
 #define FOAMSICKLE_VERIFY_ROOM 2097152
 
-/* Entries of `counts`: planning and growing, dropping, asking why, copies for strengths, merging, checking and
- * verifying, reading, reading STP, printing. */
+/* Entries of `counts`: planning and growing, dropping, asking why, the floor, copies for strengths, merging, checking
+ * and verifying, reading, reading STP, printing. */
 #define FOAMSICKLE_PLAN_FIGURES 5
 #define FOAMSICKLE_DROP_FIGURES 2
 #define FOAMSICKLE_WHY_FIGURES 6
@@ -70,6 +70,7 @@ extern "C" {
 #define FOAMSICKLE_STP_FIGURES 2
 #define FOAMSICKLE_MERGE_FIGURES 3
 #define FOAMSICKLE_PRINT_FIGURES 1
+#define FOAMSICKLE_FLOOR_FIGURES 4
 
 /* Numbers in the list of closed tracks, at most; and of `result` for each. */
 #define FOAMSICKLE_MAX_CLOSED 256
@@ -268,6 +269,20 @@ uint64_t foamsickle_merge(
     uint32_t *out_weights, size_t out_weights_length,
     uint32_t *out_owners, size_t out_owners_length,
     uint8_t *out_others, size_t out_others_length,
+    uint64_t *counts, size_t counts_length);
+
+/* A floor under the cost of every set of tracks that joins every group: no such set costs less, and where the floor is
+ * the cost the plan is a cheapest one. It is found from the survey alone, by dual ascent over directed cuts.
+ * Writes counts[0] floor, counts[1] sites, counts[2] cost of the plan, counts[3] bound, in half units.
+ * Refuses 1 to 6 and 18 as above, then 7 (counts too short), then 8 (place: the lowest group that cannot be joined).
+ * Needed: FOAMSICKLE_FLOOR_FIGURES counts. */
+uint64_t foamsickle_floor(
+    const uint8_t *groups, size_t groups_length,
+    const uint32_t *firsts, size_t firsts_length,
+    const uint32_t *seconds, size_t seconds_length,
+    const uint32_t *weights, size_t weights_length,
+    const uint32_t *owners, size_t owners_length,
+    const uint8_t *others, size_t others_length,
     uint64_t *counts, size_t counts_length);
 
 /* Checks marks and moat records, whoever drew them, against a survey.

@@ -2,3 +2,4 @@ pub mod Call
 pub mod GrowCall
 pub mod ClosedCall
 pub mod WinterCall
+pub mod FloorCall

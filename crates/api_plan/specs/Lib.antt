@@ -1,4 +1,5 @@
 pub mod Call
 pub mod GrowCall
 pub mod WinterCall
+pub mod FloorCall
 pub mod Laws

@@ -12,11 +12,13 @@ use plan_rule::Planned;
 
 mod closed;
 mod drop;
+mod floor;
 mod grow;
 mod winter;
 
 pub use closed::closed_call;
 pub use winter::winter_call;
+pub use floor::floor_call;
 
 // Entries of the counts.
 pub const PLAN_FIGURES: usize = 5;

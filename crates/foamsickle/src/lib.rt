@@ -19,6 +19,7 @@ ghost use Rattle.api_read.specs.StpCall.{stpFigures, stpFiguresOf, stpCall};
 ghost use Rattle.api_plan.specs.Call.{planCall, planMarks, planRecords, planCounts};
 ghost use Rattle.api_plan.specs.GrowCall.{growMarks, growCounts, dropCall, dropMarks, droppedCounts};
 ghost use Rattle.api_plan.specs.WinterCall.{winterCall, winterCopies, winterCounts};
+ghost use Rattle.api_plan.specs.FloorCall.{floorCall, flooredCounts};
 ghost use Rattle.api_why.specs.Call.{whyCall, whyRoute, whyFigured};
 ghost use Rattle.closed_rule.specs.Closed.{closedRefusal, resultAfter};
 ghost use Rattle.merge_rule.specs.Ties.{tiesFrom};
@@ -416,6 +417,28 @@ pub extern "C" fn foamsickle_merge(
         out_others,
         counts,
     )
+}
+
+// A floor under every set of tracks that joins every group: none costs less. `counts` gets the floor, k, what the plan
+// costs and its bound.
+#[no_mangle]
+pub extern "C" fn foamsickle_floor(
+    groups: &[u8],
+    firsts: &[u32],
+    seconds: &[u32],
+    weights: &[u32],
+    owners: &[u32],
+    others: &[u8],
+    counts: &mut [u64],
+) -> u64
+    ensures code { λ r.
+        let s = lentWith groups firsts seconds weights owners others in
+        ⌜ r ≡ codeOf (floorCall s (old counts)) ⌝ }
+    ensures counts { λ _.
+        let s = lentWith groups firsts seconds weights owners others in
+        ⌜ new counts ≡ flooredCounts s (old counts) ⌝ }
+{
+    api_plan::floor_call(groups, firsts, seconds, weights, owners, others, counts)
 }
 
 // Checks marks and moat records against a survey with pairs. `counts` gets k, the kept cost and the bound.

@@ -112,6 +112,10 @@ mod flat {
             out_groups: out u8, out_firsts: out u32, out_seconds: out u32, out_weights: out u32, out_owners: out u32,
             out_others: out u8, counts: out u64,
         );
+        floor = foamsickle_floor(
+            groups: in u8, firsts: in u32, seconds: in u32, weights: in u32, owners: in u32, others: in u8,
+            counts: out u64,
+        );
         check = foamsickle_check(
             groups: in u8, firsts: in u32, seconds: in u32, weights: in u32, owners: in u32, others: in u8,
             marks: in u8, records: in u8, counts: out u64,
@@ -214,6 +218,11 @@ pub fn merge(
         out.others,
         counts,
     )
+}
+
+/// `counts` takes the floor, sites, cost and bound.
+pub fn floor(s: Slices, counts: &mut [u64]) -> u64 {
+    flat::floor(s.groups, s.firsts, s.seconds, s.weights, s.owners, s.others, counts)
 }
 
 /// `counts` takes sites, cost and bound.

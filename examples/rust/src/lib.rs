@@ -39,6 +39,7 @@ pub const WINTER_FIGURES: usize = 1;
 pub const MERGE_FIGURES: usize = 3;
 pub const CHECK_FIGURES: usize = 3;
 pub const PRINT_FIGURES: usize = 1;
+pub const FLOOR_FIGURES: usize = 4;
 
 /// Why an operation refused; the field is the place.
 #[derive(Clone, Copy, Debug, PartialEq, Eq)]
@@ -286,6 +287,32 @@ pub fn winter(survey: &Survey, strengths: &[u8; STRENGTHS]) -> Result<(Vec<u8>, 
     let mut counts = [0; WINTER_FIGURES];
     answered(call::winter(survey.slices(), strengths, &mut copies, &mut counts))?;
     Ok((copies, counts[0]))
+}
+
+/// A floor under every set of tracks that joins every group, with the plan's figures.
+#[derive(Clone, Copy, Debug, PartialEq, Eq)]
+pub struct Floor {
+    /// No set of tracks that joins every group costs less.
+    pub floor: u64,
+    pub sites: u64,
+    pub cost: u64,
+    /// In half units.
+    pub bound: u64,
+}
+
+impl Floor {
+    /// No set of tracks that joins every group costs less than the plan.
+    pub fn cheapest(&self) -> bool {
+        self.floor == self.cost
+    }
+}
+
+/// Finds the floor of a survey.
+pub fn floor(survey: &Survey) -> Result<Floor, Refusal> {
+    let mut counts = [0; FLOOR_FIGURES];
+    answered(call::floor(survey.slices(), &mut counts))?;
+    let [floor, sites, cost, bound] = counts;
+    Ok(Floor { floor, sites, cost, bound })
 }
 
 /// A survey that was read: groups, first ends, second ends and prices, and the pairs.
@@ -564,6 +591,20 @@ mod tests {
         assert_eq!((&whole.weights[..], &whole.owners[..], &whole.others[..]), (&[5, 7, 4][..], &[2][..], &[3][..]));
         assert_eq!(plan(&whole.survey().unwrap()).map(|p| p.found.cost), Ok(16));
         assert_eq!(merge(&first, &second, &[(2, 0), (1, 0)]).err(), Some(Refusal::Tie(1)));
+    }
+
+    #[test]
+    fn a_floor_is_found() {
+        // P9: three spokes of 3 are cheapest, and the plan takes two tracks of 5.
+        let (firsts, seconds) = ([0, 0, 0, 1, 1, 2], [1, 2, 3, 2, 3, 3]);
+        let spokes = Survey::new(&[0, 1, 1, 1], &firsts, &seconds, &[3, 3, 3, 5, 5, 5]).unwrap();
+        let found = floor(&spokes).unwrap();
+        assert_eq!((found.floor, found.sites, found.cost), (9, 3, 10));
+        assert!(!found.cheapest());
+        let one = Survey::new(&[1, 1], &[0], &[1], &[5]).unwrap();
+        assert_eq!(floor(&one), Ok(Floor { floor: 5, sites: 2, cost: 5, bound: 10 }));
+        let apart = Survey::new(&[1, 1], &[], &[], &[]).unwrap();
+        assert_eq!(floor(&apart), Err(Refusal::Unjoinable(1)));
     }
 
     #[test]
