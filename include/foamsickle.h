@@ -1,7 +1,8 @@
 /* Foamsickle for C and C++: libfoamsickle.a, which `rt staticlib foamsickle` writes.
  *
  * Slices. Each slice is a pointer and, right behind it, its length in items, not in bytes. A slice of length 0 may have
- * any pointer that is not null. A slice that is lent for writing must not overlap any other slice of the call.
+ * any pointer, NULL too. A slice that is lent for writing must not overlap any other slice of the call.
+ * foamsickle_survey.h has the calls over one struct for a survey, and a refusal in words.
  *
  * Answers. A call returns 0, or a refusal: its number is FOAMSICKLE_NUMBER(answer), its place FOAMSICKLE_PLACE(answer).
  * On a refusal nothing is written: every lent slice holds what it held. On an answer, entries behind those that are
@@ -31,6 +32,10 @@
 #ifdef __cplusplus
 extern "C" {
 #endif
+
+/* The version of this header; foamsickle_version has that of the library. */
+#define FOAMSICKLE_VERSION 10000
+#define FOAMSICKLE_VERSION_TEXT "1.0.0"
 
 /* Limits: junctions, tracks, a track's price, a moat's amount in half units, pairs; group numbers lie below the
  * last. */
@@ -285,7 +290,8 @@ uint64_t foamsickle_floor(
     const uint8_t *others, size_t others_length,
     uint64_t *counts, size_t counts_length);
 
-/* Checks marks and moat records, whoever drew them, against a survey.
+/* Checks marks and moat records, whoever drew them, against a survey: m marks, and of the records that planning or growing
+ * wrote the first counts[4] * FOAMSICKLE_RECORD_BYTES bytes, not the whole buffer.
  * Writes counts[0] sites, counts[1] cost of the kept tracks, counts[2] bound.
  * Refuses 1 to 6 and 18 as above, then 7 (counts too short), then 9 (marks not m long, records no multiple of
  * FOAMSICKLE_RECORD_BYTES or over FOAMSICKLE_MAX_DUALS), 10 (a mark above 2; track), 11 (an amount of 0 or over
@@ -429,6 +435,10 @@ uint64_t foamsickle_handset_check(
     const uint8_t *marks, size_t marks_length,
     const uint8_t *records, size_t records_length,
     uint8_t *result, size_t result_length);
+
+/* The version of the library: 10,000 times its first number, plus 100 times its second, plus its third.
+ * Refuses nothing. */
+uint64_t foamsickle_version(void);
 
 #ifdef __cplusplus
 }

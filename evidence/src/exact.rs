@@ -1,7 +1,11 @@
 //! Where near best is best (No. 14): Dijkstra's cheapest route and Kruskal's taking, written apart from the planners,
 //! and what a plan of either kind of survey has to be by them.
 
-use crate::View;
+use crate::plan::{fast, owned, KEPT};
+use crate::print::survey_text;
+use crate::{Survey, View};
+use std::io::Write;
+use std::process::{Command, Stdio};
 
 /// What is said where the figures show that no cheaper plan exists.
 pub const REMARK: &str = "no cheaper plan exists\n";
@@ -129,4 +133,48 @@ pub fn remark(cost: u64, bound: u64) -> &'static str {
     } else {
         ""
     }
+}
+
+/// Our own planner's.
+pub fn ours(survey: &Survey) -> Result<Drawn, String> {
+    let plan = owned(fast, survey.view()).map_err(|refusal| format!("{refusal:?}"))?;
+    let counts = plan.counts;
+    let kept = (0..plan.marks.len()).filter(|&t| plan.marks[t] == KEPT).collect();
+    Ok(Drawn { sites: counts.sites, cost: counts.cost, bound: counts.bound, rounds: counts.rounds, kept })
+}
+
+/// The number behind a key on the next line.
+fn figure<'a>(lines: &mut impl Iterator<Item = &'a str>, key: &str) -> Result<u64, String> {
+    let line = lines.next().unwrap_or("");
+    let number = line.strip_prefix(key).and_then(|digits| digits.parse().ok());
+    number.ok_or_else(|| format!("no {key} in {line:?}"))
+}
+
+/// A program's, and what it says.
+pub fn printed(program: &str, survey: &Survey) -> Result<Drawn, String> {
+    let mut child = Command::new(program)
+        .stdin(Stdio::piped())
+        .stdout(Stdio::piped())
+        .stderr(Stdio::piped())
+        .spawn()
+        .map_err(|error| format!("can't be started: {error}"))?;
+    let text = survey_text(survey);
+    let mut stdin = child.stdin.take().expect("piped");
+    let feeding = std::thread::spawn(move || stdin.write_all(&text));
+    let output = child.wait_with_output().map_err(|error| format!("can't be read from: {error}"))?;
+    feeding.join().expect("no panic").map_err(|error| format!("can't be written to: {error}"))?;
+    let plan = String::from_utf8_lossy(&output.stdout).into_owned();
+    let said = String::from_utf8_lossy(&output.stderr).into_owned();
+    let mut lines = plan.lines();
+    let drawn = Drawn {
+        sites: figure(&mut lines, "sites=")?,
+        cost: figure(&mut lines, "cost=")?,
+        bound: figure(&mut lines, "bound=")?,
+        rounds: figure(&mut lines, "rounds=")?,
+        kept: lines.filter_map(|line| line.strip_prefix("keep=").and_then(|track| track.parse().ok())).collect(),
+    };
+    if said != remark(drawn.cost, drawn.bound) {
+        return Err(format!("it says {said:?} of {drawn:?}"));
+    }
+    Ok(drawn)
 }

@@ -38,6 +38,7 @@ pub mod printed;
 pub mod read;
 pub mod season;
 pub mod stages;
+pub mod steiner;
 pub mod stp;
 pub mod table;
 pub mod verifying;

@@ -5,6 +5,7 @@ mod blunders;
 mod calls;
 mod checking;
 mod closed;
+mod distance;
 mod document;
 mod exact;
 mod full;

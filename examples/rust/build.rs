@@ -11,7 +11,16 @@ fn main() {
         Ok(folder) => PathBuf::from(folder),
         Err(_) => here.join("../../target/staticlib"),
     };
-    println!("cargo:rerun-if-changed={}", folder.join("libfoamsickle.a").display());
+    let library = folder.join("libfoamsickle.a");
+    println!("cargo:rerun-if-changed={}", library.display());
+    if !library.exists() {
+        eprintln!(
+            "{} is not there: `rt staticlib foamsickle` in the repository writes target/staticlib/libfoamsickle.a;",
+            library.display()
+        );
+        eprintln!("where Foamsickle is installed, set FOAMSICKLE_LIB_DIR to the folder lib below its prefix");
+        std::process::exit(1);
+    }
     println!("cargo:rustc-link-search=native={}", folder.display());
     println!("cargo:rustc-link-lib=static=foamsickle");
 }

@@ -672,3 +672,14 @@ pub extern "C" fn foamsickle_handset_check(
         result,
     )
 }
+
+// The version of this library: 10,000 times its first number, plus 100 times its second, plus its third.
+const VERSION: u64 = 10000;
+
+// The version, which the header's macro FOAMSICKLE_VERSION has too.
+#[no_mangle]
+pub extern "C" fn foamsickle_version() -> u64
+    ensures { λ r. ⌜ r ≡ 10000 ⌝ }
+{
+    VERSION
+}

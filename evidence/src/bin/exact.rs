@@ -6,57 +6,10 @@
 //! the program's, as it prints them, and what it says on standard error is held against its figures; without a program
 //! they are our own planner's.
 
-use evidence::exact::{one_list, remark, two_sites, Drawn};
+use evidence::exact::{one_list, ours, printed, two_sites};
 use evidence::gen::{exact, Rng};
-use evidence::plan::{fast, owned, KEPT};
-use evidence::print::survey_text;
 use evidence::Survey;
-use std::io::Write;
-use std::process::{Command, ExitCode, Stdio};
-
-/// Our own planner's.
-fn ours(survey: &Survey) -> Result<Drawn, String> {
-    let plan = owned(fast, survey.view()).map_err(|refusal| format!("{refusal:?}"))?;
-    let counts = plan.counts;
-    let kept = (0..plan.marks.len()).filter(|&t| plan.marks[t] == KEPT).collect();
-    Ok(Drawn { sites: counts.sites, cost: counts.cost, bound: counts.bound, rounds: counts.rounds, kept })
-}
-
-/// The number behind a key on the next line.
-fn figure<'a>(lines: &mut impl Iterator<Item = &'a str>, key: &str) -> Result<u64, String> {
-    let line = lines.next().unwrap_or("");
-    let number = line.strip_prefix(key).and_then(|digits| digits.parse().ok());
-    number.ok_or_else(|| format!("no {key} in {line:?}"))
-}
-
-/// A program's, and what it says.
-fn printed(program: &str, survey: &Survey) -> Result<Drawn, String> {
-    let mut child = Command::new(program)
-        .stdin(Stdio::piped())
-        .stdout(Stdio::piped())
-        .stderr(Stdio::piped())
-        .spawn()
-        .map_err(|error| format!("can't be started: {error}"))?;
-    let text = survey_text(survey);
-    let mut stdin = child.stdin.take().expect("piped");
-    let feeding = std::thread::spawn(move || stdin.write_all(&text));
-    let output = child.wait_with_output().map_err(|error| format!("can't be read from: {error}"))?;
-    feeding.join().expect("no panic").map_err(|error| format!("can't be written to: {error}"))?;
-    let plan = String::from_utf8_lossy(&output.stdout).into_owned();
-    let said = String::from_utf8_lossy(&output.stderr).into_owned();
-    let mut lines = plan.lines();
-    let drawn = Drawn {
-        sites: figure(&mut lines, "sites=")?,
-        cost: figure(&mut lines, "cost=")?,
-        bound: figure(&mut lines, "bound=")?,
-        rounds: figure(&mut lines, "rounds=")?,
-        kept: lines.filter_map(|line| line.strip_prefix("keep=").and_then(|track| track.parse().ok())).collect(),
-    };
-    if said != remark(drawn.cost, drawn.bound) {
-        return Err(format!("it says {said:?} of {drawn:?}"));
-    }
-    Ok(drawn)
-}
+use std::process::ExitCode;
 
 fn main() -> ExitCode {
     let (mut program, mut count, mut seed) = (None, 20_000u64, 1);

@@ -1,6 +1,7 @@
 //! Seeded inputs. A seed and a case number name an input for good; no case depends on another.
 
 mod also;
+mod distant;
 pub mod exact;
 mod plans;
 mod printed;
@@ -9,6 +10,7 @@ mod stp;
 mod surveys;
 mod texts;
 
+pub use distant::distant;
 pub use plans::{damaged_plan, damaged_plan_of, moat_case, Damage, PlanCase, DAMAGES};
 pub use printed::{directed_plan_texts, plan_text_case};
 pub use rng::Rng;

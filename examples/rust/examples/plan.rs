@@ -30,7 +30,7 @@ fn main() -> ExitCode {
             ExitCode::SUCCESS
         }
         Err(refusal) => {
-            println!("refused: {refusal:?}");
+            println!("refused: {refusal}");
             ExitCode::FAILURE
         }
     }

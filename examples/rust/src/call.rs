@@ -74,6 +74,7 @@ macro_rules! calls {
 /// The functions of libfoamsickle.a, one parameter for each of its slices; include/foamsickle.h says what each does.
 mod flat {
     calls! {
+        version = foamsickle_version();
         read = foamsickle_read(
             text: in u8, groups: out u8, firsts: out u32, seconds: out u32, weights: out u32, owners: out u32,
             others: out u8, counts: out u64,
@@ -149,7 +150,7 @@ mod flat {
 }
 
 /// `counts` of `read_stp` takes n and m; what the others do include/foamsickle.h says.
-pub use flat::{pack_table, print_dual, print_plan, read_stp, season_print, unpack_table, verify};
+pub use flat::{pack_table, print_dual, print_plan, read_stp, season_print, unpack_table, verify, version};
 
 /// `counts` takes n, m and the number of pairs.
 pub fn read(text: &[u8], b: Buffers, counts: &mut [u64]) -> u64 {

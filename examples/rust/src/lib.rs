@@ -15,6 +15,7 @@
 pub mod call;
 
 use call::{Buffers, Slices};
+use std::fmt;
 
 /// The limits of include/foamsickle.h.
 pub const MAX_VERTICES: usize = 448;
@@ -130,6 +131,54 @@ impl Refusal {
         }
     }
 }
+
+/// The words of `foamsickle_words` in foamsickle_survey.h.
+impl fmt::Display for Refusal {
+    fn fmt(&self, f: &mut fmt::Formatter) -> fmt::Result {
+        use Refusal::*;
+        match *self {
+            VertexCount => write!(f, "the survey has no junction, or more than the limit"),
+            Lengths => write!(f, "slices that are read side by side differ in length"),
+            EdgeCount => write!(f, "the survey has more tracks than the limit"),
+            Endpoint(track) => write!(f, "track {track} has an end that is no junction"),
+            SameEndpoints(track) => write!(f, "track {track} leads from a junction to itself"),
+            Weight(track) => write!(f, "the price of track {track} is over the limit"),
+            Short => write!(f, "a buffer to be written is too short"),
+            Unjoinable(group) => write!(f, "no set of tracks joins the members of group {group}"),
+            Shape => write!(f, "marks or records have a wrong length"),
+            Mark(track) => write!(f, "the mark of track {track} is over the limit"),
+            Dual(moat) => write!(f, "the amount of moat {moat} is 0 or over the limit, or a member is no junction"),
+            Separation(moat) => write!(f, "moat {moat} has no group's members on both sides"),
+            Load(track) => write!(f, "the moats over track {track} are more than twice its price"),
+            Unjoined(group) => write!(f, "the kept tracks do not join the members of group {group}"),
+            Accuracy => write!(f, "the plan costs more than its moats allow for its number of sites"),
+            Malformed(byte) => write!(f, "the text is malformed at byte {byte}"),
+            Group(vertex) => write!(f, "the group of junction {vertex} is over the limit"),
+            Pair(pair) => {
+                write!(f, "pair {pair} does not rise, or names no junction, no group or the junction's own group")
+            }
+            Track(track) => write!(f, "there is no track {track}"),
+            MalformedStp(byte) => write!(f, "the STP text is malformed at byte {byte}"),
+            Loop(track) => write!(f, "track {track} closes a loop with picked tracks of lower number"),
+            PartOfTrack => write!(f, "the table is not whole tracks of twelve bytes"),
+            Other(25, place) => {
+                write!(
+                    f,
+                    "the plan's {} is not what the checker finds",
+                    ["sites", "cost", "bound"][place.min(2) as usize]
+                )
+            }
+            Other(26, line) => write!(f, "keep line {line} names no track, or does not rise"),
+            Other(27, line) => {
+                write!(f, "moat line {line} has a member that is over the limit, or members that do not rise")
+            }
+            Other(28, line) => write!(f, "moat line {line} is one too many"),
+            Other(number, place) => write!(f, "refused with {number} at {place}"),
+        }
+    }
+}
+
+impl std::error::Error for Refusal {}
 
 /// An answer of 0 is `Ok`.
 fn answered(answer: u64) -> Result<(), Refusal> {
@@ -639,6 +688,15 @@ mod tests {
         let lists = Survey::with_pairs(&[1, 1], &[0], &[1], &[5], &[0, 0], &[3, 2]).unwrap();
         assert_eq!(plan(&lists), Err(Refusal::Pair(1)));
         assert_eq!(verify(P3.as_bytes(), P3_PLAN.replace("cost=7", "cost=6").as_bytes()), Err(Refusal::Other(25, 1)));
+    }
+
+    #[test]
+    fn a_refusal_is_an_error() {
+        let planned = || -> Result<u64, Box<dyn std::error::Error>> {
+            Ok(plan(&Survey::new(&[1, 1], &[], &[], &[])?)?.found.cost)
+        };
+        assert_eq!(planned().unwrap_err().to_string(), "no set of tracks joins the members of group 1");
+        assert_eq!(call::version(), 10_000);
     }
 
     #[test]
