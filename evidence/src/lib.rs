@@ -18,6 +18,7 @@
 //! | `season` | the season's report, adding a survey to it and printing it (No. 11) |
 //! | `handset` | planning and checking over bytes alone, and their generated cases |
 //! | `gen`   | seeded surveys, texts and plans, sound and damaged |
+//! | `programs` | the programs, with their generated inputs and what each is to print |
 //! | `printed` | a printed plan behind its survey's text: reading it back and checking it |
 //! | `verifying` | the same as a call |
 //! | `blunder` | planners with a fault each, which the generated inputs have to tell from a sound one |
@@ -35,6 +36,7 @@ pub mod native;
 pub mod plan;
 pub mod print;
 pub mod printed;
+pub mod programs;
 pub mod read;
 pub mod season;
 pub mod stages;

@@ -9,6 +9,7 @@ mod document;
 mod exact;
 mod full;
 mod handset;
+mod programs;
 mod reading;
 mod season;
 mod stages;

@@ -615,7 +615,7 @@ fn print_survey_input(streams: &Streams, faults: [Fault; 2]) -> Box<dyn Call> {
     print(streams, faults, need, survey, with)
 }
 
-pub const OPERATIONS: [Operation; 11] = [
+pub const OPERATIONS: &[Operation] = &[
     Operation { name: "read", faults: READ_FAULTS, pairs: READ_PAIRS, input: read_input },
     Operation { name: "read_stp", faults: STP_FAULTS, pairs: STP_PAIRS, input: read_stp_input },
     Operation { name: "plan", faults: PLAN_FAULTS, pairs: PLAN_PAIRS, input: plan_input },
