@@ -11,6 +11,7 @@
 //! | `check` | a plan drawn by anyone |
 //! | `why` | the reason for a track (No. 3) |
 //! | `closed` | plans with one track closed (No. 12) |
+//! | `winter` | copies of tracks for groups with strengths (No. 13) |
 //! | `stages` | growing and dropping, each on its own (No. 7) |
 //! | `print` | a moat line, a printed plan, a refusal, and the whole program's answer |
 //! | `brute` | the cheapest joining set of a tiny survey |
@@ -44,6 +45,7 @@ pub mod stp;
 pub mod table;
 pub mod verifying;
 pub mod why;
+pub mod winter;
 
 /// 01, refusal 1, and No. 8: more junctions are refused.
 pub const MAX_JUNCTIONS: usize = 448;

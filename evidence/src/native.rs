@@ -52,6 +52,7 @@ pub const LIBRARY: Library = Library {
     grow: |survey, marks, records, counts| call::grow(slices(survey), marks, records, counts),
     drop: |survey, marks, counts| call::drop(slices(survey), marks, counts),
     check: |survey, marks, records, counts| call::check(slices(survey), marks, records, counts),
+    winter: |survey, strengths, copies, counts| call::winter(slices(survey), strengths, copies, counts),
     why: |survey, track, route, counts| call::why(slices(survey), track, route, counts),
     closed: |survey, tracks, result| call::closed(slices(survey), tracks, result),
     print_moat: call::print_dual,

@@ -39,6 +39,7 @@ pub const PROGRAMS: &[Program] = &[
     Program { option: "--verifier", answers: "passed", run: verify_run },
     Program { option: "--stp", answers: "surveys", run: stp_run },
     Program { option: "--why", answers: "reasons", run: why_run },
+    Program { option: "--winter", answers: "copies", run: crate::winter::run },
     Program { option: "--closed", answers: "lists of closed tracks", run: closed_run },
     Program { option: "--season", answers: "reports", run: season_run },
     Program { option: "--table", answers: "tables", run: table_run },

@@ -20,3 +20,4 @@ mod tables;
 mod verifying;
 mod why;
 mod why_calls;
+mod winter;

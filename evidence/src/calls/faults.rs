@@ -73,6 +73,10 @@ pub enum Fault {
     RouteShort,
     TrackOut,
     TracksMany,
+    StrengthsLength,
+    StrengthZero,
+    StrengthHigh,
+    CopiesShort,
     StpCount,
     StpEnd,
     StpPrice,
@@ -266,6 +270,31 @@ pub const CLOSED_FAULTS: &[Fault] = &[
     PairUnjoinable,
     TrackOut,
 ];
+pub const WINTER_FAULTS: &[Fault] = &[
+    Nothing,
+    NoJunction,
+    ManyJunctions,
+    SecondUnequal,
+    PricesUnequal,
+    PairsUnequal,
+    ManyTracks,
+    EndOut,
+    EndsEqual,
+    PriceHigh,
+    PairOut,
+    PairNone,
+    PairOwn,
+    PairsFall,
+    PairTwice,
+    ManyPairs,
+    StrengthsLength,
+    StrengthZero,
+    StrengthHigh,
+    CopiesShort,
+    CountsShort,
+    Unjoinable,
+    PairUnjoinable,
+];
 /// The faults of pairs that are 18.
 pub const PAIR_FAULTS: &[Fault] = &[PairOut, PairNone, PairOwn, PairsFall, PairTwice, ManyPairs];
 /// The faults of also lines, and the refusal of each.
@@ -357,6 +386,17 @@ pub const CLOSED_PAIRS: Pairs = &[
     (5, &[4, 6, 18, 7]),
     (6, &[4, 5, 18, 7]),
     (18, &[7]),
+];
+pub const WINTER_PAIRS: Pairs = &[
+    (1, &[2, 3, 4, 5, 6, 18, 24, 7, 8]),
+    (2, &[3, 4, 5, 6, 18, 24, 7, 8]),
+    (3, &[4, 5, 6, 18, 24, 7, 8]),
+    (4, &[5, 6, 18, 24, 7, 8]),
+    (5, &[4, 6, 18, 24, 7, 8]),
+    (6, &[4, 5, 18, 24, 7, 8]),
+    (18, &[24, 7, 8]),
+    (24, &[7, 8]),
+    (7, &[8]),
 ];
 pub const PRINT_MOAT_PAIRS: Pairs = &[(9, &[7])];
 pub const PRINT_PLAN_PAIRS: Pairs = &[];
@@ -559,6 +599,27 @@ pub fn spoil(rng: &mut Rng, survey: &Survey, marks: &mut Vec<u8>, records: &mut 
             }
         }
         CostHigh => marks.iter_mut().for_each(|mark| *mark = KEPT),
+        _ => {}
+    }
+}
+
+/// Puts a fault into a list of strengths, if it is one of those. Two times in three it is of a group without members.
+pub fn weaken(rng: &mut Rng, survey: &Survey, strengths: &mut Vec<u8>, fault: Fault) {
+    let members = |group: usize| survey.groups.contains(&(group as u8)) || survey.others.contains(&(group as u8));
+    let memberless: Vec<usize> = (1..=strengths.len()).filter(|&group| !members(group)).collect();
+    let group = match rng.below(3) {
+        0 => rng.pick(&[1, strengths.len()]),
+        1 if !memberless.is_empty() => rng.pick(&memberless),
+        _ => rng.between(1, strengths.len().max(1)),
+    };
+    match fault {
+        StrengthsLength => {
+            let length = rng.pick(&[0, 1, 254, 254, 256, 256, 300, rng.clone().below(255)]);
+            strengths.resize(length, rng.pick(&[0, 1, 16]));
+        }
+        StrengthZero | StrengthHigh if !(1..=strengths.len()).contains(&group) => {}
+        StrengthZero => strengths[group - 1] = 0,
+        StrengthHigh => strengths[group - 1] = rng.pick(&[16, 16, 17, 31, 255]),
         _ => {}
     }
 }

@@ -12,6 +12,7 @@ use crate::plan::{fast, owned, record_room, DROPPED, NOT_PICKED};
 use crate::print::survey_text;
 use crate::read::Lent;
 use crate::stages::{grow, loop_at};
+use crate::winter::{MAX_STRENGTH, STRENGTHS, WINTER_COUNTS};
 use crate::{stp, Survey, View, AMOUNT_BYTES, MAX_JUNCTIONS, MAX_LINE, MAX_PAIRS, RECORD_BYTES};
 use Fault::*;
 
@@ -471,6 +472,55 @@ fn closed_input(streams: &Streams, faults: [Fault; 2]) -> Box<dyn Call> {
     Box::new(Closed { survey, tracks, result })
 }
 
+/// Winter: a survey and a strength for each group.
+struct Winter {
+    survey: Survey,
+    strengths: Vec<u8>,
+    copies: Vec<u8>,
+    counts: Vec<u64>,
+}
+
+impl Call for Winter {
+    fn run(&self, library: &Library) -> Answer {
+        let (mut copies, mut counts) = (before_others(&self.copies, 0xa5), before_others(&self.counts, 0xa5a5));
+        let (lent, own) = (&mut copies[..self.copies.len()], &mut counts[..self.counts.len()]);
+        let code = (library.winter)(self.survey.view(), &self.strengths, lent, own);
+        Answer { code, bytes: vec![copies], words: Vec::new(), counts }
+    }
+
+    fn says(&self) -> String {
+        format!("{:?} {:?}", self.survey, self.strengths)
+    }
+}
+
+/// Strengths of any kind: all alike, single bits, low ones, or any.
+pub fn any_strengths(rng: &mut Rng) -> Vec<u8> {
+    let most = usize::from(MAX_STRENGTH);
+    let alike = rng.pick(&[1, 1, 2, 8, MAX_STRENGTH]);
+    let kind = rng.below(4);
+    let strength = |rng: &mut Rng| match kind {
+        0 => alike,
+        1 => 1 << rng.below(4),
+        2 => rng.between(1, 3) as u8,
+        _ => rng.between(1, most) as u8,
+    };
+    (0..STRENGTHS).map(|_| strength(rng)).collect()
+}
+
+fn winter_input(streams: &Streams, faults: [Fault; 2]) -> Box<dyn Call> {
+    let rng = &mut streams.base();
+    let mut survey = streams.survey(rng);
+    let mut strengths = any_strengths(rng);
+    for (i, fault) in faults.into_iter().enumerate() {
+        let rng = &mut streams.fault(i);
+        weaken(rng, &survey, &mut strengths, fault);
+        harm(rng, &mut survey, fault);
+    }
+    let rng = &mut streams.buffers();
+    let copies = room(rng, survey.first.len(), faults.contains(&CopiesShort));
+    Box::new(Winter { survey, strengths, copies: bytes(rng, copies), counts: counts(rng, WINTER_COUNTS, faults) })
+}
+
 struct Check {
     survey: Survey,
     marks: Vec<u8>,
@@ -622,6 +672,7 @@ pub const OPERATIONS: &[Operation] = &[
     Operation { name: "check", faults: CHECK_FAULTS, pairs: CHECK_PAIRS, input: check_input },
     Operation { name: "grow", faults: PLAN_FAULTS, pairs: PLAN_PAIRS, input: grow_input },
     Operation { name: "drop", faults: DROP_FAULTS, pairs: DROP_PAIRS, input: drop_input },
+    Operation { name: "winter", faults: WINTER_FAULTS, pairs: WINTER_PAIRS, input: winter_input },
     Operation { name: "why", faults: WHY_FAULTS, pairs: WHY_PAIRS, input: why_input },
     Operation { name: "closed", faults: CLOSED_FAULTS, pairs: CLOSED_PAIRS, input: closed_input },
     Operation { name: "print_moat", faults: PRINT_MOAT_FAULTS, pairs: PRINT_MOAT_PAIRS, input: print_moat_input },

@@ -19,6 +19,7 @@ use crate::read::{read, Lent};
 use crate::stages::{drop_tracks, grow};
 use crate::stp;
 use crate::why::why;
+use crate::winter::winter;
 use crate::{Refusal, Survey, View, RECORD_BYTES};
 
 /// The figures of a printed plan: sites, cost, bound and rounds.
@@ -33,6 +34,7 @@ pub struct Library {
     pub check: fn(View, &[u8], &[u8], &mut [u64]) -> u64,
     pub grow: fn(View, &mut [u8], &mut [u8], &mut [u64]) -> u64,
     pub drop: fn(View, &mut [u8], &mut [u64]) -> u64,
+    pub winter: fn(View, &[u8], &mut [u8], &mut [u64]) -> u64,
     pub why: fn(View, u32, &mut [u32], &mut [u64]) -> u64,
     pub closed: fn(View, &[u32], &mut [u64]) -> u64,
     pub print_moat: fn(&[u8], &mut [u8], &mut [u64]) -> u64,
@@ -149,6 +151,10 @@ fn why_call(survey: View, track: u32, route: &mut [u32], counts: &mut [u64]) -> 
     stored(why(survey, track, route).map(|r| [r.kind, r.list, r.smaller, r.larger, r.entries, r.round]), counts)
 }
 
+fn winter_call(survey: View, strengths: &[u8], copies: &mut [u8], counts: &mut [u64]) -> u64 {
+    winter(survey, strengths, copies, counts).map_or_else(code, |()| 0)
+}
+
 fn closed_call(survey: View, tracks: &[u32], result: &mut [u64]) -> u64 {
     closed(survey, tracks, result).map_or_else(code, |()| 0)
 }
@@ -204,6 +210,7 @@ pub const SECOND: Library = Library {
     check: check_call,
     grow: grow_call,
     drop: drop_call,
+    winter: winter_call,
     why: why_call,
     closed: closed_call,
     print_moat: print_moat_call,
