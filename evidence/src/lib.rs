@@ -11,13 +11,18 @@
 //! | `check` | a plan drawn by anyone |
 //! | `why` | the reason for a track (No. 3) |
 //! | `closed` | plans with one track closed (No. 12) |
+//! | `winter` | copies of tracks for groups with strengths (No. 13) |
 //! | `stages` | growing and dropping, each on its own (No. 7) |
 //! | `print` | a moat line, a printed plan, a refusal, and the whole program's answer |
 //! | `brute` | the cheapest joining set of a tiny survey |
 //! | `exact` | a cheapest route and a cheapest set that joins all junctions (No. 14) |
+//! | `floor` | what every joining set costs at least, by cuts of directed tracks |
+//! | `steiner` | the cost of a cheapest joining set of a small survey, by Dreyfus and Wagner |
 //! | `season` | the season's report, adding a survey to it and printing it (No. 11) |
+//! | `merge` | one survey of two (No. 9) |
 //! | `handset` | planning and checking over bytes alone, and their generated cases |
 //! | `gen`   | seeded surveys, texts and plans, sound and damaged |
+//! | `programs` | the programs, with their generated inputs and what each is to print |
 //! | `printed` | a printed plan behind its survey's text: reading it back and checking it |
 //! | `verifying` | the same as a call |
 //! | `blunder` | planners with a fault each, which the generated inputs have to tell from a sound one |
@@ -28,13 +33,16 @@ pub mod calls;
 pub mod check;
 pub mod closed;
 pub mod exact;
+pub mod floor;
 pub mod gen;
 pub mod handset;
+pub mod merge;
 #[cfg(feature = "native")]
 pub mod native;
 pub mod plan;
 pub mod print;
 pub mod printed;
+pub mod programs;
 pub mod read;
 pub mod season;
 pub mod stages;
@@ -43,6 +51,7 @@ pub mod stp;
 pub mod table;
 pub mod verifying;
 pub mod why;
+pub mod winter;
 
 /// 01, refusal 1, and No. 8: more junctions are refused.
 pub const MAX_JUNCTIONS: usize = 448;

@@ -70,6 +70,11 @@ impl<'a> Cursor<'a> {
         self.text.get(self.at).copied()
     }
 
+    /// What stands behind the cursor.
+    pub(crate) fn rest(&self) -> &'a [u8] {
+        &self.text[self.at..]
+    }
+
     /// The text ends here, or 16.
     pub(crate) fn end(&self) -> Result<(), Refusal> {
         self.next().map_or(Ok(()), |_| self.malformed())

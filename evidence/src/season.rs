@@ -5,6 +5,8 @@ use crate::calls::code;
 use crate::calls::faults::{harm, pair, PLAN_FAULTS};
 use crate::gen::{overlap, survey, Rng, Size};
 use crate::plan::{fast, owned};
+use crate::print::refusal_lines;
+use crate::read::{survey_lines, Cursor, Lengths};
 use crate::{refuse, Refusal, Survey, View};
 
 /// Surveys of one report, at most.
@@ -141,6 +143,24 @@ fn print_call(report: &[u8], out: &mut [u8], counts: &mut [u64]) -> u64 {
         return 7;
     }
     put(&Report::of_bytes(report).text(), out, counts)
+}
+
+/// The report over texts that stand one after the other, or the first refusal of a text, with its place in that text, or
+/// of a survey too many.
+fn season(mut texts: &[u8]) -> Result<Report, Refusal> {
+    let mut report = Report::of_bytes(&[0; REPORT_BYTES]);
+    while !texts.is_empty() {
+        let mut cursor = Cursor::new(texts);
+        let survey = survey_lines(&mut cursor, Lengths::ENOUGH)?;
+        report = added(&report, figures(survey.view()))?;
+        texts = cursor.rest();
+    }
+    Ok(report)
+}
+
+/// What the program prints.
+pub fn season_program(input: &[u8]) -> String {
+    season(input).map_or_else(refusal_lines, |report| report.text())
 }
 
 /// The second implementation.

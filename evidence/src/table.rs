@@ -6,11 +6,13 @@
 //! past the table's length keep their values.
 
 use crate::gen::Rng;
+use crate::read::{parse, Lengths};
+use crate::{refuse, Refusal, MAX_INPUT};
 
 /// Bytes of a track.
 pub const TRACK: usize = 12;
-/// Tracks of a survey, at most; a table may have more.
-const MOST: usize = 2_048;
+/// Tracks of a survey, at most; a table may have more, but not one that the program takes.
+pub const MOST: usize = 2_048;
 
 /// The two calls.
 #[derive(Clone, Copy)]
@@ -46,6 +48,23 @@ fn unpack(table: &[u8], out: &mut [u8]) -> u64 {
 
 /// The second implementation.
 pub const SECOND: Tables = Tables { pack, unpack };
+
+/// What the program writes: without a word a survey's table, with `pack` or `unpack` a table turned. It reads a track
+/// more than the largest table has.
+pub fn table_program(input: &[u8], word: &str) -> Result<Vec<u8>, Refusal> {
+    if word.is_empty() {
+        let survey = parse(&input[..input.len().min(MAX_INPUT)], Lengths::ENOUGH)?;
+        let tracks = survey.first.iter().zip(&survey.second).zip(&survey.prices);
+        return Ok(tracks.flat_map(|((u, v), price)| [u, v, price]).flat_map(|number| number.to_le_bytes()).collect());
+    }
+    let table = &input[..input.len().min(TRACK * MOST + TRACK)];
+    let mut out = vec![0; TRACK * MOST];
+    let turn = if word == "pack" { pack } else { unpack };
+    match turn(table, &mut out) {
+        0 => Ok(out[..table.len()].to_vec()),
+        number => refuse(number as u32, 0),
+    }
+}
 
 /// Packing and unpacking.
 pub const CALLS: [(&str, bool); 2] = [("pack_table", false), ("unpack_table", true)];

@@ -577,7 +577,7 @@ fn every_pair_is_met() {
 fn every_fault_of_pairs_is_met() {
     let of_pairs: Vec<(Fault, u64)> =
         PAIR_FAULTS.iter().map(|&fault| (fault, 18)).chain([(Fault::PairsUnequal, 2)]).collect();
-    for operation in &OPERATIONS {
+    for operation in OPERATIONS {
         let faults = of_pairs.iter().chain(ALSO_FAULTS).filter(|fault| operation.faults.contains(&fault.0));
         for &(fault, number) in faults {
             let mut beside: BTreeMap<u64, u64> = BTreeMap::new();

@@ -4,6 +4,7 @@
 use evidence::plan::{fast, reference};
 use evidence::print::{program, stp_program, why_program};
 use evidence::printed::verify_program;
+use evidence::season::season_program;
 use std::path::{Path, PathBuf};
 
 /// The files of a folder of the repository with such an ending.
@@ -79,5 +80,16 @@ fn stored_checks() {
         let found = verify_program(&std::fs::read(&text).expect("it is there"));
         let stored = std::fs::read_to_string(text.with_extension("expected")).expect("each text has its answer");
         assert_eq!(found, stored, "{}", text.display());
+    }
+}
+
+#[test]
+fn stored_seasons() {
+    let seasons = beside("tests/season", "surveys");
+    assert!(seasons.len() > 8, "{}", seasons.len());
+    for surveys in seasons {
+        let printed = season_program(&std::fs::read(&surveys).expect("it is there"));
+        let stored = std::fs::read_to_string(surveys.with_extension("expected")).expect("each season has its answer");
+        assert_eq!(printed, stored, "{}", surveys.display());
     }
 }

@@ -2,28 +2,21 @@
 //!
 //!     compare --program PATH [--count N] [--seed S] [--threads T] [--seconds W] [--argument A]..
 //!     compare --program PATH --case C [--seed S]
-//!     compare --verifier PATH [--count N] [--seed S] [--case C]
-//!     compare --stp PATH [--count N] [--seed S] [--case C]
-//!     compare --why PATH [--count N] [--seed S] [--case C]
-//!     compare --closed PATH [--count N] [--seed S] [--case C]
 //!     compare --emit C [--seed S]
 //!     compare --self N [--seed S]
 //!     compare --native N [--seed S]
 //!
-//! `--verifier` hands surveys with printed plans behind them, sound and damaged, to a program that checks plans,
-//! `--stp` STP files to one that prints their surveys, `--why` survey texts, and a track as its last argument, to one
-//! that prints reasons, `--closed` survey texts, and tracks as its arguments, to one that prints what closing each
-//! costs. `--argument` is handed to the program. `--case` runs one case, `--emit` writes its input to standard output.
-//! `--self` holds the fast planner against the plain one, with no program; `--native` does so with the planner that the
-//! feature `native` links.
+//! In place of `--program` stands the option of another program: `evidence::programs` has them, what each is fed and what
+//! it is to print. `--argument` is handed to the program. `--case` runs one case, `--emit` writes its input to
+//! standard output. `--self` holds the fast planner against the plain one, with no program; `--native` does so with the
+//! planner that the feature `native` links.
 
 use evidence::calls::faults::{harm, PAIR_FAULTS};
 use evidence::check::{check, Passed};
-use evidence::gen::{directed_texts, overlap, plan_text_case, refused_survey, stp_case, survey, text_case, Rng, Size};
+use evidence::gen::{directed_texts, overlap, refused_survey, survey, text_case, Rng, Size};
 use evidence::plan::{fast, owned, record_room, reference, Counts, Plan, Planner, DROPPED};
-use evidence::print::{answer, closed_program, plan_lines, refusal_lines, stp_program, why_program};
-use evidence::printed::verify_program;
-use evidence::read::{parse, Lengths};
+use evidence::print::answer;
+use evidence::programs::{Program, PROGRAMS};
 use evidence::{Refusal, Survey, AMOUNT_BYTES, RECORD_BYTES};
 use std::collections::BTreeMap;
 use std::io::{Read, Write};
@@ -32,19 +25,8 @@ use std::sync::atomic::{AtomicBool, AtomicU64, Ordering};
 use std::sync::Mutex;
 use std::time::{Duration, Instant};
 
-/// What a program does.
-#[derive(Clone, Copy, PartialEq)]
-enum Kind {
-    Plan,
-    Verify,
-    Stp,
-    Why,
-    Closed,
-}
-
 struct Options {
-    program: Option<String>,
-    kind: Kind,
+    program: Option<(&'static Program, String)>,
     arguments: Vec<String>,
     count: u64,
     seed: u64,
@@ -56,20 +38,20 @@ struct Options {
     native: Option<u64>,
 }
 
-const USAGE: &str =
-    "compare --program PATH [--count N] [--seed S] [--threads T] [--seconds W] [--argument A].. [--case C]
-compare --verifier PATH [--count N] [--seed S] [--case C]
-compare --stp PATH [--count N] [--seed S] [--case C]
-compare --why PATH [--count N] [--seed S] [--case C]
-compare --closed PATH [--count N] [--seed S] [--case C]
-compare --emit C [--seed S]
+/// The command lines, one for each program, and those without one.
+fn usage() -> String {
+    let of = |program: &Program| format!("compare {} PATH [WORDS]\n", program.option);
+    let programs: String = PROGRAMS.iter().map(of).collect();
+    programs
+        + "compare --emit C [--seed S]
 compare --self N [--seed S]
-compare --native N [--seed S]";
+compare --native N [--seed S]
+WORDS: [--count N] [--seed S] [--case C] [--threads T] [--seconds W] [--argument A].."
+}
 
 fn options() -> Result<Options, String> {
     let mut options = Options {
         program: None,
-        kind: Kind::Plan,
         arguments: Vec::new(),
         count: 20_000,
         seed: 1,
@@ -83,15 +65,8 @@ fn options() -> Result<Options, String> {
     let mut words = std::env::args().skip(1);
     while let Some(word) = words.next() {
         let value = words.next().ok_or_else(|| format!("{word} wants a value"))?;
-        let kinds = [
-            ("--program", Kind::Plan),
-            ("--verifier", Kind::Verify),
-            ("--stp", Kind::Stp),
-            ("--why", Kind::Why),
-            ("--closed", Kind::Closed),
-        ];
-        if let Some((_, kind)) = kinds.iter().find(|(name, _)| word == *name) {
-            (options.program, options.kind) = (Some(value), *kind);
+        if let Some(program) = PROGRAMS.iter().find(|program| word == program.option) {
+            options.program = Some((program, value));
             continue;
         }
         if word == "--argument" {
@@ -132,26 +107,35 @@ fn feed(mut stdin: ChildStdin, input: &[u8], pieces: bool) {
     }
 }
 
-/// What an outside program printed, or why there is nothing to compare.
-fn outside(program: &str, arguments: &[String], input: &[u8], pieces: bool, slot: &Slot) -> Result<Vec<u8>, String> {
+/// What an outside program printed, and what it said on standard error where that is `wanted`, or why there is nothing
+/// to compare.
+fn outside(
+    program: &str,
+    arguments: &[String],
+    input: &[u8],
+    (pieces, wanted): (bool, bool),
+    slot: &Slot,
+) -> Result<(Vec<u8>, String), String> {
     let mut child = Command::new(program)
         .args(arguments)
         .stdin(Stdio::piped())
         .stdout(Stdio::piped())
-        .stderr(Stdio::null())
+        .stderr(if wanted { Stdio::piped() } else { Stdio::null() })
         .spawn()
         .map_err(|error| format!("can't be started: {error}"))?;
     let stdin = child.stdin.take().expect("piped");
     let mut stdout = child.stdout.take().expect("piped");
+    let stderr = child.stderr.take();
     *slot.lock().expect("no worker panics") = Some((child, Instant::now()));
-    let mut output = Vec::new();
+    let (mut output, mut said) = (Vec::new(), String::new());
     let read = std::thread::scope(|scope| {
         if input.len() <= 4_096 {
             feed(stdin, input, pieces);
         } else {
             scope.spawn(move || feed(stdin, input, pieces));
         }
-        stdout.read_to_end(&mut output)
+        stdout.read_to_end(&mut output)?;
+        stderr.map_or(Ok(0), |mut stderr| stderr.read_to_string(&mut said))
     });
     let (mut child, _) = slot.lock().expect("no worker panics").take().expect("put there above");
     let status = child.wait().map_err(|error| format!("can't be waited for: {error}"))?;
@@ -159,7 +143,7 @@ fn outside(program: &str, arguments: &[String], input: &[u8], pieces: bool, slot
     if status.code().is_none() {
         return Err(format!("was ended by a signal or took too long ({status}), after {} bytes", output.len()));
     }
-    Ok(output)
+    Ok((output, said))
 }
 
 /// Bytes for a reader: lines as they are, everything odd escaped.
@@ -197,67 +181,7 @@ impl Tally {
     }
 }
 
-/// The input of a case and the arguments besides the given ones, the plan or refusal that it is counted as, and what a
-/// program is to print for it.
-type Case = (Vec<u8>, Vec<String>, Result<Plan, Refusal>, String);
-
-/// The refusal that a program prints, or a plan that stands for another answer.
-fn told(lines: &str) -> Result<Plan, Refusal> {
-    let refusal = lines.strip_prefix("refused=").and_then(|rest| rest.trim_end().split_once("\nplace="));
-    match refusal {
-        Some((number, place)) => {
-            let [number, place] = [number, place].map(|digits| digits.parse().expect("a number"));
-            Err(Refusal { number: number as u32, place })
-        }
-        None => Ok(Plan { counts: Counts::default(), marks: Vec::new(), records: Vec::new() }),
-    }
-}
-
-fn case_of(options: &Options, case: u64) -> Case {
-    match options.kind {
-        Kind::Plan => {
-            let input = text_case(options.seed, case);
-            let answer = answer(reference, &input);
-            let lines = match &answer {
-                Ok(plan) => plan_lines(plan),
-                Err(refusal) => refusal_lines(*refusal),
-            };
-            (input, Vec::new(), answer, lines)
-        }
-        Kind::Verify => {
-            let input = plan_text_case(options.seed, case);
-            let lines = verify_program(&input);
-            (input, Vec::new(), told(&lines), lines)
-        }
-        Kind::Stp => {
-            let input = stp_case(options.seed, case);
-            let lines = stp_program(&input);
-            (input, Vec::new(), told(&lines), lines)
-        }
-        Kind::Why => {
-            // Past the directed texts, of which few can be planned.
-            let input = text_case(options.seed, case + directed_texts().len() as u64);
-            let rng = &mut Rng::of_case(options.seed ^ 0x776879, case);
-            let tracks = parse(&input, Lengths::ENOUGH).map_or(0, |survey| survey.first.len());
-            let track = if rng.chance(1, 20) { rng.pick(&[tracks, 2_048, 9_999_999]) } else { rng.below(tracks + 1) };
-            let lines = why_program(&input, track as u32);
-            (input, vec![track.to_string()], told(&lines), lines)
-        }
-        Kind::Closed => {
-            let input = text_case(options.seed, case + directed_texts().len() as u64);
-            let rng = &mut Rng::of_case(options.seed ^ 0x636c_6f73, case);
-            let m = parse(&input, Lengths::ENOUGH).map_or(0, |survey| survey.first.len());
-            let many = rng.between(1, 6);
-            let track =
-                |rng: &mut Rng| if rng.chance(1, 20) { rng.pick(&[m, 2_048, 9_999_999]) } else { rng.below(m + 1) };
-            let tracks: Vec<u32> = (0..many).map(|_| track(rng) as u32).collect();
-            let lines = closed_program(&input, &tracks);
-            (input, tracks.iter().map(u32::to_string).collect(), told(&lines), lines)
-        }
-    }
-}
-
-fn compare(options: &Options, program: &str) -> bool {
+fn compare(options: &Options, program: &Program, path: &str) -> bool {
     let cases = match options.case {
         Some(case) => case..case + 1,
         None => 0..options.count,
@@ -279,21 +203,25 @@ fn compare(options: &Options, program: &str) -> bool {
                     if case >= cases.end || stop.load(Ordering::SeqCst) {
                         return;
                     }
-                    let (input, more, answer, expected) = case_of(options, case);
-                    let arguments = [&options.arguments[..], &more].concat();
-                    let report = match outside(program, &arguments, &input, case % 16 == 15, slot) {
-                        Ok(output) if output == expected.as_bytes() => None,
-                        Ok(output) => Some(format!("printed:\n{}", shown(&output))),
+                    let run = (program.run)(options.seed, case);
+                    let arguments = [&options.arguments[..], &run.arguments].concat();
+                    let ways = (case % 16 == 15, run.said.is_some());
+                    let expected = (run.printed, run.said.unwrap_or_default());
+                    let report = match outside(path, &arguments, &run.input, ways, slot) {
+                        Ok(came) if came == expected => None,
+                        Ok((output, said)) => Some(format!("printed:\n{}{said}", shown(&output))),
                         Err(trouble) => Some(trouble),
                     };
                     let mut tally = tally.lock().expect("no worker panics");
-                    tally.count(&answer);
+                    tally.count(&run.counted);
                     if let Some(report) = report {
                         stop.store(true, Ordering::SeqCst);
                         if tally.differs.as_ref().is_none_or(|(lowest, _)| case < *lowest) {
                             let head = format!("seed {} case {case} differs", options.seed);
-                            let text = format!("input, {} bytes, {more:?}:\n{}", input.len(), shown(&input));
-                            let report = format!("{head}\n{text}\nexpected:\n{expected}program {report}");
+                            let (input, more) = (&run.input, &run.arguments);
+                            let text = format!("input, {} bytes, {more:?}:\n{}", input.len(), shown(input));
+                            let wanted = shown(&expected.0) + &expected.1;
+                            let report = format!("{head}\n{text}\nexpected:\n{wanted}program {report}");
                             tally.differs = Some((case, report));
                         }
                     }
@@ -322,15 +250,12 @@ fn compare(options: &Options, program: &str) -> bool {
     if let Some((_, report)) = &tally.differs {
         println!("{report}\n");
     }
-    match options.kind {
-        Kind::Plan => println!(
+    match program.option {
+        "--program" => println!(
             "{} plans: {} with sites, {} drop a track, {} hold a merged moat, {} rounds at most",
             tally.plans, tally.with_sites, tally.with_dropped, tally.with_merged, tally.most_rounds
         ),
-        Kind::Verify => println!("{} passed", tally.plans),
-        Kind::Stp => println!("{} surveys", tally.plans),
-        Kind::Why => println!("{} reasons", tally.plans),
-        Kind::Closed => println!("{} lists of closed tracks", tally.plans),
+        _ => println!("{} {}", tally.plans, program.answers),
     }
     for (number, many) in &tally.refused {
         println!("{many} refused {number}");
@@ -415,7 +340,7 @@ fn main() -> ExitCode {
     let options = match options() {
         Ok(options) => options,
         Err(trouble) => {
-            eprintln!("{trouble}\n{USAGE}");
+            eprintln!("{trouble}\n{}", usage());
             return ExitCode::from(2);
         }
     };
@@ -435,11 +360,11 @@ fn main() -> ExitCode {
             return ExitCode::from(2);
         }
     }
-    let Some(program) = &options.program else {
-        eprintln!("{USAGE}");
+    let Some((program, path)) = &options.program else {
+        eprintln!("{}", usage());
         return ExitCode::from(2);
     };
-    if compare(&options, program) {
+    if compare(&options, program, path) {
         ExitCode::SUCCESS
     } else {
         ExitCode::FAILURE

@@ -1,17 +1,21 @@
 //! Generated calls: a sound input, two faults put into it, and lent buffers with any bytes in them, each from a stream
 //! of its own.
 
+pub mod merge;
+
 use super::faults::*;
 use super::{
     Figures, Library, CHECK_COUNTS, DROP_COUNTS, PLAN_COUNTS, PRINT_COUNTS, READ_COUNTS, SECOND, SHORT, STP_COUNTS,
     WHY_COUNTS,
 };
 use crate::closed::{MAX_CLOSED, ROW};
+use crate::floor::{FLOOR_COUNTS, HALF_IS_MORE};
 use crate::gen::{damage_stp, directed_stp, line, overlap, stp_file, survey, wanted, Rng, Size};
 use crate::plan::{fast, owned, record_room, DROPPED, NOT_PICKED};
 use crate::print::survey_text;
 use crate::read::Lent;
 use crate::stages::{grow, loop_at};
+use crate::winter::{MAX_STRENGTH, STRENGTHS, WINTER_COUNTS};
 use crate::{stp, Survey, View, AMOUNT_BYTES, MAX_JUNCTIONS, MAX_LINE, MAX_PAIRS, RECORD_BYTES};
 use Fault::*;
 
@@ -471,6 +475,55 @@ fn closed_input(streams: &Streams, faults: [Fault; 2]) -> Box<dyn Call> {
     Box::new(Closed { survey, tracks, result })
 }
 
+/// Winter: a survey and a strength for each group.
+struct Winter {
+    survey: Survey,
+    strengths: Vec<u8>,
+    copies: Vec<u8>,
+    counts: Vec<u64>,
+}
+
+impl Call for Winter {
+    fn run(&self, library: &Library) -> Answer {
+        let (mut copies, mut counts) = (before_others(&self.copies, 0xa5), before_others(&self.counts, 0xa5a5));
+        let (lent, own) = (&mut copies[..self.copies.len()], &mut counts[..self.counts.len()]);
+        let code = (library.winter)(self.survey.view(), &self.strengths, lent, own);
+        Answer { code, bytes: vec![copies], words: Vec::new(), counts }
+    }
+
+    fn says(&self) -> String {
+        format!("{:?} {:?}", self.survey, self.strengths)
+    }
+}
+
+/// Strengths of any kind: all alike, single bits, low ones, or any.
+pub fn any_strengths(rng: &mut Rng) -> Vec<u8> {
+    let most = usize::from(MAX_STRENGTH);
+    let alike = rng.pick(&[1, 1, 2, 8, MAX_STRENGTH]);
+    let kind = rng.below(4);
+    let strength = |rng: &mut Rng| match kind {
+        0 => alike,
+        1 => 1 << rng.below(4),
+        2 => rng.between(1, 3) as u8,
+        _ => rng.between(1, most) as u8,
+    };
+    (0..STRENGTHS).map(|_| strength(rng)).collect()
+}
+
+fn winter_input(streams: &Streams, faults: [Fault; 2]) -> Box<dyn Call> {
+    let rng = &mut streams.base();
+    let mut survey = streams.survey(rng);
+    let mut strengths = any_strengths(rng);
+    for (i, fault) in faults.into_iter().enumerate() {
+        let rng = &mut streams.fault(i);
+        weaken(rng, &survey, &mut strengths, fault);
+        harm(rng, &mut survey, fault);
+    }
+    let rng = &mut streams.buffers();
+    let copies = room(rng, survey.first.len(), faults.contains(&CopiesShort));
+    Box::new(Winter { survey, strengths, copies: bytes(rng, copies), counts: counts(rng, WINTER_COUNTS, faults) })
+}
+
 struct Check {
     survey: Survey,
     marks: Vec<u8>,
@@ -504,6 +557,38 @@ fn check_input(streams: &Streams, faults: [Fault; 2]) -> Box<dyn Call> {
     }
     let counts = counts(&mut streams.buffers(), CHECK_COUNTS, faults);
     Box::new(Check { survey, marks, records, counts })
+}
+
+/// The floor of a survey.
+struct Floor {
+    survey: Survey,
+    counts: Vec<u64>,
+}
+
+impl Call for Floor {
+    fn run(&self, library: &Library) -> Answer {
+        let mut counts = before_others(&self.counts, 0xa5a5);
+        let code = (library.floor)(self.survey.view(), &mut counts[..self.counts.len()]);
+        Answer { code, bytes: Vec::new(), words: Vec::new(), counts }
+    }
+
+    fn says(&self) -> String {
+        format!("{:?}", self.survey)
+    }
+}
+
+fn floor_input(streams: &Streams, faults: [Fault; 2]) -> Box<dyn Call> {
+    let rng = &mut streams.base();
+    let mut survey = streams.survey(rng);
+    if rng.chance(1, 32) {
+        let ((groups, tracks), times) = (rng.pick(&HALF_IS_MORE), rng.pick(&[1, 2, 3, 1_000_001]));
+        survey = Survey::new(groups, tracks);
+        survey.prices.iter_mut().for_each(|price| *price *= times);
+    }
+    for (i, fault) in faults.into_iter().enumerate() {
+        harm(&mut streams.fault(i), &mut survey, fault);
+    }
+    Box::new(Floor { survey, counts: counts(&mut streams.buffers(), FLOOR_COUNTS, faults) })
 }
 
 /// A call that prints, with the buffer for its text.
@@ -615,15 +700,17 @@ fn print_survey_input(streams: &Streams, faults: [Fault; 2]) -> Box<dyn Call> {
     print(streams, faults, need, survey, with)
 }
 
-pub const OPERATIONS: [Operation; 11] = [
+pub const OPERATIONS: &[Operation] = &[
     Operation { name: "read", faults: READ_FAULTS, pairs: READ_PAIRS, input: read_input },
     Operation { name: "read_stp", faults: STP_FAULTS, pairs: STP_PAIRS, input: read_stp_input },
     Operation { name: "plan", faults: PLAN_FAULTS, pairs: PLAN_PAIRS, input: plan_input },
     Operation { name: "check", faults: CHECK_FAULTS, pairs: CHECK_PAIRS, input: check_input },
     Operation { name: "grow", faults: PLAN_FAULTS, pairs: PLAN_PAIRS, input: grow_input },
     Operation { name: "drop", faults: DROP_FAULTS, pairs: DROP_PAIRS, input: drop_input },
+    Operation { name: "winter", faults: WINTER_FAULTS, pairs: WINTER_PAIRS, input: winter_input },
     Operation { name: "why", faults: WHY_FAULTS, pairs: WHY_PAIRS, input: why_input },
     Operation { name: "closed", faults: CLOSED_FAULTS, pairs: CLOSED_PAIRS, input: closed_input },
+    Operation { name: "floor", faults: FLOOR_FAULTS, pairs: FLOOR_PAIRS, input: floor_input },
     Operation { name: "print_moat", faults: PRINT_MOAT_FAULTS, pairs: PRINT_MOAT_PAIRS, input: print_moat_input },
     Operation { name: "print_plan", faults: PRINT_PLAN_FAULTS, pairs: PRINT_PLAN_PAIRS, input: print_plan_input },
     Operation {
@@ -632,4 +719,5 @@ pub const OPERATIONS: [Operation; 11] = [
         pairs: PRINT_SURVEY_PAIRS,
         input: print_survey_input,
     },
+    Operation { name: "merge", faults: MERGE_FAULTS, pairs: MERGE_PAIRS, input: merge::input },
 ];

@@ -13,12 +13,14 @@ pub mod generated;
 
 use crate::check::check;
 use crate::closed::closed;
+use crate::merge::{merge, Ties};
 use crate::plan::{fast, Counts, Plan};
 use crate::print::{moat_line, plan_lines, survey_text};
 use crate::read::{read, Lent};
 use crate::stages::{drop_tracks, grow};
 use crate::stp;
 use crate::why::why;
+use crate::winter::winter;
 use crate::{Refusal, Survey, View, RECORD_BYTES};
 
 /// The figures of a printed plan: sites, cost, bound and rounds.
@@ -33,11 +35,14 @@ pub struct Library {
     pub check: fn(View, &[u8], &[u8], &mut [u64]) -> u64,
     pub grow: fn(View, &mut [u8], &mut [u8], &mut [u64]) -> u64,
     pub drop: fn(View, &mut [u8], &mut [u64]) -> u64,
+    pub winter: fn(View, &[u8], &mut [u8], &mut [u64]) -> u64,
     pub why: fn(View, u32, &mut [u32], &mut [u64]) -> u64,
     pub closed: fn(View, &[u32], &mut [u64]) -> u64,
+    pub floor: fn(View, &mut [u64]) -> u64,
     pub print_moat: fn(&[u8], &mut [u8], &mut [u64]) -> u64,
     pub print_plan: fn(Figures, &[u8], &[u8], &mut [u8], &mut [u64]) -> u64,
     pub print_survey: fn(View, &mut [u8], &mut [u64]) -> u64,
+    pub merge: fn(View, View, Ties, Lent, &mut [u64]) -> u64,
 }
 
 /// Entries of the counts: n, m and the number of pairs of reading, n and m of reading an STP file; sites, cost, bound,
@@ -149,8 +154,16 @@ fn why_call(survey: View, track: u32, route: &mut [u32], counts: &mut [u64]) -> 
     stored(why(survey, track, route).map(|r| [r.kind, r.list, r.smaller, r.larger, r.entries, r.round]), counts)
 }
 
+fn winter_call(survey: View, strengths: &[u8], copies: &mut [u8], counts: &mut [u64]) -> u64 {
+    winter(survey, strengths, copies, counts).map_or_else(code, |()| 0)
+}
+
 fn closed_call(survey: View, tracks: &[u32], result: &mut [u64]) -> u64 {
     closed(survey, tracks, result).map_or_else(code, |()| 0)
+}
+
+fn floor_call(survey: View, counts: &mut [u64]) -> u64 {
+    crate::floor::floor(survey, counts).map_or_else(code, |()| 0)
 }
 
 fn print_moat_call(record: &[u8], out: &mut [u8], counts: &mut [u64]) -> u64 {
@@ -196,6 +209,10 @@ fn print_survey_call(survey: View, out: &mut [u8], counts: &mut [u64]) -> u64 {
     printed(&text, out, counts)
 }
 
+fn merge_call(first: View, second: View, ties: Ties, lent: Lent, counts: &mut [u64]) -> u64 {
+    merge(first, second, ties, lent, counts).map_or_else(code, |()| 0)
+}
+
 /// The second implementation in that form.
 pub const SECOND: Library = Library {
     read: read_call,
@@ -204,9 +221,12 @@ pub const SECOND: Library = Library {
     check: check_call,
     grow: grow_call,
     drop: drop_call,
+    winter: winter_call,
     why: why_call,
     closed: closed_call,
+    floor: floor_call,
     print_moat: print_moat_call,
     print_plan: print_plan_call,
     print_survey: print_survey_call,
+    merge: merge_call,
 };
