@@ -224,12 +224,12 @@ uint64_t foamsickle_closed(
     uint64_t *result, size_t result_length);
 
 /* Copies of tracks for groups that carry a strength from 1 to 15: every division of the junctions with members of a
- * group on both sides is crossed by at least its strength of copies, and a track may be copied, at full price each time.
+ * group on both sides is crossed by at least its strength of copies; a track may be copied, at full price each time.
  * Writes the first m copies (0 to 15 of each track), and counts[0] their total price. No copies that meet the strengths
  * have a price which, times 4 (2 sites - 2), is below sites times this one.
  * Refuses 1 to 6 and 18 as above, then 24 (strengths not FOAMSICKLE_STRENGTHS long, place 0; or place: the lowest group
- * with strength 0 or over FOAMSICKLE_MAX_STRENGTH, with members or without), then 7 (copies or counts too short), then 8
- * as in planning.
+ * with strength 0 or over FOAMSICKLE_MAX_STRENGTH, with members or without), then 7 (copies or counts too short), then
+ * 8 as in planning.
  * Needed: m copies, FOAMSICKLE_WINTER_FIGURES counts. */
 uint64_t foamsickle_winter(
     const uint8_t *groups, size_t groups_length,

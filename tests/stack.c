@@ -106,6 +106,14 @@ static void merge(void) {
                               FOAMSICKLE_MERGE_FIGURES);
 }
 
+/* Strength 15 for every group: all four bits are planned for. */
+static void winter(void) {
+    static uint8_t strengths[FOAMSICKLE_STRENGTHS], copies[M];
+    memset(strengths, FOAMSICKLE_MAX_STRENGTH, sizeof strengths);
+    answer = foamsickle_winter(groups, N, firsts, M, seconds, M, weights, M, owners, PAIRS, others, PAIRS, strengths,
+                               FOAMSICKLE_STRENGTHS, copies, M, counts, FOAMSICKLE_WINTER_FIGURES);
+}
+
 static void check(void) {
     answer = foamsickle_check(groups, N, firsts, M, seconds, M, weights, M, owners, PAIRS, others, PAIRS, marks, M, records,
                               moat_bytes, counts, FOAMSICKLE_CHECK_FIGURES);
@@ -204,6 +212,7 @@ int main(int argc, char **argv) {
         {"foamsickle_why", why},
         {"foamsickle_closed", closed},
         {"foamsickle_merge", merge},
+        {"foamsickle_winter", winter},
         {"foamsickle_check", check},
         {"foamsickle_handset_plan", handset_plan},
         {"foamsickle_handset_check", handset_check},

@@ -1,5 +1,5 @@
-// Copies for groups with strengths, for a caller that gets one number back, a byte for each track and the total price in
-// lent buffers. Definitions in specs/WinterCall.
+// Copies for groups with strengths, for a caller that gets one number back, a byte for each track and the total price
+// in lent buffers. Definitions in specs/WinterCall.
 ghost use mathlib.Core.Path.{_≡_};
 ghost use Rattle.base_buffer.specs.Lent.{old, new};
 ghost use Rattle.base_limits.specs.Verdict.{_before_};

@@ -10,7 +10,6 @@ use Rattle.base_limits.specs.Verdict.{Outcome, refusal, answer}
 use Rattle.format_write.specs.Key.{ascii, costKey, newline}
 use Rattle.format_write.specs.Text.{lineOf, listed, textBelow, refusalText}
 use Rattle.format_read.specs.Step.{Step, found, refused}
-use Rattle.format_read.specs.Lines.{Lines}
 use Rattle.format_survey.specs.Line.{widest}
 use Rattle.format_survey.specs.Reading.{SurveyText}
 use Rattle.survey_core.specs.Survey.{Survey}

@@ -1,5 +1,5 @@
-// A survey's text with strength lines behind it in, copies of tracks out: what the program `winter` does between reading
-// and writing. Definitions in specs/.
+// A survey's text with strength lines behind it in, copies of tracks out: what the program `winter` does between
+// reading and writing. Definitions in specs/.
 ghost use Rattle.base_buffer.specs.Lent.{old, new};
 ghost use mathlib.Core.Path.{_≡_};
 ghost use Prim.Native.Nat.{_≤_};

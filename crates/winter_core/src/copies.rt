@@ -1,12 +1,11 @@
 // Copies of tracks, bit by bit: what is kept for a bit counts 1, 2, 4 or 8 times.
 ghost use Rattle.base_buffer.specs.Lent.{old, new};
 ghost use mathlib.Core.Path.{_≡_};
-ghost use Prim.Native.Nat.{_+_, _*_, _^_, _≤_, _<_};
-ghost use lib.ListN.{getD, length, replicate};
+ghost use Prim.Native.Nat.{_+_, _<_};
+ghost use lib.ListN.{getD};
 ghost use lib.Dec.{eqb};
 ghost use Rattle.base_buffer.specs.Store.{remade};
 ghost use Rattle.base_finite.specs.Below.{counted};
-ghost use Rattle.base_limits.specs.Limits.{maxEdges};
 ghost use Rattle.theory_steiner.specs.Strength.{strengthBits};
 ghost use Rattle.survey_core.specs.Survey.{surveyWith, lentWith};
 ghost use Rattle.survey_core.specs.Sound.{SurveySound};

@@ -1,5 +1,5 @@
-// Groups that carry a strength: the survey is planned for each of four bits, for the groups whose strength has it, and a
-// track that is kept counts 1, 2, 4 or 8 times. Definitions and promises in winter_rule.
+// Groups that carry a strength: the survey is planned for each of four bits, for the groups whose strength has it, and
+// a track that is kept counts 1, 2, 4 or 8 times. Definitions and promises in winter_rule.
 ghost use Rattle.base_buffer.specs.Lent.{old, new};
 ghost use mathlib.Core.Path.{_≡_};
 ghost use Prim.Native.Nat.{_+_, _<_};
@@ -112,9 +112,9 @@ fn add_bits(
 }
 
 // Copies of tracks for groups that carry strengths from 1 to 15: `strengths` has that of group 1 first, and `copies`
-// gets a byte for each track. Answers their total price. Refused are 1 to 6 and 18; 24 for a list of another length than
-// 255, or at the lowest group with strength 0 or over 15; 7 for fewer bytes than tracks; 8 as in planning. The copies
-// meet every strength, and no copies that do have a price which, times 4(2k - 2), is below k times theirs.
+// gets a byte for each track. Answers their total price. Refused are 1 to 6 and 18; 24 for a list of another length
+// than 255, or at the lowest group with strength 0 or over 15; 7 for fewer bytes than tracks; 8 as in planning. The
+// copies meet every strength, and no copies that do have a price which, times 4(2k - 2), is below k times theirs.
 pub fn winter(
     groups: &[u8],
     firsts: &[u32],

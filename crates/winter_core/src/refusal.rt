@@ -2,7 +2,6 @@
 ghost use Rattle.base_buffer.specs.Lent.{old};
 ghost use mathlib.Core.Path.{_≡_};
 ghost use Prim.Native.Nat.{_+_, _<_};
-ghost use Rattle.base_limits.specs.Limits.{groupNumbers};
 ghost use Rattle.survey_core.specs.Survey.{lentWith};
 ghost use Rattle.winter_rule.specs.Winter.{strengthRefusal, strengthsRefusal, givenRefusal, winterRefusal};
 use base_limits::Verdict;

@@ -1,11 +1,11 @@
 -- The call for groups with strengths by cases on the length of the lent counts: long enough, it is the library's own; too short, 1 to 6, 18, 24 and then 7.
-use Prim.Native.Nat.{ℕ, _+_, _*_, _<_, _≤_, _^_}
+use Prim.Native.Nat.{ℕ, _+_, _*_, _<_, _≤_}
 use native.Mathlib.Omega.{arith}
 use mathlib.Core.Path.{_≡_, refl, ap, sym, _∙_}
 use mathlib.Core.List.{List, [], _∷_}
 use lib.ListN.{length}
 use lib.Seq.{sets}
-use lib.Dec.{lit<, ltb}
+use lib.Dec.{lit<}
 use borrow.Author.Tests.{lt-ltb, le-ltb}
 use Rattle.base_limits.specs.Verdict.{refuseIf, _before_, written}
 use Rattle.base_limits.specs.declared.Verdict.{Verdict}
@@ -14,7 +14,7 @@ use Rattle.base_limits.specs.Laws.Verdict.{before-fine, before-refused}
 use Rattle.survey_core.specs.Survey.{Survey}
 use Rattle.winter_rule.specs.declared.Winter.{Winter}
 use Rattle.winter_rule.specs.declared.Winter.the-variants.{Finished, Refused as WinterRefused}
-use Rattle.winter_rule.specs.Winter.{strengthCount, strengthRefusal, strengthsRefusal, givenRefusal, winterRefusal, totalPrice, wintering, copiesOver, copiesAfter, winterOutcome}
+use Rattle.winter_rule.specs.Winter.{strengthCount, strengthRefusal, strengthsRefusal, givenRefusal, winterRefusal, wintering, copiesOver, copiesAfter, winterOutcome}
 use Rattle.api_code.specs.Code.{placeUnit, codeOf, capped, countsAfter}
 use Rattle.api_code.specs.Laws.Encodable.{Encodable, exact-code, encodable-before, encodable-refuse, encodable-lowest, at-zero, at-place, survey-encodable, group-encodable}
 use Rattle.api_code.specs.Laws.Ends.{short-code, short-kept, finished-code, finished-counts, refused-code, refused-counts}

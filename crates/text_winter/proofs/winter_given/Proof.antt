@@ -11,15 +11,19 @@ use Rattle.text_winter.proofs.winter_given.Tie as tie
 returns : tie.Need-returns
 unfolding numberStep
 returns c =
-    let lines = givensAt (c .before .before .before .before .before .before .before .before .before .before .before .before .before .before .before .before .before .before .args .text .now) (c .before .before .before .before .before .before .before .before .before .before .before .before .before .before .before .before .before .before .args .cursor .at) in
-    printed-as (c .before .before .before .before .before .before .before .before .before .before .before .before .before .before .before .before .before .before .args .out .now) (given-refused (surveyWith (c .before .before .before .before .before .before .before .before .before .before .before .before .before .before .before .before .before .before .args .groups .now) (c .before .before .before .before .before .before .before .before .before .before .before .before .before .before .before .before .before .before .args .firsts .now) (c .before .before .before .before .before .before .before .before .before .before .before .before .before .before .before .before .before .before .args .seconds .now) (c .before .before .before .before .before .before .before .before .before .before .before .before .before .before .before .before .before .before .args .weights .now) (c .before .before .before .before .before .before .before .before .before .before .before .before .before .before .before .before .before .before .args .owners .now) (c .before .before .before .before .before .before .before .before .before .before .before .before .before .before .before .before .before .before .args .others .now)) (lines .values) (c .before .before .before .before .before .before .before .before .strength-lines .ensures .0) (ap numberStep (c .before .before .before .before .before .number .given .1))) (c .before .before .print-refusal .ensures)
+    let a = c .before .before .before .before .before .before .before .before .before .before .before .before .before .before .before .before .before .before .args in
+    let s = surveyWith (a .groups .now) (a .firsts .now) (a .seconds .now) (a .weights .now) (a .owners .now) (a .others .now) in
+    let lines = givensAt (a .text .now) (a .cursor .at) in
+    printed-as (a .out .now) (given-refused s (lines .values) (c .before .before .before .before .before .before .before .before .strength-lines .ensures .0) (ap numberStep (c .before .before .before .before .before .number .given .1))) (c .before .before .print-refusal .ensures)
 
 returns-2 : tie.Need-returns-2
 unfolding numberStep strengthsFrom
 returns-2 c =
-    let lines = givensAt (c .before .before .before .before .before .before .before .before .before .before .before .before .before .before .before .before .before .before .args .text .now) (c .before .before .before .before .before .before .before .before .before .before .before .before .before .before .before .before .before .before .args .cursor .at) in
+    let a = c .before .before .before .before .before .before .before .before .before .before .before .before .before .before .before .before .before .before .args in
+    let s = surveyWith (a .groups .now) (a .firsts .now) (a .seconds .now) (a .weights .now) (a .owners .now) (a .others .now) in
+    let lines = givensAt (a .text .now) (a .cursor .at) in
     let read = c .before .before .before .before .before .before .before .before .strength-lines .ensures in
-    printed-as (c .before .before .before .before .before .before .before .before .before .before .before .before .before .before .before .before .before .before .args .out .now) (given-read (surveyWith (c .before .before .before .before .before .before .before .before .before .before .before .before .before .before .before .before .before .before .args .groups .now) (c .before .before .before .before .before .before .before .before .before .before .before .before .before .before .before .before .before .before .args .firsts .now) (c .before .before .before .before .before .before .before .before .before .before .before .before .before .before .before .before .before .before .args .seconds .now) (c .before .before .before .before .before .before .before .before .before .before .before .before .before .before .before .before .before .before .args .weights .now) (c .before .before .before .before .before .before .before .before .before .before .before .before .before .before .before .before .before .before .args .owners .now) (c .before .before .before .before .before .before .before .before .before .before .before .before .before .before .before .before .before .before .args .others .now)) (lines .values) (read .0) (ap numberStep (c .before .before .before .before .before .enum-told .given .1)) (read .1)) (c .before .before .winter-survey .ensures)
+    printed-as (a .out .now) (given-read s (lines .values) (read .0) (ap numberStep (c .before .before .before .before .before .enum-told .given .1)) (read .1)) (c .before .before .winter-survey .ensures)
 
 pub winter-given-spec : {M : Type 1} → statement M
 winter-given-spec =

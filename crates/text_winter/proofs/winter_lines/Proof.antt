@@ -13,26 +13,32 @@ use Rattle.text_winter.proofs.winter_lines.Tie as tie
 part-winter-given-end-5 : tie.Need-part-winter-given-end-5
 unfolding numberStep
 part-winter-given-end-5 c =
-    let pairs = lines-pairs (c .before .before .before .before .before .before .before .before .before .before .before .before .before .before .before .before .before .before .before .before .before .before .before .before .before .before .before .args .text .now) (c .before .before .before .before .before .before .before .before .before .before .before .before .before .before .before .before .before .before .before .before .before .before .before .before .before .before .before .args .vertices) (c .before .before .before .before .before .before .before .before .before .before .before .before .before .before .before .before .before .before .before .before .before .before .before .before .before .before .before .args .edges) (c .before .before .before .before .before .before .before .before .before .before .before .before .before .before .before .before .before .before .before .before .before .before .before .before .before .before .before .args .cursor .at) maxVertices (c .before .before .before .before .before .before .before .before .before .before .before .before .before .before .before .before .before .before .before .before .before .before .before .before .before .before .before .pre .0) (c .before .before .before .before .before .before .before .before .before .before .before .before .before .before .before .before .before .before .survey-lines .ensures .0) (ap numberStep (c .before .before .before .before .before .before .before .before .before .before .value .given .1)) in
+    let start = c .before .before .before .before .before .before .before .before .before .before .before .before .before .before .before .before .before .before .before .before .before .before .before .before .before .before .before in
+    let a = start .args in
+    let pairs = lines-pairs (a .text .now) (a .vertices) (a .edges) (a .cursor .at) maxVertices (start .pre .0) (c .before .before .before .before .before .before .before .before .before .before .before .before .before .before .before .before .before .before .survey-lines .ensures .0) (ap numberStep (c .before .before .before .before .before .before .before .before .before .before .value .given .1)) in
     search (needs, pairs)
 
 part-winter-given-end-6 : tie.Need-part-winter-given-end-6
 unfolding numberStep
 part-winter-given-end-6 c =
-    let pairs = lines-pairs (c .before .before .before .before .before .before .before .before .before .before .before .before .before .before .before .before .before .before .before .before .before .before .before .before .before .before .before .before .before .args .text .now) (c .before .before .before .before .before .before .before .before .before .before .before .before .before .before .before .before .before .before .before .before .before .before .before .before .before .before .before .before .before .args .vertices) (c .before .before .before .before .before .before .before .before .before .before .before .before .before .before .before .before .before .before .before .before .before .before .before .before .before .before .before .before .before .args .edges) (c .before .before .before .before .before .before .before .before .before .before .before .before .before .before .before .before .before .before .before .before .before .before .before .before .before .before .before .before .before .args .cursor .at) maxVertices (c .before .before .before .before .before .before .before .before .before .before .before .before .before .before .before .before .before .before .before .before .before .before .before .before .before .before .before .before .before .pre .0) (c .before .before .before .before .before .before .before .before .before .before .before .before .before .before .before .before .before .before .before .before .survey-lines .ensures .0) (ap numberStep (c .before .before .before .before .before .before .before .before .before .before .before .before .value .given .1)) in
+    let start = c .before .before .before .before .before .before .before .before .before .before .before .before .before .before .before .before .before .before .before .before .before .before .before .before .before .before .before .before .before in
+    let a = start .args in
+    let pairs = lines-pairs (a .text .now) (a .vertices) (a .edges) (a .cursor .at) maxVertices (start .pre .0) (c .before .before .before .before .before .before .before .before .before .before .before .before .before .before .before .before .before .before .before .before .survey-lines .ensures .0) (ap numberStep (c .before .before .before .before .before .before .before .before .before .before .before .before .value .given .1)) in
     search (needs, pairs)
 
 returns : tie.Need-returns
 unfolding numberStep
 returns c =
-    let a = c .before .before .before .before .before .before .before .before .before .before .before .before .before .before .before .before .before .before .before .before .before .before .args in
-    printed-as (a .out .now) (lines-refused (a .text .now) (a .vertices) (a .edges) (a .cursor .at) maxVertices (c .before .before .before .before .before .before .before .before .before .before .before .before .before .before .before .before .before .before .before .before .before .before .pre .0) (c .before .before .before .before .before .before .before .before .before .before .before .before .before .survey-lines .ensures .0) (ap numberStep (c .before .before .before .before .before .number .given .1))) (c .before .before .print-refusal .ensures)
+    let start = c .before .before .before .before .before .before .before .before .before .before .before .before .before .before .before .before .before .before .before .before .before .before in
+    let a = start .args in
+    printed-as (a .out .now) (lines-refused (a .text .now) (a .vertices) (a .edges) (a .cursor .at) maxVertices (start .pre .0) (c .before .before .before .before .before .before .before .before .before .before .before .before .before .survey-lines .ensures .0) (ap numberStep (c .before .before .before .before .before .number .given .1))) (c .before .before .print-refusal .ensures)
 
 returns-2 : tie.Need-returns-2
 unfolding numberStep
 returns-2 c =
-    let a = c .before .before .before .before .before .before .before .before .before .before .before .before .before .before .before .before .before .before .before .before .before .before .before .before .before .before .before .before .before .before .before .before .before .before .args in
-    let few = c .before .before .before .before .before .before .before .before .before .before .before .before .before .before .before .before .before .before .before .before .before .before .before .before .before .before .before .before .before .before .before .before .before .before .pre in
+    let start = c .before .before .before .before .before .before .before .before .before .before .before .before .before .before .before .before .before .before .before .before .before .before .before .before .before .before .before .before .before .before .before .before .before .before in
+    let a = start .args in
+    let few = start .pre in
     let s = c .before .before .before .before .before .before .before .before .before .before .before .before .before .before .before .before .before .before .before .before .before .before .before .before .before .survey-lines .ensures in
     let none = replicate {A = ℕ} maxEdges 0 in
     printed-as (a .out .now)

@@ -16,12 +16,14 @@ winter-lines-requires c κs =
 returns : tie.Need-returns
 unfolding countsStep testsFor verticesTest edgesTest
 returns c =
-    printed-as (c .before .before .before .before .before .before .before .before .before .before .args .out .now) (uncounted-output (c .before .before .before .before .before .before .before .before .before .before .args .text .now) (c .before .before .before .before .before .before .before .counts .ensures) (ap countsStep (c .before .before .before .before .before .number .given .1))) (c .before .before .print-refusal .ensures)
+    let a = c .before .before .before .before .before .before .before .before .before .before .args in
+    printed-as (a .out .now) (uncounted-output (a .text .now) (c .before .before .before .before .before .before .before .counts .ensures) (ap countsStep (c .before .before .before .before .before .number .given .1))) (c .before .before .print-refusal .ensures)
 
 returns-2 : tie.Need-returns-2
 unfolding countsStep testsFor verticesTest edgesTest
 returns-2 c =
-    printed-as (c .before .before .before .before .before .before .before .before .before .before .args .out .now) (counted-output (c .before .before .before .before .before .before .before .before .before .before .args .text .now) (c .before .before .before .before .before .before .before .counts .ensures) (ap countsStep (c .before .before .before .before .before .vertices .given .1))) (c .before .before .winter-lines .ensures)
+    let a = c .before .before .before .before .before .before .before .before .before .before .args in
+    printed-as (a .out .now) (counted-output (a .text .now) (c .before .before .before .before .before .before .before .counts .ensures) (ap countsStep (c .before .before .before .before .before .vertices .given .1))) (c .before .before .winter-lines .ensures)
 
 pub winter-text-spec : {M : Type 1} → statement M
 winter-text-spec =

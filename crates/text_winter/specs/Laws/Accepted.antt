@@ -3,16 +3,14 @@
 use Prim.Native.Nat.{ℕ, _+_, _≤_, _<_}
 use native.Mathlib.Omega.{arith}
 use mathlib.Core.Path.{_≡_, refl, ap, sym, _∙_, subst}
-use mathlib.Core.Bool.{true, false}
 use mathlib.Core.List.{List, [], _∷_, _++_, append-assoc, append-nil}
-use lib.ListN.{length, getD, take, length-append, List·getD-eq-default}
+use lib.ListN.{length, take, length-append, List·getD-eq-default}
 use lib.Seq.{take-all}
-use lib.Dec.{leb}
 use borrow.Author.Tests.{le-leb, lt-leb, leb-true, leb-false}
 use Rattle.format_write.specs.Key.{comma, newline}
-use Rattle.format_read.specs.Step.{Step, found, refused}
+use Rattle.format_read.specs.Step.{found}
 use Rattle.format_read.specs.Lines.{Lines, textOf}
-use Rattle.format_read.specs.Items.{itemsFrom, Standing, stop, item}
+use Rattle.format_read.specs.Items.{Standing, stop, item}
 use Rattle.format_read.specs.Language.{Reads, Word, Seq, Empty, Fixed, Text}
 use Rattle.format_read.specs.Number.{alsoLetter, numberText, OfDigits}
 use Rattle.format_read.specs.Stands.{Stands}
@@ -23,12 +21,11 @@ use Rattle.format_read.specs.Laws.Language.{reads-then, reads-as, reads-value}
 use Rattle.format_read.specs.Laws.Listing.{items-standing}
 use Rattle.format_read.specs.Laws.NumberWord.{NumberWord, reads-number}
 use Rattle.format_read.specs.Laws.Stands.{stands-head, stands-end, stands-first, stands-second}
-use Rattle.format_also.specs.Pair.{Pair}
 use Rattle.format_also.specs.WellFormed.{NoAlso}
-use Rattle.format_survey.specs.Line.{Edge, widest}
+use Rattle.format_survey.specs.Line.{widest}
 use Rattle.format_survey.specs.Reading.{SurveyText}
 use Rattle.format_survey.specs.Render.{render}
-use Rattle.format_survey.specs.WellFormed.{WithinCounts, surveyOfText}
+use Rattle.format_survey.specs.WellFormed.{surveyOfText}
 use Rattle.check_printed.specs.Verify.{prefixAt, surveyIn}
 use Rattle.check_printed.specs.Laws.Prefix.{Start, prefix-start, prefix-render}
 use Rattle.winter_rule.specs.Winter.{strengthCount}

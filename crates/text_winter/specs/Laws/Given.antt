@@ -1,19 +1,17 @@
 -- The tests of a strength line, case by case; what a line that passes them is; and what is stored for the lines.
 use Prim.Native.Nat.{ℕ, _-_, _≤_, _<_}
-use native.Mathlib.Omega.{arith}
-use mathlib.Core.Path.{_≡_, refl, ap, sym, _∙_, subst}
-use mathlib.Core.Logic.{_⊎_, inl, inr}
-use mathlib.Core.Bool.{true, false, _||_}
+use mathlib.Core.Path.{_≡_, ap, _∙_, subst}
+use mathlib.Core.Logic.{_⊎_}
+use mathlib.Core.Bool.{_||_}
 use mathlib.Core.List.{List}
 use lib.ListN.{length, length-set}
 use lib.Dec.{leb, ltb}
 use borrow.Author.Tests.{le-leb, lt-leb, lt-ltb, le-ltb, leb-false, ltb-false}
 use Rattle.base_finite.specs.Laws.Test.{or-left, or-right, or-false-left, or-false-right}
-use Rattle.base_limits.specs.Verdict.{refuseIf, _before_}
-use Rattle.base_limits.specs.declared.Verdict.{Verdict}
+use Rattle.base_limits.specs.Verdict.{_before_}
 use Rattle.base_limits.specs.declared.Verdict.the-variants.{Fine, Refused}
 use Rattle.base_limits.specs.Laws.Verdict.{before-fine, before-refused, fine-left, fine-right, fine-refuse, refuse-true, refuse-false}
-use Rattle.format_read.specs.Step.{Step, found, refused, _then_, checked}
+use Rattle.format_read.specs.Step.{found, refused, _then_, checked}
 use Rattle.format_read.specs.Laws.Step.{then-found, then-refused, then-value, checked-fine, checked-value, checked-next}
 use Rattle.winter_rule.specs.Winter.{strengthCount, maxStrength, strengthRefusal}
 use Rattle.winter_rule.specs.Promise.{StrengthSound}

@@ -7,7 +7,7 @@ use mathlib.Core.List.{List}
 use lib.ListN.{length, take, drop, length-map}
 use lib.Seq.{sets, take-at}
 use Rattle.base_limits.specs.Limits.{maxPairs}
-use Rattle.base_limits.specs.Verdict.{Outcome, refusal, answer}
+use Rattle.base_limits.specs.Verdict.{Outcome}
 use Rattle.format_write.specs.Text.{refusalText}
 use Rattle.format_print.specs.declared.Printed.{Printed}
 use Rattle.format_print.specs.Print.{printed, printedOut}
@@ -22,7 +22,7 @@ use Rattle.check_printed.specs.Laws.Verify.{partsOf, BeforeLines, AfterLines, l
 use Rattle.winter_rule.specs.declared.Winter.{Winter}
 use Rattle.winter_rule.specs.declared.Winter.the-variants.{Finished, Refused as WinterRefused}
 use Rattle.winter_rule.specs.Winter.{wintering, copiesAfter, winterOutcome}
-use Rattle.text_winter.specs.Given.{Given, givensAt, putStrength, strengthsFrom}
+use Rattle.text_winter.specs.Given.{Given, givensAt, strengthsFrom}
 use Rattle.text_winter.specs.Output.{copiesText, noCopies, outcomeText, surveyOutput, givenOutput, behindOutput, winterOutput}
 
 -- Printed as one text, it is printed as an equal one.

@@ -1,7 +1,6 @@
 -- `add_bit` meets its contract: what the bit's plan keeps is copied (`copies-more`), at its price (`bit-price`).
 use Prim.Native.Nat.{ℕ}
-use native.Mathlib.Omega.{arith}
-use mathlib.Core.Path.{ap, sym, _∙_}
+use mathlib.Core.Path.{refl, ap, sym, _∙_}
 use lib.ListN.{length, replicate}
 use Rattle.base_limits.specs.Limits.{maxEdges}
 use Rattle.base_buffer.specs.Laws.Store.{length-remade}
@@ -13,7 +12,8 @@ use Rattle.winter_core.proofs.add_bit.Tie as tie
 
 plan-bit-requires : tie.Need-plan-bit-requires
 plan-bit-requires c κs =
-    (c .before .before .before .before .before .before .before .before .before .pre .1 .0 .survey, c .before .before .before .before .before .before .before .before .before .pre .1 .1 .0)
+    let pre = c .before .before .before .before .before .before .before .before .before .pre in
+    (pre .1 .0 .survey, pre .1 .1 .0)
 
 power-requires : tie.Need-power-requires
 power-requires c κs =
@@ -21,16 +21,25 @@ power-requires c κs =
 
 slice-aggregate-add-kept : tie.Need-slice-aggregate-add-kept
 slice-aggregate-add-kept c =
-    sym (marks-long (surveyWith (c .before .before .before .before .before .before .before .before .before .before .before .before .args .groups .now) (c .before .before .before .before .before .before .before .before .before .before .before .before .args .firsts .now) (c .before .before .before .before .before .before .before .before .before .before .before .before .args .seconds .now) (c .before .before .before .before .before .before .before .before .before .before .before .before .args .weights .now) (c .before .before .before .before .before .before .before .before .before .before .before .before .args .owners .now) (c .before .before .before .before .before .before .before .before .before .before .before .before .args .others .now)) (c .before .before .before .before .before .before .before .before .before .before .before .before .pre .0) (c .before .before .before .before .before .before .before .before .before .before .before .before .args .strengths .now) (c .before .before .before .before .before .before .before .before .before .before .before .before .pre .1 .0) (c .before .before .before .before .before .before .before .before .before .before .before .before .args .bit) (c .before .before .plan-bit .ensures .1))
+    let start = c .before .before .before .before .before .before .before .before .before .before .before .before in
+    let a = start .args in
+    let s = surveyWith (a .groups .now) (a .firsts .now) (a .seconds .now) (a .weights .now) (a .owners .now) (a .others .now) in
+    sym (marks-long s (start .pre .0) (a .strengths .now) (start .pre .1 .0) (a .bit) (c .before .before .plan-bit .ensures .1))
 
 add-kept-requires : tie.Need-add-kept-requires
 unfolding edgeCount
 add-kept-requires c κs =
-    copies-fit (surveyWith (c .before .before .before .before .before .before .before .before .before .before .before .before .before .args .groups .now) (c .before .before .before .before .before .before .before .before .before .before .before .before .before .args .firsts .now) (c .before .before .before .before .before .before .before .before .before .before .before .before .before .args .seconds .now) (c .before .before .before .before .before .before .before .before .before .before .before .before .before .args .weights .now) (c .before .before .before .before .before .before .before .before .before .before .before .before .before .args .owners .now) (c .before .before .before .before .before .before .before .before .before .before .before .before .before .args .others .now)) (c .before .before .before .before .before .before .before .before .before .before .before .before .before .pre .0) (c .before .before .before .before .before .before .before .before .before .before .before .before .before .args .strengths .now) (c .before .before .before .before .before .before .before .before .before .before .before .before .before .pre .1 .0) (c .before .before .before .before .before .before .before .before .before .before .before .before .before .args .bit) (c .before .before .before .before .before .before .before .before .before .before .before .before .before .pre .1 .1 .0) (c .before .before .before .before .before .before .before .before .before .before .before .before .before .args .copies .now) (c .before .before .before .before .before .before .before .before .before .before .before .before .before .pre .1 .1 .1) (c .before .before .power .ensures)
+    let start = c .before .before .before .before .before .before .before .before .before .before .before .before .before in
+    let a = start .args in
+    let s = surveyWith (a .groups .now) (a .firsts .now) (a .seconds .now) (a .weights .now) (a .owners .now) (a .others .now) in
+    copies-fit s (start .pre .0) (a .strengths .now) (start .pre .1 .0) (a .bit) (start .pre .1 .1 .0) (a .copies .now) (start .pre .1 .1 .1) (c .before .before .power .ensures)
 
 mul-result : tie.Need-mul-result
 mul-result c =
-    let few = times-few (surveyWith (c .before .before .before .before .before .before .before .before .before .before .before .before .before .before .before .before .before .before .args .groups .now) (c .before .before .before .before .before .before .before .before .before .before .before .before .before .before .before .before .before .before .args .firsts .now) (c .before .before .before .before .before .before .before .before .before .before .before .before .before .before .before .before .before .before .args .seconds .now) (c .before .before .before .before .before .before .before .before .before .before .before .before .before .before .before .before .before .before .args .weights .now) (c .before .before .before .before .before .before .before .before .before .before .before .before .before .before .before .before .before .before .args .owners .now) (c .before .before .before .before .before .before .before .before .before .before .before .before .before .before .before .before .before .before .args .others .now)) (c .before .before .before .before .before .before .before .before .before .before .before .before .before .before .before .before .before .before .pre .0) (c .before .before .before .before .before .before .before .before .before .before .before .before .before .before .before .before .before .before .args .strengths .now) (c .before .before .before .before .before .before .before .before .before .before .before .before .before .before .before .before .before .before .pre .1 .0) (c .before .before .before .before .before .before .before .before .before .before .before .before .before .before .before .before .before .before .args .bit) (c .before .before .before .before .before .before .before .before .before .before .before .before .before .before .before .before .before .before .pre .1 .1 .0) (c .before .wide8 .ensures ∙ c .before .before .before .before .before .before .before .power .ensures) (c .cost-of .ensures ∙ bit-cost (surveyWith (c .before .before .before .before .before .before .before .before .before .before .before .before .before .before .before .before .before .before .args .groups .now) (c .before .before .before .before .before .before .before .before .before .before .before .before .before .before .before .before .before .before .args .firsts .now) (c .before .before .before .before .before .before .before .before .before .before .before .before .before .before .before .before .before .before .args .seconds .now) (c .before .before .before .before .before .before .before .before .before .before .before .before .before .before .before .before .before .before .args .weights .now) (c .before .before .before .before .before .before .before .before .before .before .before .before .before .before .before .before .before .before .args .owners .now) (c .before .before .before .before .before .before .before .before .before .before .before .before .before .before .before .before .before .before .args .others .now)) (c .before .before .before .before .before .before .before .before .before .before .before .before .before .before .before .before .before .before .pre .0) (c .before .before .before .before .before .before .before .before .before .before .before .before .before .before .before .before .before .before .args .strengths .now) (c .before .before .before .before .before .before .before .before .before .before .before .before .before .before .before .before .before .before .pre .1 .0) (c .before .before .before .before .before .before .before .before .before .before .before .before .before .before .before .before .before .before .args .bit) (c .before .before .before .before .before .before .before .before .plan-bit .ensures .0)) in
+    let start = c .before .before .before .before .before .before .before .before .before .before .before .before .before .before .before .before .before .before in
+    let a = start .args in
+    let s = surveyWith (a .groups .now) (a .firsts .now) (a .seconds .now) (a .weights .now) (a .owners .now) (a .others .now) in
+    let few = times-few s (start .pre .0) (a .strengths .now) (start .pre .1 .0) (a .bit) (start .pre .1 .1 .0) (c .before .wide8 .ensures ∙ c .before .before .before .before .before .before .before .power .ensures) (c .cost-of .ensures ∙ bit-cost s (start .pre .0) (a .strengths .now) (start .pre .1 .0) (a .bit) (c .before .before .before .before .before .before .before .before .plan-bit .ensures .0)) in
     search (needs, few)
 
 same-length : tie.Need-same-length
@@ -39,10 +48,13 @@ same-length c =
 
 returns : tie.Need-returns
 unfolding edgeCount
-returns c = (
-  bit-price (surveyWith (c .before .before .before .before .before .before .before .before .before .before .before .before .before .before .before .before .before .before .args .groups .now) (c .before .before .before .before .before .before .before .before .before .before .before .before .before .before .before .before .before .before .args .firsts .now) (c .before .before .before .before .before .before .before .before .before .before .before .before .before .before .before .before .before .before .args .seconds .now) (c .before .before .before .before .before .before .before .before .before .before .before .before .before .before .before .before .before .before .args .weights .now) (c .before .before .before .before .before .before .before .before .before .before .before .before .before .before .before .before .before .before .args .owners .now) (c .before .before .before .before .before .before .before .before .before .before .before .before .before .before .before .before .before .before .args .others .now)) (c .before .before .before .before .before .before .before .before .before .before .before .before .before .before .before .before .before .before .pre .0) (c .before .before .before .before .before .before .before .before .before .before .before .before .before .before .before .before .before .before .args .strengths .now) (c .before .before .before .before .before .before .before .before .before .before .before .before .before .before .before .before .before .before .pre .1 .0) (c .before .before .before .before .before .before .before .before .before .before .before .before .before .before .before .before .before .before .args .bit) (c .before .wide8 .ensures ∙ c .before .before .before .before .before .before .before .power .ensures) (c .cost-of .ensures ∙ bit-cost (surveyWith (c .before .before .before .before .before .before .before .before .before .before .before .before .before .before .before .before .before .before .args .groups .now) (c .before .before .before .before .before .before .before .before .before .before .before .before .before .before .before .before .before .before .args .firsts .now) (c .before .before .before .before .before .before .before .before .before .before .before .before .before .before .before .before .before .before .args .seconds .now) (c .before .before .before .before .before .before .before .before .before .before .before .before .before .before .before .before .before .before .args .weights .now) (c .before .before .before .before .before .before .before .before .before .before .before .before .before .before .before .before .before .before .args .owners .now) (c .before .before .before .before .before .before .before .before .before .before .before .before .before .before .before .before .before .before .args .others .now)) (c .before .before .before .before .before .before .before .before .before .before .before .before .before .before .before .before .before .before .pre .0) (c .before .before .before .before .before .before .before .before .before .before .before .before .before .before .before .before .before .before .args .strengths .now) (c .before .before .before .before .before .before .before .before .before .before .before .before .before .before .before .before .before .before .pre .1 .0) (c .before .before .before .before .before .before .before .before .before .before .before .before .before .before .before .before .before .before .args .bit) (c .before .before .before .before .before .before .before .before .plan-bit .ensures .0)) mathlib.Core.Path.refl,
-  copies-more (surveyWith (c .before .before .before .before .before .before .before .before .before .before .before .before .before .before .before .before .before .before .args .groups .now) (c .before .before .before .before .before .before .before .before .before .before .before .before .before .before .before .before .before .before .args .firsts .now) (c .before .before .before .before .before .before .before .before .before .before .before .before .before .before .before .before .before .before .args .seconds .now) (c .before .before .before .before .before .before .before .before .before .before .before .before .before .before .before .before .before .before .args .weights .now) (c .before .before .before .before .before .before .before .before .before .before .before .before .before .before .before .before .before .before .args .owners .now) (c .before .before .before .before .before .before .before .before .before .before .before .before .before .before .before .before .before .before .args .others .now)) (c .before .before .before .before .before .before .before .before .before .before .before .before .before .before .before .before .before .before .pre .0) (c .before .before .before .before .before .before .before .before .before .before .before .before .before .before .before .before .before .before .args .strengths .now) (c .before .before .before .before .before .before .before .before .before .before .before .before .before .before .before .before .before .before .pre .1 .0) (c .before .before .before .before .before .before .before .before .before .before .before .before .before .before .before .before .before .before .args .bit) (c .before .before .before .before .before .before .before .before .before .before .before .before .before .before .before .before .before .before .pre .1 .1 .0) (c .before .before .before .before .before .before .before .before .before .before .before .before .before .before .before .before .before .before .args .copies .now) (c .before .before .before .before .before .before .before .before .before .before .before .before .before .before .before .before .before .before .pre .1 .1 .1) (c .before .before .before .before .before .before .before .before .before .before .before .before .before .before .before .before .before .before .pre .1 .0 .copies-long) (replicate {A = ℕ} maxEdges 0) (c .before .before .before .before .before .before .before .before .plan-bit .ensures .1) (c .before .before .before .before .before .before .before .power .ensures) (c .before .before .before .before .add-kept .ensures),
-)
+returns c =
+    let start = c .before .before .before .before .before .before .before .before .before .before .before .before .before .before .before .before .before .before in
+    let a = start .args in
+    let s = surveyWith (a .groups .now) (a .firsts .now) (a .seconds .now) (a .weights .now) (a .owners .now) (a .others .now) in (
+      bit-price s (start .pre .0) (a .strengths .now) (start .pre .1 .0) (a .bit) (c .before .wide8 .ensures ∙ c .before .before .before .before .before .before .before .power .ensures) (c .cost-of .ensures ∙ bit-cost s (start .pre .0) (a .strengths .now) (start .pre .1 .0) (a .bit) (c .before .before .before .before .before .before .before .before .plan-bit .ensures .0)) refl,
+      copies-more s (start .pre .0) (a .strengths .now) (start .pre .1 .0) (a .bit) (start .pre .1 .1 .0) (a .copies .now) (start .pre .1 .1 .1) (start .pre .1 .0 .copies-long) (replicate {A = ℕ} maxEdges 0) (c .before .before .before .before .before .before .before .before .plan-bit .ensures .1) (c .before .before .before .before .before .before .before .power .ensures) (c .before .before .before .before .add-kept .ensures),
+    )
 
 pub add-bit-spec : {M : Type 1} → statement M
 add-bit-spec =

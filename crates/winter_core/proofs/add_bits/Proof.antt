@@ -4,7 +4,6 @@ use native.Mathlib.Omega.{arith}
 use mathlib.Core.Path.{_≡_, refl, ap, sym, _∙_}
 use lib.ListN.{length}
 use Rattle.base_finite.specs.Below.{sumBelow}
-use Rattle.base_buffer.specs.Laws.Store.{length-remade}
 use Rattle.survey_core.specs.Survey.{surveyWith, edgeCount}
 use Rattle.theory_steiner.specs.Strength.{strengthBits}
 use Rattle.winter_core.specs.Bit.{bitPrice, copiesFor}
@@ -26,22 +25,32 @@ abbrev μ-loop : tie.MeasureT-loop
 loop-holds : tie.Need-loop-holds Inv-loop μ-loop
 unfolding sumBelow edgeCount
 loop-holds c =
-    (omega arith, (refl, for-self (surveyWith (c .before .before .before .before .before .before .before .before .before .before .before .before .args .groups .now) (c .before .before .before .before .before .before .before .before .before .before .before .before .args .firsts .now) (c .before .before .before .before .before .before .before .before .before .before .before .before .args .seconds .now) (c .before .before .before .before .before .before .before .before .before .before .before .before .args .weights .now) (c .before .before .before .before .before .before .before .before .before .before .before .before .args .owners .now) (c .before .before .before .before .before .before .before .before .before .before .before .before .args .others .now)) (c .before .before .before .before .before .before .before .before .before .before .before .before .args .strengths .now) (c .before .before .before .before .before .before .before .before .before .before .before .before .args .copies .now) 0 (for-none (surveyWith (c .before .before .before .before .before .before .before .before .before .before .before .before .args .groups .now) (c .before .before .before .before .before .before .before .before .before .before .before .before .args .firsts .now) (c .before .before .before .before .before .before .before .before .before .before .before .before .args .seconds .now) (c .before .before .before .before .before .before .before .before .before .before .before .before .args .weights .now) (c .before .before .before .before .before .before .before .before .before .before .before .before .args .owners .now) (c .before .before .before .before .before .before .before .before .before .before .before .before .args .others .now)) (c .before .before .before .before .before .before .before .before .before .before .before .before .args .strengths .now) (c .before .before .before .before .before .before .before .before .before .before .before .before .args .copies .now) (c .before .before .before .before .before .before .before .before .before .before .before .before .pre .1 .copies-long) (c .before .before .clear .ensures))))
+    let start = c .before .before .before .before .before .before .before .before .before .before .before .before in
+    let a = start .args in
+    let s = surveyWith (a .groups .now) (a .firsts .now) (a .seconds .now) (a .weights .now) (a .owners .now) (a .others .now) in
+    (omega arith, (refl, for-self s (a .strengths .now) (a .copies .now) 0 (for-none s (a .strengths .now) (a .copies .now) (start .pre .1 .copies-long) (c .before .before .clear .ensures))))
 
 add-bit-requires : tie.Need-add-bit-requires Inv-loop μ-loop
 unfolding edgeCount
 add-bit-requires c κs =
-    let start = for-none (surveyWith (c .before .before .before .before .before .before .before .before .before .before .before .before .before .before .before .args .groups .now) (c .before .before .before .before .before .before .before .before .before .before .before .before .before .before .before .args .firsts .now) (c .before .before .before .before .before .before .before .before .before .before .before .before .before .before .before .args .seconds .now) (c .before .before .before .before .before .before .before .before .before .before .before .before .before .before .before .args .weights .now) (c .before .before .before .before .before .before .before .before .before .before .before .before .before .before .before .args .owners .now) (c .before .before .before .before .before .before .before .before .before .before .before .before .before .before .before .args .others .now)) (c .before .before .before .before .before .before .before .before .before .before .before .before .before .before .before .args .strengths .now) (c .before .before .before .before .before .before .before .before .before .before .before .before .before .before .before .args .copies .now) (c .before .before .before .before .before .before .before .before .before .before .before .before .before .before .before .pre .1 .copies-long) (c .before .before .before .before .before .clear .ensures) in
-    let lent = c .before .before .before .before .before .before .before .before .before .before .before .before .before .before .before .args .copies .now in
-    let room = c .before .before .before .before .before .before .before .before .before .before .before .before .before .before .before .pre .1 .copies-long in
-    let now = for-again (surveyWith (c .before .before .before .before .before .before .before .before .before .before .before .before .before .before .before .args .groups .now) (c .before .before .before .before .before .before .before .before .before .before .before .before .before .before .before .args .firsts .now) (c .before .before .before .before .before .before .before .before .before .before .before .before .before .before .before .args .seconds .now) (c .before .before .before .before .before .before .before .before .before .before .before .before .before .before .before .args .weights .now) (c .before .before .before .before .before .before .before .before .before .before .before .before .before .before .before .args .owners .now) (c .before .before .before .before .before .before .before .before .before .before .before .before .before .before .before .args .others .now)) (c .before .before .before .before .before .before .before .before .before .before .before .before .before .before .before .args .strengths .now) lent 0 (c .before .before .loop .bit) start (c .before .before .loop .inv .1 .1) in
-    (c .before .before .before .before .before .before .before .before .before .before .before .before .before .before .before .pre .0, (ready-same (surveyWith (c .before .before .before .before .before .before .before .before .before .before .before .before .before .before .before .args .groups .now) (c .before .before .before .before .before .before .before .before .before .before .before .before .before .before .before .args .firsts .now) (c .before .before .before .before .before .before .before .before .before .before .before .before .before .before .before .args .seconds .now) (c .before .before .before .before .before .before .before .before .before .before .before .before .before .before .before .args .weights .now) (c .before .before .before .before .before .before .before .before .before .before .before .before .before .before .before .args .owners .now) (c .before .before .before .before .before .before .before .before .before .before .before .before .before .before .before .args .others .now)) (c .before .before .before .before .before .before .before .before .before .before .before .before .before .before .before .args .strengths .now) (sym (ap length now ∙ length-for (surveyWith (c .before .before .before .before .before .before .before .before .before .before .before .before .before .before .before .args .groups .now) (c .before .before .before .before .before .before .before .before .before .before .before .before .before .before .before .args .firsts .now) (c .before .before .before .before .before .before .before .before .before .before .before .before .before .before .before .args .seconds .now) (c .before .before .before .before .before .before .before .before .before .before .before .before .before .before .before .args .weights .now) (c .before .before .before .before .before .before .before .before .before .before .before .before .before .before .before .args .owners .now) (c .before .before .before .before .before .before .before .before .before .before .before .before .before .before .before .args .others .now)) (c .before .before .before .before .before .before .before .before .before .before .before .before .before .before .before .args .strengths .now) lent room (c .before .before .loop .bit))) (c .before .before .before .before .before .before .before .before .before .before .before .before .before .before .before .pre .1), (c .before .loop-test .taken, for-holds (surveyWith (c .before .before .before .before .before .before .before .before .before .before .before .before .before .before .before .args .groups .now) (c .before .before .before .before .before .before .before .before .before .before .before .before .before .before .before .args .firsts .now) (c .before .before .before .before .before .before .before .before .before .before .before .before .before .before .before .args .seconds .now) (c .before .before .before .before .before .before .before .before .before .before .before .before .before .before .before .args .weights .now) (c .before .before .before .before .before .before .before .before .before .before .before .before .before .before .before .args .owners .now) (c .before .before .before .before .before .before .before .before .before .before .before .before .before .before .before .args .others .now)) (c .before .before .before .before .before .before .before .before .before .before .before .before .before .before .before .args .strengths .now) lent (c .before .before .loop .bit) now)))
+    let start = c .before .before .before .before .before .before .before .before .before .before .before .before .before .before .before in
+    let a = start .args in
+    let s = surveyWith (a .groups .now) (a .firsts .now) (a .seconds .now) (a .weights .now) (a .owners .now) (a .others .now) in
+    let none = for-none s (a .strengths .now) (a .copies .now) (start .pre .1 .copies-long) (c .before .before .before .before .before .clear .ensures) in
+    let lent = a .copies .now in
+    let room = start .pre .1 .copies-long in
+    let now = for-again s (a .strengths .now) lent 0 (c .before .before .loop .bit) none (c .before .before .loop .inv .1 .1) in
+    (start .pre .0, (ready-same s (a .strengths .now) (sym (ap length now ∙ length-for s (a .strengths .now) lent room (c .before .before .loop .bit))) (start .pre .1), (c .before .loop-test .taken, for-holds s (a .strengths .now) lent (c .before .before .loop .bit) now)))
 
 add-total : tie.Need-add-total Inv-loop μ-loop
 add-total c =
-    let few = total-few (surveyWith (c .before .before .before .before .before .before .before .before .before .before .before .before .before .before .before .before .before .before .args .groups .now) (c .before .before .before .before .before .before .before .before .before .before .before .before .before .before .before .before .before .before .args .firsts .now) (c .before .before .before .before .before .before .before .before .before .before .before .before .before .before .before .before .before .before .args .seconds .now) (c .before .before .before .before .before .before .before .before .before .before .before .before .before .before .before .before .before .before .args .weights .now) (c .before .before .before .before .before .before .before .before .before .before .before .before .before .before .before .before .before .before .args .owners .now) (c .before .before .before .before .before .before .before .before .before .before .before .before .before .before .before .before .before .before .args .others .now)) (c .before .before .before .before .before .before .before .before .before .before .before .before .before .before .before .before .before .before .pre .0) (c .before .before .before .before .before .before .before .before .before .before .before .before .before .before .before .before .before .before .args .strengths .now) (c .before .before .before .before .before .before .before .before .before .before .before .before .before .before .before .before .before .before .pre .1) (c .before .before .before .before .before .loop .bit) (c .before .before .before .before .before .loop .inv .0) in
-    let more = bit-price-few (surveyWith (c .before .before .before .before .before .before .before .before .before .before .before .before .before .before .before .before .before .before .args .groups .now) (c .before .before .before .before .before .before .before .before .before .before .before .before .before .before .before .before .before .before .args .firsts .now) (c .before .before .before .before .before .before .before .before .before .before .before .before .before .before .before .before .before .before .args .seconds .now) (c .before .before .before .before .before .before .before .before .before .before .before .before .before .before .before .before .before .before .args .weights .now) (c .before .before .before .before .before .before .before .before .before .before .before .before .before .before .before .before .before .before .args .owners .now) (c .before .before .before .before .before .before .before .before .before .before .before .before .before .before .before .before .before .before .args .others .now)) (c .before .before .before .before .before .before .before .before .before .before .before .before .before .before .before .before .before .before .pre .0) (c .before .before .before .before .before .before .before .before .before .before .before .before .before .before .before .before .before .before .args .strengths .now) (c .before .before .before .before .before .before .before .before .before .before .before .before .before .before .before .before .before .before .pre .1) (c .before .before .before .before .before .loop .bit) (c .before .before .before .before .loop-test .taken) in
-    let total = c .before .before .before .before .before .loop .inv .1 .0 in
+    let start = c .before .before .before .before .before .before .before .before .before .before .before .before .before .before .before .before .before .before in
+    let a = start .args in
+    let l = c .before .before .before .before .before .loop in
+    let s = surveyWith (a .groups .now) (a .firsts .now) (a .seconds .now) (a .weights .now) (a .owners .now) (a .others .now) in
+    let few = total-few s (start .pre .0) (a .strengths .now) (start .pre .1) (l .bit) (l .inv .0) in
+    let more = bit-price-few s (start .pre .0) (a .strengths .now) (start .pre .1) (l .bit) (c .before .before .before .before .loop-test .taken) in
+    let total = l .inv .1 .0 in
     let price = c .before .before .add-bit .ensures .0 in
     let within = c .before .before .before .before .loop-test .taken in
     search (needs, few, more, total, price, within)
@@ -51,26 +60,35 @@ loop-less c =
     omega (arith, c .before .before .before .before .loop-test .taken)
 
 loop-again : tie.Need-loop-again Inv-loop μ-loop
-loop-again c = (
-  omega (arith, c .before .before .before .before .loop-test .taken),
-  (
-    total-more (surveyWith (c .before .before .before .before .before .before .before .before .before .before .before .before .before .before .before .before .before .before .args .groups .now) (c .before .before .before .before .before .before .before .before .before .before .before .before .before .before .before .before .before .before .args .firsts .now) (c .before .before .before .before .before .before .before .before .before .before .before .before .before .before .before .before .before .before .args .seconds .now) (c .before .before .before .before .before .before .before .before .before .before .before .before .before .before .before .before .before .before .args .weights .now) (c .before .before .before .before .before .before .before .before .before .before .before .before .before .before .before .before .before .before .args .owners .now) (c .before .before .before .before .before .before .before .before .before .before .before .before .before .before .before .before .before .before .args .others .now)) (c .before .before .before .before .before .before .before .before .before .before .before .before .before .before .before .before .before .before .args .strengths .now) (c .before .before .before .before .before .loop .bit) (c .before .before .before .before .before .loop .inv .1 .0) (c .before .before .add-bit .ensures .0) refl,
-    for-again (surveyWith (c .before .before .before .before .before .before .before .before .before .before .before .before .before .before .before .before .before .before .args .groups .now) (c .before .before .before .before .before .before .before .before .before .before .before .before .before .before .before .before .before .before .args .firsts .now) (c .before .before .before .before .before .before .before .before .before .before .before .before .before .before .before .before .before .before .args .seconds .now) (c .before .before .before .before .before .before .before .before .before .before .before .before .before .before .before .before .before .before .args .weights .now) (c .before .before .before .before .before .before .before .before .before .before .before .before .before .before .before .before .before .before .args .owners .now) (c .before .before .before .before .before .before .before .before .before .before .before .before .before .before .before .before .before .before .args .others .now)) (c .before .before .before .before .before .before .before .before .before .before .before .before .before .before .before .before .before .before .args .strengths .now) _ (c .before .before .before .before .before .loop .bit) _ (c .before .before .before .before .before .loop .inv .1 .1) (c .before .before .add-bit .ensures .1),
-  ),
-)
+loop-again c =
+    let a = c .before .before .before .before .before .before .before .before .before .before .before .before .before .before .before .before .before .before .args in
+    let l = c .before .before .before .before .before .loop in
+    let s = surveyWith (a .groups .now) (a .firsts .now) (a .seconds .now) (a .weights .now) (a .owners .now) (a .others .now) in (
+      omega (arith, c .before .before .before .before .loop-test .taken),
+      (
+        total-more s (a .strengths .now) (l .bit) (l .inv .1 .0) (c .before .before .add-bit .ensures .0) refl,
+        for-again s (a .strengths .now) _ (l .bit) _ (l .inv .1 .1) (c .before .before .add-bit .ensures .1),
+      ),
+    )
 
 same-length : tie.Need-same-length Inv-loop μ-loop
 unfolding edgeCount
 same-length c =
-    ap length (for-again (surveyWith (c .before .before .before .before .before .before .before .before .before .before .before .before .before .before .args .groups .now) (c .before .before .before .before .before .before .before .before .before .before .before .before .before .before .args .firsts .now) (c .before .before .before .before .before .before .before .before .before .before .before .before .before .before .args .seconds .now) (c .before .before .before .before .before .before .before .before .before .before .before .before .before .before .args .weights .now) (c .before .before .before .before .before .before .before .before .before .before .before .before .before .before .args .owners .now) (c .before .before .before .before .before .before .before .before .before .before .before .before .before .before .args .others .now)) (c .before .before .before .before .before .before .before .before .before .before .before .before .before .before .args .strengths .now) (c .before .before .before .before .before .before .before .before .before .before .before .before .before .before .args .copies .now) 0 (c .before .loop .bit) (for-none (surveyWith (c .before .before .before .before .before .before .before .before .before .before .before .before .before .before .args .groups .now) (c .before .before .before .before .before .before .before .before .before .before .before .before .before .before .args .firsts .now) (c .before .before .before .before .before .before .before .before .before .before .before .before .before .before .args .seconds .now) (c .before .before .before .before .before .before .before .before .before .before .before .before .before .before .args .weights .now) (c .before .before .before .before .before .before .before .before .before .before .before .before .before .before .args .owners .now) (c .before .before .before .before .before .before .before .before .before .before .before .before .before .before .args .others .now)) (c .before .before .before .before .before .before .before .before .before .before .before .before .before .before .args .strengths .now) (c .before .before .before .before .before .before .before .before .before .before .before .before .before .before .args .copies .now) (c .before .before .before .before .before .before .before .before .before .before .before .before .before .before .pre .1 .copies-long) (c .before .before .before .before .clear .ensures)) (c .before .loop .inv .1 .1)) ∙ length-for (surveyWith (c .before .before .before .before .before .before .before .before .before .before .before .before .before .before .args .groups .now) (c .before .before .before .before .before .before .before .before .before .before .before .before .before .before .args .firsts .now) (c .before .before .before .before .before .before .before .before .before .before .before .before .before .before .args .seconds .now) (c .before .before .before .before .before .before .before .before .before .before .before .before .before .before .args .weights .now) (c .before .before .before .before .before .before .before .before .before .before .before .before .before .before .args .owners .now) (c .before .before .before .before .before .before .before .before .before .before .before .before .before .before .args .others .now)) (c .before .before .before .before .before .before .before .before .before .before .before .before .before .before .args .strengths .now) (c .before .before .before .before .before .before .before .before .before .before .before .before .before .before .args .copies .now) (c .before .before .before .before .before .before .before .before .before .before .before .before .before .before .pre .1 .copies-long) (c .before .loop .bit)
+    let start = c .before .before .before .before .before .before .before .before .before .before .before .before .before .before in
+    let a = start .args in
+    let s = surveyWith (a .groups .now) (a .firsts .now) (a .seconds .now) (a .weights .now) (a .owners .now) (a .others .now) in
+    ap length (for-again s (a .strengths .now) (a .copies .now) 0 (c .before .loop .bit) (for-none s (a .strengths .now) (a .copies .now) (start .pre .1 .copies-long) (c .before .before .before .before .clear .ensures)) (c .before .loop .inv .1 .1)) ∙ length-for s (a .strengths .now) (a .copies .now) (start .pre .1 .copies-long) (c .before .loop .bit)
 
 returns : tie.Need-returns Inv-loop μ-loop
 unfolding edgeCount
 returns c =
+    let start = c .before .before .before .before .before .before .before .before .before .before .before .before .before .before in
+    let a = start .args in
+    let s = surveyWith (a .groups .now) (a .firsts .now) (a .seconds .now) (a .weights .now) (a .owners .now) (a .others .now) in
     let all : c .before .loop .bit ≡ strengthBits = omega (arith, c .before .loop .inv .0, c .loop-test .left) in (
-      total-all (surveyWith (c .before .before .before .before .before .before .before .before .before .before .before .before .before .before .args .groups .now) (c .before .before .before .before .before .before .before .before .before .before .before .before .before .before .args .firsts .now) (c .before .before .before .before .before .before .before .before .before .before .before .before .before .before .args .seconds .now) (c .before .before .before .before .before .before .before .before .before .before .before .before .before .before .args .weights .now) (c .before .before .before .before .before .before .before .before .before .before .before .before .before .before .args .owners .now) (c .before .before .before .before .before .before .before .before .before .before .before .before .before .before .args .others .now)) (c .before .before .before .before .before .before .before .before .before .before .before .before .before .before .args .strengths .now) all (c .before .loop .inv .1 .0),
-      for-all (surveyWith (c .before .before .before .before .before .before .before .before .before .before .before .before .before .before .args .groups .now) (c .before .before .before .before .before .before .before .before .before .before .before .before .before .before .args .firsts .now) (c .before .before .before .before .before .before .before .before .before .before .before .before .before .before .args .seconds .now) (c .before .before .before .before .before .before .before .before .before .before .before .before .before .before .args .weights .now) (c .before .before .before .before .before .before .before .before .before .before .before .before .before .before .args .owners .now) (c .before .before .before .before .before .before .before .before .before .before .before .before .before .before .args .others .now)) (c .before .before .before .before .before .before .before .before .before .before .before .before .before .before .args .strengths .now) (c .before .before .before .before .before .before .before .before .before .before .before .before .before .before .args .copies .now) all
-          (for-again (surveyWith (c .before .before .before .before .before .before .before .before .before .before .before .before .before .before .args .groups .now) (c .before .before .before .before .before .before .before .before .before .before .before .before .before .before .args .firsts .now) (c .before .before .before .before .before .before .before .before .before .before .before .before .before .before .args .seconds .now) (c .before .before .before .before .before .before .before .before .before .before .before .before .before .before .args .weights .now) (c .before .before .before .before .before .before .before .before .before .before .before .before .before .before .args .owners .now) (c .before .before .before .before .before .before .before .before .before .before .before .before .before .before .args .others .now)) (c .before .before .before .before .before .before .before .before .before .before .before .before .before .before .args .strengths .now) (c .before .before .before .before .before .before .before .before .before .before .before .before .before .before .args .copies .now) 0 (c .before .loop .bit) (for-none (surveyWith (c .before .before .before .before .before .before .before .before .before .before .before .before .before .before .args .groups .now) (c .before .before .before .before .before .before .before .before .before .before .before .before .before .before .args .firsts .now) (c .before .before .before .before .before .before .before .before .before .before .before .before .before .before .args .seconds .now) (c .before .before .before .before .before .before .before .before .before .before .before .before .before .before .args .weights .now) (c .before .before .before .before .before .before .before .before .before .before .before .before .before .before .args .owners .now) (c .before .before .before .before .before .before .before .before .before .before .before .before .before .before .args .others .now)) (c .before .before .before .before .before .before .before .before .before .before .before .before .before .before .args .strengths .now) (c .before .before .before .before .before .before .before .before .before .before .before .before .before .before .args .copies .now) (c .before .before .before .before .before .before .before .before .before .before .before .before .before .before .pre .1 .copies-long) (c .before .before .before .before .clear .ensures)) (c .before .loop .inv .1 .1)),
+      total-all s (a .strengths .now) all (c .before .loop .inv .1 .0),
+      for-all s (a .strengths .now) (a .copies .now) all
+          (for-again s (a .strengths .now) (a .copies .now) 0 (c .before .loop .bit) (for-none s (a .strengths .now) (a .copies .now) (start .pre .1 .copies-long) (c .before .before .before .before .clear .ensures)) (c .before .loop .inv .1 .1)),
     )
 
 pub add-bits-spec : {M : Type 1} → statement M

@@ -1,6 +1,6 @@
 -- `winter` meets its contract: refused with nothing written (`winter-stops`), or the copies and their price (`winter-goes`).
 use native.Mathlib.Omega.{arith}
-use mathlib.Core.Path.{ap, sym, _∙_}
+use mathlib.Core.Path.{sym, _∙_}
 use lib.ListN.{length}
 use Rattle.survey_core.specs.Survey.{surveyWith}
 use Rattle.survey_core.specs.Sound.{ByteGroups}
@@ -13,16 +13,22 @@ use Rattle.winter_core.proofs.winter.Tie as tie
 -- 1 to 6, 18, 24, 7, 8
 returns : tie.Need-returns
 returns c =
-    winter-stops (surveyWith (c .before .before .before .before .before .before .before .before .before .before .before .before .args .groups .now) (c .before .before .before .before .before .before .before .before .before .before .before .before .args .firsts .now) (c .before .before .before .before .before .before .before .before .before .before .before .before .args .seconds .now) (c .before .before .before .before .before .before .before .before .before .before .before .before .args .weights .now) (c .before .before .before .before .before .before .before .before .before .before .before .before .args .owners .now) (c .before .before .before .before .before .before .before .before .before .before .before .before .args .others .now)) (record { own-byte = λ v. omega (arith, c .before .before .before .before .before .before .before .before .before .before .before .shared-slice-known .given v); other-byte = λ i. omega (arith, c .before .before .before .before .before .before .shared-slice-known6 .given i) }) (c .before .before .before .before .before .before .before .before .before .before .before .before .args .strengths .now) (c .before .before .before .before .before .before .before .before .before .before .before .before .args .copies .now) (c .before .before .before .winter-refusal .ensures) (c .before .found .given .1)
+    let a = c .before .before .before .before .before .before .before .before .before .before .before .before .args in
+    let s = surveyWith (a .groups .now) (a .firsts .now) (a .seconds .now) (a .weights .now) (a .owners .now) (a .others .now) in
+    winter-stops s (record { own-byte = λ v. omega (arith, c .before .before .before .before .before .before .before .before .before .before .before .shared-slice-known .given v); other-byte = λ i. omega (arith, c .before .before .before .before .before .before .shared-slice-known6 .given i) }) (a .strengths .now) (a .copies .now) (c .before .before .before .winter-refusal .ensures) (c .before .found .given .1)
 
 add-bits-requires : tie.Need-add-bits-requires
 add-bits-requires c κs =
-    let numbered : ByteGroups (surveyWith (c .before .before .before .before .before .before .before .before .before .before .before .before .args .groups .now) (c .before .before .before .before .before .before .before .before .before .before .before .before .args .firsts .now) (c .before .before .before .before .before .before .before .before .before .before .before .before .args .seconds .now) (c .before .before .before .before .before .before .before .before .before .before .before .before .args .weights .now) (c .before .before .before .before .before .before .before .before .before .before .before .before .args .owners .now) (c .before .before .before .before .before .before .before .before .before .before .before .before .args .others .now)) = (record { own-byte = λ v. omega (arith, c .before .before .before .before .before .before .before .before .before .before .before .shared-slice-known .given v); other-byte = λ i. omega (arith, c .before .before .before .before .before .before .shared-slice-known6 .given i) }) in
-    (numbered, fine-ready (surveyWith (c .before .before .before .before .before .before .before .before .before .before .before .before .args .groups .now) (c .before .before .before .before .before .before .before .before .before .before .before .before .args .firsts .now) (c .before .before .before .before .before .before .before .before .before .before .before .before .args .seconds .now) (c .before .before .before .before .before .before .before .before .before .before .before .before .args .weights .now) (c .before .before .before .before .before .before .before .before .before .before .before .before .args .owners .now) (c .before .before .before .before .before .before .before .before .before .before .before .before .args .others .now)) (c .before .before .before .before .before .before .before .before .before .before .before .before .args .strengths .now) (length (c .before .before .before .before .before .before .before .before .before .before .before .before .args .copies .now)) numbered (sym (c .before .before .before .winter-refusal .ensures) ∙ c .before .enum-told .given .1))
+    let a = c .before .before .before .before .before .before .before .before .before .before .before .before .args in
+    let s = surveyWith (a .groups .now) (a .firsts .now) (a .seconds .now) (a .weights .now) (a .owners .now) (a .others .now) in
+    let numbered : ByteGroups s = (record { own-byte = λ v. omega (arith, c .before .before .before .before .before .before .before .before .before .before .before .shared-slice-known .given v); other-byte = λ i. omega (arith, c .before .before .before .before .before .before .shared-slice-known6 .given i) }) in
+    (numbered, fine-ready s (a .strengths .now) (length (a .copies .now)) numbered (sym (c .before .before .before .winter-refusal .ensures) ∙ c .before .enum-told .given .1))
 
 returns-2 : tie.Need-returns-2
 returns-2 c =
-    winter-goes (surveyWith (c .before .before .before .before .before .before .before .before .before .before .before .before .before .before .before .args .groups .now) (c .before .before .before .before .before .before .before .before .before .before .before .before .before .before .before .args .firsts .now) (c .before .before .before .before .before .before .before .before .before .before .before .before .before .before .before .args .seconds .now) (c .before .before .before .before .before .before .before .before .before .before .before .before .before .before .before .args .weights .now) (c .before .before .before .before .before .before .before .before .before .before .before .before .before .before .before .args .owners .now) (c .before .before .before .before .before .before .before .before .before .before .before .before .before .before .before .args .others .now)) (record { own-byte = λ v. omega (arith, c .before .before .before .before .before .before .before .before .before .before .before .before .before .before .shared-slice-known .given v); other-byte = λ i. omega (arith, c .before .before .before .before .before .before .before .before .before .shared-slice-known6 .given i) }) (c .before .before .before .before .before .before .before .before .before .before .before .before .before .before .before .args .strengths .now) (c .before .before .before .before .before .before .before .before .before .before .before .before .before .before .before .args .copies .now) (c .before .before .before .before .before .before .winter-refusal .ensures) (c .before .before .before .before .enum-told .given .1) (c .before .before .add-bits .ensures .0) (c .before .before .add-bits .ensures .1)
+    let a = c .before .before .before .before .before .before .before .before .before .before .before .before .before .before .before .args in
+    let s = surveyWith (a .groups .now) (a .firsts .now) (a .seconds .now) (a .weights .now) (a .owners .now) (a .others .now) in
+    winter-goes s (record { own-byte = λ v. omega (arith, c .before .before .before .before .before .before .before .before .before .before .before .before .before .before .shared-slice-known .given v); other-byte = λ i. omega (arith, c .before .before .before .before .before .before .before .before .before .shared-slice-known6 .given i) }) (a .strengths .now) (a .copies .now) (c .before .before .before .before .before .before .winter-refusal .ensures) (c .before .before .before .before .enum-told .given .1) (c .before .before .add-bits .ensures .0) (c .before .before .add-bits .ensures .1)
 
 pub winter-spec : {M : Type 1} → statement M
 winter-spec =

@@ -1,7 +1,6 @@
 -- The survey of a bit has the members of the groups with that bit, and no others; so its problem is that of the bit (document 02, No. 13).
 use Prim.Native.Nat.{ℕ, _<_, _≤_}
-use native.Mathlib.Omega.{arith}
-use mathlib.Core.Path.{_≡_, refl, ap, sym, _∙_, subst}
+use mathlib.Core.Path.{_≡_, ap, sym, _∙_, subst}
 use mathlib.Core.Logic.{_⊎_, inl, inr, ⊎-elim}
 use mathlib.Core.Bool.{Bool, true, false, _&&_, cond}
 use mathlib.Core.List.{List}
@@ -12,10 +11,9 @@ use Rattle.base_finite.specs.Laws.Below.{lt-or-ge, length-tabulate, getD-tabula
 use Rattle.theory_steiner.specs.Problem.{Problem, Joins, allUsable}
 use Rattle.theory_steiner.specs.Strength.{requiredAt, bitProblem}
 use Rattle.theory_steiner.specs.Laws.Strength.{SharesBit, required-at-elim, required-at-intro, bit-joinable}
-use Rattle.survey_core.specs.Lists.{Lists}
 use Rattle.survey_core.specs.Survey.{Survey, listsOf, vertexCount, edgeCount, member, sameGroup, problemOf}
 use Rattle.survey_core.specs.Sound.{ByteGroups}
-use Rattle.survey_core.specs.Laws.Lists.{PairAt, Listed, by-own, by-pair, in-list-some, in-list-elim, in-list-intro}
+use Rattle.survey_core.specs.Laws.Lists.{Listed, by-own, by-pair, in-list-some, in-list-elim, in-list-intro}
 use Rattle.survey_core.specs.Laws.Group.{Shared, same-group-shared, members-same-group, member-byte}
 use Rattle.winter_rule.specs.Winter.{strengthsOf}
 use Rattle.winter_rule.specs.Laws.Copies.{survey-asks}

@@ -3,27 +3,26 @@ use Prim.Native.Nat.{ℕ, zero, suc, _+_, _*_, _-_, _/_, _%_, _^_, _≤_, _<_}
 use native.Mathlib.Omega.{arith}
 use native.Mathlib.Nat.{sub-zero}
 use native.Mathlib.Numerals.{add-one}
-use mathlib.Core.Path.{_≡_, refl, ap, sym, _∙_, subst}
-use mathlib.Core.Logic.{_⊎_, inl, inr}
+use mathlib.Core.Path.{_≡_, ap, sym, _∙_, subst}
 use mathlib.Core.Bool.{Bool, true, false, cond}
-use mathlib.Core.List.{List, _++_}
+use mathlib.Core.List.{List}
 use lib.ListN.{length, getD, take, drop, replicate, length-replicate}
 use lib.Seq.{take-at}
-use lib.Dec.{eqb, ltb}
+use lib.Dec.{eqb}
 use borrow.Author.Tests.{eq-eqb, ne-eqb, lt-ltb, le-ltb}
 use Rattle.base_finite.specs.Below.{counted, sumBelow, countBelow, tabulate}
 use Rattle.base_finite.specs.Laws.Below.{length-tabulate, counted-true, counted-false, sum-suc, sum-limit}
 use Rattle.base_buffer.specs.Store.{remade}
 use Rattle.base_buffer.specs.Laws.Store.{remade-ahead}
-use Rattle.base_limits.specs.Limits.{maxVertices, maxPairs, maxEdges, maxWeight}
-use Rattle.base_limits.specs.Verdict.{refuseIf, _before_, lowestBelow, Outcome, refusal, answer, outcome}
+use Rattle.base_limits.specs.Limits.{maxVertices, maxEdges, maxWeight}
+use Rattle.base_limits.specs.Verdict.{_before_, lowestBelow, Outcome, refusal, answer, outcome}
 use Rattle.base_limits.specs.declared.Verdict.{Verdict}
 use Rattle.base_limits.specs.declared.Verdict.the-variants.{Fine, Refused}
 use Rattle.base_limits.specs.Laws.Verdict.{before-fine, before-refused, fine-left, passed-on, goes-on, refuse-true, refuse-false}
 use Rattle.theory_steiner.specs.Problem.{allUsable}
 use Rattle.theory_steiner.specs.Strength.{strengthBits, hasBit}
 use Rattle.survey_core.specs.Survey.{Survey, surveyWith, edgeCount, problemOf}
-use Rattle.survey_core.specs.Sound.{ByteGroups, SurveySound}
+use Rattle.survey_core.specs.Sound.{ByteGroups}
 use Rattle.survey_core.specs.Refusal.{surveyRefusal, groupRefusal}
 use Rattle.survey_components.specs.Labels.{chosen}
 use Rattle.survey_components.specs.declared.Chosen.the-variants.{All}

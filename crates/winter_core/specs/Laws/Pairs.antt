@@ -3,11 +3,11 @@
 use Prim.Native.Nat.{ℕ, zero, suc, _+_, _*_, _-_, _<_, _≤_}
 use native.Mathlib.Omega.{arith}
 use native.Mathlib.Decide.{ℕ-discrete}
-use mathlib.Core.Path.{_≡_, refl, ap, sym, _∙_, subst}
+use mathlib.Core.Path.{_≡_, ap, sym, _∙_, subst}
 use mathlib.Core.Logic.{_⊎_, inl, inr, ⊎-elim}
-use mathlib.Core.Bool.{Bool, true, false, _&&_, _||_}
+use mathlib.Core.Bool.{Bool, true, _&&_, _||_}
 use mathlib.Core.List.{List}
-use lib.ListN.{length, getD}
+use lib.ListN.{length, getD, List·getD-eq-default}
 use lib.Dec.{eqb, ltb}
 use borrow.Author.Tests.{eqb-true, ltb-true}
 use Rattle.base_finite.specs.Below.{countBelow, tabulate}
@@ -18,7 +18,7 @@ use Rattle.base_limits.specs.declared.Verdict.the-variants.{Fine}
 use Rattle.base_limits.specs.Laws.Verdict.{before-fine}
 use Rattle.theory_steiner.specs.Problem.{Joins, allUsable}
 use Rattle.survey_core.specs.Survey.{Survey, listsOf, problemOf}
-use Rattle.survey_core.specs.Pairs.{isRising, PairSound, PairsSound}
+use Rattle.survey_core.specs.Pairs.{isRising, PairSound}
 use Rattle.survey_core.specs.Sound.{ByteGroups, EdgeSound, SurveySound}
 use Rattle.survey_core.specs.Laws.Pairs.{rising-first, rising-vertex, rising-group}
 use Rattle.survey_core.specs.Laws.Refusal.{survey-fine}
@@ -102,7 +102,7 @@ module _ (s : Survey) (numbered : ByteGroups s) (sound : SurveySound s) (strengt
       by (inl c) = let f : Source test n j = pair-source s strengths b j c in rw (other-from s strengths b f) (numbered .other-byte (f .at))
       by (inr c) =
           let past : length (passing test (s .others) n) ≤ j = omega (arith, length-passing test (s .owners) n, length-passing test (s .others) n) in
-          rw (lib.ListN.List·getD-eq-default (passing test (s .others) n) 0 past) (omega arith)
+          rw (List·getD-eq-default (passing test (s .others) n) 0 past) (omega arith)
 
   bit-rising : (j : ℕ) → j < length (into .owners) → isRising (into .owners) (into .others) j ≡ true
   bit-rising j c = by (ℕ-discrete j 0)

@@ -5,12 +5,12 @@ use native.Mathlib.Numerals.{add-one}
 use mathlib.Core.Path.{_≡_, refl, ap, sym, _∙_, subst}
 use mathlib.Core.Logic.{⊎-elim}
 use mathlib.Core.Bool.{Bool, true, false, cond}
-use mathlib.Core.List.{List, [], _∷_, _++_, append-assoc}
+use mathlib.Core.List.{List, [], _∷_, _++_, append-assoc, append-nil}
 use lib.ListN.{length, getD, set, drop, length-append, length-drop, List·getD-append}
 use lib.Seq.{getD-at, set-at, drop-cons}
 use Rattle.base_finite.specs.Below.{counted, sumBelow, countBelow}
 use Rattle.base_finite.specs.Laws.Test.{either}
-use Rattle.base_finite.specs.Laws.Below.{below-suc, lt-or-ge, counted-true, counted-false, counted-le, count-le}
+use Rattle.base_finite.specs.Laws.Below.{below-suc, lt-or-ge, counted-true, counted-false, count-le}
 use Rattle.winter_core.specs.Bit.{passing, passed}
 
 length-one : (b : Bool) (x : ℕ) → length (cond b (x ∷ []) []) ≡ counted b 1
@@ -106,10 +106,7 @@ module _ (t : ℕ → Bool) where
     stored n below false x =
         let same : countBelow n t ≡ countBelow n t + 0 = omega arith in
         ap (λ k. passing t l n ++ drop k room) same
-        ∙ ap (λ (p : List ℕ). p ++ drop (countBelow n t + 0) room) (sym (nothing (passing t l n)))
-      where
-        nothing : (p : List ℕ) → p ++ [] ≡ p
-        nothing p = simp mathlib.Core.List.append-nil
+        ∙ ap (λ (p : List ℕ). p ++ drop (countBelow n t + 0) room) (sym (append-nil (passing t l n)))
 
     -- The entry at n is stored behind the others, if it passes.
     pub passed-more : (n : ℕ) → n < length room → {now after : List ℕ} {b : Bool} {x at : ℕ} → now ≡ passed t l room n → b ≡ t n → x ≡ getD l n 0

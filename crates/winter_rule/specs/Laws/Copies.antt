@@ -1,21 +1,21 @@
 -- The copies of a survey without refusal meet every strength and are within the factor, and with every strength 1 they are planning's kept tracks
 -- (document 02, No. 13). By the laws of theory_steiner, Laws/Strength, whose argument over the bits is given once.
-use Prim.Native.Nat.{ℕ, zero, suc, _+_, _*_, _-_, _^_, _≤_, _<_}
+use Prim.Native.Nat.{ℕ, zero, suc, _*_, _-_, _^_, _≤_, _<_}
 use native.Mathlib.Omega.{arith}
-use mathlib.Core.Path.{_≡_, refl, ap, sym, _∙_, subst}
-use mathlib.Core.Bool.{Bool, true, false, _&&_, _||_, not}
+use mathlib.Core.Path.{_≡_, refl, ap, sym, _∙_}
+use mathlib.Core.Bool.{Bool, true, false, _||_, not}
 use mathlib.Core.List.{List}
 use lib.ListN.{getD}
 use lib.Dec.{eqb}
 use Rattle.base_finite.specs.Below.{counted, sumBelow, allBelow}
 use Rattle.base_finite.specs.Laws.Test.{and-right, true-not-false, not-true-false, same-test}
-use Rattle.base_finite.specs.Laws.Below.{sum-cong, all-intro, counted-true, counted-false}
+use Rattle.base_finite.specs.Laws.Below.{sum-cong, all-intro, counted-false}
 use Rattle.base_limits.specs.Limits.{groupNumbers}
 use Rattle.theory_graph.specs.Path.{without}
 use Rattle.theory_graph.specs.Component.{components}
 use Rattle.theory_steiner.specs.Problem.{Problem, Sound, joined, cost, terminals}
 use Rattle.theory_steiner.specs.Pruning.{needed, picked, kept}
-use Rattle.theory_steiner.specs.Strength.{Strengths, RequiresGroups, crossings, copiesCost, MeetsStrengths, CopiesAccurate, strengthBits, hasBit, requiredAt, bitProblem, copies}
+use Rattle.theory_steiner.specs.Strength.{Strengths, RequiresGroups, copiesCost, MeetsStrengths, CopiesAccurate, strengthBits, hasBit, requiredAt, bitProblem, copies}
 use Rattle.theory_steiner.specs.Laws.Strength.{SharesBit, required-at-elim, required-at-intro, copies-below, copies-meet, copies-accurate}
 use Rattle.survey_core.specs.Survey.{Survey, listsOf, vertexCount, edgeCount, member, sameGroup, problemOf}
 use Rattle.survey_core.specs.Sound.{ByteGroups}

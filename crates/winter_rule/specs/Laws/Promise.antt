@@ -1,22 +1,22 @@
 -- What every call promises (document 02, No. 13): when it is answered and when refused, what stands in the bytes, and what is left of them.
 use Prim.Native.Nat.{ℕ, _*_, _≤_, _<_}
 use mathlib.Core.Path.{_≡_, refl, ap, sym, _∙_, subst}
-use mathlib.Core.List.{List, _++_}
+use mathlib.Core.List.{List}
 use lib.ListN.{length, getD, drop, List·getD-append}
 use lib.Seq.{drop-at}
-use Rattle.base_finite.specs.Below.{tabulate, counted, sumBelow}
-use Rattle.base_finite.specs.Laws.Below.{length-tabulate, getD-tabulate, sum-cong, counted-true, counted-false}
+use Rattle.base_finite.specs.Below.{tabulate, counted}
+use Rattle.base_finite.specs.Laws.Below.{length-tabulate, getD-tabulate, sum-cong}
 use Rattle.base_limits.specs.Verdict.{Outcome, answer, refusal, outcome, written}
 use Rattle.base_limits.specs.declared.Verdict.{Verdict}
 use Rattle.base_limits.specs.declared.Verdict.the-variants.{Fine, Refused}
 use Rattle.base_limits.specs.Laws.Verdict.{answer-fine, refusal-found}
 use Rattle.theory_graph.specs.Path.{crosses}
-use Rattle.theory_steiner.specs.Problem.{allUsable, terminals}
+use Rattle.theory_steiner.specs.Problem.{terminals}
 use Rattle.theory_steiner.specs.Strength.{crossings, copiesCost}
 use Rattle.survey_core.specs.Survey.{Survey, edgeCount, problemOf}
 use Rattle.survey_core.specs.Sound.{ByteGroups}
 use Rattle.winter_rule.specs.Winter.{maxStrength, copiesOf, totalPrice, winterRefusal, wintering, copiesOver, copiesAfter}
-use Rattle.winter_rule.specs.Promise.{MeetsAll, WinterAccurate, WinterReady, WinterCopies, WinterPromises}
+use Rattle.winter_rule.specs.Promise.{WinterAccurate, WinterReady, WinterCopies, WinterPromises}
 use Rattle.winter_rule.specs.Laws.Refusal.{unfit-refused, length-refused, given-stops, short-refused, unjoinable-refused, ready-fine, fine-ready}
 use Rattle.winter_rule.specs.Laws.Copies.{copies-of-meet, total-accurate, copies-few, plain-copies, plain-cost}
 
@@ -71,9 +71,6 @@ copies-written s numbered strengths after ready holds total-is =
 
 module _ (s : Survey) (numbered : ByteGroups s) (strengths before : List ℕ) {after : List ℕ} {o : Outcome ℕ}
     (o-is : o ≡ wintering s strengths (length before)) (after-is : after ≡ copiesAfter s strengths before) where
-  verdict : Verdict
-  verdict = winterRefusal s strengths (length before)
-
   refused : (number place : ℕ) → winterRefusal s strengths (length before) ≡ Refused number place → o ≡ refusal number place
   unfolding wintering outcome
   refused number place h = o-is ∙ ap (λ v. outcome v (totalPrice s strengths)) h

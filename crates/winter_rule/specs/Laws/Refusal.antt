@@ -1,22 +1,22 @@
 -- The refusals of the call, taken apart and made (document 02, No. 13): 24 and its place, and that a call is answered exactly if none applies.
 use Prim.Native.Nat.{ℕ, _+_, _-_, _≤_, _<_}
 use native.Mathlib.Omega.{arith}
-use mathlib.Core.Path.{_≡_, sym, _∙_, subst}
+use mathlib.Core.Path.{_≡_, _∙_, subst}
 use mathlib.Core.Logic.{_⊎_, ⊎-elim}
-use mathlib.Core.Bool.{_||_, not}
+use mathlib.Core.Bool.{_||_}
 use mathlib.Core.List.{List}
 use lib.ListN.{length, getD}
 use lib.Dec.{eqb, ltb}
 use borrow.Author.Tests.{eq-eqb, ne-eqb, eqb-true, eqb-false, lt-ltb, le-ltb, ltb-false, not-false}
 use Rattle.base_finite.specs.Laws.Test.{or-left, or-right, or-false-left, or-false-right, not-of-false}
-use Rattle.base_limits.specs.Verdict.{refuseIf, _before_, lowestBelow}
+use Rattle.base_limits.specs.Verdict.{_before_, lowestBelow}
 use Rattle.base_limits.specs.declared.Verdict.{Verdict}
 use Rattle.base_limits.specs.declared.Verdict.the-variants.{Fine, Refused}
 use Rattle.base_limits.specs.Laws.Verdict.{before-fine, before-refused, fine-left, fine-right, fine-refuse, refuse-true, refuse-false, lowest-none, none-lowest, lowest-found}
 use Rattle.theory_steiner.specs.Problem.{allUsable}
 use Rattle.survey_core.specs.Survey.{Survey, edgeCount, problemOf}
 use Rattle.survey_core.specs.Sound.{ByteGroups, SurveySound}
-use Rattle.survey_core.specs.Refusal.{surveyRefusal, groupRefusal, LowestUnjoined}
+use Rattle.survey_core.specs.Refusal.{groupRefusal, LowestUnjoined}
 use Rattle.survey_core.specs.Laws.Refusal.{survey-fine, fine-survey}
 use Rattle.survey_core.specs.Laws.Group.{group-fine, joins-fine}
 use Rattle.plan_rule.specs.Laws.Ready.{all-bounded}

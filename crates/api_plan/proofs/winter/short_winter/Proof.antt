@@ -7,11 +7,15 @@ use Rattle.api_plan.proofs.winter.short_winter.Tie as tie
 
 returns : tie.Need-returns
 returns c =
-    short-refused (surveyWith (c .before .before .before .before .before .before .before .before .before .before .before .before .args .groups .now) (c .before .before .before .before .before .before .before .before .before .before .before .before .args .firsts .now) (c .before .before .before .before .before .before .before .before .before .before .before .before .args .seconds .now) (c .before .before .before .before .before .before .before .before .before .before .before .before .args .weights .now) (c .before .before .before .before .before .before .before .before .before .before .before .before .args .owners .now) (c .before .before .before .before .before .before .before .before .before .before .before .before .args .others .now)) (c .before .before .before .before .before .before .before .before .before .before .before .before .args .strengths .now) (c .before .before .before .before .given-refusal .ensures) _ _ (c .before .before .found .given .1) (c .code .ensures)
+    let a = c .before .before .before .before .before .before .before .before .before .before .before .before .args in
+    let s = surveyWith (a .groups .now) (a .firsts .now) (a .seconds .now) (a .weights .now) (a .owners .now) (a .others .now) in
+    short-refused s (a .strengths .now) (c .before .before .before .before .given-refusal .ensures) _ _ (c .before .before .found .given .1) (c .code .ensures)
 
 returns-2 : tie.Need-returns-2
 returns-2 c =
-    short-seven (surveyWith (c .before .before .before .before .before .before .before .before .before .before .args .groups .now) (c .before .before .before .before .before .before .before .before .before .before .args .firsts .now) (c .before .before .before .before .before .before .before .before .before .before .args .seconds .now) (c .before .before .before .before .before .before .before .before .before .before .args .weights .now) (c .before .before .before .before .before .before .before .before .before .before .args .owners .now) (c .before .before .before .before .before .before .before .before .before .before .args .others .now)) (c .before .before .before .before .before .before .before .before .before .before .args .strengths .now) (c .before .before .given-refusal .ensures) (c .enum-told .given .1)
+    let a = c .before .before .before .before .before .before .before .before .before .before .args in
+    let s = surveyWith (a .groups .now) (a .firsts .now) (a .seconds .now) (a .weights .now) (a .owners .now) (a .others .now) in
+    short-seven s (a .strengths .now) (c .before .before .given-refusal .ensures) (c .enum-told .given .1)
 
 pub short-winter-spec : {M : Type 1} → statement M
 short-winter-spec =

@@ -4,7 +4,6 @@ use mathlib.Core.Path.{sym}
 use mathlib.Core.Logic.{inl, inr}
 use Rattle.text_winter.specs.Given.{givenOf}
 use Rattle.text_winter.specs.Laws.Given.{given-falls, given-high, given-unfit, given-fine}
-use borrow.Author.Needs.{needs}
 use Rattle.text_winter.proofs.given.given_test.Statement.{statement}
 use Rattle.text_winter.proofs.given.given_test.Tie as tie
 
@@ -21,16 +20,19 @@ returns-2 c =
 -- strength 0
 returns-3 : tie.Need-returns-3
 returns-3 c =
-    sym (given-unfit (c .before .before .before .args .low) (givenOf (c .before .before .before .args .group) (c .before .before .before .args .strength)) (c .before .before .if1 .left) (c .before .if2 .left) (inl (omega (arith, c .if3 .taken))))
+    let a = c .before .before .before .args in
+    sym (given-unfit (a .low) (givenOf (a .group) (a .strength)) (c .before .before .if1 .left) (c .before .if2 .left) (inl (omega (arith, c .if3 .taken))))
 
 -- over 15
 returns-4 : tie.Need-returns-4
 returns-4 c =
-    sym (given-unfit (c .before .before .before .before .args .low) (givenOf (c .before .before .before .before .args .group) (c .before .before .before .before .args .strength)) (c .before .before .before .if1 .left) (c .before .before .if2 .left) (inr (c .if4 .taken)))
+    let a = c .before .before .before .before .args in
+    sym (given-unfit (a .low) (givenOf (a .group) (a .strength)) (c .before .before .before .if1 .left) (c .before .before .if2 .left) (inr (c .if4 .taken)))
 
 returns-5 : tie.Need-returns-5
 returns-5 c =
-    sym (given-fine (c .before .before .before .before .args .low) (givenOf (c .before .before .before .before .args .group) (c .before .before .before .before .args .strength)) (c .before .before .before .if1 .left) (c .before .before .if2 .left) (record { some = c .before .if3 .left; most = c .if4 .left }))
+    let a = c .before .before .before .before .args in
+    sym (given-fine (a .low) (givenOf (a .group) (a .strength)) (c .before .before .before .if1 .left) (c .before .before .if2 .left) (record { some = c .before .if3 .left; most = c .if4 .left }))
 
 pub given-test-spec : {M : Type 1} → statement M
 given-test-spec =

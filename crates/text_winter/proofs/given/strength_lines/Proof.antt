@@ -50,14 +50,16 @@ returns-2 c =
 sub-put8 : tie.Need-sub-put8 Inv-loop μ-loop
 unfolding givenStep
 sub-put8 c =
-    let passes = line-passes (c .before .before .before .before .before .before .before .before .before .before .args .text .now) (c .before .before .before .before .before .before .before .loop .low) (c .before .before .before .before .before .before .before .loop .next .at) (sym (c .before .before .before .before .given-line .ensures) ∙ ap givenStep (c .before .before .line .given .1)) in
+    let l = c .before .before .before .before .before .before .before .loop in
+    let passes = line-passes (c .before .before .before .before .before .before .before .before .before .before .args .text .now) (l .low) (l .next .at) (sym (c .before .before .before .before .given-line .ensures) ∙ ap givenStep (c .before .before .line .given .1)) in
     let rises = passes .rises in
     search (needs, rises)
 
 cast-put8 : tie.Need-cast-put8 Inv-loop μ-loop
 unfolding givenStep
 cast-put8 c =
-    let most = line-passes (c .before .before .before .before .before .before .before .before .before .before .args .text .now) (c .before .before .before .before .before .before .before .loop .low) (c .before .before .before .before .before .before .before .loop .next .at) (sym (c .before .before .before .before .given-line .ensures) ∙ ap givenStep (c .before .before .line .given .1)) .strength .most in
+    let l = c .before .before .before .before .before .before .before .loop in
+    let most = line-passes (c .before .before .before .before .before .before .before .before .before .before .args .text .now) (l .low) (l .next .at) (sym (c .before .before .before .before .given-line .ensures) ∙ ap givenStep (c .before .before .line .given .1)) .strength .most in
     omega (arith, most)
 
 loop-again : tie.Need-loop-again Inv-loop μ-loop

@@ -12,15 +12,17 @@ use Rattle.text_winter.proofs.print.print_copies.Tie as tie
 -- 7
 returns : tie.Need-returns
 returns c =
-    let small : length (c .before .before .before .before .before .before .before .args .out .now) < farthest = omega arith in
-    let p = short-prints (copiesText (c .before .before .before .before .before .before .before .args .total) (c .before .before .before .before .before .before .before .args .copies .now)) (c .before .before .before .before .before .before .before .args .out .now) small (c .before .before .before .put-text .ensures) (c .if1 .taken) in
+    let a = c .before .before .before .before .before .before .before .args in
+    let small : length (a .out .now) < farthest = omega arith in
+    let p = short-prints (copiesText (a .total) (a .copies .now)) (a .out .now) small (c .before .before .before .put-text .ensures) (c .if1 .taken) in
     (p .answers, p .leaves)
 
 -- printed
 returns-2 : tie.Need-returns-2
 returns-2 c =
-    let small : length (c .before .before .before .before .before .before .before .before .before .before .before .args .out .now) < farthest = omega arith in
-    let p = fit-prints (copiesText (c .before .before .before .before .before .before .before .before .before .before .before .args .total) (c .before .before .before .before .before .before .before .before .before .before .before .args .copies .now)) (c .before .before .before .before .before .before .before .before .before .before .before .args .out .now) small (c .before .before .before .before .before .before .before .put-text .ensures) (c .before .before .before .before .if1 .left) (c .before .before .put-text2 .ensures) in
+    let a = c .before .before .before .before .before .before .before .before .before .before .before .args in
+    let small : length (a .out .now) < farthest = omega arith in
+    let p = fit-prints (copiesText (a .total) (a .copies .now)) (a .out .now) small (c .before .before .before .before .before .before .before .put-text .ensures) (c .before .before .before .before .if1 .left) (c .before .before .put-text2 .ensures) in
     (p .answers, p .leaves)
 
 pub print-copies-spec : {M : Type 1} → statement M

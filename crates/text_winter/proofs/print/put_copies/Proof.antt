@@ -17,9 +17,10 @@ returns c =
 returns-2 : tie.Need-returns-2
 unfolding copiesKey
 returns-2 c =
-    let small : length (c .before .before .before .before .before .before .before .before .before .before .before .before .before .before .before .before .before .before .before .before .before .before .before .args .out .now) ≤ farthest = omega arith in
+    let a = c .before .before .before .before .before .before .before .before .before .before .before .before .before .before .before .before .before .before .before .before .before .before .before .args in
+    let small : length (a .out .now) ≤ farthest = omega arith in
     wrote-as (wrote-then small (wrote-then small (wrote-then small (wrote-then small (c .before .before .before .before .before .before .before .before .before .before .before .before .before .before .before .before .before .before .put-bytes .ensures) (c .before .before .before .before .before .before .before .before .before .before .before .before .before .before .put-number .ensures)) (c .before .before .before .before .before .before .before .before .before .before .put .ensures)) (c .before .before .before .before .before .before .put-number2 .ensures)) (c .before .before .put2 .ensures))
-    (copied-line (c .before .before .before .before .before .before .before .before .before .before .before .before .before .before .before .before .before .before .before .before .before .before .before .args .copies) (c .before .before .before .before .before .before .before .before .before .before .before .before .before .before .before .before .before .before .before .before .before .before .before .args .track) (c .before .before .before .before .before .before .before .before .before .before .before .before .before .before .before .before .before .before .before .before .before .if1 .left))
+    (copied-line (a .copies) (a .track) (c .before .before .before .before .before .before .before .before .before .before .before .before .before .before .before .before .before .before .before .before .before .if1 .left))
 
 pub put-copies-spec : {M : Type 1} → statement M
 put-copies-spec =

@@ -30,10 +30,12 @@ loop-less c =
 
 loop-again : tie.Need-loop-again Inv-loop μ-loop
 loop-again c =
-    let small : length (c .before .before .before .before .before .before .before .before .before .before .before .args .out .now) ≤ farthest = omega arith in (
+    let a = c .before .before .before .before .before .before .before .before .before .before .before .args in
+    let l = c .before .before .before .before .before .before .before .before .loop in
+    let small : length (a .out .now) ≤ farthest = omega arith in (
       omega (arith, c .before .before .before .before .before .before .before .loop-test .taken),
-      wrote-as (wrote-then small (c .before .before .before .before .before .before .before .before .loop .inv .1) (wrote-as (c .before .before .put-copies .ensures) (line-read (c .before .before .before .before .before .before .before .before .before .before .before .args .copies .now) (c .before .before .before .before .wide8 .ensures) (c .before .before .before .before .before .at8 .ensures) (c .before .before .before .wide .ensures))))
-          (text-next (λ e. copiesLine (getD (c .before .before .before .before .before .before .before .before .before .before .before .args .copies .now) e 0) e) (c .before .before .before .before .before .before .before .before .loop .e)),
+      wrote-as (wrote-then small (l .inv .1) (wrote-as (c .before .before .put-copies .ensures) (line-read (a .copies .now) (c .before .before .before .before .wide8 .ensures) (c .before .before .before .before .before .at8 .ensures) (c .before .before .before .wide .ensures))))
+          (text-next (λ e. copiesLine (getD (a .copies .now) e 0) e) (l .e)),
     )
 
 same-length : tie.Need-same-length Inv-loop μ-loop

@@ -7,11 +7,13 @@ use Rattle.winter_core.proofs.bit.bit_group.Tie as tie
 
 returns : tie.Need-returns
 returns c =
-    sym (group-carried (c .before .before .before .args .strengths .now) (c .before .before .before .args .bit) (c .before .before .before .args .group) (sym (c .before .carries .ensures) ∙ c .if1 .taken))
+    let a = c .before .before .before .args in
+    sym (group-carried (a .strengths .now) (a .bit) (a .group) (sym (c .before .carries .ensures) ∙ c .if1 .taken))
 
 returns-2 : tie.Need-returns-2
 returns-2 c =
-    sym (group-lacking (c .before .before .before .args .strengths .now) (c .before .before .before .args .bit) (c .before .before .before .args .group) (sym (c .before .carries .ensures) ∙ c .if1 .left))
+    let a = c .before .before .before .args in
+    sym (group-lacking (a .strengths .now) (a .bit) (a .group) (sym (c .before .carries .ensures) ∙ c .if1 .left))
 
 pub bit-group-spec : {M : Type 1} → statement M
 bit-group-spec =

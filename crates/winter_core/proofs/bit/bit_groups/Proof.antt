@@ -34,7 +34,8 @@ bit-group-requires c κs =
 
 loop-again : tie.Need-loop-again Inv-loop μ-loop
 loop-again c =
-    (omega arith, c .before .put8 .ensures ∙ remade-more _ _ _ _ _ (c .before .before .before .before .before .before .loop .inv .1) (group-at (c .before .before .before .before .before .before .before .before .before .args .strengths .now) (c .before .before .before .before .before .before .before .before .before .args .bit) (c .before .before .before .at8 .ensures) (c .before .before .bit-group .ensures)))
+    let a = c .before .before .before .before .before .before .before .before .before .args in
+    (omega arith, c .before .put8 .ensures ∙ remade-more _ _ _ _ _ (c .before .before .before .before .before .before .loop .inv .1) (group-at (a .strengths .now) (a .bit) (c .before .before .before .at8 .ensures) (c .before .before .bit-group .ensures)))
 
 returns : tie.Need-returns Inv-loop μ-loop
 returns c =

@@ -1,7 +1,7 @@
 -- `bit_pairs` meets its contract: a pair that passes is stored behind the others (`passed-more`).
-use Prim.Native.Nat.{_≤_, _<_, _-_}
+use Prim.Native.Nat.{_≤_, _-_}
 use native.Mathlib.Omega.{arith}
-use mathlib.Core.Path.{_≡_, refl, ap, sym, _∙_}
+use mathlib.Core.Path.{_≡_, refl, ap, _∙_}
 use lib.ListN.{length}
 use Rattle.base_finite.specs.Below.{countBelow, sumBelow}
 use Rattle.base_finite.specs.Laws.Below.{count-le}
@@ -25,7 +25,8 @@ abbrev μ-loop : tie.MeasureT-loop
 loop-holds : tie.Need-loop-holds Inv-loop μ-loop
 unfolding countBelow sumBelow
 loop-holds c =
-    (omega arith, (refl, (passed-start (pairCarries (c .before .before .before .before .before .args .strengths .now) (c .before .before .before .before .before .args .others .now) (c .before .before .before .before .before .args .bit)) (c .before .before .before .before .before .args .owners .now) (c .before .before .before .before .before .args .carriers .now), passed-start (pairCarries (c .before .before .before .before .before .args .strengths .now) (c .before .before .before .before .before .args .others .now) (c .before .before .before .before .before .args .bit)) (c .before .before .before .before .before .args .others .now) (c .before .before .before .before .before .args .carried .now))))
+    let a = c .before .before .before .before .before .args in
+    (omega arith, (refl, (passed-start (pairCarries (a .strengths .now) (a .others .now) (a .bit)) (a .owners .now) (a .carriers .now), passed-start (pairCarries (a .strengths .now) (a .others .now) (a .bit)) (a .others .now) (a .carried .now))))
 
 carries-requires : tie.Need-carries-requires Inv-loop μ-loop
 carries-requires c κs =
@@ -33,7 +34,10 @@ carries-requires c κs =
 
 next-requires : tie.Need-next-requires Inv-loop μ-loop
 next-requires c κs =
-    omega (arith, c .before .before .before .before .before .before .before .before .before .before .before .before .loop .inv .1 .0, count-le (c .before .before .before .before .before .before .before .before .before .before .before .before .loop .i) (pairCarries (c .before .before .before .before .before .before .before .before .before .before .before .before .before .before .before .before .before .before .args .strengths .now) (c .before .before .before .before .before .before .before .before .before .before .before .before .before .before .before .before .before .before .args .others .now) (c .before .before .before .before .before .before .before .before .before .before .before .before .before .before .before .before .before .before .args .bit)), c .before .before .before .before .before .before .before .before .before .before .before .loop-test .taken, c .before .before .before .before .before .before .before .before .before .before .before .before .before .before .before .before .before .before .pre .1 .0)
+    let start = c .before .before .before .before .before .before .before .before .before .before .before .before .before .before .before .before .before .before in
+    let a = start .args in
+    let l = c .before .before .before .before .before .before .before .before .before .before .before .before .loop in
+    omega (arith, l .inv .1 .0, count-le (l .i) (pairCarries (a .strengths .now) (a .others .now) (a .bit)), c .before .before .before .before .before .before .before .before .before .before .before .loop-test .taken, start .pre .1 .0)
 
 add-i : tie.Need-add-i Inv-loop μ-loop
 add-i c =
@@ -45,36 +49,44 @@ loop-less c =
 
 loop-again : tie.Need-loop-again Inv-loop μ-loop
 loop-again c =
+    let start = c .before .before .before .before .before .before .before .before .before .before .before .before .before .before .before .before .before .before .before in
+    let a = start .args in
+    let l = c .before .before .before .before .before .before .before .before .before .before .before .before .before .loop in
     let below = c .before .before .before .before .before .before .before .before .before .before .before .before .loop-test .taken in
-    let inv = c .before .before .before .before .before .before .before .before .before .before .before .before .before .loop .inv in
-    let pre = c .before .before .before .before .before .before .before .before .before .before .before .before .before .before .before .before .before .before .before .pre in
-    let keep = (carries-at (c .before .before .before .before .before .before .before .before .before .before .before .before .before .before .before .before .before .before .before .args .strengths .now) (c .before .before .before .before .before .before .before .before .before .before .before .before .before .before .before .before .before .before .before .args .bit) (c .before .before .before .before .before .before .before .before .before .before .before .at8 .ensures) (c .before .before .before .before .before .before .before .before .before .before .carries .ensures)) in (
+    let inv = l .inv in
+    let pre = start .pre in
+    let keep = (carries-at (a .strengths .now) (a .bit) (c .before .before .before .before .before .before .before .before .before .before .before .at8 .ensures) (c .before .before .before .before .before .before .before .before .before .before .carries .ensures)) in (
       omega (arith, below),
       (
-        count-on (pairCarries (c .before .before .before .before .before .before .before .before .before .before .before .before .before .before .before .before .before .before .before .args .strengths .now) (c .before .before .before .before .before .before .before .before .before .before .before .before .before .before .before .before .before .before .before .args .others .now) (c .before .before .before .before .before .before .before .before .before .before .before .before .before .before .before .before .before .before .before .args .bit)) (c .before .before .before .before .before .before .before .before .before .before .before .before .before .loop .i) (inv .1 .0) keep (c .next .ensures),
+        count-on (pairCarries (a .strengths .now) (a .others .now) (a .bit)) (l .i) (inv .1 .0) keep (c .next .ensures),
         (
-          passed-more (pairCarries (c .before .before .before .before .before .before .before .before .before .before .before .before .before .before .before .before .before .before .before .args .strengths .now) (c .before .before .before .before .before .before .before .before .before .before .before .before .before .before .before .before .before .before .before .args .others .now) (c .before .before .before .before .before .before .before .before .before .before .before .before .before .before .before .before .before .before .before .args .bit)) (c .before .before .before .before .before .before .before .before .before .before .before .before .before .before .before .before .before .before .before .args .owners .now) (c .before .before .before .before .before .before .before .before .before .before .before .before .before .before .before .before .before .before .before .args .carriers .now) (c .before .before .before .before .before .before .before .before .before .before .before .before .before .loop .i) (omega (arith, below, pre .1 .1 .0)) (inv .1 .1 .0) keep (c .before .before .before .before .before .before .before .before .at32 .ensures) (inv .1 .0) (c .before .before .before .before .before .before .before .keep32 .ensures),
-          passed-more (pairCarries (c .before .before .before .before .before .before .before .before .before .before .before .before .before .before .before .before .before .before .before .args .strengths .now) (c .before .before .before .before .before .before .before .before .before .before .before .before .before .before .before .before .before .before .before .args .others .now) (c .before .before .before .before .before .before .before .before .before .before .before .before .before .before .before .before .before .before .before .args .bit)) (c .before .before .before .before .before .before .before .before .before .before .before .before .before .before .before .before .before .before .before .args .others .now) (c .before .before .before .before .before .before .before .before .before .before .before .before .before .before .before .before .before .before .before .args .carried .now) (c .before .before .before .before .before .before .before .before .before .before .before .before .before .loop .i) (omega (arith, below, pre .1 .1 .1)) (inv .1 .1 .1) keep (c .before .before .before .before .before .before .before .before .before .before .before .at8 .ensures) (inv .1 .0) (c .before .before .before .keep8 .ensures),
+          passed-more (pairCarries (a .strengths .now) (a .others .now) (a .bit)) (a .owners .now) (a .carriers .now) (l .i) (omega (arith, below, pre .1 .1 .0)) (inv .1 .1 .0) keep (c .before .before .before .before .before .before .before .before .at32 .ensures) (inv .1 .0) (c .before .before .before .before .before .before .before .keep32 .ensures),
+          passed-more (pairCarries (a .strengths .now) (a .others .now) (a .bit)) (a .others .now) (a .carried .now) (l .i) (omega (arith, below, pre .1 .1 .1)) (inv .1 .1 .1) keep (c .before .before .before .before .before .before .before .before .before .before .before .at8 .ensures) (inv .1 .0) (c .before .before .before .keep8 .ensures),
         ),
       ),
     )
 
 same-length : tie.Need-same-length Inv-loop μ-loop
 same-length c =
-    ap length (c .before .loop .inv .1 .1 .0) ∙ length-passed (pairCarries (c .before .before .before .before .before .before .before .args .strengths .now) (c .before .before .before .before .before .before .before .args .others .now) (c .before .before .before .before .before .before .before .args .bit)) (c .before .before .before .before .before .before .before .args .owners .now) (c .before .before .before .before .before .before .before .args .carriers .now) (c .before .loop .i) (omega (arith, c .before .loop .inv .0, c .before .before .before .before .before .before .before .pre .1 .1 .0))
+    let start = c .before .before .before .before .before .before .before in
+    let a = start .args in
+    ap length (c .before .loop .inv .1 .1 .0) ∙ length-passed (pairCarries (a .strengths .now) (a .others .now) (a .bit)) (a .owners .now) (a .carriers .now) (c .before .loop .i) (omega (arith, c .before .loop .inv .0, start .pre .1 .1 .0))
 
 same-length-2 : tie.Need-same-length-2 Inv-loop μ-loop
 same-length-2 c =
-    ap length (c .before .loop .inv .1 .1 .1) ∙ length-passed (pairCarries (c .before .before .before .before .before .before .before .args .strengths .now) (c .before .before .before .before .before .before .before .args .others .now) (c .before .before .before .before .before .before .before .args .bit)) (c .before .before .before .before .before .before .before .args .others .now) (c .before .before .before .before .before .before .before .args .carried .now) (c .before .loop .i) (omega (arith, c .before .loop .inv .0, c .before .before .before .before .before .before .before .pre .1 .1 .1))
+    let start = c .before .before .before .before .before .before .before in
+    let a = start .args in
+    ap length (c .before .loop .inv .1 .1 .1) ∙ length-passed (pairCarries (a .strengths .now) (a .others .now) (a .bit)) (a .others .now) (a .carried .now) (c .before .loop .i) (omega (arith, c .before .loop .inv .0, start .pre .1 .1 .1))
 
 returns : tie.Need-returns Inv-loop μ-loop
 returns c =
+    let a = c .before .before .before .before .before .before .before .args in
     let within = c .before .loop .inv .0 in
     let left = c .loop-test .left in (
-      count-end (pairCarries (c .before .before .before .before .before .before .before .args .strengths .now) (c .before .before .before .before .before .before .before .args .others .now) (c .before .before .before .before .before .before .before .args .bit)) within left (c .before .loop .inv .1 .0),
+      count-end (pairCarries (a .strengths .now) (a .others .now) (a .bit)) within left (c .before .loop .inv .1 .0),
       (
-        c .before .loop .inv .1 .1 .0 ∙ passed-end (pairCarries (c .before .before .before .before .before .before .before .args .strengths .now) (c .before .before .before .before .before .before .before .args .others .now) (c .before .before .before .before .before .before .before .args .bit)) (c .before .before .before .before .before .before .before .args .owners .now) (c .before .before .before .before .before .before .before .args .carriers .now) within left,
-        c .before .loop .inv .1 .1 .1 ∙ passed-end (pairCarries (c .before .before .before .before .before .before .before .args .strengths .now) (c .before .before .before .before .before .before .before .args .others .now) (c .before .before .before .before .before .before .before .args .bit)) (c .before .before .before .before .before .before .before .args .others .now) (c .before .before .before .before .before .before .before .args .carried .now) within left,
+        c .before .loop .inv .1 .1 .0 ∙ passed-end (pairCarries (a .strengths .now) (a .others .now) (a .bit)) (a .owners .now) (a .carriers .now) within left,
+        c .before .loop .inv .1 .1 .1 ∙ passed-end (pairCarries (a .strengths .now) (a .others .now) (a .bit)) (a .others .now) (a .carried .now) within left,
       ),
     )
 

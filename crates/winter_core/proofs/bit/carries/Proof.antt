@@ -6,7 +6,8 @@ use Rattle.winter_core.proofs.bit.carries.Tie as tie
 
 returns : tie.Need-returns
 returns c =
-    carries-read (c .before .before .before .args .strengths .now) (c .before .before .before .args .bit) (c .before .before .before .args .group) (c .before .strength-of .ensures) (c .has-bit .ensures)
+    let a = c .before .before .before .args in
+    carries-read (a .strengths .now) (a .bit) (a .group) (c .before .strength-of .ensures) (c .has-bit .ensures)
 
 pub carries-spec : {M : Type 1} → statement M
 carries-spec =

@@ -1,7 +1,6 @@
 -- `power` meets its contract: 1, 2, 4, 8.
 use native.Mathlib.Omega.{arith}
 use Rattle.winter_core.specs.Laws.Call.{power-at}
-use borrow.Author.Needs.{needs}
 use Rattle.winter_core.proofs.bit.power.Statement.{statement}
 use Rattle.winter_core.proofs.bit.power.Tie as tie
 
@@ -19,7 +18,9 @@ returns-3 c =
 
 returns-4 : tie.Need-returns-4
 returns-4 c =
-    power-at 3 (c .before .before .before .args .bit) (omega (arith, c .if3 .left, c .before .before .before .pre))
+    let start = c .before .before .before in
+    let a = start .args in
+    power-at 3 (a .bit) (omega (arith, c .if3 .left, start .pre))
 
 pub power-spec : {M : Type 1} → statement M
 power-spec =

@@ -26,7 +26,9 @@ loop-holds c =
 
 more-requires : tie.Need-more-requires Inv-loop μ-loop
 more-requires c κs =
-    room-ahead _ (c .before .before .before .before .before .before .before .before .args .copies .now) (c .before .before .before .before .before .before .before .before .args .power) (c .before .before .before .before .before .before .before .before .pre) (c .before .before .before .before .loop-test .taken) (c .before .before .before .before .before .loop .inv .1) (c .before .at8 .ensures)
+    let start = c .before .before .before .before .before .before .before .before in
+    let a = start .args in
+    room-ahead _ (a .copies .now) (a .power) (start .pre) (c .before .before .before .before .loop-test .taken) (c .before .before .before .before .before .loop .inv .1) (c .before .at8 .ensures)
 
 loop-less : tie.Need-loop-less Inv-loop μ-loop
 loop-less c =

@@ -2,7 +2,6 @@
 use Prim.Native.Nat.{ℕ}
 use native.Mathlib.Omega.{arith}
 use lib.ListN.{length, replicate, length-replicate}
-use mathlib.Core.Path.{sym, ap}
 use Rattle.base_finite.specs.Laws.Below.{count-le}
 use Rattle.base_limits.specs.Limits.{maxPairs}
 use Rattle.survey_core.specs.Survey.{surveyWith}
@@ -19,7 +18,10 @@ bit-groups-requires c κs =
 
 bit-pairs-requires : tie.Need-bit-pairs-requires
 bit-pairs-requires c κs =
-    let few = pairs-few (surveyWith (c .before .before .before .before .before .before .before .before .before .before .args .groups .now) (c .before .before .before .before .before .before .before .before .before .before .args .firsts .now) (c .before .before .before .before .before .before .before .before .before .before .args .seconds .now) (c .before .before .before .before .before .before .before .before .before .before .args .weights .now) (c .before .before .before .before .before .before .before .before .before .before .args .owners .now) (c .before .before .before .before .before .before .before .before .before .before .args .others .now)) (c .before .before .before .before .before .before .before .before .before .before .pre .0) in (c .before .before .before .before .before .before .before .before .before .before .pre .1, (few, (omega (arith, few, length-replicate {A = ℕ} maxPairs 0), omega (arith, few, length-replicate {A = ℕ} maxPairs 0))))
+    let start = c .before .before .before .before .before .before .before .before .before .before in
+    let a = start .args in
+    let s = surveyWith (a .groups .now) (a .firsts .now) (a .seconds .now) (a .weights .now) (a .owners .now) (a .others .now) in
+    let few = pairs-few s (start .pre .0) in (start .pre .1, (few, (omega (arith, few, length-replicate {A = ℕ} maxPairs 0), omega (arith, few, length-replicate {A = ℕ} maxPairs 0))))
 
 part-figures-end : tie.Need-part-figures-end
 part-figures-end c =
@@ -27,20 +29,27 @@ part-figures-end c =
 
 part-figures-end-2 : tie.Need-part-figures-end-2
 part-figures-end-2 c =
-    let few = pairs-few (surveyWith (c .before .before .before .before .before .before .before .before .before .before .before .before .before .before .before .before .args .groups .now) (c .before .before .before .before .before .before .before .before .before .before .before .before .before .before .before .before .args .firsts .now) (c .before .before .before .before .before .before .before .before .before .before .before .before .before .before .before .before .args .seconds .now) (c .before .before .before .before .before .before .before .before .before .before .before .before .before .before .before .before .args .weights .now) (c .before .before .before .before .before .before .before .before .before .before .before .before .before .before .before .before .args .owners .now) (c .before .before .before .before .before .before .before .before .before .before .before .before .before .before .before .before .args .others .now)) (c .before .before .before .before .before .before .before .before .before .before .before .before .before .before .before .before .pre .0) in let counted = c .before .before .before .before .before .bit-pairs .ensures .0 in let most = count-le (length (c .before .before .before .before .before .before .before .before .before .before .before .before .before .before .before .before .args .owners .now)) (pairCarries (c .before .before .before .before .before .before .before .before .before .before .before .before .before .before .before .before .args .strengths .now) (c .before .before .before .before .before .before .before .before .before .before .before .before .before .before .before .before .args .others .now) (c .before .before .before .before .before .before .before .before .before .before .before .before .before .before .before .before .args .bit)) in search (needs, few, counted, most)
+    let start = c .before .before .before .before .before .before .before .before .before .before .before .before .before .before .before .before in
+    let a = start .args in
+    let s = surveyWith (a .groups .now) (a .firsts .now) (a .seconds .now) (a .weights .now) (a .owners .now) (a .others .now) in
+    let few = pairs-few s (start .pre .0) in let counted = c .before .before .before .before .before .bit-pairs .ensures .0 in let most = count-le (length (a .owners .now)) (pairCarries (a .strengths .now) (a .others .now) (a .bit)) in search (needs, few, counted, most)
 
 part-figures-end-3 : tie.Need-part-figures-end-3
 part-figures-end-3 c =
-    let few = pairs-few (surveyWith (c .before .before .before .before .before .before .before .before .before .before .before .before .before .before .before .before .before .before .args .groups .now) (c .before .before .before .before .before .before .before .before .before .before .before .before .before .before .before .before .before .before .args .firsts .now) (c .before .before .before .before .before .before .before .before .before .before .before .before .before .before .before .before .before .before .args .seconds .now) (c .before .before .before .before .before .before .before .before .before .before .before .before .before .before .before .before .before .before .args .weights .now) (c .before .before .before .before .before .before .before .before .before .before .before .before .before .before .before .before .before .before .args .owners .now) (c .before .before .before .before .before .before .before .before .before .before .before .before .before .before .before .before .before .before .args .others .now)) (c .before .before .before .before .before .before .before .before .before .before .before .before .before .before .before .before .before .before .pre .0) in let counted = c .before .before .before .before .before .before .before .bit-pairs .ensures .0 in let most = count-le (length (c .before .before .before .before .before .before .before .before .before .before .before .before .before .before .before .before .before .before .args .owners .now)) (pairCarries (c .before .before .before .before .before .before .before .before .before .before .before .before .before .before .before .before .before .before .args .strengths .now) (c .before .before .before .before .before .before .before .before .before .before .before .before .before .before .before .before .before .before .args .others .now) (c .before .before .before .before .before .before .before .before .before .before .before .before .before .before .before .before .before .before .args .bit)) in search (needs, few, counted, most)
+    let start = c .before .before .before .before .before .before .before .before .before .before .before .before .before .before .before .before .before .before in
+    let a = start .args in
+    let s = surveyWith (a .groups .now) (a .firsts .now) (a .seconds .now) (a .weights .now) (a .owners .now) (a .others .now) in
+    let few = pairs-few s (start .pre .0) in let counted = c .before .before .before .before .before .before .before .bit-pairs .ensures .0 in let most = count-le (length (a .owners .now)) (pairCarries (a .strengths .now) (a .others .now) (a .bit)) in search (needs, few, counted, most)
 
 returns : tie.Need-returns
 returns c =
-    let a = c .before .before .before .before .before .before .before .before .before .before .before .before .before .before .before .before .before .before .before .before .before .args in
+    let start = c .before .before .before .before .before .before .before .before .before .before .before .before .before .before .before .before .before .before .before .before .before in
+    let a = start .args in
     let zeros = replicate {A = ℕ} maxPairs 0 in
     let pairs = c .before .before .before .before .before .before .before .before .before .before .bit-pairs .ensures in
     let s = surveyWith (a .groups .now) (a .firsts .now) (a .seconds .now) (a .weights .now) (a .owners .now) (a .others .now) in (
-      figures-lent s (a .strengths .now) (a .bit) (c .before .before .before .before .before .before .before .before .before .before .before .before .before .before .before .before .before .before .before .before .before .pre .0 .few) zeros zeros (c .before .before .before .before .before .before .before .before .before .before .before .before .before .bit-groups .ensures) (pairs .0) (pairs .1 .0) (pairs .1 .1) (c .figures .ensures .0),
-      marks-lent s (a .strengths .now) (a .bit) (c .before .before .before .before .before .before .before .before .before .before .before .before .before .before .before .before .before .before .before .before .before .pre .0 .few) zeros zeros (c .before .before .before .before .before .before .before .before .before .before .before .before .before .bit-groups .ensures) (pairs .0) (pairs .1 .0) (pairs .1 .1) (a .marks .now) (c .figures .ensures .1),
+      figures-lent s (a .strengths .now) (a .bit) (start .pre .0 .few) zeros zeros (c .before .before .before .before .before .before .before .before .before .before .before .before .before .bit-groups .ensures) (pairs .0) (pairs .1 .0) (pairs .1 .1) (c .figures .ensures .0),
+      marks-lent s (a .strengths .now) (a .bit) (start .pre .0 .few) zeros zeros (c .before .before .before .before .before .before .before .before .before .before .before .before .before .bit-groups .ensures) (pairs .0) (pairs .1 .0) (pairs .1 .1) (a .marks .now) (c .figures .ensures .1),
     )
 
 pub plan-bit-spec : {M : Type 1} → statement M

@@ -8,12 +8,16 @@ use Rattle.winter_core.proofs.refusal.given_refusal.Tie as tie
 -- 1 to 6, 18
 returns : tie.Need-returns
 returns c =
-    unsound-stops (surveyWith (c .before .before .before .before .before .before .before .before .before .before .args .groups .now) (c .before .before .before .before .before .before .before .before .before .before .args .firsts .now) (c .before .before .before .before .before .before .before .before .before .before .args .seconds .now) (c .before .before .before .before .before .before .before .before .before .before .args .weights .now) (c .before .before .before .before .before .before .before .before .before .before .args .owners .now) (c .before .before .before .before .before .before .before .before .before .before .args .others .now)) (c .before .before .before .before .before .before .before .before .before .before .args .strengths .now) (c .before .before .survey-refusal .ensures) (c .enum-told2 .given .1)
+    let a = c .before .before .before .before .before .before .before .before .before .before .args in
+    let s = surveyWith (a .groups .now) (a .firsts .now) (a .seconds .now) (a .weights .now) (a .owners .now) (a .others .now) in
+    unsound-stops s (a .strengths .now) (c .before .before .survey-refusal .ensures) (c .enum-told2 .given .1)
 
 -- 24
 returns-2 : tie.Need-returns-2
 returns-2 c =
-    strengths-decide (surveyWith (c .before .before .before .before .before .before .before .before .before .before .before .args .groups .now) (c .before .before .before .before .before .before .before .before .before .before .before .args .firsts .now) (c .before .before .before .before .before .before .before .before .before .before .before .args .seconds .now) (c .before .before .before .before .before .before .before .before .before .before .before .args .weights .now) (c .before .before .before .before .before .before .before .before .before .before .before .args .owners .now) (c .before .before .before .before .before .before .before .before .before .before .before .args .others .now)) (c .before .before .before .before .before .before .before .before .before .before .before .args .strengths .now) (c .before .before .before .survey-refusal .ensures) (c .before .enum-told .given .1) (c .strengths-refusal .ensures)
+    let a = c .before .before .before .before .before .before .before .before .before .before .before .args in
+    let s = surveyWith (a .groups .now) (a .firsts .now) (a .seconds .now) (a .weights .now) (a .owners .now) (a .others .now) in
+    strengths-decide s (a .strengths .now) (c .before .before .before .survey-refusal .ensures) (c .before .enum-told .given .1) (c .strengths-refusal .ensures)
 
 pub given-refusal-spec : {M : Type 1} → statement M
 given-refusal-spec =

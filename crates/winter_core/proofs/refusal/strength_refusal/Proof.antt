@@ -3,7 +3,6 @@ use native.Mathlib.Omega.{arith}
 use mathlib.Core.Path.{sym}
 use mathlib.Core.Logic.{inl, inr}
 use Rattle.winter_rule.specs.Laws.Refusal.{strength-fine, strength-unfit}
-use borrow.Author.Needs.{needs}
 use Rattle.winter_core.proofs.refusal.strength_refusal.Statement.{statement}
 use Rattle.winter_core.proofs.refusal.strength_refusal.Tie as tie
 

@@ -1,6 +1,5 @@
 -- `strengths_refusal` meets its contract: the length, then a scan of the strengths.
 use Prim.Native.Nat.{_+_, _-_}
-use native.Mathlib.Omega.{arith}
 use mathlib.Core.Path.{sym}
 use lib.ListN.{getD}
 use Rattle.base_limits.specs.Laws.Verdict.{Scanned, scan-start, scan-turn, scan-found, scan-end}
@@ -30,11 +29,13 @@ loop-holds c =
 -- 24: the lowest group
 returns-2 : tie.Need-returns-2 Inv-loop μ-loop
 returns-2 c =
-    list-decided (c .before .before .before .before .before .before .before .before .args .strengths .now) (c .before .before .before .before .before .before .if1 .left) (scan-found (c .before .before .before .before .before .loop .inv) (c .before .before .before .before .loop-test .taken) (found-at (c .before .before .before .before .before .loop .i) (c .before .before .before .at8 .ensures) (c .before .before .strength-refusal .ensures)) (c .enum-told2 .given .1))
+    let l = c .before .before .before .before .before .loop in
+    list-decided (c .before .before .before .before .before .before .before .before .args .strengths .now) (c .before .before .before .before .before .before .if1 .left) (scan-found (l .inv) (c .before .before .before .before .loop-test .taken) (found-at (l .i) (c .before .before .before .at8 .ensures) (c .before .before .strength-refusal .ensures)) (c .enum-told2 .given .1))
 
 loop-again : tie.Need-loop-again Inv-loop μ-loop
 loop-again c =
-    scan-turn (c .before .before .before .before .before .loop .inv) (c .before .before .before .before .loop-test .taken) (found-at (c .before .before .before .before .before .loop .i) (c .before .before .before .at8 .ensures) (c .before .before .strength-refusal .ensures)) (c .enum-told .given .1)
+    let l = c .before .before .before .before .before .loop in
+    scan-turn (l .inv) (c .before .before .before .before .loop-test .taken) (found-at (l .i) (c .before .before .before .at8 .ensures) (c .before .before .strength-refusal .ensures)) (c .enum-told .given .1)
 
 returns-3 : tie.Need-returns-3 Inv-loop μ-loop
 returns-3 c =

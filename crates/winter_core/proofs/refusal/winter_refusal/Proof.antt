@@ -9,17 +9,23 @@ use Rattle.winter_core.proofs.refusal.winter_refusal.Tie as tie
 -- 1 to 6, 18, 24
 returns : tie.Need-returns
 returns c =
-    given-stops (surveyWith (c .before .before .before .before .before .before .before .before .before .before .args .groups .now) (c .before .before .before .before .before .before .before .before .before .before .args .firsts .now) (c .before .before .before .before .before .before .before .before .before .before .args .seconds .now) (c .before .before .before .before .before .before .before .before .before .before .args .weights .now) (c .before .before .before .before .before .before .before .before .before .before .args .owners .now) (c .before .before .before .before .before .before .before .before .before .before .args .others .now)) (c .before .before .before .before .before .before .before .before .before .before .args .strengths .now) (c .before .before .before .before .before .before .before .before .before .before .args .room) (c .before .before .given-refusal .ensures) (c .enum-told2 .given .1)
+    let a = c .before .before .before .before .before .before .before .before .before .before .args in
+    let s = surveyWith (a .groups .now) (a .firsts .now) (a .seconds .now) (a .weights .now) (a .owners .now) (a .others .now) in
+    given-stops s (a .strengths .now) (a .room) (c .before .before .given-refusal .ensures) (c .enum-told2 .given .1)
 
 -- 7
 returns-2 : tie.Need-returns-2
 returns-2 c =
-    short-stops (surveyWith (c .before .before .before .before .before .before .before .before .before .before .before .args .groups .now) (c .before .before .before .before .before .before .before .before .before .before .before .args .firsts .now) (c .before .before .before .before .before .before .before .before .before .before .before .args .seconds .now) (c .before .before .before .before .before .before .before .before .before .before .before .args .weights .now) (c .before .before .before .before .before .before .before .before .before .before .before .args .owners .now) (c .before .before .before .before .before .before .before .before .before .before .before .args .others .now)) (c .before .before .before .before .before .before .before .before .before .before .before .args .strengths .now) (c .before .before .before .before .before .before .before .before .before .before .before .args .room) (c .before .before .before .given-refusal .ensures) (c .before .enum-told .given .1) (c .if1 .taken)
+    let a = c .before .before .before .before .before .before .before .before .before .before .before .args in
+    let s = surveyWith (a .groups .now) (a .firsts .now) (a .seconds .now) (a .weights .now) (a .owners .now) (a .others .now) in
+    short-stops s (a .strengths .now) (a .room) (c .before .before .before .given-refusal .ensures) (c .before .enum-told .given .1) (c .if1 .taken)
 
 -- 8
 returns-3 : tie.Need-returns-3
 returns-3 c =
-    groups-decide (surveyWith (c .before .before .before .before .before .before .before .before .before .before .before .before .before .args .groups .now) (c .before .before .before .before .before .before .before .before .before .before .before .before .before .args .firsts .now) (c .before .before .before .before .before .before .before .before .before .before .before .before .before .args .seconds .now) (c .before .before .before .before .before .before .before .before .before .before .before .before .before .args .weights .now) (c .before .before .before .before .before .before .before .before .before .before .before .before .before .args .owners .now) (c .before .before .before .before .before .before .before .before .before .before .before .before .before .args .others .now)) (c .before .before .before .before .before .before .before .before .before .before .before .before .before .args .strengths .now) (c .before .before .before .before .before .before .before .before .before .before .before .before .before .args .room) (c .before .before .before .before .before .given-refusal .ensures) (c .before .before .before .enum-told .given .1) (c .before .before .if1 .left) [] (c .group-refusal .ensures)
+    let a = c .before .before .before .before .before .before .before .before .before .before .before .before .before .args in
+    let s = surveyWith (a .groups .now) (a .firsts .now) (a .seconds .now) (a .weights .now) (a .owners .now) (a .others .now) in
+    groups-decide s (a .strengths .now) (a .room) (c .before .before .before .before .before .given-refusal .ensures) (c .before .before .before .enum-told .given .1) (c .before .before .if1 .left) [] (c .group-refusal .ensures)
 
 pub winter-refusal-spec : {M : Type 1} → statement M
 winter-refusal-spec =
