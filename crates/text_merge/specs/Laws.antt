@@ -1,0 +1,4 @@
+pub mod Turn
+pub mod Ties
+pub mod Front
+pub mod Output

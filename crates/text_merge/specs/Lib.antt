@@ -1,0 +1,4 @@
+pub mod Ties
+pub mod Output
+pub mod Front
+pub mod Laws
