@@ -94,6 +94,10 @@ extern "C" {
 #define FOAMSICKLE_NUMBER(answer) ((unsigned)((answer) % 256))
 #define FOAMSICKLE_PLACE(answer) ((answer) / 256)
 
+/* The version of the library: 10,000 times its first number, plus 100 times its second, plus its third.
+ * Refuses nothing. */
+uint64_t foamsickle_version(void);
+
 /* Reads a survey's text (lines nodes=, links=, node=, also=, link=).
  * Writes the first n groups, the first m firsts, seconds and weights, the first owners and others of the pairs;
  * counts[0] n, counts[1] m, counts[2] the number of pairs.
@@ -361,10 +365,6 @@ uint64_t foamsickle_handset_check(
     const uint8_t *marks, size_t marks_length,
     const uint8_t *records, size_t records_length,
     uint8_t *result, size_t result_length);
-
-/* The version of the library: 10,000 times its first number, plus 100 times its second, plus its third.
- * Refuses nothing. */
-uint64_t foamsickle_version(void);
 
 #ifdef __cplusplus
 }
