@@ -220,15 +220,15 @@ uint64_t foamsickle_closed(
     const uint32_t *tracks, size_t tracks_length,
     uint64_t *result, size_t result_length);
 
-/* Checks marks and moat records, whoever drew them, against a survey: m marks, and of the records that planning or growing
- * wrote the first counts[4] * FOAMSICKLE_RECORD_BYTES bytes, not the whole buffer.
+/* Checks marks and moat records, whoever drew them, against a survey.
  * Writes counts[0] sites, counts[1] cost of the kept tracks, counts[2] bound.
  * Refuses 1 to 6 and 18 as above, then 7 (counts too short), then 9 (marks not m long, records no multiple of
  * FOAMSICKLE_RECORD_BYTES or over FOAMSICKLE_MAX_DUALS), 10 (a mark above 2; track), 11 (an amount of 0 or over
  * FOAMSICKLE_MAX_VALUE, or a member that is no junction; record), 12 (a moat that parts no group; record), 13 (moats
  * over a track sum to more than twice its price; track), 14 (the kept tracks leave a group apart; group), 15 (the cost
  * is more than the moats prove; 0), each over all its items, the lowest first.
- * Needed: FOAMSICKLE_CHECK_FIGURES counts. */
+ * Needed: FOAMSICKLE_CHECK_FIGURES counts. Of the records that planning or growing wrote, not the whole buffer but its
+ * first moats * FOAMSICKLE_RECORD_BYTES bytes are lent, moats being counts[4] there. */
 uint64_t foamsickle_check(
     const uint8_t *groups, size_t groups_length,
     const uint32_t *firsts, size_t firsts_length,
