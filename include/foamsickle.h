@@ -101,6 +101,10 @@ extern "C" {
 #define FOAMSICKLE_NUMBER(answer) ((unsigned)((answer) % 256))
 #define FOAMSICKLE_PLACE(answer) ((answer) / 256)
 
+/* The version of the library: 10,000 times its first number, plus 100 times its second, plus its third.
+ * Refuses nothing. */
+uint64_t foamsickle_version(void);
+
 /* Reads a survey's text (lines nodes=, links=, node=, also=, link=).
  * Writes the first n groups, the first m firsts, seconds and weights, the first owners and others of the pairs;
  * counts[0] n, counts[1] m, counts[2] the number of pairs.
@@ -290,15 +294,15 @@ uint64_t foamsickle_floor(
     const uint8_t *others, size_t others_length,
     uint64_t *counts, size_t counts_length);
 
-/* Checks marks and moat records, whoever drew them, against a survey: m marks, and of the records that planning or growing
- * wrote the first counts[4] * FOAMSICKLE_RECORD_BYTES bytes, not the whole buffer.
+/* Checks marks and moat records, whoever drew them, against a survey.
  * Writes counts[0] sites, counts[1] cost of the kept tracks, counts[2] bound.
  * Refuses 1 to 6 and 18 as above, then 7 (counts too short), then 9 (marks not m long, records no multiple of
  * FOAMSICKLE_RECORD_BYTES or over FOAMSICKLE_MAX_DUALS), 10 (a mark above 2; track), 11 (an amount of 0 or over
  * FOAMSICKLE_MAX_VALUE, or a member that is no junction; record), 12 (a moat that parts no group; record), 13 (moats
  * over a track sum to more than twice its price; track), 14 (the kept tracks leave a group apart; group), 15 (the cost
  * is more than the moats prove; 0), each over all its items, the lowest first.
- * Needed: FOAMSICKLE_CHECK_FIGURES counts. */
+ * Needed: FOAMSICKLE_CHECK_FIGURES counts. Of the records that planning or growing wrote, not the whole buffer but its
+ * first moats * FOAMSICKLE_RECORD_BYTES bytes are lent, moats being counts[4] there. */
 uint64_t foamsickle_check(
     const uint8_t *groups, size_t groups_length,
     const uint32_t *firsts, size_t firsts_length,
@@ -435,10 +439,6 @@ uint64_t foamsickle_handset_check(
     const uint8_t *marks, size_t marks_length,
     const uint8_t *records, size_t records_length,
     uint8_t *result, size_t result_length);
-
-/* The version of the library: 10,000 times its first number, plus 100 times its second, plus its third.
- * Refuses nothing. */
-uint64_t foamsickle_version(void);
 
 #ifdef __cplusplus
 }

@@ -65,8 +65,8 @@ class Lists(unittest.TestCase):
         self.refused(3, 0, foamsickle.plan, [(0, 1, 1)] * 2049, [[0, 1]])
 
     def test_what_is_no_survey(self):
-        for edges, groups in [([(0, 1, 1.5)], []), ([(0, 1, -1)], []), ([(0, 1, float("nan"))], []),
-                              ([(0, 1, float("inf"))], []), (P3, [["a", "z"]]), (P3, [["a"]] * 256)]:
+        prices = [1.5, -1, float("nan"), float("inf"), None, "5"]
+        for edges, groups in [([(0, 1, price)], []) for price in prices] + [(P3, [["a", "z"]]), (P3, [["a"]] * 256)]:
             with self.assertRaises(ValueError):
                 foamsickle.plan(edges, groups)
 
@@ -133,7 +133,7 @@ class Networkx(unittest.TestCase):
                 self.assertLessEqual(plan.cost, (2 - Fraction(2, len(sites))) * Fraction(cost))
                 found[(plan.cost > cost) - (plan.cost < cost)] += 1
         for method, (equal, dearer, cheaper) in compared.items():
-            print(f"200 plans beside networkx's steiner_tree, {method}: {equal} cost the same, {cheaper} less, {dearer} more")
+            print(f"200 plans beside networkx, {method}: {equal} cost the same, {cheaper} less, {dearer} more")
 
 
 if __name__ == "__main__":

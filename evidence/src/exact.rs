@@ -136,7 +136,7 @@ pub fn remark(cost: u64, bound: u64) -> &'static str {
 }
 
 /// Our own planner's.
-pub fn ours(survey: &Survey) -> Result<Drawn, String> {
+fn ours(survey: &Survey) -> Result<Drawn, String> {
     let plan = owned(fast, survey.view()).map_err(|refusal| format!("{refusal:?}"))?;
     let counts = plan.counts;
     let kept = (0..plan.marks.len()).filter(|&t| plan.marks[t] == KEPT).collect();
@@ -151,7 +151,7 @@ fn figure<'a>(lines: &mut impl Iterator<Item = &'a str>, key: &str) -> Result<u6
 }
 
 /// A program's, and what it says.
-pub fn printed(program: &str, survey: &Survey) -> Result<Drawn, String> {
+fn printed(program: &str, survey: &Survey) -> Result<Drawn, String> {
     let mut child = Command::new(program)
         .stdin(Stdio::piped())
         .stdout(Stdio::piped())
@@ -177,4 +177,29 @@ pub fn printed(program: &str, survey: &Survey) -> Result<Drawn, String> {
         return Err(format!("it says {said:?} of {drawn:?}"));
     }
     Ok(drawn)
+}
+
+/// The plan of a program, as it prints it, or our own planner's.
+pub fn drawn(program: Option<&str>, survey: &Survey) -> Result<Drawn, String> {
+    match program {
+        Some(program) => printed(program, survey),
+        None => ours(survey),
+    }
+}
+
+/// A command's words, `--program PATH`, `--count N` and `--seed S`: the program, the count, or this one where none is
+/// given, and the seed; nothing for other words.
+pub fn options(mut count: u64) -> Option<(Option<String>, u64, u64)> {
+    let (mut program, mut seed) = (None, 1);
+    let mut words = std::env::args().skip(1);
+    while let Some(word) = words.next() {
+        let value = words.next()?;
+        match word.as_str() {
+            "--program" => program = Some(value),
+            "--count" => count = value.parse().ok()?,
+            "--seed" => seed = value.parse().ok()?,
+            _ => return None,
+        }
+    }
+    Some((program, count, seed))
 }

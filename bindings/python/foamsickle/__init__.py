@@ -82,17 +82,17 @@ Moat = namedtuple("Moat", "amount nodes")
 Moat.__doc__ = "An amount in half price units, and the set of nodes inside."
 
 Plan = namedtuple("Plan", "edges cost floor sites bound rounds moats")
-Plan.__doc__ = """The edges to clear, as the graph has them (of a multigraph with their keys, of a list the triples), what they
-cost, and the floor: no set of edges that joins every group costs less. Then the number of sites, the bound in half price
-units, the rounds, and the moats that prove it."""
+Plan.__doc__ = """The edges to clear as the graph has them (of a multigraph with keys, of a list the triples), their
+cost, and the floor: no set of edges that joins every group costs less. Then the number of sites, the bound in half
+price units, the rounds, and the moats that prove it."""
 
 Found = namedtuple("Found", "sites cost bound floor")
 Found.__doc__ = "What the checker found of a plan, and the floor of its bound."
 
 Reason = namedtuple("Reason", "mark group ends route round")
-Reason.__doc__ = """Why an edge is in the plan or is not. Mark 'kept': without it the two nodes `ends` of the group (its index)
-are parted; `route` has the edges between them. 'dropped': it was picked, and no group needs it. 'unpicked': its ends were
-joined after this round, or never for 0."""
+Reason.__doc__ = """Why an edge is in the plan or is not. Mark 'kept': without it the two nodes `ends` of the group (its
+index) are parted; `route` has the edges between them. 'dropped': it was picked, and no group needs it. 'unpicked': its
+ends were joined after this round, or never for 0."""
 
 
 def _library():
@@ -139,9 +139,11 @@ def _whole(price, edge):
     try:
         whole = operator.index(price)
     except TypeError:
-        whole = int(price) if price == price and abs(price) != float("inf") else -1
-        if whole != price:
+        try:
+            whole = int(price)
+        except (TypeError, ValueError, OverflowError):
             whole = -1
+        whole = whole if whole == price else -1
     if not 0 <= whole < 2**32:
         raise ValueError(f"the price of {edge!r} is {price!r}: prices are whole numbers from 0 to 100,000,000")
     return whole
@@ -229,8 +231,8 @@ def plan(graph, groups, weight="weight"):
 
 
 def verify(graph, groups, plan, weight="weight"):
-    """Checks a plan, whoever drew it: its edges, its moats and its figures. What the checker finds, or a refusal: 25 for
-    a figure (place 0 sites, 1 cost, 2 bound) that is another. Of whatever passes the accuracy is proved."""
+    """Checks a plan, whoever drew it: its edges, its moats and its figures. What the checker finds, or a refusal: 25
+    for a figure (place 0 sites, 1 cost, 2 bound) that is another. Of whatever passes the accuracy is proved."""
     survey = _Survey(graph, groups, weight)
     marks = (ctypes.c_uint8 * len(survey.edges))()
     for edge in plan.edges:

@@ -5,10 +5,9 @@
 //! N surveys, half with one group and half with two or three. The plans are the program's, as it prints them; without a
 //! program they are our own planner's. Percentages are rounded up to a tenth.
 
-use evidence::exact::{ours, printed, Drawn};
+use evidence::exact::{drawn, options, Drawn};
 use evidence::gen::{distant, Rng};
 use evidence::steiner::cheapest;
-use evidence::Survey;
 use std::process::ExitCode;
 
 /// How much dearer, in tenths of a percent.
@@ -30,24 +29,9 @@ fn holds(drawn: &Drawn, best: u64) -> bool {
 }
 
 fn main() -> ExitCode {
-    let (mut program, mut count, mut seed) = (None, 1_000u64, 1);
-    let mut words = std::env::args().skip(1);
-    while let Some(word) = words.next() {
-        let value = words.next();
-        let number = value.as_ref().and_then(|value| value.parse().ok());
-        match (word.as_str(), number, value) {
-            ("--program", _, Some(path)) => program = Some(path),
-            ("--count", Some(n), _) if n >= 2 => count = n,
-            ("--seed", Some(n), _) => seed = n,
-            _ => {
-                eprintln!("distance [--program PATH] [--count N] [--seed S]");
-                return ExitCode::from(2);
-            }
-        }
-    }
-    let plan = |survey: &Survey| match &program {
-        Some(program) => printed(program, survey),
-        None => ours(survey),
+    let Some((program, count, seed)) = options(1_000) else {
+        eprintln!("distance [--program PATH] [--count N] [--seed S]");
+        return ExitCode::from(2);
     };
     let mut violations = 0;
     for (first, groups) in [(0, "one group"), (1, "two or three groups")] {
@@ -55,7 +39,7 @@ fn main() -> ExitCode {
         for case in (first..count).step_by(2) {
             let survey = distant(&mut Rng::of_case(seed, case), first == 0);
             let best = cheapest(survey.view()).expect("it can be joined, with few sites");
-            match plan(&survey) {
+            match drawn(program.as_deref(), &survey) {
                 Ok(drawn) if holds(&drawn, best) => {
                     dearer.push(above(drawn.cost, best));
                     certified.push(above(drawn.cost, drawn.bound.div_ceil(2)));

@@ -6,31 +6,17 @@
 //! the program's, as it prints them, and what it says on standard error is held against its figures; without a program
 //! they are our own planner's.
 
-use evidence::exact::{one_list, ours, printed, two_sites};
+use evidence::exact::{drawn, one_list, options, two_sites};
 use evidence::gen::{exact, Rng};
 use evidence::Survey;
 use std::process::ExitCode;
 
 fn main() -> ExitCode {
-    let (mut program, mut count, mut seed) = (None, 20_000u64, 1);
-    let mut words = std::env::args().skip(1);
-    while let Some(word) = words.next() {
-        let value = words.next();
-        let number = value.as_ref().and_then(|value| value.parse().ok());
-        match (word.as_str(), number, value) {
-            ("--program", _, Some(path)) => program = Some(path),
-            ("--count", Some(n), _) => count = n,
-            ("--seed", Some(n), _) => seed = n,
-            _ => {
-                eprintln!("exact [--program PATH] [--count N] [--seed S]");
-                return ExitCode::from(2);
-            }
-        }
-    }
-    let plan = |survey: &Survey| match &program {
-        Some(program) => printed(program, survey),
-        None => ours(survey),
+    let Some((program, count, seed)) = options(20_000) else {
+        eprintln!("exact [--program PATH] [--count N] [--seed S]");
+        return ExitCode::from(2);
     };
+    let plan = |survey: &Survey| drawn(program.as_deref(), survey);
     let (mut free, mut tied) = (0u64, 0u64);
     for case in 0..2 * count {
         let rng = &mut Rng::of_case(seed ^ 0x6578_6163_74, case);
