@@ -1,5 +1,7 @@
 pub mod Arcs
 pub mod State
+pub mod End
+pub mod Reach
 pub mod Shares
 pub mod Number
 pub mod Floor

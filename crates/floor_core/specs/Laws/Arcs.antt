@@ -149,7 +149,7 @@ module _ (firsts seconds rests : List ℕ) where
   unfolding reaching
   reaching-is n v h = h
 
-  length-flag : (a : ℕ) (flags : List ℕ) → length (flagAt firsts seconds rests a flags) ≡ length flags
+  pub length-flag : (a : ℕ) (flags : List ℕ) → length (flagAt firsts seconds rests a flags) ≡ length flags
   unfolding flagAt
   length-flag a flags = by (eqb (getD rests a 0) 0 && entersAt firsts seconds flags a)
     where

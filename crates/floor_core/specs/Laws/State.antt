@@ -86,7 +86,7 @@ module _ (firsts seconds : List ℕ) where
         rw (ne-eqb (missing share (s .got) l) 0 (λ z. some (x-is ∙ z)))
         (t-is ∙ ap (λ (f : List ℕ). raisedBy firsts seconds f share root l s) flags-are)
 
-    visit-long : AsLong s (visit firsts seconds share n root l v s)
+    pub visit-long : AsLong s (visit firsts seconds share n root l v s)
     unfolding visit
     visit-long =
         cond-long (eqb (missing share (s .got) l) 0) s s _ (as-long s) (by-long (reaching firsts seconds (s .rests) n v) share root l s)
@@ -102,7 +102,7 @@ module _ (firsts seconds : List ℕ) where
       unfolding visitMember
       member-visited x-is same t-is = rw (eq-eqb (getD groups v 0) l (sym x-is ∙ same)) t-is
 
-      member-long : AsLong s (visitMember groups firsts seconds share root l v s)
+      pub member-long : AsLong s (visitMember groups firsts seconds share root l v s)
       unfolding visitMember
       member-long = cond-long (eqb (getD groups v 0) l) s _ s (visit-long share (length groups) root l v s) (as-long s)
 
@@ -135,7 +135,7 @@ module _ (firsts seconds : List ℕ) where
       unfolding visitGroup
       group-visited b x-is some t-is = rw (le-ltb l k b, ne-eqb (missing share (s .got) l) 0 (λ z. some (x-is ∙ z))) t-is
 
-      group-long : AsLong s (visitGroup groups firsts seconds share root k l s)
+      pub group-long : AsLong s (visitGroup groups firsts seconds share root k l s)
       unfolding visitGroup
       group-long = cond-long (ltb l k || eqb (missing share (s .got) l) 0) s s _ (as-long s) (members-long l (length groups) s)
 
