@@ -17,8 +17,8 @@ mod grow;
 mod winter;
 
 pub use closed::closed_call;
-pub use winter::winter_call;
 pub use floor::floor_call;
+pub use winter::winter_call;
 
 // Entries of the counts.
 pub const PLAN_FIGURES: usize = 5;
