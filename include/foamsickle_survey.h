@@ -200,8 +200,12 @@ static inline int foamsickle_words(uint64_t answer, char *out, size_t room) {
         return snprintf(out, room, "the STP text is malformed at byte %llu", place);
     case 21:
         return snprintf(out, room, "track %llu closes a loop with picked tracks of lower number", place);
+    case 22:
+        return snprintf(out, room, "tie %llu is out of range, or names a junction that is tied already", place);
     case 23:
         return snprintf(out, room, "the table is not whole tracks of twelve bytes");
+    case 24:
+        return snprintf(out, room, "the strength of group %llu is 0 or over 15, or there are not 255", place);
     case 25:
         return snprintf(out, room, "the plan's %s is not what the checker finds", figures[place < 2 ? place : 2]);
     case 26:

@@ -160,7 +160,11 @@ impl fmt::Display for Refusal {
             Track(track) => write!(f, "there is no track {track}"),
             MalformedStp(byte) => write!(f, "the STP text is malformed at byte {byte}"),
             Loop(track) => write!(f, "track {track} closes a loop with picked tracks of lower number"),
+            Tie(tie) => write!(f, "tie {tie} is out of range, or names a junction that is tied already"),
             PartOfTrack => write!(f, "the table is not whole tracks of twelve bytes"),
+            Strength(group) => {
+                write!(f, "the strength of group {group} is 0 or over 15, or there are not 255")
+            }
             Other(25, place) => {
                 write!(
                     f,
