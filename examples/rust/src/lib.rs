@@ -640,7 +640,10 @@ mod tests {
         let second = Survey::new(&[3, 1], &[0], &[1], &[4]).unwrap();
         assert_eq!(plan(&first).map(|p| p.found.cost), Ok(0));
         let whole = merge(&first, &second, &[(2, 0)]).unwrap();
-        assert_eq!((&whole.groups[..], &whole.firsts[..], &whole.seconds[..]), (&[1, 0, 2, 1][..], &[0, 1, 2][..], &[1, 2, 3][..]));
+        assert_eq!(
+            (&whole.groups[..], &whole.firsts[..], &whole.seconds[..]),
+            (&[1, 0, 2, 1][..], &[0, 1, 2][..], &[1, 2, 3][..])
+        );
         assert_eq!((&whole.weights[..], &whole.owners[..], &whole.others[..]), (&[5, 7, 4][..], &[2][..], &[3][..]));
         assert_eq!(plan(&whole.survey().unwrap()).map(|p| p.found.cost), Ok(16));
         assert_eq!(merge(&first, &second, &[(2, 0), (1, 0)]).err(), Some(Refusal::Tie(1)));
