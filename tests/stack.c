@@ -93,6 +93,11 @@ static void closed(void) {
                                2 * FOAMSICKLE_ROW_FIGURES);
 }
 
+static void lowest(void) {
+    answer = foamsickle_floor(groups, N, firsts, M, seconds, M, weights, M, owners, PAIRS, others, PAIRS, counts,
+                              FOAMSICKLE_FLOOR_FIGURES);
+}
+
 static void check(void) {
     answer = foamsickle_check(groups, N, firsts, M, seconds, M, weights, M, owners, PAIRS, others, PAIRS, marks, M, records,
                               moat_bytes, counts, FOAMSICKLE_CHECK_FIGURES);
@@ -190,6 +195,7 @@ int main(int argc, char **argv) {
         {"foamsickle_plan", plan},
         {"foamsickle_why", why},
         {"foamsickle_closed", closed},
+        {"foamsickle_floor", lowest},
         {"foamsickle_check", check},
         {"foamsickle_handset_plan", handset_plan},
         {"foamsickle_handset_check", handset_check},
