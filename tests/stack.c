@@ -114,6 +114,11 @@ static void winter(void) {
                                FOAMSICKLE_STRENGTHS, copies, M, counts, FOAMSICKLE_WINTER_FIGURES);
 }
 
+static void lowest(void) {
+    answer = foamsickle_floor(groups, N, firsts, M, seconds, M, weights, M, owners, PAIRS, others, PAIRS, counts,
+                              FOAMSICKLE_FLOOR_FIGURES);
+}
+
 static void check(void) {
     answer = foamsickle_check(groups, N, firsts, M, seconds, M, weights, M, owners, PAIRS, others, PAIRS, marks, M, records,
                               moat_bytes, counts, FOAMSICKLE_CHECK_FIGURES);
@@ -213,6 +218,7 @@ int main(int argc, char **argv) {
         {"foamsickle_closed", closed},
         {"foamsickle_merge", merge},
         {"foamsickle_winter", winter},
+        {"foamsickle_floor", lowest},
         {"foamsickle_check", check},
         {"foamsickle_handset_plan", handset_plan},
         {"foamsickle_handset_check", handset_check},
