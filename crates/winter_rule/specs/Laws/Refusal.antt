@@ -55,14 +55,6 @@ module _ (strengths : List ℕ) where
   abbrev found : ℕ → Verdict
   found i = strengthRefusal (getD strengths i 0) (i + 1)
 
-  pub fine-strengths : strengthsRefusal strengths ≡ Fine → StrengthsSound strengths
-  unfolding strengthsRefusal strengthOf
-  fine-strengths h =
-      record {
-        long = eqb-true (length strengths) strengthCount (not-false (eqb (length strengths) strengthCount) (fine-refuse _ 24 0 (fine-left _ _ h)));
-        each = λ g some most. fine-strength (getD strengths (g - 1) 0) (g - 1 + 1) (none-lowest strengthCount found (fine-right _ _ h) (g - 1) (omega arith));
-      }
-
   at-fine : (i : ℕ) → StrengthSound (strengthOf strengths (i + 1)) → found i ≡ Fine
   unfolding strengthOf
   at-fine i h =
@@ -94,6 +86,14 @@ module _ (strengths : List ℕ) where
   unfolding strengthsRefusal
   length-refused h =
       before-refused (refuse-true (not-of-false (eqb (length strengths) strengthCount) (ne-eqb (length strengths) strengthCount h)) 24 0) _
+
+  pub fine-strengths : strengthsRefusal strengths ≡ Fine → StrengthsSound strengths
+  unfolding strengthsRefusal strengthOf
+  fine-strengths h =
+      record {
+        long = eqb-true (length strengths) strengthCount (not-false (eqb (length strengths) strengthCount) (fine-refuse _ 24 0 (fine-left _ _ h)));
+        each = λ g some most. fine-strength (getD strengths (g - 1) 0) (g - 1 + 1) (none-lowest strengthCount found (fine-right _ _ h) (g - 1) (omega arith));
+      }
 
 -- ---- the call
 
