@@ -3,3 +3,4 @@ pub mod Cut
 pub mod Ascent
 pub mod Number
 pub mod Promise
+pub mod Exact
