@@ -116,10 +116,12 @@ fn enlarge(rng: &mut Rng, surveys: &mut [Survey; 2], ties: &mut [Vec<u32>; 2], f
                 (m..more).for_each(|t| survey.prices.push(survey.prices[t % m]));
             }
             let sum = surveys[0].first.len() + surveys[1].first.len();
-            if let (true, 1..) = (sum < MAX_TRACKS + over, surveys[1 - side].first.len()) {
-                let survey = &mut surveys[1 - side];
+            let survey = &mut surveys[1 - side];
+            if let m @ 1.. = survey.first.len() {
+                // What the first of them could not take.
+                let more = (MAX_TRACKS + over).saturating_sub(sum).min(MAX_TRACKS - m);
                 for buffer in [&mut survey.first, &mut survey.second, &mut survey.prices] {
-                    (sum..MAX_TRACKS + over).for_each(|_| buffer.push(buffer[0]));
+                    (0..more).for_each(|_| buffer.push(buffer[0]));
                 }
             }
         }
