@@ -2,7 +2,7 @@
 ghost use mathlib.Core.Path.{_≡_};
 ghost use Prim.Native.Nat.{_≤_, _<_, _^_};
 ghost use mathlib.Core.Bool.{cond, not};
-ghost use lib.ListN.{getD, length};
+ghost use lib.ListN.{getD};
 ghost use lib.Dec.{ltb};
 ghost use lib.Seq.{sets};
 ghost use Rattle.base_buffer.specs.Lent.{old, new};

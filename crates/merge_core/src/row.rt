@@ -1,7 +1,7 @@
 // The groups of one junction of the result, as a row of flags.
 ghost use mathlib.Core.Path.{_≡_};
 ghost use mathlib.Core.Bool.{cond, _||_};
-ghost use lib.ListN.{getD, length, set};
+ghost use lib.ListN.{length, set};
 ghost use lib.Dec.{eqb};
 ghost use Rattle.base_buffer.specs.Lent.{old, new};
 ghost use Rattle.base_finite.specs.Below.{counted, tabulate};

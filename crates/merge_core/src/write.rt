@@ -1,12 +1,12 @@
 // What is written of the result, buffer by buffer.
 ghost use mathlib.Core.Path.{_≡_};
-ghost use Prim.Native.Nat.{_+_, _≤_, _<_, _^_};
+ghost use Prim.Native.Nat.{_+_, _≤_, _<_};
 ghost use mathlib.Core.List.{map, _++_};
 ghost use lib.ListN.{getD, length, take};
 ghost use lib.Seq.{sets};
 ghost use Rattle.base_buffer.specs.Lent.{old, new};
 ghost use Rattle.base_finite.specs.Below.{tabulate};
-ghost use Rattle.base_limits.specs.Limits.{maxEdges, groupNumbers};
+ghost use Rattle.base_limits.specs.Limits.{maxEdges};
 ghost use Rattle.merge_rule.specs.Merged.{pairVertex, pairGroup};
 ghost use Rattle.merge_core.specs.Row.{ownWith};
 ghost use Rattle.merge_core.specs.Pairs.{standingIn};

@@ -3,7 +3,7 @@
 use Prim.Native.Nat.{ℕ, _+_, _-_, _^_, min}
 use mathlib.Core.Bool.{cond}
 use mathlib.Core.List.{List}
-use lib.ListN.{length, take, drop}
+use lib.ListN.{drop}
 use lib.Dec.{eqb}
 use Rattle.base_limits.specs.Limits.{maxVertices, maxEdges, maxPairs}
 use Rattle.base_limits.specs.Verdict.{Outcome, refusal, answer}

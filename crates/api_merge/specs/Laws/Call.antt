@@ -1,5 +1,5 @@
 -- Merging: counts that fit, and it is the library's own; too short, and a group buffer of no length is lent on, which is refused.
-use Prim.Native.Nat.{ℕ, _+_, _*_, _-_, _<_, _≤_}
+use Prim.Native.Nat.{ℕ, _+_, _*_, _-_}
 use native.Mathlib.Omega.{arith}
 use native.Mathlib.Nat.{sub-zero}
 use mathlib.Core.Path.{_≡_, refl, ap, sym, subst, _∙_}
@@ -16,7 +16,7 @@ use Rattle.merge_rule.specs.Ties.{Ties}
 use Rattle.merge_rule.specs.Merged.{merged}
 use Rattle.merge_rule.specs.declared.Merged.{Merged}
 use Rattle.merge_rule.specs.declared.Merged.the-variants.{Finished as MergedFinished, Refused as MergedRefused}
-use Rattle.merge_rule.specs.Refusal.{SurveyCounts, countsOf, Room, roomFrom, roomOf, mergeRefusal, merging, mergedOutcome, over, mergedAfter}
+use Rattle.merge_rule.specs.Refusal.{SurveyCounts, countsOf, roomFrom, roomOf, mergeRefusal, merging, mergedOutcome, over, mergedAfter}
 use Rattle.merge_rule.specs.Laws.Refusal.{fine-merge, fine-merge-room}
 use Rattle.merge_rule.specs.Laws.Sound.{merged-sound}
 use Rattle.api_code.specs.Code.{placeUnit, codeOf, capped, verdictOf, countsFor, countsAfter, lentOn}

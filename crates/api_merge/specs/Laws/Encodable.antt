@@ -4,9 +4,7 @@ use native.Mathlib.Omega.{arith}
 use lib.ListN.{length}
 use lib.Dec.{lit<}
 use Rattle.base_limits.specs.Limits.{maxVertices}
-use Rattle.base_limits.specs.Verdict.{lowestBelow}
 use Rattle.survey_core.specs.Survey.{Survey, vertexCount}
-use Rattle.survey_core.specs.Refusal.{surveyRefusal}
 use Rattle.survey_core.specs.Laws.Refusal.{fine-survey}
 use Rattle.api_code.specs.Laws.Encodable.{Encodable, at-zero, at-place, encodable-refuse, encodable-before, encodable-first, survey-encodable}
 use Rattle.merge_rule.specs.Ties.{Ties}

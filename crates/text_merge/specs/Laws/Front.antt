@@ -1,5 +1,5 @@
 -- The survey at the front of a text, by the cases of the code: refused counts, refused lines, and a survey in buffers. `read_front` cites it.
-use Prim.Native.Nat.{ℕ, _-_, _≤_}
+use Prim.Native.Nat.{ℕ, _≤_}
 use native.Mathlib.Omega.{arith}
 use native.Mathlib.Nat.{sub-zero}
 use mathlib.Core.Path.{_≡_, refl, ap, sym, _∙_, subst}
@@ -12,7 +12,6 @@ use Rattle.format_also.specs.Pair.{ownersOf, othersOf}
 use Rattle.format_survey.specs.Line.{SurveyCounts, widest, testsFor, countsAt, firstsOf, secondsOf, weightsOf, SurveyLines, linesAt, linesWith}
 use Rattle.format_survey.specs.Reading.{SurveyText, surveyOf}
 use Rattle.format_survey.specs.Laws.LinesBody.{lines-sizes, with-room, sets-filled}
-use Rattle.survey_core.specs.Survey.{Survey, surveyWith}
 use Rattle.check_printed.specs.Verify.{surveyLinesAt, prefixAt, surveyIn}
 use Rattle.check_printed.specs.Laws.Verify.{partsOf, BeforeLines, AfterLines, lines-pairs, counted-few}
 use Rattle.text_merge.specs.declared.Front.{Front}

@@ -7,7 +7,7 @@ use mathlib.Core.Bool.{Bool, true, false, cond}
 use mathlib.Core.List.{List, [], map}
 use lib.ListN.{length, take, drop, replicate, length-replicate, length-map, length-drop, drop-of-length-le}
 use lib.Seq.{sets, take-all, take-at}
-use lib.Dec.{eqb, ltb}
+use lib.Dec.{ltb}
 use borrow.Author.Tests.{eq-eqb, ne-eqb, ltb-true}
 use Rattle.base_buffer.specs.Part.{atMost}
 use Rattle.base_limits.specs.Limits.{maxVertices, maxEdges, maxPairs}
@@ -25,7 +25,6 @@ use Rattle.format_survey.specs.Laws.LinesBody.{sets-filled}
 use Rattle.format_survey_print.specs.Print.{surveyOfLists, surveyText, surveyPrinted, surveyPrintedOut}
 use Rattle.format_survey_print.specs.Laws.Print.{whole-answer, whole-out}
 use Rattle.survey_core.specs.Survey.{Survey, surveyWith}
-use Rattle.survey_core.specs.Sound.{SurveySound}
 use Rattle.check_printed.specs.Verify.{prefixAt, surveyIn}
 use Rattle.merge_rule.specs.Ties.{Ties, tiesFrom}
 use Rattle.merge_rule.specs.Merged.{merged}

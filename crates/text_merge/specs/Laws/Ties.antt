@@ -1,7 +1,7 @@
 -- Tie lines: their numbers have at most three digits, and there are at most as many as a survey may have junctions.
 use Prim.Native.Nat.{ℕ, zero, suc, _+_, _≤_, _<_}
 use native.Mathlib.Omega.{arith}
-use mathlib.Core.Path.{_≡_, refl, ap, sym, _∙_, subst}
+use mathlib.Core.Path.{_≡_, refl, subst}
 use mathlib.Core.Bool.{Bool, true, false, cond}
 use mathlib.Core.List.{List}
 use lib.ListN.{length}
@@ -9,10 +9,10 @@ use lib.Dec.{leb}
 use borrow.Author.Tests.{le-leb, lt-leb, leb-false}
 use Rattle.base_limits.specs.Limits.{endpointDigits}
 use Rattle.format_write.specs.Key.{comma, newline}
-use Rattle.format_read.specs.Step.{Step, found, refused, _then_}
-use Rattle.format_read.specs.Lines.{Lines, following}
+use Rattle.format_read.specs.Step.{Step, found, refused}
+use Rattle.format_read.specs.Lines.{following}
 use Rattle.format_read.specs.Bytes.{fixedAt}
-use Rattle.format_read.specs.Items.{ItemReader, itemsFrom}
+use Rattle.format_read.specs.Items.{itemsFrom}
 use Rattle.format_read.specs.Number.{OfDigits, numberTo}
 use Rattle.format_read.specs.Laws.Step.{then-value}
 use Rattle.format_read.specs.Laws.Digits.{number-to-below}

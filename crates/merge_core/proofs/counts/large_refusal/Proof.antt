@@ -3,7 +3,6 @@ use borrow.Author.Tests.{lt-ltb, le-ltb}
 use Rattle.base_limits.specs.Limits.{maxVertices, maxEdges, maxPairs}
 use Rattle.base_limits.specs.Verdict.{refuseIf, _before_}
 use Rattle.merge_rule.specs.Refusal.{largeRefusal}
-use borrow.Author.Needs.{needs}
 use Rattle.merge_core.proofs.counts.large_refusal.Statement.{statement}
 use Rattle.merge_core.proofs.counts.large_refusal.Tie as tie
 

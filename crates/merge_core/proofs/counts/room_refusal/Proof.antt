@@ -2,7 +2,6 @@
 use borrow.Author.Tests.{lt-ltb, le-ltb}
 use Rattle.base_limits.specs.Verdict.{refuseIf, _before_}
 use Rattle.merge_rule.specs.Refusal.{roomRefusal}
-use borrow.Author.Needs.{needs}
 use Rattle.merge_core.proofs.counts.room_refusal.Statement.{statement}
 use Rattle.merge_core.proofs.counts.room_refusal.Tie as tie
 

@@ -1,7 +1,7 @@
 -- `append_row` meets its contract: one more flag in each turn (`row-turn`).
 use Prim.Native.Nat.{_-_}
 use native.Mathlib.Omega.{arith}
-use mathlib.Core.Path.{_≡_, refl, ap, _∙_}
+use mathlib.Core.Path.{refl, ap, _∙_}
 use lib.ListN.{length}
 use lib.Seq.{length-sets}
 use Rattle.base_limits.specs.Limits.{groupNumbers}

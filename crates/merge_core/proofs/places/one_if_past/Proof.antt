@@ -1,8 +1,6 @@
 -- `one_if_past` meets its contract: each return by its test.
-use mathlib.Core.Path.{sym}
 use borrow.Author.Tests.{lt-ltb, le-ltb}
 use Rattle.base_finite.specs.Below.{counted}
-use borrow.Author.Needs.{needs}
 use Rattle.merge_core.proofs.places.one_if_past.Statement.{statement}
 use Rattle.merge_core.proofs.places.one_if_past.Tie as tie
 

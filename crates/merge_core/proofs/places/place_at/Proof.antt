@@ -1,5 +1,4 @@
 -- `place_at` meets its contract: each return by its test.
-use mathlib.Core.Path.{refl}
 use borrow.Author.Tests.{lt-ltb, le-ltb}
 use borrow.Author.Needs.{needs}
 use Rattle.merge_core.proofs.places.place_at.Statement.{statement}

@@ -1,12 +1,12 @@
 -- `store_places` meets its contract: one more place in each turn (`head-more`).
 use Prim.Native.Nat.{_+_, _≤_, _-_}
 use native.Mathlib.Omega.{arith}
-use mathlib.Core.Path.{_≡_, refl, ap, sym, _∙_}
+use mathlib.Core.Path.{_≡_, refl, _∙_}
 use lib.ListN.{take}
 use lib.Seq.{sets}
 use Rattle.base_finite.specs.Below.{countBelow, tabulate}
 use Rattle.base_finite.specs.Laws.Below.{count-le}
-use Rattle.merge_rule.specs.Ties.{tiesFrom, isUntied, placed, mergedCount}
+use Rattle.merge_rule.specs.Ties.{tiesFrom, isUntied, placed}
 use Rattle.merge_core.specs.Laws.Stored.{head-more, run-end}
 use Rattle.merge_core.specs.Laws.Copy.{table-below, table-end, table-read}
 use Rattle.merge_core.specs.Laws.Find.{place-found, next-found, places-start, places-counted}

@@ -1,8 +1,6 @@
 -- `mark_groups` meets its contract: the pairs, then the own group.
-use mathlib.Core.Path.{refl, ap, _∙_}
-use lib.ListN.{length, length-set}
 use Rattle.survey_core.specs.Lists.{listsFrom}
-use Rattle.merge_core.specs.Laws.Row.{length-marked, groups-marked}
+use Rattle.merge_core.specs.Laws.Row.{groups-marked}
 use borrow.Author.Needs.{needs}
 use Rattle.merge_core.proofs.row.mark_groups.Statement.{statement}
 use Rattle.merge_core.proofs.row.mark_groups.Tie as tie

@@ -1,8 +1,5 @@
 -- `mark_if` meets its contract: the flag is stored, or nothing is.
-use mathlib.Core.Path.{refl, ap, sym, _∙_}
-use mathlib.Core.List.{List}
-use Prim.Native.Nat.{ℕ}
-use lib.ListN.{set}
+use mathlib.Core.Path.{sym, _∙_}
 use borrow.Author.Tests.{eq-eqb, ne-eqb}
 use borrow.Author.Needs.{needs}
 use Rattle.merge_core.proofs.row.mark_if.Statement.{statement}

@@ -1,8 +1,5 @@
 -- `row_of` meets its contract: the groups of both, but for the own one and 0.
-use Prim.Native.Nat.{ℕ}
-use mathlib.Core.Path.{_≡_, refl, ap, sym, _∙_}
-use lib.ListN.{length, length-replicate}
-use Rattle.base_limits.specs.Limits.{groupNumbers}
+use mathlib.Core.Path.{sym}
 use Rattle.survey_core.specs.Lists.{listsFrom}
 use Rattle.merge_core.specs.Laws.Row.{row-found, one-long, two-long, three-long}
 use borrow.Author.Needs.{needs}

@@ -1,7 +1,7 @@
 -- `copy_places` meets its contract: one more store in each turn (`run-more`).
 use Prim.Native.Nat.{_≤_, _-_}
 use native.Mathlib.Omega.{arith}
-use mathlib.Core.Path.{_≡_, refl, ap, sym, _∙_}
+use mathlib.Core.Path.{_≡_, refl, _∙_}
 use lib.Seq.{sets}
 use mathlib.Core.List.{map}
 use lib.ListN.{length, getD, take}

@@ -1,9 +1,8 @@
 -- `write_ends` meets its contract: two runs, one behind the other.
 use mathlib.Core.List.{map}
-use lib.ListN.{length, getD}
+use lib.ListN.{getD}
 use native.Mathlib.Omega.{arith}
 use Rattle.merge_core.specs.Laws.Stored.{runs-both, runs-long}
-use borrow.Author.Needs.{needs}
 use Rattle.merge_core.proofs.write.write_ends.Statement.{statement}
 use Rattle.merge_core.proofs.write.write_ends.Tie as tie
 

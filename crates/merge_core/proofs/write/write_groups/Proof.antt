@@ -1,7 +1,7 @@
 -- `write_groups` meets its contract: one more store in each turn (`head-more`).
 use Prim.Native.Nat.{_≤_, _-_}
 use native.Mathlib.Omega.{arith}
-use mathlib.Core.Path.{_≡_, refl, ap, _∙_}
+use mathlib.Core.Path.{_≡_, refl, _∙_}
 use lib.ListN.{length, take}
 use lib.Seq.{sets}
 use Rattle.base_finite.specs.Below.{tabulate}

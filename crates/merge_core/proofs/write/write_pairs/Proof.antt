@@ -1,10 +1,10 @@
 -- `write_pairs` meets its contract: two more stores in each turn (`head-more`).
 use Prim.Native.Nat.{_≤_, _-_}
 use native.Mathlib.Omega.{arith}
-use mathlib.Core.Path.{_≡_, refl, ap, sym, _∙_}
+use mathlib.Core.Path.{_≡_, refl, _∙_}
 use lib.Seq.{sets}
 use mathlib.Core.List.{map}
-use lib.ListN.{length, take}
+use lib.ListN.{take}
 use Rattle.merge_rule.specs.Merged.{pairVertex, pairGroup}
 use Rattle.merge_core.specs.Laws.Stored.{head-more, run-end, run-long}
 use Rattle.merge_core.specs.Laws.Copy.{part-below, part-end, part-read}

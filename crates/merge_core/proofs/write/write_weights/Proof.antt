@@ -1,8 +1,6 @@
 -- `write_weights` meets its contract: two runs, one behind the other.
-use lib.ListN.{length}
 use native.Mathlib.Omega.{arith}
 use Rattle.merge_core.specs.Laws.Stored.{runs-both, runs-long}
-use borrow.Author.Needs.{needs}
 use Rattle.merge_core.proofs.write.write_weights.Statement.{statement}
 use Rattle.merge_core.proofs.write.write_weights.Tie as tie
 

@@ -1,5 +1,4 @@
 -- `read_front` meets its contract: refused counts, refused lines, or a survey in the buffers.
-use native.Mathlib.Omega.{arith}
 use mathlib.Core.Path.{ap, _∙_}
 use Rattle.format_read.specs.Step.{stopped}
 use Rattle.format_read.specs.Answer.{numberStep}
