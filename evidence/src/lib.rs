@@ -17,6 +17,7 @@
 //! | `brute` | the cheapest joining set of a tiny survey |
 //! | `exact` | a cheapest route and a cheapest set that joins all junctions (No. 14) |
 //! | `season` | the season's report, adding a survey to it and printing it (No. 11) |
+//! | `merge` | one survey of two (No. 9) |
 //! | `handset` | planning and checking over bytes alone, and their generated cases |
 //! | `gen`   | seeded surveys, texts and plans, sound and damaged |
 //! | `programs` | the programs, with their generated inputs and what each is to print |
@@ -32,6 +33,7 @@ pub mod closed;
 pub mod exact;
 pub mod gen;
 pub mod handset;
+pub mod merge;
 #[cfg(feature = "native")]
 pub mod native;
 pub mod plan;

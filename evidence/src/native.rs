@@ -11,6 +11,7 @@
 
 use crate::calls::{Figures, Library, PLAN_COUNTS};
 use crate::handset::{Crossing, Handset};
+use crate::merge::Ties;
 use crate::plan::Counts;
 use crate::read::Lent;
 use crate::season::Season;
@@ -44,6 +45,12 @@ fn print_plan(figures: Figures, marks: &[u8], records: &[u8], out: &mut [u8], co
     call::print_plan(sites, cost, bound, rounds, marks, records, out, counts)
 }
 
+fn merge(first: View, second: View, ties: Ties, lent: Lent, counts: &mut [u64]) -> u64 {
+    let Lent { groups, first: firsts, second: seconds, prices: weights, owners, others } = lent;
+    let buffers = call::Buffers { groups, firsts, seconds, weights, owners, others };
+    call::merge(slices(first), slices(second), ties.first, ties.second, buffers, counts)
+}
+
 /// The product's operations in the form that crosses.
 pub const LIBRARY: Library = Library {
     read,
@@ -58,6 +65,7 @@ pub const LIBRARY: Library = Library {
     print_moat: call::print_dual,
     print_plan,
     print_survey: |survey, out, counts| call::print_survey(slices(survey), out, counts),
+    merge,
 };
 
 /// Its calls for the handset.

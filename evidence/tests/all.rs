@@ -9,6 +9,7 @@ mod document;
 mod exact;
 mod full;
 mod handset;
+mod merge;
 mod programs;
 mod reading;
 mod season;

@@ -89,6 +89,18 @@ pub enum Fault {
     StpLines,
     StpEmptyFirst,
     StpOpen,
+    /// A fault of the second survey.
+    InSecond(&'static Fault),
+    TiesUnequal,
+    TieOut,
+    TieSecondOut,
+    TieTwice,
+    TieSecondTwice,
+    TiesMany,
+    TiesAny,
+    DistrictJunctions,
+    DistrictTracks,
+    DistrictPairs,
 }
 
 use Fault::*;
@@ -315,6 +327,58 @@ pub const PRINT_MOAT_FAULTS: &[Fault] = &[Nothing, RecordLength, OutShort, Count
 pub const PRINT_PLAN_FAULTS: &[Fault] = &[Nothing, OutShort, CountsShort];
 pub const PRINT_SURVEY_FAULTS: &[Fault] = &[Nothing, SecondUnequal, PricesUnequal, PairsUnequal, OutShort, CountsShort];
 
+/// Those of the first survey, those of the second, of the ties, of the district, of the lent buffers.
+pub const MERGE_FAULTS: &[Fault] = &[
+    Nothing,
+    NoJunction,
+    ManyJunctions,
+    SecondUnequal,
+    PricesUnequal,
+    PairsUnequal,
+    ManyTracks,
+    EndOut,
+    EndsEqual,
+    PriceHigh,
+    PairOut,
+    PairNone,
+    PairOwn,
+    PairsFall,
+    PairTwice,
+    ManyPairs,
+    InSecond(&NoJunction),
+    InSecond(&ManyJunctions),
+    InSecond(&SecondUnequal),
+    InSecond(&PricesUnequal),
+    InSecond(&PairsUnequal),
+    InSecond(&ManyTracks),
+    InSecond(&EndOut),
+    InSecond(&EndsEqual),
+    InSecond(&PriceHigh),
+    InSecond(&PairOut),
+    InSecond(&PairNone),
+    InSecond(&PairOwn),
+    InSecond(&PairsFall),
+    InSecond(&PairTwice),
+    InSecond(&ManyPairs),
+    TiesUnequal,
+    TieOut,
+    TieSecondOut,
+    TieTwice,
+    TieSecondTwice,
+    TiesMany,
+    TiesAny,
+    DistrictJunctions,
+    DistrictTracks,
+    DistrictPairs,
+    GroupsShort,
+    FirstShort,
+    SecondShort,
+    PricesShort,
+    OwnersShort,
+    OthersShort,
+    CountsShort,
+];
+
 /// The refusals that can be due together in one call: each with those before which it is given. Where two stand in both
 /// orders the place decides: of tracks the lower, and in a text what is complete first.
 pub type Pairs = &'static [(u64, &'static [u64])];
@@ -401,6 +465,18 @@ pub const WINTER_PAIRS: Pairs = &[
 pub const PRINT_MOAT_PAIRS: Pairs = &[(9, &[7])];
 pub const PRINT_PLAN_PAIRS: Pairs = &[];
 pub const PRINT_SURVEY_PAIRS: Pairs = &[(2, &[7])];
+
+/// 1 to 6 and 18 of the first survey come before those of the second, 1, 3 and 18 of the district after 22.
+pub const MERGE_PAIRS: Pairs = &[
+    (1, &[2, 3, 4, 5, 6, 18, 22, 7]),
+    (2, &[1, 3, 4, 5, 6, 18, 22, 7]),
+    (3, &[1, 2, 4, 5, 6, 18, 22, 7]),
+    (4, &[1, 2, 3, 5, 6, 18, 22, 7]),
+    (5, &[1, 2, 3, 4, 6, 18, 22, 7]),
+    (6, &[1, 2, 3, 4, 5, 18, 22, 7]),
+    (18, &[1, 2, 3, 4, 5, 6, 22, 7]),
+    (22, &[1, 3, 18, 7]),
+];
 
 /// One case of so many has a survey as large as can be: 448 junctions, 2,048 tracks.
 const FULL_EVERY: u64 = 200;
@@ -659,6 +735,42 @@ pub fn remark(rng: &mut Rng, survey: &mut Survey, marks: &mut Vec<u8>, fault: Fa
             }
         }
         PickRemoved if !picked.is_empty() => marks[rng.pick(&picked)] = NOT_PICKED,
+        _ => {}
+    }
+}
+
+/// Puts a fault into ties, if it is one of those, for surveys of so many junctions.
+pub fn untie(rng: &mut Rng, counts: [usize; 2], ties: &mut [Vec<u32>; 2], fault: Fault) {
+    let many = ties[0].len().min(ties[1].len());
+    let at = rng.below(many + 1);
+    let any = counts.map(|n| rng.below(n.max(1)) as u32);
+    let out = |rng: &mut Rng, n: usize| (n as u32).saturating_add(rng.pick(&[0, 0, 1, 256, u32::MAX]));
+    let mut put = |at: usize, tie: [u32; 2]| (0..2).for_each(|side| ties[side].insert(at, tie[side]));
+    match fault {
+        TiesUnequal => match rng.below(3) {
+            0 => drop(ties[0].pop().is_none().then(|| ties[0].push(0))),
+            side => ties[side - 1].push(any[side - 1]),
+        },
+        TieOut => put(at, [out(rng, counts[0]), any[1]]),
+        TieSecondOut => put(at, [any[0], out(rng, counts[1])]),
+        TieTwice | TieSecondTwice if many > 0 => {
+            let side = usize::from(fault == TieSecondTwice);
+            let (other, free) = (rng.below(many), (0..counts[1 - side] as u32).find(|v| !ties[1 - side].contains(v)));
+            let mut tie = [ties[0][other], ties[1][other]];
+            // The other side is free where one is, or names the same tie again.
+            tie[1 - side] = free.filter(|_| rng.chance(3, 4)).unwrap_or(tie[1 - side]);
+            (0..2).for_each(|side| ties[side].insert(at, tie[side]));
+        }
+        TiesMany => {
+            // Sound as long as there are junctions left, then any.
+            let length = counts[0].max(counts[1]) + rng.pick(&[1, 1, 2, 500]);
+            for (ties, n) in ties.iter_mut().zip(counts) {
+                let free: Vec<u32> = (0..n as u32).filter(|v| !ties.contains(v)).collect();
+                ties.extend(free);
+                ties.extend((ties.len()..length).map(|_| rng.below(n.max(1)) as u32));
+            }
+        }
+        TiesAny => ties.iter_mut().flatten().for_each(|v| *v = rng.word() as u32),
         _ => {}
     }
 }

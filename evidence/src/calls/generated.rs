@@ -1,6 +1,8 @@
 //! Generated calls: a sound input, two faults put into it, and lent buffers with any bytes in them, each from a stream
 //! of its own.
 
+pub mod merge;
+
 use super::faults::*;
 use super::{
     Figures, Library, CHECK_COUNTS, DROP_COUNTS, PLAN_COUNTS, PRINT_COUNTS, READ_COUNTS, SECOND, SHORT, STP_COUNTS,
@@ -683,4 +685,5 @@ pub const OPERATIONS: &[Operation] = &[
         pairs: PRINT_SURVEY_PAIRS,
         input: print_survey_input,
     },
+    Operation { name: "merge", faults: MERGE_FAULTS, pairs: MERGE_PAIRS, input: merge::input },
 ];

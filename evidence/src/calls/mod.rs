@@ -13,6 +13,7 @@ pub mod generated;
 
 use crate::check::check;
 use crate::closed::closed;
+use crate::merge::{merge, Ties};
 use crate::plan::{fast, Counts, Plan};
 use crate::print::{moat_line, plan_lines, survey_text};
 use crate::read::{read, Lent};
@@ -40,6 +41,7 @@ pub struct Library {
     pub print_moat: fn(&[u8], &mut [u8], &mut [u64]) -> u64,
     pub print_plan: fn(Figures, &[u8], &[u8], &mut [u8], &mut [u64]) -> u64,
     pub print_survey: fn(View, &mut [u8], &mut [u64]) -> u64,
+    pub merge: fn(View, View, Ties, Lent, &mut [u64]) -> u64,
 }
 
 /// Entries of the counts: n, m and the number of pairs of reading, n and m of reading an STP file; sites, cost, bound,
@@ -202,6 +204,10 @@ fn print_survey_call(survey: View, out: &mut [u8], counts: &mut [u64]) -> u64 {
     printed(&text, out, counts)
 }
 
+fn merge_call(first: View, second: View, ties: Ties, lent: Lent, counts: &mut [u64]) -> u64 {
+    merge(first, second, ties, lent, counts).map_or_else(code, |()| 0)
+}
+
 /// The second implementation in that form.
 pub const SECOND: Library = Library {
     read: read_call,
@@ -216,4 +222,5 @@ pub const SECOND: Library = Library {
     print_moat: print_moat_call,
     print_plan: print_plan_call,
     print_survey: print_survey_call,
+    merge: merge_call,
 };
