@@ -16,6 +16,8 @@
 //! | `print` | a moat line, a printed plan, a refusal, and the whole program's answer |
 //! | `brute` | the cheapest joining set of a tiny survey |
 //! | `exact` | a cheapest route and a cheapest set that joins all junctions (No. 14) |
+//! | `floor` | what every joining set costs at least, by cuts of directed tracks |
+//! | `steiner` | the cost of a cheapest joining set of a small survey, by Dreyfus and Wagner |
 //! | `season` | the season's report, adding a survey to it and printing it (No. 11) |
 //! | `merge` | one survey of two (No. 9) |
 //! | `handset` | planning and checking over bytes alone, and their generated cases |
@@ -31,6 +33,7 @@ pub mod calls;
 pub mod check;
 pub mod closed;
 pub mod exact;
+pub mod floor;
 pub mod gen;
 pub mod handset;
 pub mod merge;
@@ -43,6 +46,7 @@ pub mod programs;
 pub mod read;
 pub mod season;
 pub mod stages;
+pub mod steiner;
 pub mod stp;
 pub mod table;
 pub mod verifying;

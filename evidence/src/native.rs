@@ -62,6 +62,7 @@ pub const LIBRARY: Library = Library {
     winter: |survey, strengths, copies, counts| call::winter(slices(survey), strengths, copies, counts),
     why: |survey, track, route, counts| call::why(slices(survey), track, route, counts),
     closed: |survey, tracks, result| call::closed(slices(survey), tracks, result),
+    floor: |survey, counts| call::floor(slices(survey), counts),
     print_moat: call::print_dual,
     print_plan,
     print_survey: |survey, out, counts| call::print_survey(slices(survey), out, counts),

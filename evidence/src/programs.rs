@@ -41,6 +41,7 @@ pub const PROGRAMS: &[Program] = &[
     Program { option: "--why", answers: "reasons", run: why_run },
     Program { option: "--winter", answers: "copies", run: crate::winter::run },
     Program { option: "--closed", answers: "lists of closed tracks", run: closed_run },
+    Program { option: "--floor", answers: "floors", run: crate::floor::run },
     Program { option: "--season", answers: "reports", run: season_run },
     Program { option: "--table", answers: "tables", run: table_run },
 ];

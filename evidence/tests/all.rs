@@ -7,6 +7,7 @@ mod checking;
 mod closed;
 mod document;
 mod exact;
+mod floor;
 mod full;
 mod handset;
 mod merge;

@@ -3,6 +3,7 @@
 //!     bench [--seed S] [--surveys N] [--repeats R] [--sample K]
 //!     bench --closed [--seed S] [--surveys N] [--repeats R]
 //!     bench --season [--seed S] [--repeats R]
+//!     bench --floor [--seed S] [--sample K] [--surveys N] [--repeats R]
 //!     bench --instructions [--seed S] [--surveys N]
 //!
 //! First a line for each of nine sizes, 64 to 448 junctions with 2,048 tracks and fewer: the surveys as they are, then
@@ -14,8 +15,14 @@
 //! told; last come lists of 256 closed tracks (No. 12), in plans of the same survey, and with `--closed` these alone,
 //! and a season of 1,000 surveys (No. 11), with `--season` alone.
 //!
+//! `--floor` alone tells how far plans are from the cheapest, by what is known of it: of K random surveys with one group or
+//! several, small and large, the middle, the highest but 10 in 100 and the highest of what the cost is above the cheapest
+//! (small ones, by Dreyfus and Wagner), above half the bound and above the floor, in hundredths; and with `native` the
+//! times of the outside floor in plans of the same survey.
+//!
 //! `--instructions` counts the instructions of a plan under valgrind, which don't depend on what else the machine does.
 
+use evidence::floor::{ascent, half, poured};
 use evidence::gen::{shadowed, sparse, timed, Rng};
 use evidence::plan::{fast, owned, record_room, reference, Counts, Plan, Workspace};
 #[cfg(feature = "native")]
@@ -23,7 +30,7 @@ use evidence::{
     closed::{MAX_CLOSED, ROW},
     native::{LIBRARY, SEASON},
 };
-use evidence::{Refusal, Survey, View};
+use evidence::{steiner, Refusal, Survey, View};
 use std::process::{Command, ExitCode};
 use std::time::Instant;
 
@@ -50,6 +57,8 @@ struct Options {
     closed: bool,
     /// A season alone.
     season: bool,
+    /// Distances and the times of the floor alone.
+    floor: bool,
     /// A planner and a size whose surveys are planned once, for valgrind.
     one: Option<(String, usize, usize)>,
 }
@@ -229,6 +238,101 @@ fn season(options: &Options, (n, m): (usize, usize)) {
     println!("{n} junctions, {m} tracks, a season of 1000 surveys: {:.2} times the single plans", added / plans);
 }
 
+/// So many groups of so many members each, at random, of a survey with n junctions and m tracks.
+fn grouped(rng: &mut Rng, (n, m): (usize, usize), groups: [usize; 2], members: [usize; 2]) -> Survey {
+    let mut survey = timed(rng, n, m, 0);
+    let mut junctions: Vec<usize> = (0..n).collect();
+    rng.shuffle(&mut junctions);
+    survey.groups.fill(0);
+    for group in 1..=rng.between(groups[0], groups[1]) {
+        for v in junctions.split_off(junctions.len() - rng.between(members[0], members[1])) {
+            survey.groups[v] = group as u8;
+        }
+    }
+    survey
+}
+
+/// A kind of surveys: their junctions, how many groups, and the most members of a group of n junctions.
+struct Column {
+    name: &'static str,
+    junctions: [usize; 2],
+    groups: [usize; 2],
+    members: fn(usize) -> [usize; 2],
+}
+
+const COLUMNS: [Column; 4] = [
+    Column { name: "one group, 8 to 24 junctions", junctions: [8, 24], groups: [1, 1], members: |_| [3, 8] },
+    Column { name: "2 or 3 groups, 9 to 24 junctions", junctions: [9, 24], groups: [2, 3], members: |_| [2, 3] },
+    Column { name: "one group, 50 to 400 junctions", junctions: [50, 400], groups: [1, 1], members: |n| [3, n / 2] },
+    Column {
+        name: "2 to 8 groups, 50 to 400 junctions",
+        junctions: [50, 400],
+        groups: [2, 8],
+        members: |n| [2, n / 8],
+    },
+];
+
+/// How far a cost is above what is known to be below it, in hundredths.
+fn above(cost: u64, below: u64) -> f64 {
+    if cost == 0 {
+        0.0
+    } else {
+        100.0 * (cost - below) as f64 / below as f64
+    }
+}
+
+/// The middle, the highest but 10 in 100, the highest.
+fn told(mut values: Vec<f64>) -> String {
+    values.sort_unstable_by(f64::total_cmp);
+    let at = |part: usize| values[(values.len() - 1) * part / 100];
+    format!("{:.1} / {:.1} / {:.1} %", at(50), at(90), at(100))
+}
+
+fn distances(options: &Options) {
+    for (c, column) in COLUMNS.iter().enumerate() {
+        let [mut truth, mut halves, mut floors] = [const { Vec::new() }; 3];
+        for i in 0..options.sample {
+            let rng = &mut Rng::of_case(options.seed ^ (c as u64 + 1) << 32, i);
+            let n = rng.between(column.junctions[0], column.junctions[1]);
+            let m = rng.between(n, (3 * n).min(evidence::MAX_TRACKS));
+            let survey = grouped(rng, (n, m), column.groups, (column.members)(n));
+            let counts = owned(fast, survey.view()).expect("it can be joined").counts;
+            let shares: u64 = ascent(survey.view(), &poured(survey.view()), |_| ()).iter().sum();
+            if n <= 24 {
+                truth.extend(steiner::cheapest(survey.view()).map(|best| above(counts.cost, best)));
+            }
+            halves.push(above(counts.cost, half(counts.bound)));
+            floors.push(above(counts.cost, shares.max(half(counts.bound))));
+        }
+        print!("{}, {} surveys:", column.name, options.sample);
+        if truth.len() as u64 == options.sample {
+            print!(" above the cheapest {};", told(truth));
+        }
+        println!(" above half the bound {}; above the floor {}", told(halves), told(floors));
+    }
+}
+
+/// The outside floor in plans of the same survey, with one group of all junctions, with one of half of them, with 2 to 8.
+#[cfg(feature = "native")]
+fn floors(options: &Options, (n, m): (usize, usize)) {
+    for (name, groups, members) in
+        [("one group of all", [1, 1], [n, n]), ("one group", [1, 1], [3, n / 2]), ("2 to 8 groups", [2, 8], [2, n / 8])]
+    {
+        let mut ratios = Vec::new();
+        for i in 0..options.surveys {
+            let survey = grouped(&mut Rng::of_case(!options.seed, i as u64), (n, m), groups, members);
+            let (mut marks, mut records) = buffers(&survey);
+            let plan = least(options.repeats, || {
+                assert!(evidence::native::plan(survey.view(), &mut marks, &mut records).is_ok());
+            });
+            let mut counts = [0; 4];
+            ratios.push(least(options.repeats, || assert_eq!((LIBRARY.floor)(survey.view(), &mut counts), 0)) / plan);
+        }
+        let [middle, most, all] = spread(ratios);
+        println!("{n} junctions, {m} tracks, {name}: the floor takes {middle:.1} plans, 90 % {most:.1}, 99 % {all:.1}");
+    }
+}
+
 /// Our plan, where valgrind counts.
 #[no_mangle]
 #[inline(never)]
@@ -302,6 +406,7 @@ fn options() -> Option<Options> {
         instructions: false,
         closed: false,
         season: false,
+        floor: false,
         one: None,
     };
     let mut words = std::env::args().skip(1);
@@ -316,6 +421,10 @@ fn options() -> Option<Options> {
         }
         if word == "--season" {
             options.season = true;
+            continue;
+        }
+        if word == "--floor" {
+            options.floor = true;
             continue;
         }
         if word == "--one" {
@@ -341,7 +450,7 @@ fn options() -> Option<Options> {
 fn main() -> ExitCode {
     let Some(options) = options() else {
         eprintln!(
-            "bench [--seed S] [--surveys N] [--repeats R] [--sample K]\nbench --closed [--seed S] [--surveys N] [--repeats R]\nbench --season [--seed S] [--repeats R]\nbench --instructions [--seed S] [--surveys N]"
+            "bench [--seed S] [--surveys N] [--repeats R] [--sample K]\nbench --closed [--seed S] [--surveys N] [--repeats R]\nbench --season [--seed S] [--repeats R]\nbench --floor [--seed S] [--sample K] [--surveys N] [--repeats R]\nbench --instructions [--seed S] [--surveys N]"
         );
         return ExitCode::from(2);
     };
@@ -351,6 +460,12 @@ fn main() -> ExitCode {
     }
     if options.instructions {
         return instructions(&options);
+    }
+    if options.floor {
+        distances(&options);
+        #[cfg(feature = "native")]
+        floors(&options, (448, 2048));
+        return ExitCode::SUCCESS;
     }
     let mut workspace = Box::new(Workspace::NEW);
     let mut ours = |survey: View, marks: &mut [u8], records: &mut [u8]| workspace.plan(survey, marks, records);

@@ -258,6 +258,27 @@ pub const WHY_FAULTS: &[Fault] = &[
     PairUnjoinable,
     TrackOut,
 ];
+pub const FLOOR_FAULTS: &[Fault] = &[
+    Nothing,
+    NoJunction,
+    ManyJunctions,
+    SecondUnequal,
+    PricesUnequal,
+    PairsUnequal,
+    ManyTracks,
+    EndOut,
+    EndsEqual,
+    PriceHigh,
+    PairOut,
+    PairNone,
+    PairOwn,
+    PairsFall,
+    PairTwice,
+    ManyPairs,
+    CountsShort,
+    Unjoinable,
+    PairUnjoinable,
+];
 /// 8 and 19 stand in the rows, and are no refusal of the call.
 pub const CLOSED_FAULTS: &[Fault] = &[
     Nothing,
@@ -441,6 +462,16 @@ pub const WHY_PAIRS: Pairs = &[
     (18, &[7, 8, 19]),
     (7, &[8, 19]),
     (8, &[19]),
+];
+pub const FLOOR_PAIRS: Pairs = &[
+    (1, &[2, 3, 4, 5, 6, 18, 7, 8]),
+    (2, &[3, 4, 5, 6, 18, 7, 8]),
+    (3, &[4, 5, 6, 18, 7, 8]),
+    (4, &[5, 6, 18, 7, 8]),
+    (5, &[4, 6, 18, 7, 8]),
+    (6, &[4, 5, 18, 7, 8]),
+    (18, &[7, 8]),
+    (7, &[8]),
 ];
 pub const CLOSED_PAIRS: Pairs = &[
     (1, &[2, 3, 4, 5, 6, 18, 7]),

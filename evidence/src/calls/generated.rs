@@ -9,6 +9,7 @@ use super::{
     WHY_COUNTS,
 };
 use crate::closed::{MAX_CLOSED, ROW};
+use crate::floor::{FLOOR_COUNTS, HALF_IS_MORE};
 use crate::gen::{damage_stp, directed_stp, line, overlap, stp_file, survey, wanted, Rng, Size};
 use crate::plan::{fast, owned, record_room, DROPPED, NOT_PICKED};
 use crate::print::survey_text;
@@ -558,6 +559,38 @@ fn check_input(streams: &Streams, faults: [Fault; 2]) -> Box<dyn Call> {
     Box::new(Check { survey, marks, records, counts })
 }
 
+/// The floor of a survey.
+struct Floor {
+    survey: Survey,
+    counts: Vec<u64>,
+}
+
+impl Call for Floor {
+    fn run(&self, library: &Library) -> Answer {
+        let mut counts = before_others(&self.counts, 0xa5a5);
+        let code = (library.floor)(self.survey.view(), &mut counts[..self.counts.len()]);
+        Answer { code, bytes: Vec::new(), words: Vec::new(), counts }
+    }
+
+    fn says(&self) -> String {
+        format!("{:?}", self.survey)
+    }
+}
+
+fn floor_input(streams: &Streams, faults: [Fault; 2]) -> Box<dyn Call> {
+    let rng = &mut streams.base();
+    let mut survey = streams.survey(rng);
+    if rng.chance(1, 32) {
+        let ((groups, tracks), times) = (rng.pick(&HALF_IS_MORE), rng.pick(&[1, 2, 3, 1_000_001]));
+        survey = Survey::new(groups, tracks);
+        survey.prices.iter_mut().for_each(|price| *price *= times);
+    }
+    for (i, fault) in faults.into_iter().enumerate() {
+        harm(&mut streams.fault(i), &mut survey, fault);
+    }
+    Box::new(Floor { survey, counts: counts(&mut streams.buffers(), FLOOR_COUNTS, faults) })
+}
+
 /// A call that prints, with the buffer for its text.
 struct Print<T> {
     what: T,
@@ -677,6 +710,7 @@ pub const OPERATIONS: &[Operation] = &[
     Operation { name: "winter", faults: WINTER_FAULTS, pairs: WINTER_PAIRS, input: winter_input },
     Operation { name: "why", faults: WHY_FAULTS, pairs: WHY_PAIRS, input: why_input },
     Operation { name: "closed", faults: CLOSED_FAULTS, pairs: CLOSED_PAIRS, input: closed_input },
+    Operation { name: "floor", faults: FLOOR_FAULTS, pairs: FLOOR_PAIRS, input: floor_input },
     Operation { name: "print_moat", faults: PRINT_MOAT_FAULTS, pairs: PRINT_MOAT_PAIRS, input: print_moat_input },
     Operation { name: "print_plan", faults: PRINT_PLAN_FAULTS, pairs: PRINT_PLAN_PAIRS, input: print_plan_input },
     Operation {

@@ -38,6 +38,7 @@ pub struct Library {
     pub winter: fn(View, &[u8], &mut [u8], &mut [u64]) -> u64,
     pub why: fn(View, u32, &mut [u32], &mut [u64]) -> u64,
     pub closed: fn(View, &[u32], &mut [u64]) -> u64,
+    pub floor: fn(View, &mut [u64]) -> u64,
     pub print_moat: fn(&[u8], &mut [u8], &mut [u64]) -> u64,
     pub print_plan: fn(Figures, &[u8], &[u8], &mut [u8], &mut [u64]) -> u64,
     pub print_survey: fn(View, &mut [u8], &mut [u64]) -> u64,
@@ -161,6 +162,10 @@ fn closed_call(survey: View, tracks: &[u32], result: &mut [u64]) -> u64 {
     closed(survey, tracks, result).map_or_else(code, |()| 0)
 }
 
+fn floor_call(survey: View, counts: &mut [u64]) -> u64 {
+    crate::floor::floor(survey, counts).map_or_else(code, |()| 0)
+}
+
 fn print_moat_call(record: &[u8], out: &mut [u8], counts: &mut [u64]) -> u64 {
     if record.len() == RECORD_BYTES && counts.len() < PRINT_COUNTS {
         return SHORT;
@@ -219,6 +224,7 @@ pub const SECOND: Library = Library {
     winter: winter_call,
     why: why_call,
     closed: closed_call,
+    floor: floor_call,
     print_moat: print_moat_call,
     print_plan: print_plan_call,
     print_survey: print_survey_call,
