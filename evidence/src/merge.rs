@@ -1,7 +1,11 @@
 //! Two crews, one district (No. 9): one survey of two neighbouring ones, and both read out of it again.
 
-use crate::read::Lent;
-use crate::{refuse, Refusal, Survey, View, MAX_JUNCTIONS, MAX_PAIRS, MAX_TRACKS};
+use crate::calls::generated::merge::any_ties;
+use crate::gen::{overlap, survey, Rng, Size};
+use crate::print::{refusal_lines, survey_text};
+use crate::programs::{any_text, Run};
+use crate::read::{survey_lines, Cursor, Lengths, Lent};
+use crate::{refuse, Refusal, Survey, View, END_DIGITS, MAX_JUNCTIONS, MAX_PAIRS, MAX_TRACKS};
 use std::collections::BTreeSet;
 
 /// n, m and the number of pairs of the district.
@@ -110,4 +114,82 @@ pub fn put(district: &Survey, lent: Lent, counts: &mut [u64]) -> Result<(), Refu
 /// The whole call.
 pub fn merge(first: View, second: View, ties: Ties, lent: Lent, counts: &mut [u64]) -> Result<(), Refusal> {
     put(&merged(first, second, ties)?, lent, counts)
+}
+
+/// The district of two survey texts one after the other and lines `tie=u,v` behind them, as many as there may be junctions.
+/// The place of 16 counts from the first byte of the whole.
+fn told(text: &[u8]) -> Result<Survey, Refusal> {
+    let mut cursor = Cursor::new(text);
+    let first = survey_lines(&mut cursor, Lengths::ENOUGH)?;
+    let second = survey_lines(&mut cursor, Lengths::ENOUGH)?;
+    let (mut ties, mut second_ties) = (Vec::new(), Vec::new());
+    while cursor.next().is_some() && ties.len() < MAX_JUNCTIONS {
+        cursor.fixed(b"tie=")?;
+        ties.push(cursor.number(END_DIGITS)? as u32);
+        cursor.fixed(b",")?;
+        second_ties.push(cursor.number(END_DIGITS)? as u32);
+        cursor.fixed(b"\n")?;
+    }
+    cursor.end()?;
+    merged(first.view(), second.view(), Ties { first: &ties, second: &second_ties })
+}
+
+/// What the program prints: the district's text.
+pub fn merge_program(input: &[u8]) -> String {
+    told(input).map_or_else(refusal_lines, |district| String::from_utf8_lossy(&survey_text(&district)).into_owned())
+}
+
+/// A run of the program: two surveys and their ties, or texts that are damaged, ties that are, or a line that is.
+pub fn run(seed: u64, case: u64) -> Run {
+    let rng = &mut Rng::of_case(seed ^ 0x7469_6573, case);
+    let mut surveys = [0; 2].map(|_| {
+        let size = rng.pick(&[Size::Tiny, Size::Tiny, Size::Small, Size::Middle, Size::Large]);
+        let mut survey = survey(rng, size);
+        if rng.chance(1, 2) {
+            overlap(rng, &mut survey);
+        }
+        survey
+    });
+    if rng.chance(1, 8) {
+        surveys.reverse();
+    }
+    let mut ties = any_ties(rng, [0, 1].map(|i| surveys[i].groups.len()));
+    let many = ties[0].len();
+    match rng.below(8) {
+        // Out of range, or tied again.
+        0 if many > 0 => ties[rng.clone().below(2)][rng.below(many)] = rng.pick(&[0, 447, 448, 999]),
+        1 if many > 0 => ties.iter_mut().for_each(|side| side.push(side[0])),
+        // About as many as are read.
+        2 if rng.chance(1, 4) => {
+            let many = MAX_JUNCTIONS + rng.pick(&[0, 0, 1, 2, 99]) - rng.below(2);
+            ties = [0; 2].map(|_| (0..many).map(|_| rng.below(MAX_JUNCTIONS) as u32).collect());
+        }
+        _ => {}
+    }
+    let mut texts = [0, 1].map(|i| survey_text(&surveys[i]));
+    if rng.chance(1, 6) {
+        texts[rng.clone().below(2)] = any_text(seed, case);
+    }
+    let lines: Vec<u8> =
+        ties[0].iter().zip(&ties[1]).flat_map(|(u, v)| format!("tie={u},{v}\n").into_bytes()).collect();
+    let mut input = [&texts[0][..], &texts[1], &lines].concat();
+    // A byte of the ties, or of what stands before them, another line behind, or the end.
+    let from = texts[0].len() + texts[1].len() * rng.below(2);
+    let at = (from + rng.below(1 + lines.len())).min(input.len());
+    match rng.below(12) {
+        0 if at < input.len() => input[at] = rng.pick(b"0123456789,=\n tie\r"),
+        1 => input.insert(at, rng.pick(b"0123456789,=\n tie")),
+        2 => input.truncate(at),
+        3 => input.extend(rng.pick(&[
+            &b"tie=0,0\n"[..],
+            b"tie=00,1\n",
+            b"tie=1,1000\n",
+            b"tie=0,0",
+            b"\n",
+            b"nodes=1\n",
+        ])),
+        _ => {}
+    }
+    let lines = merge_program(&input);
+    Run::lines(input, Vec::new(), lines)
 }

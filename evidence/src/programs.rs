@@ -38,6 +38,7 @@ pub const PROGRAMS: &[Program] = &[
     Program { option: "--program", answers: "plans", run: plan_run },
     Program { option: "--verifier", answers: "passed", run: verify_run },
     Program { option: "--stp", answers: "surveys", run: stp_run },
+    Program { option: "--merge", answers: "districts", run: crate::merge::run },
     Program { option: "--why", answers: "reasons", run: why_run },
     Program { option: "--winter", answers: "copies", run: crate::winter::run },
     Program { option: "--closed", answers: "lists of closed tracks", run: closed_run },

@@ -5,7 +5,7 @@ use evidence::calls::code;
 use evidence::calls::generated::{merge::any_ties, OPERATIONS};
 use evidence::calls::{Library, SECOND};
 use evidence::gen::{overlap, survey, Rng, Size};
-use evidence::merge::{district, merged, places, put, Ties};
+use evidence::merge::{district, merge_program, merged, places, put, run, Ties};
 use evidence::plan::{owned, reference};
 use evidence::read::Lent;
 use evidence::{refuse, Refusal, Survey, View, MAX_JUNCTIONS, MAX_PAIRS, MAX_TRACKS};
@@ -639,5 +639,81 @@ fn faults_are_found() {
     ];
     for (name, merge) in faulty {
         assert!(differs(&Library { merge, ..SECOND }), "{name} is not found");
+    }
+}
+
+// ---- the program
+
+/// A text with its ties the other way round.
+fn turned(input: &[u8]) -> Vec<u8> {
+    let lines = input.split_inclusive(|&byte| byte == b'\n').map(|line| {
+        let line = String::from_utf8_lossy(line).into_owned();
+        match line.strip_prefix("tie=").and_then(|rest| rest.trim_end().split_once(',')) {
+            Some((u, v)) => format!("tie={v},{u}\n"),
+            None => line,
+        }
+    });
+    lines.collect::<String>().into_bytes()
+}
+
+/// Where the second text begins, if there is one.
+fn second_text(input: &[u8]) -> usize {
+    (1..input.len()).find(|&at| input[at..].starts_with(b"nodes=")).unwrap_or(0)
+}
+
+#[test]
+fn program_by_hand() {
+    let survey = "nodes=2\nlinks=1\nnode=1\nnode=0\nlink=0,1,5\n";
+    let print = |more: &str| merge_program(format!("{survey}{survey}{more}").as_bytes());
+    assert_eq!(print(""), "nodes=4\nlinks=2\nnode=1\nnode=0\nnode=1\nnode=0\nlink=0,1,5\nlink=2,3,5\n");
+    assert_eq!(print("tie=1,0\n"), "nodes=3\nlinks=2\nnode=1\nnode=1\nnode=0\nlink=0,1,5\nlink=1,2,5\n");
+    let length = 2 * survey.len();
+    let refused = |number: usize, place: usize| format!("refused={number}\nplace={place}\n");
+    assert_eq!(print("tie=0,0"), refused(16, length + 7));
+    assert_eq!(print("tie=00,0\n"), refused(16, length + 5));
+    assert_eq!(print("tie=1000,0\n"), refused(16, length + 7));
+    assert_eq!(print("\n"), refused(16, length));
+    assert_eq!(print("tie=0,1\ntie=999,0\n"), refused(22, 1));
+    // A 449th line is none, whatever stands in those before.
+    assert_eq!(print(&"tie=0,0\n".repeat(448)), refused(22, 1));
+    assert_eq!(print(&"tie=0,0\n".repeat(449)), refused(16, length + 448 * 8));
+    assert_eq!(merge_program(survey.as_bytes()), refused(16, survey.len()));
+    assert_eq!(merge_program(format!("{survey}nodes=01").as_bytes()), refused(16, survey.len() + 7));
+    assert_eq!(merge_program(format!("{survey}nodes=449\n").as_bytes()), refused(1, 0));
+}
+
+#[test]
+fn faulty_programs_are_found() {
+    let runs: Vec<_> = (0..1_500).map(|case| run(1, case)).collect();
+    let came: BTreeSet<u32> = runs.iter().filter_map(|run| run.counted.as_ref().err()).map(|r| r.number).collect();
+    assert!(came.is_superset(&[1, 3, 4, 16, 17, 18, 22].into()), "{came:?}");
+    assert!(runs.iter().filter(|run| run.counted.is_ok()).count() > 500);
+    type Program = fn(&[u8]) -> String;
+    let faulty: [(&str, Program); 5] = [
+        ("22 for a 449th tie", |input| {
+            let ties = (0..input.len()).filter(|&at| input[at..].starts_with(b"tie=")).nth(448);
+            merge_program(&input[..ties.unwrap_or(input.len())])
+        }),
+        ("ties the other way round", |input| merge_program(&turned(input))),
+        ("16 counted in the second text", |input| {
+            let lines = merge_program(input);
+            match lines.strip_prefix("refused=16\nplace=").and_then(|place| place.trim_end().parse::<usize>().ok()) {
+                Some(place) if place >= second_text(input) => {
+                    format!("refused=16\nplace={}\n", place - second_text(input))
+                }
+                _ => lines,
+            }
+        }),
+        ("the last tie left out", |input| {
+            let last = (0..input.len()).rev().find(|&at| input[at..].starts_with(b"tie="));
+            merge_program(&input[..last.unwrap_or(input.len())])
+        }),
+        ("no also lines", |input| {
+            let lines = merge_program(input);
+            lines.split_inclusive('\n').filter(|line| !line.starts_with("also=")).collect()
+        }),
+    ];
+    for (name, program) in faulty {
+        assert!(runs.iter().any(|run| program(&run.input).as_bytes() != run.printed), "{name} is not found");
     }
 }
