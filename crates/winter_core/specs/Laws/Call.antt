@@ -29,7 +29,7 @@ use Rattle.survey_components.specs.declared.Chosen.the-variants.{All}
 use Rattle.plan_rule.specs.declared.Figured.{Figured}
 use Rattle.plan_rule.specs.declared.Figured.the-variants.{Finished as FiguresFinished, Refused as FiguresRefused}
 use Rattle.plan_rule.specs.Figures.{FigureCounts, figuresRefusal, figuring, marksFigured, figuredOutcome}
-use Rattle.plan_core.specs.Laws.Figures.{figures-found}
+use Rattle.plan_rule.specs.Laws.Ready.{groups-of-all}
 use Rattle.plan_core.specs.Laws.Finish.{remade-front}
 use Rattle.winter_rule.specs.declared.Winter.the-variants.{Finished as WinterFinished, Refused as WinterRefused}
 use Rattle.winter_rule.specs.Winter.{strengthCount, strengthOf, strengthRefusal, strengthsRefusal, givenRefusal, winterRefusal, totalPrice, wintering, copiesOver, copiesAfter, winterOutcome}
@@ -39,6 +39,11 @@ use Rattle.winter_rule.specs.Laws.Promise.{after-fine, after-refused, winter-pr
 use Rattle.winter_core.specs.Bit.{carries, bitGroup, passing, passed, pairCarries, bitSurvey, figuredCost, bitPrice, Room}
 use Rattle.winter_core.specs.Laws.Passing.{length-passing, count-more}
 use Rattle.winter_core.specs.Laws.Copies.{bit-price-few}
+
+-- 1 to 6, 18 and 8 as they are found.
+figures-found : (s : Survey) (marks : List ℕ) {v : Verdict} → v ≡ (surveyRefusal s before groupRefusal s 8 (chosen All marks)) → v ≡ figuresRefusal s
+unfolding figuresRefusal
+figures-found s marks h = h ∙ ap (λ w. surveyRefusal s before w) (sym (groups-of-all s 8 marks))
 
 -- ---- bits
 
