@@ -41,9 +41,17 @@ class Lists(unittest.TestCase):
         self.refused(15, 0, *check(moats=plan.moats[:2]))
         self.refused(13, 0, *check(moats=plan.moats + [(1, {"a"})]))
         self.refused(25, 1, *check(cost=6))
-        self.refused(25, 2, *check(floor=6))
+        self.refused(25, 2, *check(bound=13))
+        with self.assertRaises(ValueError):
+            foamsickle.verify(P3, [["a", "c"]], plan._replace(floor=6))
         with self.assertRaises(ValueError):
             foamsickle.verify(P3, [["a", "c"]], plan._replace(edges=[("a", "c", 1)]))
+
+    def test_floor_above_half_the_bound(self):
+        # P9: three sites round a junction; half the bound is 7.5, and no set costs less than 9.
+        wheel = [(0, 1, 3), (0, 2, 3), (0, 3, 3), (1, 2, 5), (1, 3, 5), (2, 3, 5)]
+        plan = foamsickle.plan(wheel, [[1, 2, 3]])
+        self.assertEqual((plan.cost, plan.floor, plan.bound), (10, 9, 15))
 
     def test_why(self):
         edges = [(0, 1, 3), (0, 2, 1), (0, 3, 1), (2, 3, 9), (4, 5, 9)]

@@ -29,6 +29,7 @@ RECORD_BYTES = 64
 PLAN_FIGURES = 5
 WHY_FIGURES = 6
 CHECK_FIGURES = 3
+FLOOR_FIGURES = 4
 GROUP_NUMBERS = 256
 
 # The words of foamsickle_survey.h, by number.
@@ -89,7 +90,7 @@ cost, and the floor: no set of edges that joins every group costs less. Then the
 price units, the rounds, and the moats that prove it."""
 
 Found = namedtuple("Found", "sites cost bound floor")
-Found.__doc__ = "What the checker found of a plan, and the floor of its bound."
+Found.__doc__ = "What the checker found of a plan, and the floor, found anew from the graph."
 
 Reason = namedtuple("Reason", "mark group ends route round")
 Reason.__doc__ = """Why an edge is in the plan or is not. Mark 'kept': without it the two nodes `ends` of the group (its
@@ -214,8 +215,11 @@ class _Survey:
         return amount.to_bytes(VALUE_BYTES, "little") + members.to_bytes(MEMBER_BYTES, "little")
 
 
-def _floor(bound):
-    return (bound + 1) // 2
+def _floor(survey):
+    """Below what no set of edges that joins every group costs: from the survey alone, by directed cuts."""
+    counts = (ctypes.c_uint64 * FLOOR_FIGURES)()
+    _call("foamsickle_floor", *survey.slices, counts)
+    return counts[0]
 
 
 def plan(graph, groups, weight="weight"):
@@ -228,7 +232,7 @@ def plan(graph, groups, weight="weight"):
     sites, cost, bound, rounds, moats = counts
     data = bytes(records)
     return Plan(
-        [edge for edge, mark in zip(survey.edges, marks) if mark == 2], cost, _floor(bound), sites, bound, rounds,
+        [edge for edge, mark in zip(survey.edges, marks) if mark == 2], cost, _floor(survey), sites, bound, rounds,
         [survey.moat(data[RECORD_BYTES * i:RECORD_BYTES * (i + 1)]) for i in range(moats)])
 
 
@@ -246,9 +250,10 @@ def verify(graph, groups, plan, weight="weight"):
     for place, (said, found) in enumerate(zip((plan.sites, plan.cost, plan.bound), counts)):
         if said != found:
             raise Refused(25, place)
-    if plan.floor != _floor(bound):
-        raise Refused(25, 2)
-    return Found(sites, cost, bound, _floor(bound))
+    floor = _floor(survey)
+    if plan.floor != floor:
+        raise ValueError(f"the plan's floor is {plan.floor}, and {floor} is found")
+    return Found(sites, cost, bound, floor)
 
 
 def why(graph, groups, edge, weight="weight"):
