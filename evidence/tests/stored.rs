@@ -29,12 +29,18 @@ fn stored_runs() {
     }
 }
 
+/// Each sample is planned, but for the two halves of a district, each of which has a group that it cannot join.
 #[test]
 fn samples_are_planned() {
+    let mut halves = 0;
     for survey in beside("samples", "survey") {
         let text = std::fs::read(&survey).expect("it is there");
-        assert!(program(fast, &text).starts_with("sites="), "{}", survey.display());
+        let half = ["north", "south"].iter().any(|name| survey.file_stem().is_some_and(|stem| stem == *name));
+        let begins = if half { "refused=8\n" } else { "sites=" };
+        assert!(program(fast, &text).starts_with(begins), "{}", survey.display());
+        halves += half as usize;
     }
+    assert_eq!(halves, 2);
 }
 
 #[test]
