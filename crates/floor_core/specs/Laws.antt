@@ -5,3 +5,4 @@ pub mod Reach
 pub mod Shares
 pub mod Number
 pub mod Floor
+pub mod Walk
