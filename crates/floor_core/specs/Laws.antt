@@ -6,3 +6,4 @@ pub mod Shares
 pub mod Number
 pub mod Floor
 pub mod Walk
+pub mod Rim

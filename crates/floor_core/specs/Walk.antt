@@ -75,6 +75,21 @@ pub record Turn (g : Ground) (rests : List ℕ) (i v x : ℕ) (flags found rim :
   pub rim-late : (j : ℕ) → j < arcs → headIn g (getD rim j 0) ≡ v → x ≤ getD rim j 0
   pub distinct : (j k : ℕ) → j < arcs → k < arcs → getD rim j 0 ≡ getD rim k 0 → j ≡ k
 
+-- A walk has begun, on some ground.
+pub record Begun (tops links rests flags found rim : List ℕ) : Type 0 where
+  pub ground : Ground
+  pub chained : ChainedIn ground tops links
+  pub turn : Turn ground rests 0 0 0 flags found rim 1 0
+
+-- And v is the next vertex of the queue.
+pub record Next (tops links rests flags found rim : List ℕ) (v vertices arcs : ℕ) : Type 0 where
+  pub ground : Ground
+  pub i : ℕ
+  pub chained : ChainedIn ground tops links
+  pub more : i < vertices
+  pub is : v ≡ getD found i 0
+  pub turn : Turn ground rests i 0 0 flags found rim vertices arcs
+
 -- The cut round t: flagged is what leads to it, and every arc that enters is at the rim, once.
 pub record Cut (g : Ground) (rests flags rim : List ℕ) (arcs : ℕ) : Type 0 where
   pub inside : (u : ℕ) → (flagged flags u ≡ true) ↔ LeadsIn g rests u

@@ -18,6 +18,7 @@ mod ascent;
 mod cut;
 mod number;
 mod shares;
+mod walk;
 
 // The floor of the ascent over the survey's lists, poured together.
 fn ascent_of(

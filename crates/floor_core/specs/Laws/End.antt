@@ -48,13 +48,13 @@ count-more-than (suc n) t u i b h before after =
 
 module _ (firsts seconds : List ℕ) where
   -- The least is the cap, or the rest of an arc that enters.
-  record Least (rests flags : List ℕ) (least n : ℕ) : Type 0 where
-    arc : ℕ
-    below : arc < n
-    entered : entersAt firsts seconds flags arc ≡ true
-    is : getD rests arc 0 ≡ least
+  pub record Least (rests flags : List ℕ) (least n : ℕ) : Type 0 where
+    pub arc : ℕ
+    pub below : arc < n
+    pub entered : entersAt firsts seconds flags arc ≡ true
+    pub is : getD rests arc 0 ≡ least
 
-  least-found : (rests flags : List ℕ) (cap n : ℕ) → (leastRest firsts seconds rests flags cap n ≡ cap) ⊎ Least rests flags (leastRest firsts seconds rests flags cap n) n
+  pub least-found : (rests flags : List ℕ) (cap n : ℕ) → (leastRest firsts seconds rests flags cap n ≡ cap) ⊎ Least rests flags (leastRest firsts seconds rests flags cap n) n
   unfolding leastRest lesser
   least-found rests flags cap zero = inl refl
   least-found rests flags cap (suc a) = by (least-found rests flags cap a) (either (entersAt firsts seconds flags a)) (either (ltb (getD rests a 0) least))

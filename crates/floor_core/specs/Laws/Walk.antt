@@ -4,7 +4,7 @@ use native.Mathlib.Omega.{arith}
 use native.Mathlib.Decide.{ℕ-discrete}
 use mathlib.Core.Path.{_≡_, refl, ap, sym, _∙_, subst}
 use mathlib.Core.Logic.{_⊎_, inl, inr, ⊎-elim, _↔_}
-use mathlib.Core.Bool.{Bool, true, false, not, cond, _&&_}
+use mathlib.Core.Bool.{Bool, true, false, not, cond, _&&_, true≢false, false≢true}
 use mathlib.Core.List.{List}
 use lib.ListN.{length, getD, set, replicate, length-set, length-replicate, getD-replicate, List·getD-eq-default}
 use lib.Seq.{getD-set-same, getD-set-other}
@@ -18,7 +18,7 @@ use Rattle.floor_rule.specs.Ascent.{maxArcs, arcCount, tailOf, headOf, flagged}
 use Rattle.floor_core.specs.Chain.{lastInto, linkOf, Ends, Chained}
 use Rattle.floor_core.specs.Laws.End.{count-more-than}
 use Rattle.floor_core.specs.Laws.Reach.{Leads, here, along}
-use Rattle.floor_core.specs.Walk.{Ground, arcsIn, tailIn, headIn, LeadsIn, LinkedIn, ChainedIn, LeadsTo, looked, Among, Turn, Cut, CutFound}
+use Rattle.floor_core.specs.Walk.{Ground, arcsIn, tailIn, headIn, LeadsIn, LinkedIn, ChainedIn, LeadsTo, looked, Among, Turn, Begun, Next, Cut, CutFound}
 
 -- ---- the last arc that leads to a vertex
 
@@ -551,3 +551,140 @@ module _ (g : Ground) (tops links : List ℕ) (chained : ChainedIn g tops links)
   pub turn-top : (rests : List ℕ) {i : ℕ} {flags found rim : List ℕ} {vertices arcs : ℕ} → Turn g rests i v (lastInto (g .firsts) (g .seconds) v (arcsIn g)) flags found rim vertices arcs
       → Turn g rests i v last flags found rim vertices arcs
   turn-top rests {i} {flags} {found} {rim} {vertices} {arcs} w = subst (λ y. Turn g rests i v y flags found rim vertices arcs) (sym top-is) w
+
+-- ---- what the code finds of an arc
+
+module _ (rests flags found rim : List ℕ) (a tail vertices arcs : ℕ) {t y : ℕ} (t-is : t ≡ tail) (y-is : y ≡ getD flags t 0) where
+  at-tail : (g : Ground) → tail ≡ tailIn g a → getD flags (tailIn g a) 0 ≡ y
+  at-tail g tail-is = sym (y-is ∙ ap (λ u. getD flags u 0) (t-is ∙ tail-is))
+
+  pub look-inside : (y ≡ 0 → ⊥) → (g : Ground) (i v : ℕ) → a < arcsIn g → headIn g a ≡ v → tail ≡ tailIn g a
+      → Turn g rests i v (suc a) flags found rim vertices arcs → Turn g rests i v a flags found rim vertices arcs
+  look-inside some g i v b into tail-is w = turn-inside g rests w b into (flag-on flags (tailIn g a) y some (at-tail g tail-is))
+
+  module _ (none : y ≡ 0) {b z : ℕ} (b-is : b ≡ a) (z-is : z ≡ getD rests b 0) where
+    off : (g : Ground) → tail ≡ tailIn g a → flagged flags (tailIn g a) ≡ false
+    off g tail-is = flag-off flags (tailIn g a) (at-tail g tail-is ∙ none)
+
+    pub look-rim : (z ≡ 0 → ⊥) → {after : List ℕ} → after ≡ set rim arcs a → (g : Ground) (i v : ℕ) → a < arcsIn g → headIn g a ≡ v → tail ≡ tailIn g a
+        → Turn g rests i v (suc a) flags found rim vertices arcs → Turn g rests i v a flags found after vertices (arcs + 1)
+    look-rim some {after} after-is g i v low into tail-is w =
+        let n : suc arcs ≡ arcs + 1 = omega arith in
+        subst (λ (l : List ℕ). Turn g rests i v a flags found l vertices (arcs + 1)) (sym after-is)
+        (subst (λ e. Turn g rests i v a flags found (set rim arcs a) vertices e) n (turn-rim g rests w low into (off g tail-is) (λ e. some (z-is ∙ ap (λ c. getD rests c 0) b-is ∙ e))))
+
+    pub look-found : z ≡ 0 → {u : ℕ} {flags-after found-after : List ℕ} → u ≡ tail → flags-after ≡ set flags u 1 → found-after ≡ set found vertices tail
+        → (g : Ground) (i v : ℕ) → a < arcsIn g → headIn g a ≡ v → tail ≡ tailIn g a
+        → Turn g rests i v (suc a) flags found rim vertices arcs → Turn g rests i v a flags-after found-after rim (vertices + 1) arcs
+    look-found bare {u} {flags-after} {found-after} u-is flags-is found-is g i v low into tail-is w =
+        let n : suc vertices ≡ vertices + 1 = omega arith in
+        let there : set flags (tailIn g a) 1 ≡ flags-after = ap (λ k. set flags k 1) (sym (u-is ∙ tail-is)) ∙ sym flags-is in
+        let here : set found vertices (tailIn g a) ≡ found-after = ap (set found vertices) (sym tail-is) ∙ sym found-is in
+        subst (λ (l : List ℕ). Turn g rests i v a l found-after rim (vertices + 1) arcs) there
+        (subst (λ (l : List ℕ). Turn g rests i v a (set flags (tailIn g a) 1) l rim (vertices + 1) arcs) here
+        (subst (λ e. Turn g rests i v a (set flags (tailIn g a) 1) (set found vertices (tailIn g a)) rim e arcs) n
+        (turn-found g rests w low into (off g tail-is) (sym (z-is ∙ ap (λ c. getD rests c 0) b-is) ∙ bare))))
+
+pub falls : (links : List ℕ) (last : ℕ) → ((a : ℕ) → a < last → getD links a 0 / 512 ≤ a) → {x b link : ℕ} → 0 < x → x ≤ last → b ≡ x - 1 → link ≡ getD links b 0 → link / 512 < x
+falls links last h {x} {b} {link} some low b-is link-is =
+    let q : getD links (x - 1) 0 / 512 ≤ x - 1 = h (x - 1) (omega arith) in
+    let e : link ≡ getD links (x - 1) 0 = link-is ∙ ap (λ k. getD links k 0) b-is in
+    omega (arith, subst (λ y. y / 512 ≤ x - 1) (sym e) q, some)
+
+-- From the arc before `last` down to the one before x: what held before the first holds before the next.
+pub TurnsFrom : (links rests : List ℕ) (last : ℕ) (flags₀ found₀ rim₀ : List ℕ) (vertices₀ arcs₀ x : ℕ) (flags found rim : List ℕ) (vertices arcs : ℕ) → Type 0
+TurnsFrom links rests last flags₀ found₀ rim₀ vertices₀ arcs₀ x flags found rim vertices arcs =
+    (g : Ground) (i v : ℕ) → LinkedIn g links → LeadsTo g v last → Turn g rests i v last flags₀ found₀ rim₀ vertices₀ arcs₀
+    → LeadsTo g v x × Turn g rests i v x flags found rim vertices arcs
+
+module _ (links rests : List ℕ) (last : ℕ) (flags₀ found₀ rim₀ : List ℕ) (vertices₀ arcs₀ : ℕ) where
+  pub turns-start : TurnsFrom links rests last flags₀ found₀ rim₀ vertices₀ arcs₀ last flags₀ found₀ rim₀ vertices₀ arcs₀
+  unfolding TurnsFrom
+  turns-start g i v linked to w = (to, w)
+
+  module _ {x : ℕ} {flags found rim : List ℕ} {vertices arcs : ℕ} (h : TurnsFrom links rests last flags₀ found₀ rim₀ vertices₀ arcs₀ x flags found rim vertices arcs) where
+    pub turns-more : 0 < x → {b link : ℕ} → b ≡ x - 1 → link ≡ getD links b 0 → {flags-after found-after rim-after : List ℕ} {vertices-after arcs-after : ℕ}
+        → ((g : Ground) (i v : ℕ) → x - 1 < arcsIn g → headIn g (x - 1) ≡ v → link % 512 ≡ tailIn g (x - 1) → Turn g rests i v (suc (x - 1)) flags found rim vertices arcs
+          → Turn g rests i v (x - 1) flags-after found-after rim-after vertices-after arcs-after)
+        → TurnsFrom links rests last flags₀ found₀ rim₀ vertices₀ arcs₀ (link / 512) flags-after found-after rim-after vertices-after arcs-after
+    unfolding TurnsFrom
+    turns-more some {b} {link} b-is link-is step g i v linked to w =
+        let held = h g i v linked to w in
+        let is : link ≡ getD links (x - 1) 0 = link-is ∙ ap (λ k. getD links k 0) b-is in
+        let this : x ≡ suc (x - 1) = omega arith in
+        (before-leads g rests links linked x v (held .0) some is,
+        turn-before g rests links linked x v (held .0) some is
+        (step g i v (arc-low g rests links linked x v (held .0) some) (arc-head g rests links linked x v (held .0) some) (arc-tail g rests links linked x v (held .0) some is)
+        (subst (λ y. Turn g rests i v y flags found rim vertices arcs) this (held .1))))
+
+    pub turns-end : x ≤ 0 → (g : Ground) (i v : ℕ) → LinkedIn g links → LeadsTo g v last → Turn g rests i v last flags₀ found₀ rim₀ vertices₀ arcs₀
+        → Turn g rests i v 0 flags found rim vertices arcs
+    unfolding TurnsFrom
+    turns-end none g i v linked to w = let e : x ≡ 0 = omega arith in subst (λ y. Turn g rests i v y flags found rim vertices arcs) e (h g i v linked to w .1)
+
+-- ---- the next vertex of the queue
+
+pub turn-arcs : (g : Ground) (rests : List ℕ) {i v x : ℕ} {flags found rim : List ℕ} {vertices arcs : ℕ} → Turn g rests i v x flags found rim vertices arcs → arcs ≤ maxArcs
+turn-arcs g rests {i} {v} {x} {flags} {found} {rim} {vertices} {arcs} w =
+    omega (arith, different rim (arcsIn g) arcs (w .rim-below) (w .distinct), count-le (arcsIn g) (among rim (arcsIn g) arcs), g .ends .short)
+
+module _ (tops links rests flags found rim : List ℕ) (v vertices arcs : ℕ) where
+  pub next-ready : Next tops links rests flags found rim v vertices arcs → {last : ℕ} → last ≡ getD tops v 0
+      → ((vertices ≤ maxVertices) × (arcs ≤ maxArcs) × (last ≤ maxArcs)) × ((a : ℕ) → a < last → getD links a 0 / 512 ≤ a)
+  next-ready n last-is =
+      let low : v < maxVertices = next-below (n .ground) rests (n .turn) (n .more) (n .is) in
+      ((turn-few (n .ground) rests (n .turn), turn-arcs (n .ground) rests (n .turn), top-room (n .ground) tops links (n .chained) v low last-is),
+      links-fall (n .ground) tops links (n .chained) v low last-is)
+
+  pub look-again : {x : ℕ} → x ≡ getD flags v 0 → x ≡ 2 → (g : Ground) (i : ℕ) → ChainedIn g tops links → i < vertices → v ≡ getD found i 0
+      → Turn g rests i 0 0 flags found rim vertices arcs → Turn g rests (i + 1) 0 0 flags found rim vertices arcs
+  look-again x-is two g i chained more next w = turn-again g rests w more next (sym x-is ∙ two)
+
+  pub look-next : {x last : ℕ} {marked flags-after found-after rim-after : List ℕ} {vertices-after arcs-after : ℕ} → x ≡ getD flags v 0 → (x ≡ 2 → ⊥) → marked ≡ set flags v 2 → last ≡ getD tops v 0
+      → ((g : Ground) (i u : ℕ) → LinkedIn g links → LeadsTo g u last → Turn g rests i u last marked found rim vertices arcs → Turn g rests i u 0 flags-after found-after rim-after vertices-after arcs-after)
+      → (g : Ground) (i : ℕ) → ChainedIn g tops links → i < vertices → v ≡ getD found i 0 → Turn g rests i 0 0 flags found rim vertices arcs
+      → Turn g rests (i + 1) 0 0 flags-after found-after rim-after vertices-after arcs-after
+  look-next {x} {last} {marked} x-is fresh marked-is last-is step g i chained more next w =
+      let low : v < maxVertices = next-below g rests w more next in
+      let at = turn-at g rests w more next (λ e. fresh (x-is ∙ e)) in
+      turn-over g rests
+      (step g (i + 1) v (chained .links-are) (top-leads g tops links chained v low last-is)
+      (subst (λ (l : List ℕ). Turn g rests (i + 1) v last l found rim vertices arcs) (sym marked-is) (turn-top g tops links chained v low last-is rests at)))
+
+-- ---- a whole walk
+
+module _ (tops links rests flags₀ found₀ rim₀ : List ℕ) where
+  -- What held at the beginning holds for the first i vertices of the queue.
+  abbrev pub Walks : (i : ℕ) (flags found rim : List ℕ) (vertices arcs : ℕ) → Type 0
+  Walks i flags found rim vertices arcs = (g : Ground) → ChainedIn g tops links → Turn g rests 0 0 0 flags₀ found₀ rim₀ 1 0 → Turn g rests i 0 0 flags found rim vertices arcs
+
+  pub walks-start : Walks 0 flags₀ found₀ rim₀ 1 0
+  walks-start g chained w = w
+
+  module _ {i : ℕ} {flags found rim : List ℕ} {vertices arcs : ℕ} (h : Walks i flags found rim vertices arcs) where
+    pub walks-next : Begun tops links rests flags₀ found₀ rim₀ → i < vertices → {x v : ℕ} → x ≡ getD found i 0 → v ≡ x → Next tops links rests flags found rim v vertices arcs
+    walks-next b more x-is v-is = record { ground = b .ground; i = i; chained = b .chained; more = more; is = v-is ∙ x-is; turn = h (b .ground) (b .chained) (b .turn) }
+
+    pub walks-few : Begun tops links rests flags₀ found₀ rim₀ → vertices ≤ maxVertices
+    walks-few b = turn-few (b .ground) rests (h (b .ground) (b .chained) (b .turn))
+
+    pub walks-more : i < vertices → {x v : ℕ} → x ≡ getD found i 0 → v ≡ x → {flags-after found-after rim-after : List ℕ} {vertices-after arcs-after : ℕ}
+        → ((g : Ground) (j : ℕ) → ChainedIn g tops links → j < vertices → v ≡ getD found j 0 → Turn g rests j 0 0 flags found rim vertices arcs
+          → Turn g rests (j + 1) 0 0 flags-after found-after rim-after vertices-after arcs-after)
+        → Walks (i + 1) flags-after found-after rim-after vertices-after arcs-after
+    walks-more more x-is v-is step g chained w = step g i chained more (v-is ∙ x-is) (h g chained w)
+
+    pub walked-inside : (root : ℕ) {x : ℕ} → x ≡ getD flags root 0 → (x ≡ 0 → ⊥) → (g : Ground) → ChainedIn g tops links → Turn g rests 0 0 0 flags₀ found₀ rim₀ 1 0 → CutFound g rests flags rim root true arcs
+    walked-inside root x-is some g chained w = record {
+      led = λ e. h g chained w .sound root (flag-on flags root _ some (sym x-is));
+      cut = λ e. absurd (true≢false e);
+      outside = λ e. absurd (true≢false e);
+    }
+
+    pub walked-outside : vertices ≤ i → (root : ℕ) {x : ℕ} → x ≡ getD flags root 0 → x ≡ 0 → (g : Ground) → ChainedIn g tops links → Turn g rests 0 0 0 flags₀ found₀ rim₀ 1 0
+        → CutFound g rests flags rim root false arcs
+    walked-outside all root x-is none g chained w = record {
+      led = λ e. absurd (false≢true e);
+      cut = λ e. turn-end g rests (h g chained w) all;
+      outside = λ e. flag-off flags root (sym x-is ∙ none);
+    }
