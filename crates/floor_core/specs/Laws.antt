@@ -3,6 +3,8 @@ pub mod State
 pub mod End
 pub mod Reach
 pub mod Chain
+pub mod Done
+pub mod Raise
 pub mod Shares
 pub mod Number
 pub mod Floor

@@ -1,2 +1,3 @@
 pub mod Chain
+pub mod Done
 pub mod Laws

@@ -3,17 +3,20 @@
 ghost use Rattle.base_buffer.specs.Lent.{old, new};
 ghost use mathlib.Core.Path.{_≡_};
 ghost use mathlib.Core.Bool.{false, cond};
-ghost use Prim.Native.Nat.{_-_};
+ghost use Prim.Native.Nat.{_-_, _<_};
 ghost use lib.ListN.{length, getD};
 ghost use Rattle.base_finite.specs.Below.{counted};
 ghost use Rattle.floor_rule.specs.Ascent.{arcCount, entersAt, flagAt, sweep, reaching, lesser, leastRest, loaded};
+ghost use Rattle.floor_core.specs.Chain.{Ends, Chained, CutRaised};
 use crate::arcs::enters;
 use crate::arcs::tail_of;
+use base_buffer::at8;
 use base_buffer::at32;
 use base_buffer::put8;
 use base_buffer::put32;
 use base_buffer::wide32;
 use base_limits::MAX_VERTICES;
+use floor_rule::MAX_ARCS;
 
 // A flag for the tail of arc a, if it has no rest and enters. True if there is one more, or were some before.
 fn flag_arc(
@@ -52,7 +55,7 @@ fn sweep(firsts: &[u32], seconds: &[u32], rests: &[u32], flags: &mut [u8], arcs:
 }
 
 // Flags for the vertices from which v is reached by arcs without rest; n is the number of vertices.
-pub fn reaching(
+fn reaching(
     firsts: &[u32],
     seconds: &[u32],
     rests: &[u32],
@@ -98,7 +101,7 @@ fn least_at(
 }
 
 // The least rest of the arcs that enter, and no more than the cap.
-pub fn least_rest(
+fn least_rest(
     firsts: &[u32],
     seconds: &[u32],
     rests: &[u32],
@@ -139,7 +142,7 @@ fn loaded_at(firsts: &[u32], seconds: &[u32], flags: &[u8], rests: &[u32], d: u6
 }
 
 // A cut of value d on the arcs that enter.
-pub fn load(firsts: &[u32], seconds: &[u32], flags: &[u8], rests: &mut [u32], d: u64, arcs: usize)
+fn load(firsts: &[u32], seconds: &[u32], flags: &[u8], rests: &mut [u32], d: u64, arcs: usize)
     requires { ⌜ arcs ≡ arcCount (now firsts) ⌝ }
     ensures { λ _. ⌜ new rests ≡ loaded (old firsts) (old seconds) (old flags) d (old rests) ⌝ }
 {
@@ -149,4 +152,43 @@ pub fn load(firsts: &[u32], seconds: &[u32], flags: &[u8], rests: &mut [u32], d:
         put32(rests, a, rest);
         a += 1;
     }
+}
+
+// What a cut answers: whether the root is inside, and what it is worth where the root is not.
+pub struct Raised {
+    pub inside: bool,
+    pub by: u64,
+}
+
+// The cut round v, raised by as much as the arcs bear and no more than the cap, unless the root is inside; n is the
+// number of vertices.
+pub fn raise_cut(
+    firsts: &[u32],
+    seconds: &[u32],
+    tops: &[u32; MAX_VERTICES],
+    links: &[u32; MAX_ARCS],
+    rests: &mut [u32; MAX_ARCS],
+    rim: &mut [u32; MAX_ARCS],
+    n: usize,
+    root: usize,
+    v: usize,
+    cap: u64,
+) -> Raised
+    requires { ⌜ Ends n (now firsts) (now seconds) ⌝ }
+    requires { ⌜ Chained (now firsts) (now seconds) (arcCount (now firsts)) (now tops) (now links) ⌝ }
+    requires { ⌜ v < n ⌝ }
+    ensures { λ r. ⌜ CutRaised
+        (old firsts) (old seconds) n root v cap (old rests) (new rests) (r .inside) (r .by) ⌝ }
+{
+    let arcs = firsts.len() + firsts.len();
+    let flags = reaching(firsts, seconds, rests, arcs, n, v);
+    if at8(&flags, root) != 0 {
+        return Raised {
+            inside: true,
+            by: 0,
+        };
+    }
+    let by = least_rest(firsts, seconds, rests, &flags, cap, arcs);
+    load(firsts, seconds, &flags, rests, by, arcs);
+    Raised { inside: false, by }
 }

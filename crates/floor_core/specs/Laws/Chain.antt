@@ -1,21 +1,64 @@
 -- The arcs are linked one after the other, and what is stored fits.
-use Prim.Native.Nat.{ℕ, zero, suc, _+_, _*_, _^_, _≤_, _<_}
+use Prim.Native.Nat.{ℕ, zero, suc, _+_, _*_, _-_, _≤_, _<_}
 use native.Mathlib.Omega.{arith}
 use native.Mathlib.Numerals.{add-one}
 use native.Mathlib.Decide.{ℕ-discrete}
-use mathlib.Core.Path.{_≡_, refl, ap, sym, _∙_, subst}
+use mathlib.Core.Path.{_≡_, ap, sym, _∙_, subst}
+use mathlib.Core.Logic.{⊎-elim}
 use mathlib.Core.Bool.{Bool, true, false, cond}
 use mathlib.Core.List.{List}
 use lib.ListN.{length, getD, set, replicate, getD-replicate}
 use lib.Seq.{getD-set-same, getD-set-other}
 use lib.Dec.{eqb}
 use borrow.Author.Tests.{eq-eqb, ne-eqb}
-use Rattle.base_limits.specs.Limits.{maxVertices, maxEdges}
+use Rattle.base_finite.specs.Laws.Below.{lt-or-ge}
+use Rattle.base_limits.specs.Limits.{maxVertices}
+use Rattle.survey_core.specs.Survey.{Survey}
+use Rattle.survey_core.specs.Sound.{SurveySound}
 use Rattle.floor_rule.specs.Ascent.{maxArcs, arcCount, tailOf, headOf}
 use Rattle.floor_core.specs.Chain.{lastInto, linkOf, Ends, Chained}
+use Rattle.floor_core.specs.Laws.Arcs.{tail-low, tail-high, head-low, head-high}
+
+-- The ends of a survey that nothing is wrong with.
+pub survey-ends : (s : Survey) → SurveySound s → Ends (length (s .groups)) (s .firsts) (s .seconds)
+survey-ends s sound = record { few = sound .few; short = sound .edges-few; tails-below = tails; heads-below = heads }
+  where
+    firsts : List ℕ
+    firsts = s .firsts
+
+    seconds : List ℕ
+    seconds = s .seconds
+
+    n : ℕ
+    n = length (s .groups)
+
+    tails : (a : ℕ) → a < arcCount firsts → tailOf firsts seconds a < n
+    tails a b =
+        ⊎-elim
+        (λ c. subst (λ x. x < n) (tail-low firsts seconds a c) (sound .edges a c .first-below))
+        (λ c. subst (λ x. x < n) (tail-high firsts seconds a c) (sound .edges (a - length firsts) (omega arith) .second-below))
+        (lt-or-ge a (length firsts))
+
+    heads : (a : ℕ) → a < arcCount firsts → headOf firsts seconds a < n
+    heads a b =
+        ⊎-elim
+        (λ c. subst (λ x. x < n) (head-low firsts seconds a c) (sound .edges a c .second-below))
+        (λ c. subst (λ x. x < n) (head-high firsts seconds a c) (sound .edges (a - length firsts) (omega arith) .first-below))
+        (lt-or-ge a (length firsts))
 
 module _ (firsts seconds : List ℕ) where
-  pub last-le : (v n : ℕ) → lastInto firsts seconds v n ≤ n
+  -- There is room for all vertices.
+  pub ends-room : {n : ℕ} → Ends n firsts seconds → Ends maxVertices firsts seconds
+  ends-room {n} ends =
+      let few : n ≤ maxVertices = ends .few in
+      record {
+        few = omega arith;
+        short = ends .short;
+        tails-below = λ a b. omega (arith, few, ends .tails-below a b);
+        heads-below = λ a b. omega (arith, few, ends .heads-below a b);
+      }
+
+  last-le : (v n : ℕ) → lastInto firsts seconds v n ≤ n
   unfolding lastInto
   last-le v zero = omega arith
   last-le v (suc a) = by (eqb (headOf firsts seconds a) v) (last-le v a)
@@ -37,11 +80,11 @@ module _ (firsts seconds : List ℕ) where
 
   module _ (a : ℕ) (tops links : List ℕ) (chained : Chained firsts seconds a tops links) {head before : ℕ} (head-is : head ≡ headOf firsts seconds a)
       (before-is : before ≡ getD tops head 0) (ends : Ends maxVertices firsts seconds) (below : a < arcCount firsts) where
-    pub head-low : head < maxVertices
-    head-low = omega (arith, head-is, ends .heads-below a below)
+    head-below : head < maxVertices
+    head-below = omega (arith, head-is, ends .heads-below a below)
 
-    pub before-last : before ≡ lastInto firsts seconds (headOf firsts seconds a) a
-    before-last = before-is ∙ chained .tops-are head head-low ∙ ap (λ v. lastInto firsts seconds v a) head-is
+    before-last : before ≡ lastInto firsts seconds (headOf firsts seconds a) a
+    before-last = before-is ∙ chained .tops-are head head-below ∙ ap (λ v. lastInto firsts seconds v a) head-is
 
     pub before-le : before ≤ a
     before-le = omega (arith, before-last, last-le (headOf firsts seconds a) a)
@@ -51,7 +94,7 @@ module _ (firsts seconds : List ℕ) where
       top-after : (v : ℕ) → v < maxVertices → Dec (v ≡ head) → getD tops-after v 0 ≡ lastInto firsts seconds v (suc a)
       unfolding lastInto
       top-after v b (yes same) =
-          let low : head < length tops = omega (arith, tops-long, head-low) in
+          let low : head < length tops = omega (arith, tops-long, head-below) in
           let here : eqb (headOf firsts seconds a) v ≡ true = eq-eqb (headOf firsts seconds a) v (sym head-is ∙ sym same) in
           rw here (ap (λ (l : List ℕ). getD l v 0) tops-set ∙ ap (λ u. getD (set tops head (a + 1)) u 0) same ∙ getD-set-same tops head (a + 1) 0 low ∙ add-one a)
       top-after v b (no other) =
