@@ -3,7 +3,7 @@ ghost use Rattle.base_buffer.specs.Lent.{old, new};
 ghost use mathlib.Core.Path.{_≡_};
 ghost use mathlib.Core.Bool.{false};
 ghost use Prim.Native.Nat.{_-_, _<_};
-ghost use lib.ListN.{length, getD};
+ghost use lib.ListN.{length};
 ghost use Rattle.base_limits.specs.Limits.{groupNumbers};
 ghost use Rattle.floor_rule.specs.Ascent.{arcCount, stateWith, missing, visit, visitMember, visitMembers, visitGroup, visitGroups, passes, ascended};
 ghost use Rattle.floor_core.specs.Chain.{Ends, Chained};
@@ -56,7 +56,8 @@ fn visit(
     requires { ⌜ Done (now firsts) (now seconds) n root (now rests) (now done) ⌝ }
     ensures { λ _. ⌜ stateWith (new rests) (new got) ≡
         visit (old firsts) (old seconds) (old share) n root l v (stateWith (old rests) (old got)) ⌝ }
-    ensures { λ r. ⌜ (r ≡ false → (more ≡ false) × (stateWith (new rests) (new got) ≡ stateWith (old rests) (old got))) ⌝ }
+    ensures { λ r. ⌜ (r ≡ false →
+        (more ≡ false) × (stateWith (new rests) (new got) ≡ stateWith (old rests) (old got))) ⌝ }
     ensures { λ _. ⌜ Done (old firsts) (old seconds) n root (new rests) (new done) ⌝ }
 {
     let cap = missing(share, got, l);
@@ -66,9 +67,7 @@ fn visit(
     if at8(done, v) != 0 {
         return more;
     }
-    let raised = raise_cut(
-        firsts, seconds, tops, links, rests, rim, n, root, v, cap,
-    );
+    let raised = raise_cut(firsts, seconds, tops, links, rests, rim, n, root, v, cap);
     if raised.inside {
         put8(done, v, 1);
         return more;
@@ -101,7 +100,8 @@ fn visit_member(
     requires { ⌜ Done (now firsts) (now seconds) (length (now groups)) root (now rests) (now done) ⌝ }
     ensures { λ _. ⌜ stateWith (new rests) (new got) ≡ visitMember
         (old groups) (old firsts) (old seconds) (old share) root l v (stateWith (old rests) (old got)) ⌝ }
-    ensures { λ r. ⌜ (r ≡ false → (more ≡ false) × (stateWith (new rests) (new got) ≡ stateWith (old rests) (old got))) ⌝ }
+    ensures { λ r. ⌜ (r ≡ false →
+        (more ≡ false) × (stateWith (new rests) (new got) ≡ stateWith (old rests) (old got))) ⌝ }
     ensures { λ _. ⌜ Done (old firsts) (old seconds) (length (old groups)) root (new rests) (new done) ⌝ }
 {
     if index8(at8(groups, v)) != l {
@@ -109,7 +109,20 @@ fn visit_member(
     }
     let n = groups.len();
     visit(
-        firsts, seconds, share, tops, links, rests, got, done, rim, n, root, l, v, more,
+        firsts,
+        seconds,
+        share,
+        tops,
+        links,
+        rests,
+        got,
+        done,
+        rim,
+        n,
+        root,
+        l,
+        v,
+        more,
     )
 }
 
@@ -132,16 +145,30 @@ fn visit_members(
     requires { ⌜ Ends (length (now groups)) (now firsts) (now seconds) ⌝ }
     requires { ⌜ Chained (now firsts) (now seconds) (arcCount (now firsts)) (now tops) (now links) ⌝ }
     requires { ⌜ Done (now firsts) (now seconds) (length (now groups)) root (now rests) (now done) ⌝ }
-    ensures { λ _. ⌜ stateWith (new rests) (new got) ≡ visitMembers
-        (old groups) (old firsts) (old seconds) (old share) root l (length (old groups)) (stateWith (old rests) (old got)) ⌝ }
-    ensures { λ r. ⌜ (r ≡ false → (before ≡ false) × (stateWith (new rests) (new got) ≡ stateWith (old rests) (old got))) ⌝ }
+    ensures { λ _. ⌜ stateWith (new rests) (new got) ≡ visitMembers (old groups) (old firsts) (old seconds) (old share)
+        root l (length (old groups)) (stateWith (old rests) (old got)) ⌝ }
+    ensures { λ r. ⌜ (r ≡ false →
+        (before ≡ false) × (stateWith (new rests) (new got) ≡ stateWith (old rests) (old got))) ⌝ }
     ensures { λ _. ⌜ Done (old firsts) (old seconds) (length (old groups)) root (new rests) (new done) ⌝ }
 {
     let mut more = before;
     let mut v = 0;
     while v < groups.len() {
         more = visit_member(
-            groups, firsts, seconds, share, tops, links, rests, got, done, rim, root, l, v, more,
+            groups,
+            firsts,
+            seconds,
+            share,
+            tops,
+            links,
+            rests,
+            got,
+            done,
+            rim,
+            root,
+            l,
+            v,
+            more,
         );
         v += 1;
     }
@@ -170,7 +197,8 @@ fn visit_group(
     requires { ⌜ Done (now firsts) (now seconds) (length (now groups)) root (now rests) (now done) ⌝ }
     ensures { λ _. ⌜ stateWith (new rests) (new got) ≡ visitGroup
         (old groups) (old firsts) (old seconds) (old share) root k l (stateWith (old rests) (old got)) ⌝ }
-    ensures { λ r. ⌜ (r ≡ false → (more ≡ false) × (stateWith (new rests) (new got) ≡ stateWith (old rests) (old got))) ⌝ }
+    ensures { λ r. ⌜ (r ≡ false →
+        (more ≡ false) × (stateWith (new rests) (new got) ≡ stateWith (old rests) (old got))) ⌝ }
     ensures { λ _. ⌜ Done (old firsts) (old seconds) (length (old groups)) root (new rests) (new done) ⌝ }
 {
     if l < k {
@@ -180,7 +208,19 @@ fn visit_group(
         return more;
     }
     visit_members(
-        groups, firsts, seconds, share, tops, links, rests, got, done, rim, root, l, more,
+        groups,
+        firsts,
+        seconds,
+        share,
+        tops,
+        links,
+        rests,
+        got,
+        done,
+        rim,
+        root,
+        l,
+        more,
     )
 }
 
@@ -211,7 +251,20 @@ fn pass(
     let mut l = 0;
     while l < GROUP_NUMBERS {
         more = visit_group(
-            groups, firsts, seconds, share, tops, links, rests, got, done, rim, root, k, l, more,
+            groups,
+            firsts,
+            seconds,
+            share,
+            tops,
+            links,
+            rests,
+            got,
+            done,
+            rim,
+            root,
+            k,
+            l,
+            more,
         );
         l += 1;
     }
@@ -243,7 +296,18 @@ fn passes(
     let mut i = 0;
     while i < limit {
         if !pass(
-            groups, firsts, seconds, share, tops, links, rests, got, done, rim, root, k,
+            groups,
+            firsts,
+            seconds,
+            share,
+            tops,
+            links,
+            rests,
+            got,
+            done,
+            rim,
+            root,
+            k,
         ) {
             return;
         }

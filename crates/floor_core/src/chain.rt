@@ -2,9 +2,9 @@
 ghost use Rattle.base_buffer.specs.Lent.{old, new};
 ghost use mathlib.Core.Path.{_≡_};
 ghost use Prim.Native.Nat.{_+_, _<_};
-ghost use lib.ListN.{length, replicate};
+ghost use lib.ListN.{replicate};
 ghost use Rattle.base_limits.specs.Limits.{maxVertices};
-ghost use Rattle.floor_rule.specs.Ascent.{maxArcs, arcCount};
+ghost use Rattle.floor_rule.specs.Ascent.{arcCount};
 ghost use Rattle.floor_core.specs.Chain.{Ends, Chained};
 use crate::arcs::head_of;
 use crate::arcs::tail_of;

@@ -54,9 +54,9 @@ module _ (firsts seconds : List ℕ) where
     done-loaded ends flags d rests done {after} after-is h =
         record {
           root-inside = λ v b some.
-          reaching-iff firsts seconds after n (ends .few) (ends .tails-below) v b root .1
-          (leads-still rests after (λ a c none. ap (λ (l : List ℕ). getD l a 0) after-is ∙ loaded-bare flags d rests a c none) v
-          (reaching-iff firsts seconds rests n (ends .few) (ends .tails-below) v b root .0 (h .root-inside v b some)));
+              reaching-iff firsts seconds after n (ends .few) (ends .tails-below) v b root .1
+              (leads-still rests after (λ a c none. ap (λ (l : List ℕ). getD l a 0) after-is ∙ loaded-bare flags d rests a c none) v
+              (reaching-iff firsts seconds rests n (ends .few) (ends .tails-below) v b root .0 (h .root-inside v b some)));
         }
 
     -- After a visit.

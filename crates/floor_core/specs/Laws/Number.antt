@@ -104,9 +104,6 @@ take-remade f n fits =
     let in-table : k < length {A = ℕ} (replicate maxVertices 0) = rw (length-replicate {A = ℕ} maxVertices 0) (omega arith) in
     getD-take n room k 0 c ∙ remade-passed (λ v x. f v) n (replicate maxVertices 0) k c in-table ∙ sym (getD-tabulate n f k 0 c)))
 
-pub length-numbered-room : (f : ℕ → ℕ → ℕ) (n : ℕ) {room : List ℕ} → room ≡ remade f n (replicate maxVertices 0) → length room ≡ maxVertices
-length-numbered-room f n h = ap length h ∙ length-remade f n (replicate maxVertices 0) ∙ length-replicate {A = ℕ} maxVertices 0
-
 -- The groups of the ascent, read from the buffer that numbering leaves.
 module _ (s : Survey) (fits : length (s .groups) ≤ maxVertices) {pours room : List ℕ} (pours-are : pours ≡ roomOf (length (s .groups)) (poured (listsOf s)))
     (room-is : room ≡ remade (λ v x. numberOf (take (length (s .groups) - 0) pours) (s .groups) (s .owners) (s .others) (getD (take (length (s .groups) - 0) pours) v 0))

@@ -1,7 +1,7 @@
 -- The cut round a vertex, by the flags of all that is inside.
 use Prim.Native.Nat.{ℕ}
 use mathlib.Core.Path.{_≡_, refl, ap, sym, _∙_}
-use mathlib.Core.Bool.{Bool, true, false, not}
+use mathlib.Core.Bool.{true, false, not}
 use mathlib.Core.List.{List}
 use lib.ListN.{getD}
 use lib.Dec.{eqb}
@@ -23,8 +23,7 @@ module _ (firsts seconds : List ℕ) (n root v cap : ℕ) (rests : List ℕ) {fl
   cut-outside {by} none by-is after-is =
       record {
         root-inside = λ h. more-false (sym h);
-        root-outside = λ h.
-        (
+        root-outside = λ h. (
           ap (λ (f : List ℕ). flagged f root) (sym flags-are) ∙ ap not (eq-eqb (getD flags root 0) 0 (sym x-is ∙ none)),
           by-is ∙ ap (λ (f : List ℕ). leastRest firsts seconds rests f cap (arcCount firsts)) flags-are,
           after-is ∙ ap (λ (f : List ℕ). loaded firsts seconds f by rests) flags-are,

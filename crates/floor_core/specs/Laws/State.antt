@@ -5,14 +5,13 @@ use native.Mathlib.Numerals.{add-one}
 use mathlib.Core.Path.{_≡_, refl, ap, sym, _∙_}
 use mathlib.Core.Bool.{Bool, true, false, _||_, cond}
 use mathlib.Core.List.{List}
-use lib.ListN.{length, getD, set, replicate, length-set, length-replicate}
+use lib.ListN.{length, getD, set, replicate, length-set}
 use lib.Dec.{eqb, ltb}
 use borrow.Author.Tests.{eq-eqb, ne-eqb, lt-ltb, le-ltb}
-use Rattle.base_finite.specs.Laws.Test.{either}
 use Rattle.base_buffer.specs.Store.{remade}
 use Rattle.base_buffer.specs.Laws.Store.{length-remade}
 use Rattle.base_limits.specs.Limits.{groupNumbers}
-use Rattle.floor_rule.specs.Ascent.{maxArcs, arcCount, flagged, reaching, leastRest, loaded, State, stateWith, missing, raised, raisedBy, visit, visitMember, visitMembers, visitGroup, visitGroups, passes, passCount, prices, rootOf, atFirst, ascended}
+use Rattle.floor_rule.specs.Ascent.{arcCount, flagged, reaching, leastRest, loaded, State, stateWith, missing, raised, raisedBy, visit, visitMember, visitMembers, visitGroup, visitGroups, passes, passCount, prices, rootOf, atFirst, ascended}
 use Rattle.floor_rule.specs.Laws.Cut.{least-cap}
 use Rattle.floor_core.specs.Chain.{CutRaised}
 
@@ -196,10 +195,6 @@ module _ (firsts seconds : List ℕ) where
         let apart : n - i + i ≡ n = omega arith in
         still ∙ sym (passes-still k now (sym e ∙ still) (n - i)) ∙ ap (passes groups firsts seconds share root k (n - i)) h ∙ sym (passes-add k i (n - i) start)
         ∙ ap (λ j. passes groups firsts seconds share root k j start) apart
-
-pub length-prices : (firsts weights : List ℕ) {now : List ℕ} → now ≡ prices firsts weights → maxArcs ≡ length now
-unfolding prices
-length-prices firsts weights h = sym (ap length h ∙ length-remade _ (arcCount firsts) (replicate maxArcs 0) ∙ length-replicate {A = ℕ} maxArcs 0)
 
 pub ascended-is : (groups firsts seconds weights share : List ℕ) (k : ℕ) {rests after got : List ℕ} {root limit : ℕ} → rests ≡ prices firsts weights → root ≡ rootOf groups k
     → limit ≡ passCount groups firsts → stateWith after got ≡ passes groups firsts seconds share root k limit (stateWith rests (replicate groupNumbers 0))

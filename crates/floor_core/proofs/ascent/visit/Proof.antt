@@ -1,7 +1,7 @@
 -- `visit` meets its contract: a group with its share and a vertex that is done are passed over, and the root inside is done.
 use Prim.Native.Nat.{_<_, _^_}
 use native.Mathlib.Omega.{arith}
-use mathlib.Core.Path.{refl, sym, _∙_}
+use mathlib.Core.Path.{refl, _∙_}
 use lib.ListN.{getD}
 use Rattle.floor_core.specs.Laws.Arcs.{more-false}
 use Rattle.floor_core.specs.Laws.State.{visit-passed, visit-inside, same-inside, cut-fits, visit-raised}

@@ -1,6 +1,4 @@
 -- `chain_arc` meets its contract: the link is stored, then the arc is the last that leads there.
-use native.Mathlib.Omega.{arith}
-use mathlib.Core.Path.{refl, sym}
 use Rattle.floor_core.specs.Laws.Chain.{before-le, chained-more}
 use borrow.Author.Needs.{needs}
 use Rattle.floor_core.proofs.chain.chain_arc.Statement.{statement}
