@@ -2,6 +2,8 @@ pub mod Arcs
 pub mod State
 pub mod End
 pub mod Reach
+pub mod Chain
+pub mod Done
 pub mod Shares
 pub mod Number
 pub mod Floor

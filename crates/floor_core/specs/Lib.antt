@@ -1,3 +1,4 @@
 pub mod Chain
 pub mod Walk
+pub mod Done
 pub mod Laws

@@ -58,7 +58,6 @@ pub record Among (l : List ℕ) (e x : ℕ) : Type 0 where
 pub record Turn (g : Ground) (rests : List ℕ) (i v x : ℕ) (flags found rim : List ℕ) (vertices arcs : ℕ) : Type 0 where
   pub flags-long : length flags ≡ maxVertices
   pub found-long : length found ≡ maxVertices
-  pub rim-long : length rim ≡ maxArcs
   pub start : flagged flags (g .t) ≡ true
   pub sound : (u : ℕ) → flagged flags u ≡ true → LeadsIn g rests u
   pub counted : vertices ≡ countBelow maxVertices (flagged flags)

@@ -2,20 +2,23 @@
 ghost use Rattle.base_buffer.specs.Lent.{old, new};
 ghost use mathlib.Core.Path.{_≡_};
 ghost use mathlib.Core.Bool.{false};
-ghost use Prim.Native.Nat.{_+_, _-_, _≤_, _<_, _^_};
-ghost use lib.ListN.{length, getD};
-ghost use Rattle.base_limits.specs.Limits.{maxVertices, maxEdges, groupNumbers};
-ghost use Rattle.floor_rule.specs.Ascent.{arcCount, stateWith, missing, raised, raisedBy, visit, visitMember, visitMembers, visitGroup, visitGroups, passes, passCount, rootOf, atFirst, ascended};
+ghost use Prim.Native.Nat.{_-_, _<_};
+ghost use lib.ListN.{length};
+ghost use Rattle.base_limits.specs.Limits.{groupNumbers};
+ghost use Rattle.floor_rule.specs.Ascent.{arcCount, stateWith, missing, visit, visitMember, visitMembers, visitGroup, visitGroups, passes, ascended};
+ghost use Rattle.floor_core.specs.Chain.{Ends, Chained};
+ghost use Rattle.floor_core.specs.Done.{Done};
 use crate::arcs::prices;
-use crate::cut::least_rest;
-use crate::cut::load;
-use crate::cut::reaching;
+use crate::cut::raise_cut;
 use crate::shares::root_of;
 use base_buffer::at8;
 use base_buffer::at64;
 use base_buffer::index8;
+use base_buffer::put8;
 use base_buffer::put64;
 use base_limits::GROUP_NUMBERS;
+use base_limits::MAX_VERTICES;
+use floor_rule::MAX_ARCS;
 
 // What group l may still get of its share.
 fn missing(share: &[u64], got: &[u64], l: usize) -> u64
@@ -29,89 +32,49 @@ fn missing(share: &[u64], got: &[u64], l: usize) -> u64
     whole - part
 }
 
-// A cut of value d for group l.
-fn raise(
-    firsts: &[u32],
-    seconds: &[u32],
-    flags: &[u8],
-    rests: &mut [u32],
-    got: &mut [u64],
-    arcs: usize,
-    l: usize,
-    d: u64,
-)
-    requires { ⌜ arcs ≡ arcCount (now firsts) ⌝ }
-    requires { ⌜ getD (now got) l 0 + d < 2 ^ 64 ⌝ }
-    ensures { λ _. ⌜ stateWith (new rests) (new got) ≡
-        raised (old firsts) (old seconds) (old flags) l d (stateWith (old rests) (old got)) ⌝ }
-{
-    load(firsts, seconds, flags, rests, d, arcs);
-    let part = at64(got, l);
-    put64(got, l, part + d);
-}
-
-// Raised by as much as the arcs and the share bear, unless the root is inside. True if it was, or some were before.
-fn raise_by(
-    firsts: &[u32],
-    seconds: &[u32],
-    flags: &[u8],
-    share: &[u64],
-    rests: &mut [u32],
-    got: &mut [u64],
-    arcs: usize,
-    root: usize,
-    l: usize,
-    more: bool,
-) -> bool
-    requires { ⌜ arcs ≡ arcCount (now firsts) ⌝ }
-    ensures { λ _. ⌜ stateWith (new rests) (new got) ≡
-        raisedBy (old firsts) (old seconds) (old flags) (old share) root l (stateWith (old rests) (old got)) ⌝ }
-    ensures { λ r. ⌜ (r ≡ false → (more ≡ false) × (stateWith (new rests) (new got) ≡ stateWith (old rests) (old got))) ⌝ }
-{
-    if at8(flags, root) != 0 {
-        return more;
-    }
-    let cap = missing(share, got, l);
-    let d = least_rest(firsts, seconds, rests, flags, cap, arcs);
-    raise(firsts, seconds, flags, rests, got, arcs, l, d);
-    true
-}
-
-// A visit to member v of group l, unless the group has its share; n is the number of vertices.
+// A visit to member v of group l, unless the group has its share or v is done; n is the number of vertices. True if the
+// cut is raised, or one was before.
 fn visit(
     firsts: &[u32],
     seconds: &[u32],
     share: &[u64],
-    rests: &mut [u32],
-    got: &mut [u64],
-    arcs: usize,
+    tops: &[u32; MAX_VERTICES],
+    links: &[u32; MAX_ARCS],
+    rests: &mut [u32; MAX_ARCS],
+    got: &mut [u64; GROUP_NUMBERS],
+    done: &mut [u8; MAX_VERTICES],
+    rim: &mut [u32; MAX_ARCS],
     n: usize,
     root: usize,
     l: usize,
     v: usize,
     more: bool,
 ) -> bool
-    requires { ⌜ arcs ≡ arcCount (now firsts) ⌝ }
+    requires { ⌜ Ends n (now firsts) (now seconds) ⌝ }
+    requires { ⌜ Chained (now firsts) (now seconds) (arcCount (now firsts)) (now tops) (now links) ⌝ }
+    requires { ⌜ v < n ⌝ }
+    requires { ⌜ Done (now firsts) (now seconds) n root (now rests) (now done) ⌝ }
     ensures { λ _. ⌜ stateWith (new rests) (new got) ≡
         visit (old firsts) (old seconds) (old share) n root l v (stateWith (old rests) (old got)) ⌝ }
-    ensures { λ r. ⌜ (r ≡ false → (more ≡ false) × (stateWith (new rests) (new got) ≡ stateWith (old rests) (old got))) ⌝ }
+    ensures { λ r. ⌜ (r ≡ false →
+        (more ≡ false) × (stateWith (new rests) (new got) ≡ stateWith (old rests) (old got))) ⌝ }
+    ensures { λ _. ⌜ Done (old firsts) (old seconds) n root (new rests) (new done) ⌝ }
 {
-    if missing(share, got, l) == 0 {
+    let cap = missing(share, got, l);
+    if cap == 0 {
         return more;
     }
-    let flags = reaching(firsts, seconds, rests, arcs, n, v);
-    raise_by(
-        firsts,
-        seconds,
-        &flags,
-        share,
-        rests,
-        got,
-        arcs,
-        root,
-        l,
-        more,
-    )
+    if at8(done, v) != 0 {
+        return more;
+    }
+    let raised = raise_cut(firsts, seconds, tops, links, rests, rim, n, root, v, cap);
+    if raised.inside {
+        put8(done, v, 1);
+        return more;
+    }
+    let part = at64(got, l);
+    put64(got, l, part + raised.by);
+    true
 }
 
 // A visit to v, if it is a member of group l.
@@ -120,18 +83,26 @@ fn visit_member(
     firsts: &[u32],
     seconds: &[u32],
     share: &[u64],
-    rests: &mut [u32],
-    got: &mut [u64],
-    arcs: usize,
+    tops: &[u32; MAX_VERTICES],
+    links: &[u32; MAX_ARCS],
+    rests: &mut [u32; MAX_ARCS],
+    got: &mut [u64; GROUP_NUMBERS],
+    done: &mut [u8; MAX_VERTICES],
+    rim: &mut [u32; MAX_ARCS],
     root: usize,
     l: usize,
     v: usize,
     more: bool,
 ) -> bool
-    requires { ⌜ arcs ≡ arcCount (now firsts) ⌝ }
+    requires { ⌜ Ends (length (now groups)) (now firsts) (now seconds) ⌝ }
+    requires { ⌜ Chained (now firsts) (now seconds) (arcCount (now firsts)) (now tops) (now links) ⌝ }
+    requires { ⌜ v < length (now groups) ⌝ }
+    requires { ⌜ Done (now firsts) (now seconds) (length (now groups)) root (now rests) (now done) ⌝ }
     ensures { λ _. ⌜ stateWith (new rests) (new got) ≡ visitMember
         (old groups) (old firsts) (old seconds) (old share) root l v (stateWith (old rests) (old got)) ⌝ }
-    ensures { λ r. ⌜ (r ≡ false → (more ≡ false) × (stateWith (new rests) (new got) ≡ stateWith (old rests) (old got))) ⌝ }
+    ensures { λ r. ⌜ (r ≡ false →
+        (more ≡ false) × (stateWith (new rests) (new got) ≡ stateWith (old rests) (old got))) ⌝ }
+    ensures { λ _. ⌜ Done (old firsts) (old seconds) (length (old groups)) root (new rests) (new done) ⌝ }
 {
     if index8(at8(groups, v)) != l {
         return more;
@@ -141,9 +112,12 @@ fn visit_member(
         firsts,
         seconds,
         share,
+        tops,
+        links,
         rests,
         got,
-        arcs,
+        done,
+        rim,
         n,
         root,
         l,
@@ -158,17 +132,24 @@ fn visit_members(
     firsts: &[u32],
     seconds: &[u32],
     share: &[u64],
-    rests: &mut [u32],
-    got: &mut [u64],
-    arcs: usize,
+    tops: &[u32; MAX_VERTICES],
+    links: &[u32; MAX_ARCS],
+    rests: &mut [u32; MAX_ARCS],
+    got: &mut [u64; GROUP_NUMBERS],
+    done: &mut [u8; MAX_VERTICES],
+    rim: &mut [u32; MAX_ARCS],
     root: usize,
     l: usize,
     before: bool,
 ) -> bool
-    requires { ⌜ arcs ≡ arcCount (now firsts) ⌝ }
-    ensures { λ _. ⌜ stateWith (new rests) (new got) ≡ visitMembers
-        (old groups) (old firsts) (old seconds) (old share) root l (length (old groups)) (stateWith (old rests) (old got)) ⌝ }
-    ensures { λ r. ⌜ (r ≡ false → (before ≡ false) × (stateWith (new rests) (new got) ≡ stateWith (old rests) (old got))) ⌝ }
+    requires { ⌜ Ends (length (now groups)) (now firsts) (now seconds) ⌝ }
+    requires { ⌜ Chained (now firsts) (now seconds) (arcCount (now firsts)) (now tops) (now links) ⌝ }
+    requires { ⌜ Done (now firsts) (now seconds) (length (now groups)) root (now rests) (now done) ⌝ }
+    ensures { λ _. ⌜ stateWith (new rests) (new got) ≡ visitMembers (old groups) (old firsts) (old seconds) (old share)
+        root l (length (old groups)) (stateWith (old rests) (old got)) ⌝ }
+    ensures { λ r. ⌜ (r ≡ false →
+        (before ≡ false) × (stateWith (new rests) (new got) ≡ stateWith (old rests) (old got))) ⌝ }
+    ensures { λ _. ⌜ Done (old firsts) (old seconds) (length (old groups)) root (new rests) (new done) ⌝ }
 {
     let mut more = before;
     let mut v = 0;
@@ -178,9 +159,12 @@ fn visit_members(
             firsts,
             seconds,
             share,
+            tops,
+            links,
             rests,
             got,
-            arcs,
+            done,
+            rim,
             root,
             l,
             v,
@@ -197,18 +181,25 @@ fn visit_group(
     firsts: &[u32],
     seconds: &[u32],
     share: &[u64],
-    rests: &mut [u32],
-    got: &mut [u64],
-    arcs: usize,
+    tops: &[u32; MAX_VERTICES],
+    links: &[u32; MAX_ARCS],
+    rests: &mut [u32; MAX_ARCS],
+    got: &mut [u64; GROUP_NUMBERS],
+    done: &mut [u8; MAX_VERTICES],
+    rim: &mut [u32; MAX_ARCS],
     root: usize,
     k: usize,
     l: usize,
     more: bool,
 ) -> bool
-    requires { ⌜ arcs ≡ arcCount (now firsts) ⌝ }
+    requires { ⌜ Ends (length (now groups)) (now firsts) (now seconds) ⌝ }
+    requires { ⌜ Chained (now firsts) (now seconds) (arcCount (now firsts)) (now tops) (now links) ⌝ }
+    requires { ⌜ Done (now firsts) (now seconds) (length (now groups)) root (now rests) (now done) ⌝ }
     ensures { λ _. ⌜ stateWith (new rests) (new got) ≡ visitGroup
         (old groups) (old firsts) (old seconds) (old share) root k l (stateWith (old rests) (old got)) ⌝ }
-    ensures { λ r. ⌜ (r ≡ false → (more ≡ false) × (stateWith (new rests) (new got) ≡ stateWith (old rests) (old got))) ⌝ }
+    ensures { λ r. ⌜ (r ≡ false →
+        (more ≡ false) × (stateWith (new rests) (new got) ≡ stateWith (old rests) (old got))) ⌝ }
+    ensures { λ _. ⌜ Done (old firsts) (old seconds) (length (old groups)) root (new rests) (new done) ⌝ }
 {
     if l < k {
         return more;
@@ -221,9 +212,12 @@ fn visit_group(
         firsts,
         seconds,
         share,
+        tops,
+        links,
         rests,
         got,
-        arcs,
+        done,
+        rim,
         root,
         l,
         more,
@@ -236,16 +230,22 @@ fn pass(
     firsts: &[u32],
     seconds: &[u32],
     share: &[u64],
-    rests: &mut [u32],
-    got: &mut [u64],
-    arcs: usize,
+    tops: &[u32; MAX_VERTICES],
+    links: &[u32; MAX_ARCS],
+    rests: &mut [u32; MAX_ARCS],
+    got: &mut [u64; GROUP_NUMBERS],
+    done: &mut [u8; MAX_VERTICES],
+    rim: &mut [u32; MAX_ARCS],
     root: usize,
     k: usize,
 ) -> bool
-    requires { ⌜ arcs ≡ arcCount (now firsts) ⌝ }
+    requires { ⌜ Ends (length (now groups)) (now firsts) (now seconds) ⌝ }
+    requires { ⌜ Chained (now firsts) (now seconds) (arcCount (now firsts)) (now tops) (now links) ⌝ }
+    requires { ⌜ Done (now firsts) (now seconds) (length (now groups)) root (now rests) (now done) ⌝ }
     ensures { λ _. ⌜ stateWith (new rests) (new got) ≡ visitGroups
         (old groups) (old firsts) (old seconds) (old share) root k groupNumbers (stateWith (old rests) (old got)) ⌝ }
     ensures { λ r. ⌜ (r ≡ false → stateWith (new rests) (new got) ≡ stateWith (old rests) (old got)) ⌝ }
+    ensures { λ _. ⌜ Done (old firsts) (old seconds) (length (old groups)) root (new rests) (new done) ⌝ }
 {
     let mut more = false;
     let mut l = 0;
@@ -255,9 +255,12 @@ fn pass(
             firsts,
             seconds,
             share,
+            tops,
+            links,
             rests,
             got,
-            arcs,
+            done,
+            rim,
             root,
             k,
             l,
@@ -274,20 +277,38 @@ fn passes(
     firsts: &[u32],
     seconds: &[u32],
     share: &[u64],
-    rests: &mut [u32],
-    got: &mut [u64],
-    arcs: usize,
+    tops: &[u32; MAX_VERTICES],
+    links: &[u32; MAX_ARCS],
+    rests: &mut [u32; MAX_ARCS],
+    got: &mut [u64; GROUP_NUMBERS],
+    done: &mut [u8; MAX_VERTICES],
+    rim: &mut [u32; MAX_ARCS],
     root: usize,
     k: usize,
     limit: usize,
 )
-    requires { ⌜ arcs ≡ arcCount (now firsts) ⌝ }
+    requires { ⌜ Ends (length (now groups)) (now firsts) (now seconds) ⌝ }
+    requires { ⌜ Chained (now firsts) (now seconds) (arcCount (now firsts)) (now tops) (now links) ⌝ }
+    requires { ⌜ Done (now firsts) (now seconds) (length (now groups)) root (now rests) (now done) ⌝ }
     ensures { λ _. ⌜ stateWith (new rests) (new got) ≡ passes
         (old groups) (old firsts) (old seconds) (old share) root k limit (stateWith (old rests) (old got)) ⌝ }
 {
     let mut i = 0;
     while i < limit {
-        if !pass(groups, firsts, seconds, share, rests, got, arcs, root, k) {
+        if !pass(
+            groups,
+            firsts,
+            seconds,
+            share,
+            tops,
+            links,
+            rests,
+            got,
+            done,
+            rim,
+            root,
+            k,
+        ) {
             return;
         }
         i += 1;
@@ -301,24 +322,31 @@ pub fn ascend(
     seconds: &[u32],
     weights: &[u32],
     share: &[u64],
+    tops: &[u32; MAX_VERTICES],
+    links: &[u32; MAX_ARCS],
     k: usize,
 ) -> [u64; GROUP_NUMBERS]
-    requires { ⌜ length (now groups) ≤ maxVertices ⌝ }
-    requires { ⌜ length (now firsts) ≤ maxEdges ⌝ }
+    requires { ⌜ Ends (length (now groups)) (now firsts) (now seconds) ⌝ }
+    requires { ⌜ Chained (now firsts) (now seconds) (arcCount (now firsts)) (now tops) (now links) ⌝ }
     ensures { λ r. ⌜ r ≡ ascended (old groups) (old firsts) (old seconds) (old weights) (old share) k .got ⌝ }
 {
     let arcs = firsts.len() + firsts.len();
     let mut rests = prices(firsts, weights, arcs);
     let mut got = [0u64; GROUP_NUMBERS];
+    let mut done = [0u8; MAX_VERTICES];
+    let mut rim = [0u32; MAX_ARCS];
     let root = root_of(groups, k);
     passes(
         groups,
         firsts,
         seconds,
         share,
+        tops,
+        links,
         &mut rests,
         &mut got,
-        arcs,
+        &mut done,
+        &mut rim,
         root,
         k,
         arcs + groups.len(),

@@ -15,6 +15,7 @@ use plan_rule::Figured;
 
 mod arcs;
 mod ascent;
+mod chain;
 mod cut;
 mod number;
 mod shares;

@@ -6,14 +6,18 @@ ghost use Prim.Native.Nat.{ℕ, suc, _≤_, _<_};
 ghost use lib.ListN.{length, getD};
 ghost use lib.Dec.{eqb, ltb};
 ghost use Rattle.base_finite.specs.Below.{counted, countBelow, sumBelow};
-ghost use Rattle.base_limits.specs.Limits.{maxVertices, maxEdges, groupNumbers};
-ghost use Rattle.floor_rule.specs.Ascent.{maxCost, lesser, lowestIn, rootOf, inCompany, firstShares, lowered, afterList, sharesAfter, ascentFloor};
+ghost use Rattle.base_limits.specs.Limits.{groupNumbers};
+ghost use Rattle.floor_rule.specs.Ascent.{maxCost, arcCount, lesser, lowestIn, rootOf, inCompany, firstShares, lowered, afterList, sharesAfter, ascentFloor};
+ghost use Rattle.floor_core.specs.Chain.{Ends, Chained};
 use crate::ascent::ascend;
+use crate::chain::chain;
 use base_buffer::at8;
 use base_buffer::at64;
 use base_buffer::index8;
 use base_buffer::put64;
 use base_limits::GROUP_NUMBERS;
+use base_limits::MAX_VERTICES;
+use floor_rule::MAX_ARCS;
 use floor_rule::MAX_COST;
 
 // The lowest so far, or the one behind v, if v is the lowest so far and no member.
@@ -123,24 +127,33 @@ fn after_list(
     seconds: &[u32],
     weights: &[u32],
     share: &mut [u64],
+    tops: &[u32; MAX_VERTICES],
+    links: &[u32; MAX_ARCS],
     k: usize,
 )
-    requires { ⌜ length (now groups) ≤ maxVertices ⌝ }
-    requires { ⌜ length (now firsts) ≤ maxEdges ⌝ }
+    requires { ⌜ Ends (length (now groups)) (now firsts) (now seconds) ⌝ }
+    requires { ⌜ Chained (now firsts) (now seconds) (arcCount (now firsts)) (now tops) (now links) ⌝ }
     ensures { λ _. ⌜ new share ≡ afterList
         (old groups) (old firsts) (old seconds) (old weights) k (old share) ⌝ }
 {
     if at64(share, k) == 0 {
         return;
     }
-    let got = ascend(groups, firsts, seconds, weights, share, k);
+    let got = ascend(groups, firsts, seconds, weights, share, tops, links, k);
     lower(&got, k, share);
 }
 
 // The shares after all lists.
-fn shares(groups: &[u8], firsts: &[u32], seconds: &[u32], weights: &[u32]) -> [u64; GROUP_NUMBERS]
-    requires { ⌜ length (now groups) ≤ maxVertices ⌝ }
-    requires { ⌜ length (now firsts) ≤ maxEdges ⌝ }
+fn shares(
+    groups: &[u8],
+    firsts: &[u32],
+    seconds: &[u32],
+    weights: &[u32],
+    tops: &[u32; MAX_VERTICES],
+    links: &[u32; MAX_ARCS],
+) -> [u64; GROUP_NUMBERS]
+    requires { ⌜ Ends (length (now groups)) (now firsts) (now seconds) ⌝ }
+    requires { ⌜ Chained (now firsts) (now seconds) (arcCount (now firsts)) (now tops) (now links) ⌝ }
     ensures { λ r. ⌜ r ≡ sharesAfter (old groups) (old firsts) (old seconds) (old weights) groupNumbers ⌝ }
 {
     let mut share = first_shares(groups);
@@ -153,6 +166,8 @@ fn shares(groups: &[u8], firsts: &[u32], seconds: &[u32], weights: &[u32]) -> [u
             seconds,
             weights,
             &mut share,
+            tops,
+            links,
             GROUP_NUMBERS - j,
         );
     }
@@ -174,10 +189,13 @@ fn total(share: &[u64]) -> u64
 
 // The floor of the ascent.
 pub fn ascent_floor(groups: &[u8], firsts: &[u32], seconds: &[u32], weights: &[u32]) -> u64
-    requires { ⌜ length (now groups) ≤ maxVertices ⌝ }
-    requires { ⌜ length (now firsts) ≤ maxEdges ⌝ }
+    requires { ⌜ Ends (length (now groups)) (now firsts) (now seconds) ⌝ }
     ensures { λ r. ⌜ r ≡ ascentFloor (old groups) (old firsts) (old seconds) (old weights) ⌝ }
 {
-    let share = shares(groups, firsts, seconds, weights);
+    let mut tops = [0u32; MAX_VERTICES];
+    let mut links = [0u32; MAX_ARCS];
+    let arcs = firsts.len() + firsts.len();
+    chain(firsts, seconds, arcs, &mut tops, &mut links);
+    let share = shares(groups, firsts, seconds, weights, &tops, &links);
     total(&share)
 }

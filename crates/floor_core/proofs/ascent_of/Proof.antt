@@ -1,6 +1,6 @@
 -- `ascent_of` meets its contract: the poured lists, numbered.
 use Rattle.survey_core.specs.Survey.{surveyWith}
-use Rattle.floor_core.specs.Laws.Number.{ascent-is, numbered-few}
+use Rattle.floor_core.specs.Laws.Number.{ascent-is, numbered-ends}
 use borrow.Author.Needs.{needs}
 use Rattle.floor_core.proofs.ascent_of.Statement.{statement}
 use Rattle.floor_core.proofs.ascent_of.Tie as tie
@@ -12,7 +12,7 @@ part-ascent-floor-end : tie.Need-part-ascent-floor-end
 part-ascent-floor-end c = let few = c .before .before .before .before .before .before .before .before .before .before .before .pre .few in search (needs, few)
 
 ascent-floor-requires : tie.Need-ascent-floor-requires
-ascent-floor-requires c κs = (numbered-few (surveyWith (c .before .before .before .before .before .before .before .before .before .before .before .before .args .groups .now) (c .before .before .before .before .before .before .before .before .before .before .before .before .args .firsts .now) (c .before .before .before .before .before .before .before .before .before .before .before .before .args .seconds .now) (c .before .before .before .before .before .before .before .before .before .before .before .before .args .weights .now) (c .before .before .before .before .before .before .before .before .before .before .before .before .args .owners .now) (c .before .before .before .before .before .before .before .before .before .before .before .before .args .others .now)) (c .before .before .before .before .before .before .before .before .before .before .before .before .pre .few) (c .before .before .before .before .before .pour .ensures) (c .before .before .numbered .ensures), c .before .before .before .before .before .before .before .before .before .before .before .before .pre .edges-few)
+ascent-floor-requires c κs = numbered-ends (surveyWith (c .before .before .before .before .before .before .before .before .before .before .before .before .args .groups .now) (c .before .before .before .before .before .before .before .before .before .before .before .before .args .firsts .now) (c .before .before .before .before .before .before .before .before .before .before .before .before .args .seconds .now) (c .before .before .before .before .before .before .before .before .before .before .before .before .args .weights .now) (c .before .before .before .before .before .before .before .before .before .before .before .before .args .owners .now) (c .before .before .before .before .before .before .before .before .before .before .before .before .args .others .now)) (c .before .before .before .before .before .before .before .before .before .before .before .before .pre .few) (c .before .before .before .before .before .pour .ensures) (c .before .before .numbered .ensures) (c .before .before .before .before .before .before .before .before .before .before .before .before .pre)
 
 returns : tie.Need-returns
 returns c = ascent-is (surveyWith (c .before .before .before .before .before .before .before .before .before .before .before .before .before .args .groups .now) (c .before .before .before .before .before .before .before .before .before .before .before .before .before .args .firsts .now) (c .before .before .before .before .before .before .before .before .before .before .before .before .before .args .seconds .now) (c .before .before .before .before .before .before .before .before .before .before .before .before .before .args .weights .now) (c .before .before .before .before .before .before .before .before .before .before .before .before .before .args .owners .now) (c .before .before .before .before .before .before .before .before .before .before .before .before .before .args .others .now)) (c .before .before .before .before .before .before .before .before .before .before .before .before .before .pre .few) (c .before .before .before .before .before .before .pour .ensures) (c .before .before .before .numbered .ensures) (c .ascent-floor .ensures)

@@ -3,7 +3,7 @@ use Prim.Native.Nat.{ℕ, zero, suc, _+_, _-_, _≤_, _<_}
 use native.Mathlib.Omega.{arith}
 use native.Mathlib.Numerals.{add-one}
 use native.Mathlib.Nat.{sub-zero}
-use mathlib.Core.Path.{_≡_, refl, ap, sym, _∙_}
+use mathlib.Core.Path.{_≡_, refl, ap, sym, _∙_, subst}
 use mathlib.Core.Bool.{Bool, true, false, _||_, cond}
 use mathlib.Core.List.{List}
 use lib.ListN.{length, getD, take, replicate, length-replicate}
@@ -17,12 +17,15 @@ use Rattle.base_buffer.specs.Laws.Store.{length-remade, remade-passed}
 use Rattle.base_limits.specs.Limits.{maxVertices}
 use Rattle.survey_core.specs.Lists.{Lists}
 use Rattle.survey_core.specs.Survey.{Survey, listsOf}
+use Rattle.survey_core.specs.Sound.{SurveySound}
 use Rattle.survey_lists.specs.Pouring.{poured, pouredGroups, roomOf}
 use Rattle.survey_lists.specs.Laws.Room.{part-poured}
 use Rattle.floor_rule.specs.Ascent.{ascentFloor}
 use Rattle.floor_rule.specs.Number.{lowerNumber, lowestOwn, lowestPaired, numberOf, numberedGroups}
 use Rattle.floor_rule.specs.Floor.{ascentOf}
 use Rattle.floor_rule.specs.Laws.Number.{length-numbered}
+use Rattle.floor_core.specs.Chain.{Ends}
+use Rattle.floor_core.specs.Laws.Chain.{survey-ends}
 
 module _ (x y : ℕ) where
   pub lower-first : y ≡ 0 → x ≡ lowerNumber x y
@@ -101,9 +104,6 @@ take-remade f n fits =
     let in-table : k < length {A = ℕ} (replicate maxVertices 0) = rw (length-replicate {A = ℕ} maxVertices 0) (omega arith) in
     getD-take n room k 0 c ∙ remade-passed (λ v x. f v) n (replicate maxVertices 0) k c in-table ∙ sym (getD-tabulate n f k 0 c)))
 
-pub length-numbered-room : (f : ℕ → ℕ → ℕ) (n : ℕ) {room : List ℕ} → room ≡ remade f n (replicate maxVertices 0) → length room ≡ maxVertices
-length-numbered-room f n h = ap length h ∙ length-remade f n (replicate maxVertices 0) ∙ length-replicate {A = ℕ} maxVertices 0
-
 -- The groups of the ascent, read from the buffer that numbering leaves.
 module _ (s : Survey) (fits : length (s .groups) ≤ maxVertices) {pours room : List ℕ} (pours-are : pours ≡ roomOf (length (s .groups)) (poured (listsOf s)))
     (room-is : room ≡ remade (λ v x. numberOf (take (length (s .groups) - 0) pours) (s .groups) (s .owners) (s .others) (getD (take (length (s .groups) - 0) pours) v 0))
@@ -119,5 +119,6 @@ module _ (s : Survey) (fits : length (s .groups) ≤ maxVertices) {pours room : 
   unfolding ascentOf
   ascent-is h = h ∙ ap (λ (g : List ℕ). ascentFloor g (s .firsts) (s .seconds) (s .weights)) part-numbered
 
-  pub numbered-few : length (take (length (s .groups) - 0) room) ≤ maxVertices
-  numbered-few = omega (arith, ap length part-numbered, length-numbered (listsOf s), fits)
+  pub numbered-ends : SurveySound s → Ends (length (take (length (s .groups) - 0) room)) (s .firsts) (s .seconds)
+  numbered-ends sound =
+      subst (λ n. Ends n (s .firsts) (s .seconds)) (sym (ap length part-numbered ∙ length-numbered (listsOf s))) (survey-ends s sound)

@@ -1,28 +1,30 @@
 -- The arcs at the rim of a cut say how much it can be raised and which arcs bear it: the least rest, and the rests after, are those over all arcs.
-use Prim.Native.Nat.{ℕ, zero, suc, _+_, _-_, _≤_, _<_}
+use Prim.Native.Nat.{ℕ, zero, suc, _+_, _-_, _%_, _≤_, _<_}
 use native.Mathlib.Omega.{arith}
 use native.Mathlib.Decide.{ℕ-discrete}
 use mathlib.Core.Path.{_≡_, refl, ap, sym, _∙_, subst}
 use mathlib.Core.Logic.{_⊎_, inl, inr, ⊎-elim, _↔_}
-use mathlib.Core.Bool.{Bool, true, false, not, cond, _&&_}
+use mathlib.Core.Bool.{Bool, true, false, not, cond, _&&_, true≢false, false≢true}
 use mathlib.Core.List.{List}
-use lib.ListN.{length, getD, set, length-set}
+use lib.ListN.{length, getD, set, replicate, length-set}
 use lib.Seq.{ext-getD, getD-set-same, getD-set-other}
 use lib.Dec.{eqb}
-use borrow.Author.Tests.{not-true, lt-ltb, le-ltb}
+use borrow.Author.Tests.{not-true, lt-ltb, le-ltb, eq-eqb, ne-eqb}
 use Rattle.base_finite.specs.Below.{counted}
 use Rattle.base_finite.specs.Laws.Test.{either, and-left, and-right, and-both, same-test, not-of-false, true-not-false}
 use Rattle.base_finite.specs.Laws.Below.{lt-or-ge, below-suc, counted-true, counted-false}
 use Rattle.base_buffer.specs.Store.{remade}
 use Rattle.base_buffer.specs.Laws.Store.{remade-ahead}
+use Rattle.base_limits.specs.Limits.{maxVertices}
 use Rattle.theory_directed.specs.Directed.{enters}
 use Rattle.floor_rule.specs.Ascent.{lesser, arcCount, tailOf, headOf, flagged, entersAt, reaching, leastRest, loaded}
 use Rattle.floor_rule.specs.Laws.Cut.{lesser-left, lesser-right, least-le, least-cap, loaded-at, length-loaded}
-use Rattle.floor_core.specs.Chain.{Ends, CutRaised}
+use Rattle.floor_rule.specs.Ascent.{maxArcs}
+use Rattle.floor_core.specs.Chain.{Ends, Chained, CutRaised}
 use Rattle.floor_core.specs.Laws.End.{Least, least-found}
 use Rattle.floor_core.specs.Laws.Reach.{reaching-iff}
-use Rattle.floor_core.specs.Walk.{Ground, arcsIn, tailIn, headIn, LinkedIn, Among, Cut, CutFound}
-use Rattle.floor_core.specs.Laws.Walk.{link-tail}
+use Rattle.floor_core.specs.Walk.{Ground, arcsIn, tailIn, headIn, LinkedIn, ChainedIn, Among, Turn, Begun, Cut, CutFound}
+use Rattle.floor_core.specs.Laws.Walk.{link-tail, turn-start}
 
 lesser-is-right : (x y : ℕ) → y < x → lesser x y ≡ y
 unfolding lesser
@@ -213,3 +215,128 @@ module _ (g : Ground) (rests flags rim : List ℕ) (arcs : ℕ) (k : Cut g rests
   pub loaded-cut : (d : ℕ) → loaded (g .firsts) (g .seconds) flags d rests ≡ loaded (g .firsts) (g .seconds) (reaching (g .firsts) (g .seconds) rests (g .n) (g .t)) d rests
   unfolding loaded
   loaded-cut d i = remade (λ a rest. rest - counted (same-enters a i) d) (arcsIn g) rests
+
+-- ---- over the rim, as the code goes
+
+module _ (links flags rim : List ℕ) (arcs : ℕ) where
+  -- Whether the arc at place j comes from inside.
+  inner : ℕ → Bool
+  inner a = flagged flags (getD links a 0 % 512)
+
+  inner-is : (g : Ground) → LinkedIn g links → (rests : List ℕ) → Cut g rests flags rim arcs → (j : ℕ) → j < arcs → {a : ℕ} → a ≡ getD rim j 0 → inner a ≡ flagged flags (tailIn g a)
+  unfolding inner
+  inner-is g linked rests k j more {a} a-is =
+      let low : a < arcsIn g = subst (λ y. y < arcsIn g) (sym a-is) (k .rim-below j more) in
+      ap (flagged flags) (link-tail g a low (linked a low))
+
+  module _ (rests : List ℕ) (cap : ℕ) where
+    abbrev pub Leasts : (j least : ℕ) → Type 0
+    Leasts j least = (g : Ground) → LinkedIn g links → (k : Cut g rests flags rim arcs) → LeastOf g rests flags rim arcs k cap j least
+
+    pub leasts-start : Leasts 0 cap
+    leasts-start g linked k = least-start g rests flags rim arcs k cap
+
+    pub leasts-more : {j least : ℕ} → Leasts j least → j < arcs → {a next : ℕ} → a ≡ getD rim j 0 → next ≡ cond (flagged flags (getD links a 0 % 512)) least (lesser least (getD rests a 0)) → Leasts (j + 1) next
+    unfolding inner
+    leasts-more {j} {least} h more {a} {next} a-is next-is g linked k = by (either (inner a)) (inner-is g linked rests k j more a-is)
+      where
+        by : (inner a ≡ true) ⊎ (inner a ≡ false) → inner a ≡ flagged flags (tailIn g a) → LeastOf g rests flags rim arcs k cap (j + 1) next
+        by (inl on) same =
+            let is : next ≡ least = rw on at next-is in
+            subst (LeastOf g rests flags rim arcs k cap (j + 1)) (sym is) (least-inside g rests flags rim arcs k (h g linked k) more a-is (sym same ∙ on))
+        by (inr off) same =
+            let is : next ≡ lesser least (getD rests a 0) = rw off at next-is in
+            subst (LeastOf g rests flags rim arcs k cap (j + 1)) (sym is) (least-outside g rests flags rim arcs k (h g linked k) more a-is (sym same ∙ off))
+
+    pub leasts-end : {j least : ℕ} → Leasts j least → arcs ≤ j → (g : Ground) → LinkedIn g links → Cut g rests flags rim arcs → least ≡ leastRest (g .firsts) (g .seconds) rests flags cap (arcsIn g)
+    leasts-end {j} h all g linked k = least-whole g rests flags rim arcs k j (h g linked k) all
+
+  module _ (rests : List ℕ) (d : ℕ) where
+    abbrev pub Loads : (j : ℕ) (now : List ℕ) → Type 0
+    Loads j now = (g : Ground) → LinkedIn g links → (k : Cut g rests flags rim arcs) → LoadedTo g rests flags rim arcs k d j now
+
+    pub loads-start : Loads 0 rests
+    loads-start g linked k = loaded-start g rests flags rim arcs k d
+
+    room : length rests ≡ maxArcs → (g : Ground) → arcsIn g ≤ length rests
+    room long g = omega (arith, long, g .ends .short)
+
+    pub loads-more : length rests ≡ maxArcs → {j : ℕ} {now : List ℕ} → Loads j now → j < arcs → {a : ℕ} {next : List ℕ} → a ≡ getD rim j 0
+        → next ≡ cond (flagged flags (getD links a 0 % 512)) now (set now a (getD now a 0 - d)) → Loads (j + 1) next
+    unfolding inner
+    loads-more long {j} {now} h more {a} {next} a-is next-is g linked k = by (either (inner a)) (inner-is g linked rests k j more a-is)
+      where
+        by : (inner a ≡ true) ⊎ (inner a ≡ false) → inner a ≡ flagged flags (tailIn g a) → LoadedTo g rests flags rim arcs k d (j + 1) next
+        by (inl on) same =
+            let is : next ≡ now = rw on at next-is in
+            subst (LoadedTo g rests flags rim arcs k d (j + 1)) (sym is) (loaded-inside g rests flags rim arcs k (h g linked k) more a-is (sym same ∙ on))
+        by (inr off) same =
+            let is : next ≡ set now a (getD now a 0 - d) = rw off at next-is in
+            subst (LoadedTo g rests flags rim arcs k d (j + 1)) (sym is) (loaded-outside g rests flags rim arcs k (h g linked k) more a-is (room long g) (sym same ∙ off))
+
+    pub loads-end : length rests ≡ maxArcs → {j : ℕ} {now : List ℕ} → Loads j now → arcs ≤ j → j ≤ arcs → (g : Ground) → LinkedIn g links → Cut g rests flags rim arcs → now ≡ loaded (g .firsts) (g .seconds) flags d rests
+    loads-end long {j} h all few g linked k = loaded-whole g rests flags rim arcs k j (h g linked k) all few (room long g)
+
+-- ---- the cut raised
+
+module _ (firsts seconds tops links : List ℕ) (n root v cap : ℕ) (ends : Ends n firsts seconds) (chained : Chained firsts seconds (arcCount firsts) tops links) (low : v < n) (rests : List ℕ) where
+  ground : Ground
+  ground = record { firsts = firsts; seconds = seconds; n = n; t = v; ends = ends; inside = low }
+
+  pub walk-begins : {flags found : List ℕ} (rim : List ℕ) → flags ≡ set (replicate maxVertices 0) v 1 → found ≡ set (replicate maxVertices 0) 0 v → Begun tops links rests flags found rim
+  unfolding ground
+  walk-begins {flags} {found} rim flags-are found-are = record { ground = ground; chained = chained; turn = turn-start ground rests flags found rim flags-are found-are }
+
+  module _ {flags found rim flags-after rim-after : List ℕ} {inside : Bool} {arcs : ℕ} (flags-are : flags ≡ set (replicate maxVertices 0) v 1) (found-are : found ≡ set (replicate maxVertices 0) 0 v)
+      (walked : (g : Ground) → ChainedIn g tops links → Turn g rests 0 0 0 flags found rim 1 0 → CutFound g rests flags-after rim-after root inside arcs) where
+    what : CutFound ground rests flags-after rim-after root inside arcs
+    unfolding ground
+    what = walked ground chained (turn-start ground rests flags found rim flags-are found-are)
+
+    pub cut-inside : inside ≡ true → (by : ℕ) → CutRaised firsts seconds n root v cap rests rests true by
+    unfolding ground what
+    cut-inside on by = record {
+      root-inside = λ h. (reaching-iff firsts seconds rests n (ends .few) (ends .tails-below) v low root .1 (what .led on), refl);
+      root-outside = λ h. absurd (true≢false h);
+    }
+
+    pub cut-outside : inside ≡ false → {by : ℕ} {after : List ℕ}
+        → ((g : Ground) → LinkedIn g links → Cut g rests flags-after rim-after arcs → by ≡ leastRest (g .firsts) (g .seconds) rests flags-after cap (arcsIn g))
+        → ((g : Ground) → LinkedIn g links → Cut g rests flags-after rim-after arcs → after ≡ loaded (g .firsts) (g .seconds) flags-after by rests)
+        → CutRaised firsts seconds n root v cap rests after false by
+    unfolding ground what
+    cut-outside off {by} {after} least load =
+        let k = what .cut off in
+        record {
+          root-inside = λ h. absurd (false≢true h);
+          root-outside = λ h. (
+            sym (same-flag ground rests flags-after rim-after arcs k root) ∙ what .outside off,
+            least ground (chained .links-are) k ∙ least-cut ground rests flags-after rim-after arcs k cap (arcCount firsts),
+            load ground (chained .links-are) k ∙ loaded-cut ground rests flags-after rim-after arcs k by,
+          );
+        }
+
+-- ---- an arc's tail, as the code finds it
+
+module _ (links flags : List ℕ) (a : ℕ) {x t y : ℕ} (x-is : x ≡ getD links a 0) (t-is : t ≡ x % 512) (y-is : y ≡ getD flags t 0) where
+  at-tail : y ≡ getD flags (getD links a 0 % 512) 0
+  at-tail = y-is ∙ ap (λ k. getD flags k 0) (t-is ∙ ap (λ k. k % 512) x-is)
+
+  inner-on : (y ≡ 0 → ⊥) → flagged flags (getD links a 0 % 512) ≡ true
+  inner-on some = ap not (ne-eqb (getD flags (getD links a 0 % 512) 0) 0 (λ z. some (at-tail ∙ z)))
+
+  inner-off : y ≡ 0 → flagged flags (getD links a 0 % 512) ≡ false
+  inner-off none = ap not (eq-eqb (getD flags (getD links a 0 % 512) 0) 0 (sym at-tail ∙ none))
+
+  pub least-kept : (rests : List ℕ) (least : ℕ) → (y ≡ 0 → ⊥) → least ≡ cond (flagged flags (getD links a 0 % 512)) least (lesser least (getD rests a 0))
+  least-kept rests least some = rw (inner-on some)
+
+  pub least-met : (rests : List ℕ) (least : ℕ) {r : ℕ} → y ≡ 0 → r ≡ lesser least (getD rests a 0) → r ≡ cond (flagged flags (getD links a 0 % 512)) least (lesser least (getD rests a 0))
+  least-met rests least none r-is = rw (inner-off none) r-is
+
+  pub rests-kept : (rests : List ℕ) (d : ℕ) → (y ≡ 0 → ⊥) → rests ≡ cond (flagged flags (getD links a 0 % 512)) rests (set rests a (getD rests a 0 - d))
+  rests-kept rests d some = rw (inner-on some)
+
+  pub rests-lowered : (rests : List ℕ) (d : ℕ) {after : List ℕ} {z w : ℕ} → y ≡ 0 → w ≡ getD rests a 0 → z ≡ w - d → after ≡ set rests a z
+      → after ≡ cond (flagged flags (getD links a 0 % 512)) rests (set rests a (getD rests a 0 - d))
+  rests-lowered rests d none w-is z-is after-is = rw (inner-off none) (after-is ∙ ap (set rests a) (z-is ∙ ap (λ k. k - d) w-is))

@@ -5,15 +5,15 @@ use native.Mathlib.Numerals.{add-one}
 use mathlib.Core.Path.{_≡_, refl, ap, sym, _∙_}
 use mathlib.Core.Bool.{Bool, true, false, _||_, cond}
 use mathlib.Core.List.{List}
-use lib.ListN.{length, getD, set, replicate, length-set, length-replicate}
+use lib.ListN.{length, getD, set, replicate, length-set}
 use lib.Dec.{eqb, ltb}
 use borrow.Author.Tests.{eq-eqb, ne-eqb, lt-ltb, le-ltb}
-use Rattle.base_finite.specs.Laws.Test.{either}
 use Rattle.base_buffer.specs.Store.{remade}
 use Rattle.base_buffer.specs.Laws.Store.{length-remade}
 use Rattle.base_limits.specs.Limits.{groupNumbers}
-use Rattle.floor_rule.specs.Ascent.{maxArcs, arcCount, flagged, reaching, leastRest, loaded, State, stateWith, missing, raised, raisedBy, visit, visitMember, visitMembers, visitGroup, visitGroups, passes, passCount, prices, rootOf, atFirst, ascended}
+use Rattle.floor_rule.specs.Ascent.{arcCount, flagged, reaching, leastRest, loaded, State, stateWith, missing, raised, raisedBy, visit, visitMember, visitMembers, visitGroup, visitGroups, passes, passCount, prices, rootOf, atFirst, ascended}
 use Rattle.floor_rule.specs.Laws.Cut.{least-cap}
+use Rattle.floor_core.specs.Chain.{CutRaised}
 
 -- As long as before.
 pub record AsLong (s t : State) : Type 0 where
@@ -38,32 +38,6 @@ missing-some share got l x-is y-is = omega (arith, x-is, y-is)
 
 module _ (firsts seconds : List ℕ) where
   module _ (flags : List ℕ) where
-    pub raised-is : (l d : ℕ) (rests got : List ℕ) {after got-after : List ℕ} {x y : ℕ} → after ≡ loaded firsts seconds flags d rests → x ≡ getD got l 0 → y ≡ x + d → got-after ≡ set got l y
-        → stateWith after got-after ≡ raised firsts seconds flags l d (stateWith rests got)
-    unfolding raised
-    raised-is l d rests got after-is x-is y-is got-is =
-        let second = got-is ∙ ap (set got l) (y-is ∙ ap (λ z. z + d) x-is) in
-        λ i. record { rests = after-is i; got = second i }
-
-    -- What a cut adds to what a group has got fits where its share does.
-    pub raise-fits : (share rests got : List ℕ) (l arcs : ℕ) {cap d : ℕ} → cap ≡ missing share got l → d ≡ leastRest firsts seconds rests flags cap arcs → getD share l 0 < 2 ^ 64
-        → getD got l 0 < 2 ^ 64 → getD got l 0 + d < 2 ^ 64
-    raise-fits share rests got l arcs {cap} {d} cap-is d-is whole part =
-        omega (arith, cap-is, d-is, whole, part, least-cap firsts seconds rests flags cap arcs)
-
-    module _ (share : List ℕ) (root l : ℕ) (s : State) where
-      pub root-inside : {x : ℕ} → x ≡ getD flags root 0 → (x ≡ 0 → ⊥) → s ≡ raisedBy firsts seconds flags share root l s
-      unfolding raisedBy
-      root-inside x-is some = rw (ne-eqb (getD flags root 0) 0 (λ z. some (x-is ∙ z)))
-
-      pub root-outside : (arcs : ℕ) {x cap d : ℕ} {t : State} → arcs ≡ arcCount firsts → x ≡ getD flags root 0 → x ≡ 0 → cap ≡ missing share (s .got) l
-          → d ≡ leastRest firsts seconds (s .rests) flags cap arcs → t ≡ raised firsts seconds flags l d s → t ≡ raisedBy firsts seconds flags share root l s
-      unfolding raisedBy
-      root-outside arcs arcs-are x-is none cap-is d-is t-is =
-          rw (eq-eqb (getD flags root 0) 0 (sym x-is ∙ none))
-          (t-is ∙ ap (λ z. raised firsts seconds flags l z s)
-          (d-is ∙ ap (λ z. leastRest firsts seconds (s .rests) flags z arcs) cap-is ∙ ap (leastRest firsts seconds (s .rests) flags (missing share (s .got) l)) arcs-are))
-
     raised-long : (l d : ℕ) (s : State) → AsLong s (raised firsts seconds flags l d s)
     unfolding raised loaded
     raised-long l d s = record { rests = length-remade _ (arcCount firsts) (s .rests); got = length-set (s .got) l (getD (s .got) l 0 + d) }
@@ -79,17 +53,43 @@ module _ (firsts seconds : List ℕ) where
     unfolding visit
     visit-passed x-is none = rw (eq-eqb (missing share (s .got) l) 0 (sym x-is ∙ none))
 
-    pub visit-made : {x : ℕ} {flags : List ℕ} {t : State} → x ≡ missing share (s .got) l → (x ≡ 0 → ⊥) → flags ≡ reaching firsts seconds (s .rests) n v
-        → t ≡ raisedBy firsts seconds flags share root l s → t ≡ visit firsts seconds share n root l v s
-    unfolding visit
-    visit-made x-is some flags-are t-is =
-        rw (ne-eqb (missing share (s .got) l) 0 (λ z. some (x-is ∙ z)))
-        (t-is ∙ ap (λ (f : List ℕ). raisedBy firsts seconds f share root l s) flags-are)
+    -- A visit changes nothing where the root is inside.
+    pub visit-inside : flagged (reaching firsts seconds (s .rests) n v) root ≡ true → s ≡ visit firsts seconds share n root l v s
+    unfolding visit raisedBy
+    visit-inside inside = rw inside (by (eqb (missing share (s .got) l) 0))
+      where
+        by : (t : Bool) → s ≡ cond t s s
+        by true = refl
+        by false = refl
 
     pub visit-long : AsLong s (visit firsts seconds share n root l v s)
     unfolding visit
     visit-long =
         cond-long (eqb (missing share (s .got) l) 0) s s _ (as-long s) (by-long (reaching firsts seconds (s .rests) n v) share root l s)
+
+  -- A visit by the cut that it raises.
+  module _ (share : List ℕ) (n root l v : ℕ) (rests got : List ℕ) {cap by : ℕ} {inside : Bool} {after : List ℕ} (cut : CutRaised firsts seconds n root v cap rests after inside by) where
+    pub same-inside : inside ≡ true → stateWith after got ≡ stateWith rests got
+    same-inside told = ap (λ (r : List ℕ). stateWith r got) (cut .root-inside told .1)
+
+    module _ (told : inside ≡ false) (cap-is : cap ≡ missing share got l) where
+      -- What a cut adds to what a group has got fits where its share does.
+      pub cut-fits : {x : ℕ} → x ≡ getD got l 0 → getD share l 0 < 2 ^ 64 → x < 2 ^ 64 → x + by < 2 ^ 64
+      cut-fits x-is whole part =
+          omega (arith, cap-is, cut .root-outside told .1, whole, part, x-is, least-cap firsts seconds rests (reaching firsts seconds rests n v) cap (arcCount firsts))
+
+      pub visit-raised : {x y : ℕ} {got-after : List ℕ} → (cap ≡ 0 → ⊥) → x ≡ getD got l 0 → y ≡ x + by → got-after ≡ set got l y
+          → stateWith after got-after ≡ visit firsts seconds share n root l v (stateWith rests got)
+      unfolding visit raisedBy raised
+      visit-raised {got-after = got-after} some x-is y-is got-is =
+          let flags : List ℕ = reaching firsts seconds rests n v in
+          let by-is : by ≡ leastRest firsts seconds rests flags (missing share got l) (arcCount firsts) =
+          cut .root-outside told .1 ∙ ap (λ c. leastRest firsts seconds rests flags c (arcCount firsts)) cap-is in
+          let first : after ≡ loaded firsts seconds flags (leastRest firsts seconds rests flags (missing share got l) (arcCount firsts)) rests =
+          cut .root-outside told .2 ∙ ap (λ d. loaded firsts seconds flags d rests) by-is in
+          let second : got-after ≡ set got l (getD got l 0 + leastRest firsts seconds rests flags (missing share got l) (arcCount firsts)) =
+          got-is ∙ ap (set got l) (y-is ∙ ap (λ z. z + by) x-is ∙ ap (λ z. getD got l 0 + z) by-is) in
+          rw (ne-eqb (missing share got l) 0 (λ z. some (cap-is ∙ z)), cut .root-outside told .0) (λ i. record { rests = first i; got = second i })
 
   module _ (groups share : List ℕ) (root : ℕ) where
     module _ (l v : ℕ) (s : State) where
@@ -195,10 +195,6 @@ module _ (firsts seconds : List ℕ) where
         let apart : n - i + i ≡ n = omega arith in
         still ∙ sym (passes-still k now (sym e ∙ still) (n - i)) ∙ ap (passes groups firsts seconds share root k (n - i)) h ∙ sym (passes-add k i (n - i) start)
         ∙ ap (λ j. passes groups firsts seconds share root k j start) apart
-
-pub length-prices : (firsts weights : List ℕ) {now : List ℕ} → now ≡ prices firsts weights → maxArcs ≡ length now
-unfolding prices
-length-prices firsts weights h = sym (ap length h ∙ length-remade _ (arcCount firsts) (replicate maxArcs 0) ∙ length-replicate {A = ℕ} maxArcs 0)
 
 pub ascended-is : (groups firsts seconds weights share : List ℕ) (k : ℕ) {rests after got : List ℕ} {root limit : ℕ} → rests ≡ prices firsts weights → root ≡ rootOf groups k
     → limit ≡ passCount groups firsts → stateWith after got ≡ passes groups firsts seconds share root k limit (stateWith rests (replicate groupNumbers 0))

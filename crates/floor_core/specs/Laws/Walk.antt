@@ -143,7 +143,7 @@ among-kept l e i x y b h =
 
 module _ (g : Ground) (rests : List ℕ) where
   -- Before the first turn t alone is found.
-  module _ (flags found rim : List ℕ) (flags-are : flags ≡ set (replicate maxVertices 0) (g .t) 1) (found-are : found ≡ set (replicate maxVertices 0) 0 (g .t)) (long : length rim ≡ maxArcs) where
+  module _ (flags found rim : List ℕ) (flags-are : flags ≡ set (replicate maxVertices 0) (g .t) 1) (found-are : found ≡ set (replicate maxVertices 0) 0 (g .t)) where
     t-below : g .t < maxVertices
     t-below = omega (arith, g .inside, g .ends .few)
 
@@ -187,7 +187,6 @@ module _ (g : Ground) (rests : List ℕ) where
     turn-start = record {
       flags-long = ap length flags-are ∙ length-set {A = ℕ} (replicate maxVertices 0) (g .t) 1 ∙ length-replicate {A = ℕ} maxVertices 0;
       found-long = ap length found-are ∙ length-set {A = ℕ} (replicate maxVertices 0) 0 (g .t) ∙ length-replicate {A = ℕ} maxVertices 0;
-      rim-long = long;
       start = on-t;
       sound = λ u h. subst (LeadsIn g rests) (sym (only-t u h)) here;
       counted = one;
@@ -210,7 +209,7 @@ module _ (g : Ground) (rests : List ℕ) where
     -- No arc that leads to v lies between.
     pub turn-skip : Turn g rests i v (lastInto (g .firsts) (g .seconds) v x) flags found rim vertices arcs
     turn-skip = record {
-      flags-long = w .flags-long; found-long = w .found-long; rim-long = w .rim-long; start = w .start; sound = w .sound; counted = w .counted;
+      flags-long = w .flags-long; found-long = w .found-long; start = w .start; sound = w .sound; counted = w .counted;
       queue = w .queue; queued = w .queued; ahead = w .ahead; passed = w .passed;
       turned = λ b. w .turned (omega (arith, b, low));
       seen = λ a b h late. w .seen a b h (λ e. by a e (late e));
@@ -236,7 +235,7 @@ module _ (g : Ground) (rests : List ℕ) where
     -- It is looked at already.
     pub turn-again : getD flags u 0 ≡ 2 → Turn g rests (i + 1) 0 0 flags found rim vertices arcs
     turn-again at = record {
-      flags-long = w .flags-long; found-long = w .found-long; rim-long = w .rim-long; start = w .start; sound = w .sound; counted = w .counted;
+      flags-long = w .flags-long; found-long = w .found-long; start = w .start; sound = w .sound; counted = w .counted;
       queue = w .queue; queued = w .queued; ahead = omega arith; passed = λ j b. by j (below-suc j i (omega (arith, b)));
       turned = w .turned; seen = w .seen; rim-below = w .rim-below; rim-looked = w .rim-looked; rim-late = w .rim-late; distinct = w .distinct;
     }
@@ -279,7 +278,7 @@ module _ (g : Ground) (rests : List ℕ) where
 
       pub turn-at : Turn g rests (i + 1) u (lastInto (g .firsts) (g .seconds) u (arcsIn g)) (set flags u 2) found rim vertices arcs
       turn-at = record {
-        flags-long = length-set flags u 2 ∙ w .flags-long; found-long = w .found-long; rim-long = w .rim-long;
+        flags-long = length-set flags u 2 ∙ w .flags-long; found-long = w .found-long;
         start = flag-stays flags u 2 u-low two (g .t) (w .start);
         sound = λ y h. w .sound y (same-flags y h);
         counted = w .counted ∙ same-count;
@@ -315,7 +314,7 @@ module _ (g : Ground) (rests : List ℕ) where
 
     pub turn-inside : flagged flags (tailIn g a) ≡ true → Turn g rests i v a flags found rim vertices arcs
     turn-inside on = record {
-      flags-long = w .flags-long; found-long = w .found-long; rim-long = w .rim-long; start = w .start; sound = w .sound; counted = w .counted;
+      flags-long = w .flags-long; found-long = w .found-long; start = w .start; sound = w .sound; counted = w .counted;
       queue = w .queue; queued = w .queued; ahead = w .ahead; passed = w .passed;
       turned = λ c. w .turned (omega arith);
       seen = λ c low h late. by c low h late (ℕ-discrete c a);
@@ -364,7 +363,7 @@ module _ (g : Ground) (rests : List ℕ) where
       pub turn-found : getD rests a 0 ≡ 0 → Turn g rests i v a (set flags (tailIn g a) 1) (set found vertices (tailIn g a)) rim (suc vertices) arcs
       unfolding tail
       turn-found bare = record {
-        flags-long = length-set flags tail 1 ∙ w .flags-long; found-long = length-set found vertices tail ∙ w .found-long; rim-long = w .rim-long;
+        flags-long = length-set flags tail 1 ∙ w .flags-long; found-long = length-set found vertices tail ∙ w .found-long;
         start = stays (g .t) (w .start);
         sound = λ y h. led y h (ℕ-discrete y tail);
         counted = ap suc (w .counted) ∙ one-more;
@@ -422,9 +421,9 @@ module _ (g : Ground) (rests : List ℕ) where
       rim-room = room-for rim (arcsIn g) arcs a b (w .rim-below) (w .distinct) fresh
 
       -- It has a rest: it is at the rim.
-      pub turn-rim : (getD rests a 0 ≡ 0 → ⊥) → Turn g rests i v a flags found (set rim arcs a) vertices (suc arcs)
-      turn-rim rest = record {
-        flags-long = w .flags-long; found-long = w .found-long; rim-long = length-set rim arcs a ∙ w .rim-long; start = w .start; sound = w .sound; counted = w .counted;
+      pub turn-rim : length rim ≡ maxArcs → (getD rests a 0 ≡ 0 → ⊥) → Turn g rests i v a flags found (set rim arcs a) vertices (suc arcs)
+      turn-rim long rest = record {
+        flags-long = w .flags-long; found-long = w .found-long; start = w .start; sound = w .sound; counted = w .counted;
         queue = w .queue; queued = w .queued; ahead = w .ahead; passed = w .passed;
         turned = λ c. w .turned (omega arith);
         seen = λ c low h late. by c low h late (ℕ-discrete c a);
@@ -438,7 +437,7 @@ module _ (g : Ground) (rests : List ℕ) where
           kept j c = getD-set-other rim arcs j a 0 (λ e. omega (arith, e, c))
 
           last : getD (set rim arcs a) arcs 0 ≡ a
-          last = let s = g .ends .short in getD-set-same rim arcs a 0 (omega (arith, rim-room, w .rim-long, s))
+          last = let s = g .ends .short in getD-set-same rim arcs a 0 (omega (arith, rim-room, long, s))
 
           at-rim : (j : ℕ) (P : ℕ → Type 0) → P a → ((k : ℕ) → k < arcs → P (getD rim k 0)) → (j < arcs) ⊎ (j ≡ arcs) → P (getD (set rim arcs a) j 0)
           at-rim j P new old (inl c) = subst P (sym (kept j c)) (old j c)
@@ -461,7 +460,7 @@ module _ (g : Ground) (rests : List ℕ) where
   -- No arc that leads to v is left.
   pub turn-over : {i v : ℕ} {flags found rim : List ℕ} {vertices arcs : ℕ} → Turn g rests i v 0 flags found rim vertices arcs → Turn g rests i 0 0 flags found rim vertices arcs
   turn-over w = record {
-    flags-long = w .flags-long; found-long = w .found-long; rim-long = w .rim-long; start = w .start; sound = w .sound; counted = w .counted;
+    flags-long = w .flags-long; found-long = w .found-long; start = w .start; sound = w .sound; counted = w .counted;
     queue = w .queue; queued = w .queued; ahead = w .ahead; passed = w .passed;
     turned = λ b. absurd (omega (arith, b));
     seen = λ a b h late. w .seen a b h (λ e. omega arith);
@@ -566,12 +565,12 @@ module _ (rests flags found rim : List ℕ) (a tail vertices arcs : ℕ) {t y : 
     off : (g : Ground) → tail ≡ tailIn g a → flagged flags (tailIn g a) ≡ false
     off g tail-is = flag-off flags (tailIn g a) (at-tail g tail-is ∙ none)
 
-    pub look-rim : (z ≡ 0 → ⊥) → {after : List ℕ} → after ≡ set rim arcs a → (g : Ground) (i v : ℕ) → a < arcsIn g → headIn g a ≡ v → tail ≡ tailIn g a
+    pub look-rim : length rim ≡ maxArcs → (z ≡ 0 → ⊥) → {after : List ℕ} → after ≡ set rim arcs a → (g : Ground) (i v : ℕ) → a < arcsIn g → headIn g a ≡ v → tail ≡ tailIn g a
         → Turn g rests i v (suc a) flags found rim vertices arcs → Turn g rests i v a flags found after vertices (arcs + 1)
-    look-rim some {after} after-is g i v low into tail-is w =
+    look-rim long some {after} after-is g i v low into tail-is w =
         let n : suc arcs ≡ arcs + 1 = omega arith in
         subst (λ (l : List ℕ). Turn g rests i v a flags found l vertices (arcs + 1)) (sym after-is)
-        (subst (λ e. Turn g rests i v a flags found (set rim arcs a) vertices e) n (turn-rim g rests w low into (off g tail-is) (λ e. some (z-is ∙ ap (λ c. getD rests c 0) b-is ∙ e))))
+        (subst (λ e. Turn g rests i v a flags found (set rim arcs a) vertices e) n (turn-rim g rests w low into (off g tail-is) long (λ e. some (z-is ∙ ap (λ c. getD rests c 0) b-is ∙ e))))
 
     pub look-found : z ≡ 0 → {u : ℕ} {flags-after found-after : List ℕ} → u ≡ tail → flags-after ≡ set flags u 1 → found-after ≡ set found vertices tail
         → (g : Ground) (i v : ℕ) → a < arcsIn g → headIn g a ≡ v → tail ≡ tailIn g a

@@ -1,38 +1,35 @@
--- `load` meets its contract: it stores at rising places.
-use Prim.Native.Nat.{_≤_, _-_}
+-- `load` meets its contract: one arc at the rim after the other.
+use Prim.Native.Nat.{_-_, _≤_}
 use native.Mathlib.Omega.{arith}
-use mathlib.Core.Path.{_≡_, refl, ap, _∙_}
+use mathlib.Core.Path.{_≡_, refl, _∙_}
 use lib.ListN.{length}
-use Rattle.base_finite.specs.Below.{counted}
-use Rattle.base_buffer.specs.Store.{remade}
-use Rattle.base_buffer.specs.Laws.Store.{length-remade, remade-more}
-use Rattle.floor_rule.specs.Ascent.{entersAt}
-use Rattle.floor_core.specs.Laws.Arcs.{loaded-end}
+use Rattle.floor_core.specs.Laws.Rim.{Loads, loads-start, loads-more, loads-end}
 use borrow.Author.Needs.{needs}
 use Rattle.floor_core.proofs.cut.load.Statement.{statement}
 use Rattle.floor_core.proofs.cut.load.Tie as tie
 
 abbrev Inv-loop : tie.InvT-loop
-Inv-loop firsts seconds flags rests₀ d arcs a₀ rests a = (a ≤ arcs) × (rests ≡ remade (λ b rest. rest - counted (entersAt firsts seconds flags b) d) a rests₀)
+Inv-loop links flags rim arcs rests₀ d j₀ rests j = (j ≤ arcs) × (length rests ≡ length rests₀) × Loads links flags rim arcs rests₀ d j rests
 
 abbrev μ-loop : tie.MeasureT-loop
-μ-loop firsts seconds flags rests₀ d arcs a₀ rests a = arcs - a
+μ-loop links flags rim arcs rests₀ d j₀ rests j = arcs - j
 
 loop-holds : tie.Need-loop-holds Inv-loop μ-loop
-unfolding remade
-loop-holds c = (omega arith, refl)
+loop-holds c = (omega arith, refl, loads-start (c .before .args .links .now) _ _ _ _ _)
 
 loop-less : tie.Need-loop-less Inv-loop μ-loop
 loop-less c = omega arith
 
 loop-again : tie.Need-loop-again Inv-loop μ-loop
-loop-again c = (omega arith, c .before .before .put32 .ensures ∙ remade-more _ _ _ _ _ (c .before .before .before .before .before .before .before .loop .inv .1) (c .before .before .before .before .loaded-at .ensures))
+loop-again c =
+    let inv = c .before .before .before .before .before .before .before .before .loop .inv in
+    (omega arith, c .before .rests .given ∙ inv .1, loads-more (c .before .before .before .before .before .before .before .before .before .before .args .links .now) _ _ _ _ _ (c .before .before .before .before .before .before .before .before .before .before .pre) (inv .2) (c .before .before .before .before .before .before .before .loop-test .taken) (c .before .before .before .before .index32 .ensures ∙ c .before .before .before .before .before .at32 .ensures) (c .before .before .load-arc .ensures))
 
 same-length : tie.Need-same-length Inv-loop μ-loop
-same-length c = ap length (c .before .loop .inv .1) ∙ length-remade _ _ _
+same-length c = c .before .loop .inv .1
 
 returns : tie.Need-returns Inv-loop μ-loop
-returns c = loaded-end _ _ _ _ _ _ _ (c .before .loop .inv .0) (c .loop-test .left) (c .before .before .before .before .before .before .pre) (c .before .loop .inv .1)
+returns c = loads-end (c .before .before .before .args .links .now) _ _ _ _ _ (c .before .before .before .pre) (c .before .loop .inv .2) (c .loop-test .left) (c .before .loop .inv .0)
 
 pub load-spec : {M : Type 1} → statement M
 load-spec =
@@ -41,6 +38,7 @@ load-spec =
     Inv-loop
     μ-loop
     loop-holds
+    (λ c κs. search needs)
     (λ c κs. search needs)
     (λ c κs. search needs)
     (λ c. search needs)

@@ -8,7 +8,7 @@ returns : tie.Need-returns
 returns c = list-none _ _ _ _ _ _ (c .before .at64 .ensures) (c .if1 .taken)
 
 ascend-requires : tie.Need-ascend-requires
-ascend-requires c κs = (c .before .before .before .before .before .before .before .before .before .pre .0, c .before .before .before .before .before .before .before .before .before .pre .1)
+ascend-requires c κs = c .before .before .before .before .before .before .before .before .before .pre
 
 returns-2 : tie.Need-returns-2
 returns-2 c = list-some _ _ _ _ _ _ (c .before .before .before .before .before .before .before .before .at64 .ensures) (c .before .before .before .before .before .before .before .if1 .left) (c .before .before .before .before .before .ascend .ensures) (c .before .before .lower .ensures)

@@ -10,10 +10,10 @@ use Rattle.floor_core.proofs.shares.shares.Statement.{statement}
 use Rattle.floor_core.proofs.shares.shares.Tie as tie
 
 abbrev Inv-loop : tie.InvT-loop
-Inv-loop groups firsts seconds weights share₀ j₀ share j = (j ≤ groupNumbers) × (share ≡ sharesAfter groups firsts seconds weights j)
+Inv-loop groups firsts seconds weights tops links share₀ j₀ share j = (j ≤ groupNumbers) × (share ≡ sharesAfter groups firsts seconds weights j)
 
 abbrev μ-loop : tie.MeasureT-loop
-μ-loop groups firsts seconds weights share₀ j₀ share j = groupNumbers - j
+μ-loop groups firsts seconds weights tops links share₀ j₀ share j = groupNumbers - j
 
 loop-holds : tie.Need-loop-holds Inv-loop μ-loop
 unfolding sharesAfter
@@ -23,7 +23,7 @@ slice-aggregate-after-list : tie.Need-slice-aggregate-after-list Inv-loop μ-loo
 slice-aggregate-after-list c = shares-long _ _ _ _ _ (c .before .before .loop .inv .1)
 
 after-list-requires : tie.Need-after-list-requires Inv-loop μ-loop
-after-list-requires c κs = (c .before .before .before .before .before .before .before .before .pre .0, c .before .before .before .before .before .before .before .before .pre .1)
+after-list-requires c κs = c .before .before .before .before .before .before .before .before .pre
 
 loop-less : tie.Need-loop-less Inv-loop μ-loop
 loop-less c = omega arith

@@ -10,7 +10,7 @@ returns c = ((omega arith, omega arith), look-inside _ _ _ _ _ _ _ _ (c .before 
 
 returns-2 : tie.Need-returns-2
 returns-2 c =
-    ((omega arith, omega arith), look-rim _ _ _ _ _ _ _ _ (c .before .before .before .before .before .before .before .before .index32 .ensures) (c .before .before .before .before .before .before .before .at8 .ensures) (c .before .before .before .before .before .before .if1 .left) (c .before .before .before .before .index322 .ensures) (c .before .before .before .at32 .ensures) (c .before .before .if2 .taken) (c .put32 .ensures))
+    ((omega arith, omega arith), look-rim _ _ _ _ _ _ _ _ (c .before .before .before .before .before .before .before .before .index32 .ensures) (c .before .before .before .before .before .before .before .at8 .ensures) (c .before .before .before .before .before .before .if1 .left) (c .before .before .before .before .index322 .ensures) (c .before .before .before .at32 .ensures) (c .before .put32-arg .given .0 .1) (c .before .before .if2 .taken) (c .put32 .ensures))
 
 returns-3 : tie.Need-returns-3
 returns-3 c =
