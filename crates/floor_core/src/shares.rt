@@ -2,13 +2,15 @@
 ghost use Rattle.base_buffer.specs.Lent.{old, new};
 ghost use mathlib.Core.Path.{_≡_};
 ghost use mathlib.Core.Bool.{cond};
-ghost use Prim.Native.Nat.{ℕ, suc, _≤_, _<_};
-ghost use lib.ListN.{length, getD};
-ghost use lib.Dec.{eqb, ltb};
-ghost use Rattle.base_finite.specs.Below.{counted, countBelow, sumBelow};
+ghost use Prim.Native.Nat.{ℕ, suc, _+_, _^_, _≤_, _<_};
+ghost use mathlib.Core.List.{List};
+ghost use lib.ListN.{length, getD, set, replicate};
+ghost use lib.Dec.{ltb};
+ghost use Rattle.base_finite.specs.Below.{counted, sumBelow};
 ghost use Rattle.base_limits.specs.Limits.{groupNumbers};
 ghost use Rattle.floor_rule.specs.Ascent.{maxCost, arcCount, lesser, lowestIn, rootOf, inCompany, firstShares, lowered, afterList, sharesAfter, ascentFloor};
 ghost use Rattle.floor_core.specs.Chain.{Ends, Chained};
+ghost use Rattle.floor_core.specs.Laws.Shares.{Counts};
 use crate::ascent::ascend;
 use crate::chain::chain;
 use base_buffer::at8;
@@ -48,36 +50,36 @@ pub fn root_of(groups: &[u8], l: usize) -> usize
     low
 }
 
-// 1 for a member.
-fn member(groups: &[u8], l: usize, v: usize) -> usize
-    ensures { λ r. ⌜ r ≡ counted (eqb (getD (old groups) v 0) l) 1 ⌝ }
+// One member more of group l.
+fn note_member(counts: &mut [u64; GROUP_NUMBERS], l: u8)
+    requires { ⌜ getD (now counts) l 0 + 1 < 2 ^ 64 ⌝ }
+    ensures { λ _. ⌜ new counts ≡ set (old counts) l (getD (old counts) l 0 + 1) ⌝ }
 {
-    if index8(at8(groups, v)) == l {
-        return 1;
-    }
-    0
+    let count = at64(counts, index8(l));
+    put64(counts, index8(l), count + 1);
 }
 
-fn members(groups: &[u8], l: usize) -> usize
-    ensures { λ r. ⌜ r ≡ countBelow (length (old groups)) (λ v. eqb (getD (old groups) v 0) l) ⌝ }
+// How many members each group has.
+fn count_members(groups: &[u8], counts: &mut [u64; GROUP_NUMBERS])
+    requires { ⌜ now counts ≡ replicate groupNumbers 0 ⌝ }
+    ensures { λ _. ⌜ Counts (old groups) (length (old groups)) (new counts) ⌝ }
 {
-    let mut count = 0;
     let mut v = 0;
     while v < groups.len() {
-        count += member(groups, l, v);
+        note_member(counts, at8(groups, v));
         v += 1;
     }
-    count
 }
 
 // Whatever there is for a group of two members or more.
-fn first_share(groups: &[u8], l: usize) -> u64
-    ensures { λ r. ⌜ r ≡ counted (inCompany (old groups) l) maxCost ⌝ }
+fn first_share(counts: &[u64; GROUP_NUMBERS], l: usize) -> u64
+    ensures { λ r. ⌜ ((groups : List ℕ) → Counts groups (length groups) (old counts) → l < groupNumbers
+        → r ≡ counted (inCompany groups l) maxCost) ⌝ }
 {
     if l == 0 {
         return 0;
     }
-    if members(groups, l) <= 1 {
+    if at64(counts, l) <= 1 {
         return 0;
     }
     MAX_COST
@@ -86,10 +88,12 @@ fn first_share(groups: &[u8], l: usize) -> u64
 fn first_shares(groups: &[u8]) -> [u64; GROUP_NUMBERS]
     ensures { λ r. ⌜ r ≡ firstShares (old groups) ⌝ }
 {
+    let mut counts = [0u64; GROUP_NUMBERS];
+    count_members(groups, &mut counts);
     let mut share = [0u64; GROUP_NUMBERS];
     let mut l = 0;
     while l < GROUP_NUMBERS {
-        put64(&mut share, l, first_share(groups, l));
+        put64(&mut share, l, first_share(&counts, l));
         l += 1;
     }
     share

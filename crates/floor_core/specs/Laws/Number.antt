@@ -1,20 +1,21 @@
 -- The numbers of the ascent's groups, read one after the other, and the groups over the poured lists.
 use Prim.Native.Nat.{ℕ, zero, suc, _+_, _-_, _≤_, _<_}
 use native.Mathlib.Omega.{arith}
+use native.Mathlib.Decide.{ℕ-discrete}
 use native.Mathlib.Numerals.{add-one}
 use native.Mathlib.Nat.{sub-zero}
 use mathlib.Core.Path.{_≡_, refl, ap, sym, _∙_, subst}
 use mathlib.Core.Bool.{Bool, true, false, _||_, cond}
 use mathlib.Core.List.{List}
-use lib.ListN.{length, getD, take, replicate, length-replicate}
-use lib.Seq.{ext-getD, getD-take, length-take-le}
+use lib.ListN.{length, getD, take, set, replicate, length-set, length-replicate, getD-replicate}
+use lib.Seq.{ext-getD, getD-take, length-take-le, getD-set-same, getD-set-other}
 use lib.Dec.{eqb, ltb}
 use borrow.Author.Tests.{eq-eqb, ne-eqb, lt-ltb, le-ltb}
 use Rattle.base_finite.specs.Below.{counted, tabulate}
 use Rattle.base_finite.specs.Laws.Below.{counted-true, counted-false, length-tabulate, getD-tabulate}
 use Rattle.base_buffer.specs.Store.{remade}
 use Rattle.base_buffer.specs.Laws.Store.{length-remade, remade-passed}
-use Rattle.base_limits.specs.Limits.{maxVertices}
+use Rattle.base_limits.specs.Limits.{maxVertices, groupNumbers}
 use Rattle.survey_core.specs.Lists.{Lists}
 use Rattle.survey_core.specs.Survey.{Survey, listsOf}
 use Rattle.survey_core.specs.Sound.{SurveySound}
@@ -44,48 +45,91 @@ module _ (x y : ℕ) where
   unfolding lowerNumber
   lower-more some also h = rw (ne-eqb y 0 some, ne-eqb x 0 also, le-ltb y x h)
 
-module _ (pours : List ℕ) (c v number : ℕ) {x : ℕ} (x-is : x ≡ getD pours v 0) where
-  pub number-counts : x ≡ c → number ≡ counted (eqb (getD pours v 0) c) number
-  number-counts same = sym (counted-true (eq-eqb (getD pours v 0) c (sym x-is ∙ same)) number)
+-- ---- the lowest numbers of all poured groups at once
 
-  pub number-counts-not : (x ≡ c → ⊥) → 0 ≡ counted (eqb (getD pours v 0) c) number
-  number-counts-not other = sym (counted-false (ne-eqb (getD pours v 0) c (λ e. other (x-is ∙ e))) number)
+pub record OwnLows (pours groups : List ℕ) (v : ℕ) (lows : List ℕ) : Type 0 where
+  pub long : length lows ≡ groupNumbers
+  pub lowest : (c : ℕ) → c < groupNumbers → getD lows c 0 ≡ lowestOwn pours groups c v
 
-module _ (pours groups : List ℕ) (c : ℕ) where
-  pub own-more : (v : ℕ) {low x y next : ℕ} → low ≡ lowestOwn pours groups c v → x ≡ getD groups v 0 → y ≡ counted (eqb (getD pours v 0) c) x
-      → next ≡ lowerNumber low y → next ≡ lowestOwn pours groups c (v + 1)
+pub record PairedLows (pours groups owners others : List ℕ) (i : ℕ) (lows : List ℕ) : Type 0 where
+  pub long : length lows ≡ groupNumbers
+  pub lowest : (c : ℕ) → c < groupNumbers → getD lows c 0 ≡ lowestPaired pours groups owners others c i
+
+-- One list more is noted at its poured group, and at no other.
+noted : (lows : List ℕ) (c d number : ℕ) → c < length lows → getD (set lows d (lowerNumber (getD lows d 0) number)) c 0 ≡ lowerNumber (getD lows c 0) (counted (eqb d c) number)
+noted lows c d number low = by (ℕ-discrete c d)
+  where
+    by : Dec (c ≡ d) → getD (set lows d (lowerNumber (getD lows d 0) number)) c 0 ≡ lowerNumber (getD lows c 0) (counted (eqb d c) number)
+    by (yes e) =
+        subst (λ k. getD (set lows k (lowerNumber (getD lows k 0) number)) c 0 ≡ lowerNumber (getD lows c 0) (counted (eqb k c) number)) e
+        (getD-set-same lows c (lowerNumber (getD lows c 0) number) 0 low ∙ ap (lowerNumber (getD lows c 0)) (sym (counted-true (eq-eqb c c refl) number)))
+    by (no e) =
+        getD-set-other lows d c (lowerNumber (getD lows d 0) number) 0 e
+        ∙ lower-first (getD lows c 0) (counted (eqb d c) number) (counted-false (ne-eqb d c (λ h. e (sym h))) number)
+
+pub noted-at : (lows : List ℕ) (d number : ℕ) {i x y k : ℕ} {next : List ℕ} → i ≡ d → x ≡ getD lows i 0 → y ≡ lowerNumber x number → k ≡ d → next ≡ set lows k y
+    → next ≡ set lows d (lowerNumber (getD lows d 0) number)
+noted-at lows d number {i} {x} {y} i-is x-is y-is k-is next-is =
+    next-is ∙ ap (λ j. set lows j y) k-is ∙ ap (set lows d) (y-is ∙ ap (λ z. lowerNumber z number) (x-is ∙ ap (λ j. getD lows j 0) i-is))
+
+pub number-none : (lows : List ℕ) (c : ℕ) → c ≡ 0 → 0 ≡ cond (eqb c 0) 0 (getD lows c 0)
+number-none lows c h = rw (eq-eqb c 0 h)
+
+pub number-some : (lows : List ℕ) (c : ℕ) {i r : ℕ} → (c ≡ 0 → ⊥) → i ≡ c → r ≡ getD lows i 0 → r ≡ cond (eqb c 0) 0 (getD lows c 0)
+number-some lows c some i-is r-is = rw (ne-eqb c 0 some) (r-is ∙ ap (λ j. getD lows j 0) i-is)
+
+module _ (pours groups : List ℕ) where
+  pub own-start : {lows : List ℕ} → lows ≡ replicate groupNumbers 0 → OwnLows pours groups 0 lows
   unfolding lowestOwn
-  own-more v {y = y} h x-is y-is next-is =
-      next-is ∙ ap (λ z. lowerNumber z y) h ∙ ap (lowerNumber (lowestOwn pours groups c v)) (y-is ∙ ap (counted (eqb (getD pours v 0) c)) x-is)
-      ∙ ap (lowestOwn pours groups c) (sym (add-one v))
+  own-start h = record {
+    long = ap length h ∙ length-replicate {A = ℕ} groupNumbers 0;
+    lowest = λ c b. ap (λ (l : List ℕ). getD l c 0) h ∙ getD-replicate groupNumbers c 0 0 b;
+  }
 
-  pub own-end : (n v : ℕ) {low : ℕ} → v ≤ n → n ≤ v → low ≡ lowestOwn pours groups c v → low ≡ lowestOwn pours groups c n
-  own-end n v b d h = let e : v ≡ n = omega arith in h ∙ ap (lowestOwn pours groups c) e
+  pub own-more : (v : ℕ) {lows next : List ℕ} {d number : ℕ} → OwnLows pours groups v lows → d ≡ getD pours v 0 → number ≡ getD groups v 0
+      → next ≡ set lows d (lowerNumber (getD lows d 0) number) → OwnLows pours groups (v + 1) next
+  unfolding lowestOwn
+  own-more v {lows} {next} {d} {number} h d-is number-is next-is = record {
+    long = ap length next-is ∙ length-set lows d (lowerNumber (getD lows d 0) number) ∙ h .long;
+    lowest = λ c b.
+      ap (λ (l : List ℕ). getD l c 0) next-is
+      ∙ noted lows c d number (subst (λ n. c < n) (sym (h .long)) b)
+      ∙ ap (λ x. lowerNumber x (counted (eqb d c) number)) (h .lowest c b)
+      ∙ ap (λ x. lowerNumber (lowestOwn pours groups c v) (counted (eqb x c) number)) d-is
+      ∙ ap (λ x. lowerNumber (lowestOwn pours groups c v) (counted (eqb (getD pours v 0) c) x)) number-is
+      ∙ ap (lowestOwn pours groups c) (sym (add-one v));
+  }
+
+  pub own-end : (n v : ℕ) {lows : List ℕ} → v ≤ n → n ≤ v → OwnLows pours groups v lows → OwnLows pours groups n lows
+  own-end n v {lows} b d h = let e : v ≡ n = omega arith in subst (λ k. OwnLows pours groups k lows) e h
 
   module _ (owners others : List ℕ) where
-    pub paired-more : (i : ℕ) {low v x y next : ℕ} → low ≡ lowestPaired pours groups owners others c i → v ≡ getD owners i 0 → x ≡ getD others i 0
-        → y ≡ counted (eqb (getD pours v 0) c) x → next ≡ lowerNumber low y → next ≡ lowestPaired pours groups owners others c (i + 1)
+    pub paired-start : {lows : List ℕ} → OwnLows pours groups (length groups) lows → PairedLows pours groups owners others 0 lows
     unfolding lowestPaired
-    paired-more i {x = x} {y = y} h v-is x-is y-is next-is =
-        next-is ∙ ap (λ z. lowerNumber z y) h
-        ∙ ap (lowerNumber (lowestPaired pours groups owners others c i))
-        (y-is ∙ ap (λ z. counted (eqb (getD pours z 0) c) x) v-is ∙ ap (counted (eqb (getD pours (getD owners i 0) 0) c)) x-is)
-        ∙ ap (lowestPaired pours groups owners others c) (sym (add-one i))
+    paired-start h = record { long = h .long; lowest = h .lowest }
 
-    pub paired-start : {low : ℕ} → low ≡ lowestOwn pours groups c (length groups) → low ≡ lowestPaired pours groups owners others c 0
+    pub paired-more : (i : ℕ) {lows next : List ℕ} {v d number : ℕ} → PairedLows pours groups owners others i lows → v ≡ getD owners i 0 → d ≡ getD pours v 0 → number ≡ getD others i 0
+        → next ≡ set lows d (lowerNumber (getD lows d 0) number) → PairedLows pours groups owners others (i + 1) next
     unfolding lowestPaired
-    paired-start h = h
+    paired-more i {lows} {next} {v} {d} {number} h v-is d-is number-is next-is = record {
+      long = ap length next-is ∙ length-set lows d (lowerNumber (getD lows d 0) number) ∙ h .long;
+      lowest = λ c b.
+        ap (λ (l : List ℕ). getD l c 0) next-is
+        ∙ noted lows c d number (subst (λ n. c < n) (sym (h .long)) b)
+        ∙ ap (λ x. lowerNumber x (counted (eqb d c) number)) (h .lowest c b)
+        ∙ ap (λ x. lowerNumber (lowestPaired pours groups owners others c i) (counted (eqb x c) number)) (d-is ∙ ap (λ u. getD pours u 0) v-is)
+        ∙ ap (λ x. lowerNumber (lowestPaired pours groups owners others c i) (counted (eqb (getD pours (getD owners i 0) 0) c) x)) number-is
+        ∙ ap (lowestPaired pours groups owners others c) (sym (add-one i));
+    }
 
-    pub paired-end : (n i : ℕ) {low : ℕ} → i ≤ n → n ≤ i → low ≡ lowestPaired pours groups owners others c i → low ≡ lowestPaired pours groups owners others c n
-    paired-end n i b d h = let e : i ≡ n = omega arith in h ∙ ap (lowestPaired pours groups owners others c) e
+    pub paired-end : (n i : ℕ) {lows : List ℕ} → i ≤ n → n ≤ i → PairedLows pours groups owners others i lows → PairedLows pours groups owners others n lows
+    paired-end n i {lows} b d h = let e : i ≡ n = omega arith in subst (λ k. PairedLows pours groups owners others k lows) e h
 
-    pub number-none : c ≡ 0 → 0 ≡ numberOf pours groups owners others c
+    pub number-is : {lows : List ℕ} → PairedLows pours groups owners others (length owners) lows → {c r : ℕ} (v : ℕ) → c ≡ getD pours v 0 → c < groupNumbers → r ≡ cond (eqb c 0) 0 (getD lows c 0)
+        → r ≡ numberOf pours groups owners others (getD pours v 0)
     unfolding numberOf
-    number-none h = rw (eq-eqb c 0 h)
-
-    pub number-some : {r : ℕ} → (c ≡ 0 → ⊥) → r ≡ lowestPaired pours groups owners others c (length owners) → r ≡ numberOf pours groups owners others c
-    unfolding numberOf
-    number-some some h = rw (ne-eqb c 0 some) h
+    number-is {lows} h {c} v c-is low r-is =
+        r-is ∙ ap (cond (eqb c 0) 0) (h .lowest c low) ∙ ap (λ x. cond (eqb x 0) 0 (lowestPaired pours groups owners others x (length owners))) c-is
 
 pub at-end : (n v : ℕ) → v ≤ n → n ≤ v → v ≡ n
 at-end n v b c = omega arith

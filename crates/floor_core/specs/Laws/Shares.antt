@@ -1,15 +1,17 @@
 -- The root, the members and the share of a group, and the shares after one list more.
 use Prim.Native.Nat.{ℕ, zero, suc, _+_, _*_, _-_, _^_, _≤_, _<_}
 use native.Mathlib.Omega.{arith}
+use native.Mathlib.Decide.{ℕ-discrete}
 use native.Mathlib.Numerals.{add-one}
 use mathlib.Core.Path.{_≡_, refl, ap, sym, _∙_, subst}
 use mathlib.Core.Bool.{Bool, true, false, _&&_, not, cond}
 use mathlib.Core.List.{List}
-use lib.ListN.{length, getD, replicate, length-replicate}
+use lib.ListN.{length, getD, set, replicate, length-set, length-replicate, getD-replicate}
+use lib.Seq.{getD-set-same, getD-set-other}
 use lib.Dec.{eqb, ltb}
 use borrow.Author.Tests.{eq-eqb, ne-eqb, lt-ltb, le-ltb}
 use Rattle.base_finite.specs.Below.{counted, sumBelow, countBelow}
-use Rattle.base_finite.specs.Laws.Below.{counted-true, counted-false, counted-le, sum-limit}
+use Rattle.base_finite.specs.Laws.Below.{counted-true, counted-false, counted-le, sum-limit, sum-suc, count-le}
 use Rattle.base_buffer.specs.Store.{remade}
 use Rattle.base_buffer.specs.Laws.Store.{length-remade, remade-end}
 use Rattle.base_limits.specs.Limits.{maxVertices, maxEdges, groupNumbers}
@@ -36,27 +38,80 @@ lowest-more groups l v h = h ∙ ap (lowestIn groups l) (sym (add-one v))
 pub lowest-end : (groups : List ℕ) (l n v : ℕ) {low : ℕ} → v ≤ n → n ≤ v → low ≡ lowestIn groups l v → low ≡ lowestIn groups l n
 lowest-end groups l n v b c h = let e : v ≡ n = omega arith in h ∙ ap (lowestIn groups l) e
 
-pub member-counts : (groups : List ℕ) (l v : ℕ) {x : ℕ} → x ≡ getD groups v 0 → x ≡ l → 1 ≡ counted (eqb (getD groups v 0) l) 1
-member-counts groups l v x-is same = sym (counted-true (eq-eqb (getD groups v 0) l (sym x-is ∙ same)) 1)
+-- How many of the vertices below v each group has.
+pub record Counts (groups : List ℕ) (v : ℕ) (counts : List ℕ) : Type 0 where
+  pub long : length counts ≡ groupNumbers
+  pub members : (l : ℕ) → l < groupNumbers → getD counts l 0 ≡ countBelow v (λ u. eqb (getD groups u 0) l)
 
-pub other-counts-not : (groups : List ℕ) (l v : ℕ) {x : ℕ} → x ≡ getD groups v 0 → (x ≡ l → ⊥) → 0 ≡ counted (eqb (getD groups v 0) l) 1
-other-counts-not groups l v x-is other = sym (counted-false (ne-eqb (getD groups v 0) l (λ e. other (x-is ∙ e))) 1)
+module _ (groups : List ℕ) where
+  pub counts-start : {counts : List ℕ} → counts ≡ replicate groupNumbers 0 → Counts groups 0 counts
+  unfolding countBelow sumBelow
+  counts-start h = record {
+    long = ap length h ∙ length-replicate {A = ℕ} groupNumbers 0;
+    members = λ l b. ap (λ (k : List ℕ). getD k l 0) h ∙ getD-replicate groupNumbers l 0 0 b;
+  }
+
+  module _ (v : ℕ) {counts : List ℕ} (h : Counts groups v counts) where
+    pub count-fits : {d : ℕ} → d < groupNumbers → getD counts d 0 ≤ v
+    count-fits {d} b = omega (arith, h .members d b, count-le v (λ u. eqb (getD groups u 0) d))
+
+    pub counts-more : {next : List ℕ} {d : ℕ} → d ≡ getD groups v 0 → next ≡ set counts d (getD counts d 0 + 1) → Counts groups (v + 1) next
+    unfolding countBelow
+    counts-more {next} {d} d-is next-is = record {
+      long = ap length next-is ∙ length-set counts d (getD counts d 0 + 1) ∙ h .long;
+      members = λ l b. ap (λ (k : List ℕ). getD k l 0) next-is ∙ by l b (ℕ-discrete l d) ∙ more l b;
+    }
+      where
+        -- as many as before, and v, if it is a member
+        by : (l : ℕ) → l < groupNumbers → Dec (l ≡ d) → getD (set counts d (getD counts d 0 + 1)) l 0 ≡ getD counts l 0 + counted (eqb (getD groups v 0) l) 1
+        by l b (yes e) =
+            let at : getD (set counts d (getD counts d 0 + 1)) d 0 ≡ getD counts d 0 + 1 = getD-set-same counts d (getD counts d 0 + 1) 0 (subst (λ n. d < n) (sym (h .long)) (subst (λ k. k < groupNumbers) e b)) in
+            subst (λ k. getD (set counts d (getD counts d 0 + 1)) k 0 ≡ getD counts k 0 + counted (eqb (getD groups v 0) k) 1) (sym e)
+            (omega (arith, at, counted-true (eq-eqb (getD groups v 0) d (sym d-is)) 1))
+        by l b (no e) = omega (arith, getD-set-other counts d l (getD counts d 0 + 1) 0 e, counted-false (ne-eqb (getD groups v 0) l (λ k. e (sym (d-is ∙ k)))) 1)
+
+        more : (l : ℕ) → l < groupNumbers → getD counts l 0 + counted (eqb (getD groups v 0) l) 1 ≡ sumBelow (v + 1) (λ u. counted (eqb (getD groups u 0) l) 1)
+        more l b =
+            ap (λ x. x + counted (eqb (getD groups v 0) l) 1) (h .members l b) ∙ sym (sum-suc v (λ u. counted (eqb (getD groups u 0) l) 1))
+            ∙ ap (λ n. sumBelow n (λ u. counted (eqb (getD groups u 0) l) 1)) (sym (add-one v))
+
+  pub counts-end : (n v : ℕ) {counts : List ℕ} → v ≤ n → n ≤ v → Counts groups v counts → Counts groups n counts
+  counts-end n v {counts} b d h = let e : v ≡ n = omega arith in subst (λ k. Counts groups k counts) e h
+
+pub noted-member : (counts : List ℕ) (d : ℕ) {i x k : ℕ} {next : List ℕ} → i ≡ d → x ≡ getD counts i 0 → k ≡ d → next ≡ set counts k (x + 1) → next ≡ set counts d (getD counts d 0 + 1)
+noted-member counts d {i} {x} i-is x-is k-is next-is =
+    next-is ∙ ap (λ j. set counts j (x + 1)) k-is ∙ ap (λ y. set counts d (y + 1)) (x-is ∙ ap (λ j. getD counts j 0) i-is)
+
+pub noted-fits : (counts : List ℕ) (d : ℕ) {i x : ℕ} → getD counts d 0 + 1 < 2 ^ 64 → i ≡ d → x ≡ getD counts i 0 → x + 1 < 2 ^ 64
+noted-fits counts d fits i-is x-is = omega (arith, fits, x-is ∙ ap (λ j. getD counts j 0) i-is)
 
 module _ (groups : List ℕ) (l : ℕ) where
   abbrev count : ℕ
   count = countBelow (length groups) (λ v. eqb (getD groups v 0) l)
 
-  pub no-group-share : l ≡ 0 → 0 ≡ counted (inCompany groups l) maxCost
+  no-group-share : l ≡ 0 → 0 ≡ counted (inCompany groups l) maxCost
   unfolding inCompany
   no-group-share h = sym (counted-false (rw (eq-eqb l 0 h)) maxCost)
 
-  pub alone-share : {m : ℕ} → (l ≡ 0 → ⊥) → m ≡ countBelow (length groups) (λ v. eqb (getD groups v 0) l) → m ≤ 1 → 0 ≡ counted (inCompany groups l) maxCost
+  alone-share : {m : ℕ} → (l ≡ 0 → ⊥) → m ≡ countBelow (length groups) (λ v. eqb (getD groups v 0) l) → m ≤ 1 → 0 ≡ counted (inCompany groups l) maxCost
   unfolding inCompany
   alone-share some m-is few = sym (counted-false (rw (ne-eqb l 0 some, le-ltb 1 count (omega (arith, m-is, few)))) maxCost)
 
-  pub company-share : {m : ℕ} → (l ≡ 0 → ⊥) → m ≡ countBelow (length groups) (λ v. eqb (getD groups v 0) l) → 1 < m → maxCost ≡ counted (inCompany groups l) maxCost
+  company-share : {m : ℕ} → (l ≡ 0 → ⊥) → m ≡ countBelow (length groups) (λ v. eqb (getD groups v 0) l) → 1 < m → maxCost ≡ counted (inCompany groups l) maxCost
   unfolding inCompany
   company-share some m-is many = sym (counted-true (rw (ne-eqb l 0 some, lt-ltb 1 count (omega (arith, m-is, many)))) maxCost)
+
+-- The share of a group, by how many members it has.
+module _ (counts : List ℕ) (l : ℕ) where
+  pub share-none : l ≡ 0 → (groups : List ℕ) → Counts groups (length groups) counts → l < groupNumbers → 0 ≡ counted (inCompany groups l) maxCost
+  share-none none groups h b = no-group-share groups l none
+
+  module _ (some : l ≡ 0 → ⊥) {x : ℕ} (x-is : x ≡ getD counts l 0) where
+    pub share-alone : x ≤ 1 → (groups : List ℕ) → Counts groups (length groups) counts → l < groupNumbers → 0 ≡ counted (inCompany groups l) maxCost
+    share-alone few groups h b = alone-share groups l some (x-is ∙ h .members l b) few
+
+    pub share-company : 1 < x → (groups : List ℕ) → Counts groups (length groups) counts → l < groupNumbers → maxCost ≡ counted (inCompany groups l) maxCost
+    share-company many groups h b = company-share groups l some (x-is ∙ h .members l b) many
 
 pub first-shares-end : (groups : List ℕ) (l : ℕ) {now : List ℕ} → l ≤ groupNumbers → groupNumbers ≤ l
     → now ≡ remade (λ l x. counted (inCompany groups l) maxCost) l (replicate groupNumbers 0) → now ≡ firstShares groups

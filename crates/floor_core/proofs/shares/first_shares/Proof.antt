@@ -14,10 +14,10 @@ use Rattle.floor_core.proofs.shares.first_shares.Statement.{statement}
 use Rattle.floor_core.proofs.shares.first_shares.Tie as tie
 
 abbrev Inv-loop : tie.InvT-loop
-Inv-loop groups share₀ l₀ share l = (l ≤ groupNumbers) × (share ≡ remade (λ l x. counted (inCompany groups l) maxCost) l (replicate groupNumbers 0))
+Inv-loop groups counts share₀ l₀ share l = (l ≤ groupNumbers) × (share ≡ remade (λ l x. counted (inCompany groups l) maxCost) l (replicate groupNumbers 0))
 
 abbrev μ-loop : tie.MeasureT-loop
-μ-loop groups share₀ l₀ share l = groupNumbers - l
+μ-loop groups counts share₀ l₀ share l = groupNumbers - l
 
 loop-holds : tie.Need-loop-holds Inv-loop μ-loop
 unfolding remade
@@ -30,7 +30,8 @@ loop-less : tie.Need-loop-less Inv-loop μ-loop
 loop-less c = omega arith
 
 loop-again : tie.Need-loop-again Inv-loop μ-loop
-loop-again c = (omega arith, c .before .put64 .ensures ∙ remade-more _ _ _ _ _ (c .before .before .before .before .before .loop .inv .1) (c .before .before .first-share .ensures))
+loop-again c =
+    (omega arith, c .before .put64 .ensures ∙ remade-more _ _ _ _ _ (c .before .before .before .before .before .before .loop .inv .1) (c .before .before .first-share .ensures _ (c .before .before .before .before .before .before .before .count-members .ensures) (c .before .before .before .before .before .loop-test .taken)))
 
 returns : tie.Need-returns Inv-loop μ-loop
 returns c = first-shares-end _ _ (c .before .loop .inv .0) (c .loop-test .left) (c .before .loop .inv .1)
@@ -41,6 +42,7 @@ first-shares-spec =
     (tie.spec
     Inv-loop
     μ-loop
+    (λ c κs. search needs)
     loop-holds
     slice-aggregate-put64
     (λ c κs. search needs)
