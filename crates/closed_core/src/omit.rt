@@ -1,4 +1,4 @@
-// A survey with one track left out, and its figures.
+// A survey with one track left out, and what is answered for it.
 ghost use Rattle.base_buffer.specs.Lent.{old, new};
 ghost use mathlib.Core.Path.{_≡_};
 ghost use Prim.Native.Nat.{_-_, _≤_, _<_};
@@ -8,10 +8,11 @@ ghost use Rattle.base_limits.specs.Limits.{maxEdges};
 ghost use Rattle.theory_steiner.specs.Closed.{skipping};
 ghost use Rattle.survey_core.specs.Survey.{surveyWith, lentWith};
 ghost use Rattle.survey_core.specs.Sound.{SurveySound};
-ghost use Rattle.plan_rule.specs.Figures.{figuring, figuredOutcome};
-ghost use Rattle.closed_core.specs.LeftOut.{leftOut};
+ghost use Rattle.plan_rule.specs.Figures.{figuring};
+ghost use Rattle.closed_rule.specs.Closed.{closedOutcome};
+ghost use Rattle.closed_core.specs.LeftOut.{leftOut, closedOf};
 use base_limits::MAX_EDGES;
-use plan_rule::Figured;
+use closed_rule::Closed;
 
 // The numbers before entry c, at their places.
 fn copy_below(list: &[u32], c: usize, left: &mut [u32; MAX_EDGES])
@@ -50,8 +51,8 @@ fn leave_out(list: &[u32], c: usize) -> [u32; MAX_EDGES]
     left
 }
 
-// Planning's figures, with track c left out.
-pub fn figures_without(
+// What is answered for a survey, with track c left out.
+pub fn answer_without(
     groups: &[u8],
     firsts: &[u32],
     seconds: &[u32],
@@ -59,25 +60,23 @@ pub fn figures_without(
     owners: &[u32],
     others: &[u8],
     c: usize,
-) -> Figured
+) -> Closed
     requires { ⌜ SurveySound
         (surveyWith (now groups) (now firsts) (now seconds) (now weights) (now owners) (now others)) ⌝ }
     requires { ⌜ c < length (now firsts) ⌝ }
     ensures { λ r. let s = lentWith groups firsts seconds weights owners others in
-        ⌜ figuredOutcome r ≡ figuring (leftOut s c) ⌝ }
+        ⌜ closedOutcome r ≡ closedOf (figuring (leftOut s c)) ⌝ }
 {
     let count = firsts.len() - 1;
     let open_firsts = leave_out(firsts, c);
     let open_seconds = leave_out(seconds, c);
     let open_weights = leave_out(weights, c);
-    let mut marks = [0u8; MAX_EDGES];
-    plan_core::figures::sound_figures(
+    crate::answer::sound_answer(
         groups,
         &open_firsts[0..count],
         &open_seconds[0..count],
         &open_weights[0..count],
         owners,
         others,
-        &mut marks,
     )
 }

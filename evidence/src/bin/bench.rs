@@ -174,45 +174,83 @@ fn sample(options: &Options, planners: &mut [Timed]) {
     println!();
 }
 
-/// The least of R timings of a call, in nanoseconds.
+/// How long a call takes, in nanoseconds.
+#[cfg(feature = "native")]
+fn once(mut call: impl FnMut()) -> f64 {
+    let start = Instant::now();
+    call();
+    start.elapsed().as_nanos() as f64
+}
+
+/// The least of R timings of a call.
 #[cfg(feature = "native")]
 fn least(repeats: usize, mut call: impl FnMut()) -> f64 {
-    let once = |_| {
-        let start = Instant::now();
-        call();
-        start.elapsed().as_nanos() as f64
-    };
-    (0..repeats).map(once).fold(f64::INFINITY, f64::min)
+    (0..repeats).map(|_| once(&mut call)).fold(f64::INFINITY, f64::min)
+}
+
+/// The middle of R timings of each of some calls, in turn: the first of each, the second of each, and so on.
+#[cfg(feature = "native")]
+fn in_turn<const N: usize>(repeats: usize, calls: [&dyn Fn(); N]) -> [f64; N] {
+    let mut times = calls.map(|_| Vec::with_capacity(repeats));
+    for _ in 0..repeats {
+        for (times, call) in times.iter_mut().zip(calls) {
+            times.push(once(call));
+        }
+    }
+    times.map(|times| spread(times)[0])
 }
 
 /// Lists of 256 closed tracks (No. 12), those that a plan does not pick and those that it picks, in plans of the same
 /// survey: the outside library alone. Picked ones are timed four at a time, so that a busy machine shows less, and what a
-/// call takes besides, which is one plan, is counted once.
+/// call takes besides, which is one plan, is counted once. Two figures of each: by the least times, where each call is
+/// timed over and over, so that the processor foretells the one plan better than the lists; and by the middle ones, where
+/// one plan, one call with nothing closed and one list come in turn, so that none of them is foretold by itself.
 #[cfg(feature = "native")]
 fn closings(options: &Options, (n, m): (usize, usize)) {
-    let (mut unpicked, mut picked) = (Vec::new(), Vec::new());
+    let mut figures: [Vec<f64>; 4] = Default::default();
     for i in 0..options.surveys {
         let survey = survey_of(options, (n, m), i);
-        let (mut marks, mut records) = buffers(&survey);
-        let plan = least(options.repeats, || {
-            assert!(evidence::native::plan(survey.view(), &mut marks, &mut records).is_ok());
-        });
-        let closed = |tracks: &[u32]| {
-            let mut result = vec![0; ROW * tracks.len()];
-            least(options.repeats, || assert_eq!((LIBRARY.closed)(survey.view(), tracks, &mut result), 0))
+        let buffers = std::cell::RefCell::new(buffers(&survey));
+        let plan = || {
+            let (marks, records) = &mut *buffers.borrow_mut();
+            assert!(evidence::native::plan(survey.view(), marks, records).is_ok());
         };
+        let closed = |tracks: &[u32]| {
+            let mut result = [0; ROW * MAX_CLOSED];
+            assert_eq!((LIBRARY.closed)(survey.view(), tracks, &mut result[..ROW * tracks.len()]), 0);
+        };
+        let over = least(options.repeats, plan);
         let list = |is_picked: bool| -> Vec<u32> {
+            let marks = &buffers.borrow().0;
             let of_kind = (0..m as u32).filter(|&t| (marks[t as usize] != 0) == is_picked).collect::<Vec<u32>>();
             of_kind.into_iter().cycle().take(MAX_CLOSED).collect()
         };
-        unpicked.push(closed(&list(false)) / plan);
-        let besides = closed(&[]);
-        let parts: f64 = list(true).chunks(4).map(|part| closed(part) - besides).sum();
-        picked.push((besides + parts) / plan);
+        let (others, kept) = (list(false), list(true));
+        let besides = least(options.repeats, || closed(&[]));
+        let parts: f64 = kept.chunks(4).map(|part| least(options.repeats, || closed(part)) - besides).sum();
+        figures[0].push(least(options.repeats, || closed(&others)) / over);
+        figures[1].push((besides + parts) / over);
+        let [turn, all] = in_turn(options.repeats, [&plan, &|| closed(&others)]);
+        figures[2].push(all / turn);
+        let turns: Vec<[f64; 3]> = kept
+            .chunks(4)
+            .map(|part| in_turn(options.repeats, [&plan, &|| closed(&[]), &|| closed(part)]))
+            .collect();
+        let mean = |k: usize| turns.iter().map(|turn| turn[k]).sum::<f64>() / turns.len() as f64;
+        let parts: f64 = turns.iter().map(|[_, besides, part]| part - besides).sum();
+        figures[3].push((mean(1) + parts) / mean(0));
     }
-    let ([middle, _, most], [picked_middle, _, picked_most]) = (spread(unpicked), spread(picked));
+    let told = figures.map(|figure| {
+        let [middle, _, most] = spread(figure);
+        [middle, most]
+    });
+    let line = |[unpicked, picked]: [[f64; 2]; 2]| {
+        format!("unpicked {:.2} (99 % {:.2}), picked {:.1} (99 % {:.1})", unpicked[0], unpicked[1], picked[0], picked[1])
+    };
     println!(
-        "{n} junctions, {m} tracks, {MAX_CLOSED} closed tracks, in plans: unpicked {middle:.2} (99 % {most:.2}), picked {picked_middle:.1} (99 % {picked_most:.1})"
+        "{n} junctions, {m} tracks, {MAX_CLOSED} closed tracks, in plans: {}; timed in turn: {}",
+        line([told[0], told[1]]),
+        line([told[2], told[3]])
     );
 }
 

@@ -1,4 +1,4 @@
--- `figures_without` meets its contract: the three lists without the track, planned (`left-out-lent`).
+-- `answer_without` meets its contract: the three lists without the track, planned (`left-out-lent`).
 use native.Mathlib.Omega.{arith}
 use mathlib.Core.Path.{_≡_, ap, sym, _∙_, subst}
 use Rattle.survey_core.specs.Survey.{Survey, surveyWith}
@@ -6,8 +6,8 @@ use Rattle.survey_core.specs.Sound.{SurveySound}
 use Rattle.plan_rule.specs.Figures.{figuring}
 use Rattle.closed_core.specs.Laws.LeftOut.{left-out-sound, left-out-lent}
 use borrow.Author.Needs.{needs}
-use Rattle.closed_core.proofs.omit.figures_without.Statement.{statement}
-use Rattle.closed_core.proofs.omit.figures_without.Tie as tie
+use Rattle.closed_core.proofs.omit.answer_without.Statement.{statement}
+use Rattle.closed_core.proofs.omit.answer_without.Tie as tie
 
 sub-count : tie.Need-sub-count
 sub-count c = let known = c .before .before .before .before .before .before .pre .1 in search (needs, known)
@@ -29,17 +29,17 @@ leave-out-requires-3 c κs =
     let long = sound .weights-long in
     (omega (arith, long, c .before .before .before .before .before .before .before .before .pre .1), omega (arith, few, long))
 
-part-sound-figures-end : tie.Need-part-sound-figures-end
-part-sound-figures-end c = let few = c .before .before .before .before .before .before .before .before .before .before .pre .0 .edges-few in search (needs, few)
+part-sound-answer-end : tie.Need-part-sound-answer-end
+part-sound-answer-end c = let few = c .before .before .before .before .before .before .before .before .before .before .pre .0 .edges-few in search (needs, few)
 
-part-sound-figures-end-2 : tie.Need-part-sound-figures-end-2
-part-sound-figures-end-2 c = let few = c .before .before .before .before .before .before .before .before .before .before .before .before .pre .0 .edges-few in search (needs, few)
+part-sound-answer-end-2 : tie.Need-part-sound-answer-end-2
+part-sound-answer-end-2 c = let few = c .before .before .before .before .before .before .before .before .before .before .before .before .pre .0 .edges-few in search (needs, few)
 
-part-sound-figures-end-3 : tie.Need-part-sound-figures-end-3
-part-sound-figures-end-3 c = let few = c .before .before .before .before .before .before .before .before .before .before .before .before .before .before .pre .0 .edges-few in search (needs, few)
+part-sound-answer-end-3 : tie.Need-part-sound-answer-end-3
+part-sound-answer-end-3 c = let few = c .before .before .before .before .before .before .before .before .before .before .before .before .before .before .pre .0 .edges-few in search (needs, few)
 
-sound-figures-requires : tie.Need-sound-figures-requires
-sound-figures-requires c κs =
+sound-answer-requires : tie.Need-sound-answer-requires
+sound-answer-requires c κs =
     let a = c .before .before .before .before .before .before .before .before .before .before .before .before .before .before .before .before .args in
     let sound = c .before .before .before .before .before .before .before .before .before .before .before .before .before .before .before .before .pre .0 in
     subst SurveySound
@@ -49,12 +49,12 @@ sound-figures-requires c κs =
 returns : tie.Need-returns
 returns c =
     let a = c .before .before .before .before .before .before .before .before .before .before .before .before .before .before .before .before .before .args in
-    c .sound-figures .ensures .0
+    c .sound-answer .ensures .0
     ∙ ap figuring
     (left-out-lent (surveyWith (a .groups .now) (a .firsts .now) (a .seconds .now) (a .weights .now) (a .owners .now) (a .others .now)) (a .c) (c .before .before .before .before .before .before .before .before .before .before .before .before .before .before .before .before .before .pre .0) (c .before .before .before .before .before .before .before .before .before .before .leave-out .ensures) (c .before .before .before .before .before .before .before .before .before .leave-out2 .ensures) (c .before .before .before .before .before .before .before .before .leave-out3 .ensures))
 
-pub figures-without-spec : {M : Type 1} → statement M
-figures-without-spec =
+pub answer-without-spec : {M : Type 1} → statement M
+answer-without-spec =
     tie.close
     (tie.spec
     sub-count
@@ -63,12 +63,12 @@ figures-without-spec =
     leave-out-requires-3
     (λ c. search needs)
     (λ c. search needs)
-    part-sound-figures-end
+    part-sound-answer-end
     (λ c. search needs)
     (λ c. search needs)
-    part-sound-figures-end-2
+    part-sound-answer-end-2
     (λ c. search needs)
     (λ c. search needs)
-    part-sound-figures-end-3
-    sound-figures-requires
+    part-sound-answer-end-3
+    sound-answer-requires
     returns)
