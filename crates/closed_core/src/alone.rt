@@ -1,4 +1,4 @@
-// The picked tracks by themselves: a survey of these alone has the same plan, so that dropping need not pass the others.
+// The picked tracks by themselves: a survey of these alone has the same plan, and dropping passes no others.
 ghost use Rattle.base_buffer.specs.Lent.{old, new};
 ghost use mathlib.Core.Path.{_≡_};
 ghost use lib.ListN.{getD, length};
@@ -35,11 +35,11 @@ fn list_picked(
     firsts: &[u32],
     seconds: &[u32],
     weights: &[u32],
-    picked: &[u8],
-    starts: &mut [u32],
-    ends: &mut [u32],
-    prices: &mut [u32],
-    ones: &mut [u8],
+    picked: &[u8; MAX_EDGES],
+    starts: &mut [u32; MAX_EDGES],
+    ends: &mut [u32; MAX_EDGES],
+    prices: &mut [u32; MAX_EDGES],
+    ones: &mut [u8; MAX_EDGES],
 ) -> usize
     ensures { λ r. ⌜ r ≡ countBelow (length (old firsts)) (pickedIn (old picked)) ⌝ }
     ensures { λ _. let list = listed (pickedIn (old picked)) in

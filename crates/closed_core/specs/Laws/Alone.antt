@@ -1,6 +1,7 @@
 -- The picked edges by themselves: whatever is not picked can be left out, one after the other, and the plan stays. `kept_alone` cites it.
 use Prim.Native.Nat.{ℕ, zero, suc, _+_, _-_, _≤_, _<_}
 use native.Mathlib.Omega.{arith}
+use native.Mathlib.Numerals.{add-one}
 use mathlib.Core.Path.{_≡_, refl, ap, sym, _∙_, subst}
 use mathlib.Core.Logic.{_↔_, ⊎-elim}
 use mathlib.Core.Bool.{Bool, true, false, cond}
@@ -62,34 +63,43 @@ module _ (F : ℕ → Bool) where
   old-last e =
       ap (oldNumber F e) (let z : countBelow e F ≡ countBelow e F + 0 = omega arith in z) ∙ old-behind e 0 ∙ omega arith
 
+  abbrev Front : (e k : ℕ) → Type 0
+  Front e k = (k < e) × (F k ≡ true)
+
   -- In front are those of F.
-  pub old-front : (e i : ℕ) → i < countBelow e F → (oldNumber F e i < e) × (F (oldNumber F e i) ≡ true)
+  pub old-front : (e i : ℕ) → i < countBelow e F → Front e (oldNumber F e i)
   unfolding countBelow sumBelow
   old-front zero i b = absurd (omega arith)
   old-front (suc e) i b = by (λ c. let k = old-front e i c in (omega (arith, k .0), k .1)) (F e) refl
     where
-      abbrev Front : ℕ → Type 0
-      Front k = (k < suc e) × (F k ≡ true)
-
-      by : (i < countBelow e F → Front (oldNumber F e i)) → (t : Bool) → F e ≡ t → Front (oldNumber F (suc e) i)
+      by : (i < countBelow e F → Front (suc e) (oldNumber F e i)) → (t : Bool) → F e ≡ t → Front (suc e) (oldNumber F (suc e) i)
       by before true h =
-          subst Front (sym (old-in e i h))
+          subst (Front (suc e)) (sym (old-in e i h))
           (⊎-elim before
           (λ c.
           let n = count-in e h in
           let z : i ≡ countBelow e F = omega arith in
-          subst Front (sym (ap (oldNumber F e) z ∙ old-last e)) (omega arith, h))
+          subst (Front (suc e)) (sym (ap (oldNumber F e) z ∙ old-last e)) (omega arith, h))
           (lt-or-ge i (countBelow e F)))
       by before false h =
           let n = count-out e h in
           let c : i < countBelow e F = omega arith in
-          subst Front (sym (old-out e i h ∙ ap (oldNumber F e) (skipping-low (countBelow e F) i c))) (before c)
+          subst (Front (suc e)) (sym (old-out e i h ∙ ap (oldNumber F e) (skipping-low (countBelow e F) i c))) (before c)
 
   module _ (f : ℕ → ℕ) (l : List ℕ) where
     pub length-listed : (m : ℕ) → length (listed F f m l) ≡ length l
     unfolding listed
     length-listed zero = refl
     length-listed (suc m) = length-set (listed F f m l) (countBelow m F) (f m) ∙ length-listed m
+
+    -- One store more.
+    pub listed-more : (e : ℕ) {now : List ℕ} {count x : ℕ} → now ≡ listed F f e l → count ≡ countBelow e F → x ≡ f e → set now count x ≡ listed F f (e + 1) l
+    unfolding listed
+    listed-more e now-is count-is x-is = rw (now-is, count-is, x-is, add-one e) refl
+
+    -- The loop has come to the end.
+    pub listed-end : (n e : ℕ) {now : List ℕ} → e ≤ n → n ≤ e → now ≡ listed F f e l → now ≡ listed F f n l
+    listed-end n e b c h = let z : e ≡ n = omega arith in h ∙ ap (λ (k : ℕ). listed F f k l) z
 
     -- What the loop stored for those of F.
     pub listed-at : (m i : ℕ) → m ≤ length l → i < countBelow m F → getD (listed F f m l) i 0 ≡ f (oldNumber F m i)
@@ -172,32 +182,33 @@ one-less p q old c same known free =
     }
 
 module _ (p : Problem) (ok : Sound p) where
-  -- All below e that are not picked.
-  pub picked-below : (e k : ℕ) → e ≤ p .edges → k ≡ countBelow e (picked p) + (p .edges - e)
-      → SamePicks p (choosing p (oldNumber (picked p) e) k) (oldNumber (picked p) e)
+  abbrev F : ℕ → Bool
+  F = picked p
+
+  abbrev Same : (ℕ → ℕ) → (k : ℕ) → Type 0
+  Same old k = SamePicks p (choosing p old k) old
+
+  abbrev next : (e : ℕ) → Bool → ℕ → ℕ
+  next e t i = cond t (oldNumber F e i) (oldNumber F e (skipping (countBelow e F) i))
+
+  -- Those below e that are not picked are left out.
+  pub picked-below : (e k : ℕ) → e ≤ p .edges → k ≡ countBelow e F + (p .edges - e) → Same (oldNumber F e) k
   unfolding oldNumber countBelow sumBelow
   picked-below zero k b k-is =
       let z : p .edges ≡ k = omega arith in
-      subst (λ (n : ℕ). SamePicks p (choosing p (oldNumber (picked p) zero) n) (oldNumber (picked p) zero)) z
+      subst (Same (oldNumber F zero)) z
       (record { sound = ok; picks = λ i. refl; same-cost = refl; same-bound = refl; same-joins = (λ h. h, λ h. h) })
   picked-below (suc e) k b k-is =
-      by (λ known. picked-below e k (omega arith) known) (λ known. picked-below e (suc k) (omega arith) known) (picked p e) refl
+      by (λ known. picked-below e k (omega arith) known) (λ known. picked-below e (suc k) (omega arith) known) (F e) refl
     where
-      abbrev F : ℕ → Bool
-      F = picked p
-
-      abbrev Same : (ℕ → ℕ) → (n : ℕ) → Type 0
-      Same old n = SamePicks p (choosing p old n) old
-
-      abbrev next : Bool → ℕ → ℕ
-      next t i = cond t (oldNumber F e i) (oldNumber F e (skipping (countBelow e F) i))
-
       by : (k ≡ countBelow e F + (p .edges - e) → Same (oldNumber F e) k) → (suc k ≡ countBelow e F + (p .edges - e) → Same (oldNumber F e) (suc k))
           → (t : Bool) → F e ≡ t → Same (oldNumber F (suc e)) k
-      by stays goes true h = let n = count-in F e h in subst (λ (t : Bool). Same (next t) k) (sym h) (stays (omega arith))
+      by stays goes true h = let n = count-in F e h in subst (λ (t : Bool). Same (next e t) k) (sym h) (stays (omega arith))
       by stays goes false h =
           let n = count-out F e h in
           let same : Same (oldNumber F e) (suc k) = goes (omega arith) in
-          subst (λ (t : Bool). Same (next t) k) (sym h)
+          let z : suc k - 1 ≡ k = omega arith in
+          subst (λ (t : Bool). Same (next e t) k) (sym h)
+          (subst (Same (next e false)) z
           (one-less p (choosing p (oldNumber F e) (suc k)) (oldNumber F e) (countBelow e F) same (omega arith)
-          (same .picks (countBelow e F) ∙ ap F (old-last F e) ∙ h))
+          (same .picks (countBelow e F) ∙ ap F (old-last F e) ∙ h)))

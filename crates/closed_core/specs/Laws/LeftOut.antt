@@ -192,7 +192,6 @@ left-out-lent s c sound {firsts} {seconds} {weights} a b d =
     ∙ ap (λ (l : List ℕ). surveyWith (s .groups) (omitted m c (s .firsts)) (omitted m c (s .seconds)) l (s .owners) (s .others)) (omitted-part m c (s .weights) few weight)
 
 -- The same for the number that was asked for.
-pub left-out-asked : (s : Survey) → SurveySound s → {c track : ℕ} → c ≡ track → c < length (s .firsts) → {f : Outcome FigureCounts} {o : Outcome ClosedCounts}
-    → f ≡ figuring (leftOut s c) → o ≡ closedOf f → o ≡ closedEntry s track
-left-out-asked s sound {c} same known f-is o-is =
-    o-is ∙ ap closedOf f-is ∙ left-out-entry s sound c known ∙ ap (closedEntry s) same
+pub left-out-asked : (s : Survey) → SurveySound s → {c track : ℕ} → c ≡ track → c < length (s .firsts) → {o : Outcome ClosedCounts}
+    → o ≡ closedOf (figuring (leftOut s c)) → o ≡ closedEntry s track
+left-out-asked s sound {c} same known o-is = o-is ∙ left-out-entry s sound c known ∙ ap (closedEntry s) same

@@ -30,9 +30,9 @@ answer-without-requires c κs = (c .before .before .before .before .before .befo
 
 -- planned anew
 returns-3 : tie.Need-returns-3
-returns-3 c = left-out-asked _ (c .before .before .before .before .before .before .before .before .before .before .before .before .before .pre .0) (c .before .before .before .before .before .index32 .ensures) (c .before .before .before .before .if1 .left) (c .before .answer-without .ensures) (c .row-of .ensures)
+returns-3 c = left-out-asked _ (c .before .before .before .before .before .before .before .before .before .before .before .before .pre .0) (c .before .before .before .before .index32 .ensures) (c .before .before .before .if1 .left) (c .answer-without .ensures)
 
 pub entry-spec : {M : Type 1} → statement M
 entry-spec =
     tie.close
-    (tie.spec (λ c κs. search needs) returns (λ c κs. search needs) (λ c. search needs) returns-2 (λ c. search needs) answer-without-requires (λ c κs. search needs) returns-3)
+    (tie.spec (λ c κs. search needs) returns (λ c κs. search needs) (λ c. search needs) returns-2 (λ c. search needs) answer-without-requires returns-3)

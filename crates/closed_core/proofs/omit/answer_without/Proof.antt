@@ -4,6 +4,7 @@ use mathlib.Core.Path.{_≡_, ap, sym, _∙_, subst}
 use Rattle.survey_core.specs.Survey.{Survey, surveyWith}
 use Rattle.survey_core.specs.Sound.{SurveySound}
 use Rattle.plan_rule.specs.Figures.{figuring}
+use Rattle.closed_core.specs.LeftOut.{closedOf}
 use Rattle.closed_core.specs.Laws.LeftOut.{left-out-sound, left-out-lent}
 use borrow.Author.Needs.{needs}
 use Rattle.closed_core.proofs.omit.answer_without.Statement.{statement}
@@ -40,18 +41,18 @@ part-sound-answer-end-3 c = let few = c .before .before .before .before .before 
 
 sound-answer-requires : tie.Need-sound-answer-requires
 sound-answer-requires c κs =
-    let a = c .before .before .before .before .before .before .before .before .before .before .before .before .before .before .before .before .args in
-    let sound = c .before .before .before .before .before .before .before .before .before .before .before .before .before .before .before .before .pre .0 in
+    let a = c .before .before .before .before .before .before .before .before .before .before .before .before .before .before .before .args in
+    let sound = c .before .before .before .before .before .before .before .before .before .before .before .before .before .before .before .pre .0 in
     subst SurveySound
-    (sym (left-out-lent (surveyWith (a .groups .now) (a .firsts .now) (a .seconds .now) (a .weights .now) (a .owners .now) (a .others .now)) (a .c) sound (c .before .before .before .before .before .before .before .before .before .leave-out .ensures) (c .before .before .before .before .before .before .before .before .leave-out2 .ensures) (c .before .before .before .before .before .before .before .leave-out3 .ensures)))
-    (left-out-sound _ sound _ (c .before .before .before .before .before .before .before .before .before .before .before .before .before .before .before .before .pre .1))
+    (sym (left-out-lent (surveyWith (a .groups .now) (a .firsts .now) (a .seconds .now) (a .weights .now) (a .owners .now) (a .others .now)) (a .c) sound (c .before .before .before .before .before .before .before .before .leave-out .ensures) (c .before .before .before .before .before .before .before .leave-out2 .ensures) (c .before .before .before .before .before .before .leave-out3 .ensures)))
+    (left-out-sound _ sound _ (c .before .before .before .before .before .before .before .before .before .before .before .before .before .before .before .pre .1))
 
 returns : tie.Need-returns
 returns c =
-    let a = c .before .before .before .before .before .before .before .before .before .before .before .before .before .before .before .before .before .args in
-    c .sound-answer .ensures .0
-    ∙ ap figuring
-    (left-out-lent (surveyWith (a .groups .now) (a .firsts .now) (a .seconds .now) (a .weights .now) (a .owners .now) (a .others .now)) (a .c) (c .before .before .before .before .before .before .before .before .before .before .before .before .before .before .before .before .before .pre .0) (c .before .before .before .before .before .before .before .before .before .before .leave-out .ensures) (c .before .before .before .before .before .before .before .before .before .leave-out2 .ensures) (c .before .before .before .before .before .before .before .before .leave-out3 .ensures))
+    let a = c .before .before .before .before .before .before .before .before .before .before .before .before .before .before .before .before .args in
+    c .sound-answer .ensures
+    ∙ ap (λ (s : Survey). closedOf (figuring s))
+    (left-out-lent (surveyWith (a .groups .now) (a .firsts .now) (a .seconds .now) (a .weights .now) (a .owners .now) (a .others .now)) (a .c) (c .before .before .before .before .before .before .before .before .before .before .before .before .before .before .before .before .pre .0) (c .before .before .before .before .before .before .before .before .before .leave-out .ensures) (c .before .before .before .before .before .before .before .before .leave-out2 .ensures) (c .before .before .before .before .before .before .before .leave-out3 .ensures))
 
 pub answer-without-spec : {M : Type 1} → statement M
 answer-without-spec =
