@@ -200,13 +200,23 @@ fn in_turn<const N: usize>(repeats: usize, calls: [&dyn Fn(); N]) -> [f64; N] {
     times.map(|times| spread(times)[0])
 }
 
+/// A list in plans, by the times of a plan, of a call with nothing closed and of a call with a part of the list, for each
+/// part: the middle ones of the plan and of what a call takes besides, which is counted once.
+#[cfg(feature = "native")]
+fn in_plans(times: &[[f64; 3]]) -> f64 {
+    let [plan, besides] = [0, 1].map(|k| spread(times.iter().map(|time| time[k]).collect())[0]);
+    (besides + times.iter().map(|time| time[2] - besides).sum::<f64>()) / plan
+}
+
 /// Lists of 256 closed tracks (No. 12), those that a plan does not pick and those that it picks, in plans of the same
 /// survey: the outside library alone. Picked ones are timed four at a time, so that a busy machine shows less, and what a
-/// call takes besides, which is one plan, is counted once. Two figures of each: by the least times, where each call is
-/// timed over and over, so that the processor foretells the one plan better than the lists; and by the middle ones, where
-/// one plan, one call with nothing closed and one list come in turn, so that none of them is foretold by itself.
+/// call takes besides, which is one plan, is counted once. Two figures of each. First by the least times of calls that
+/// are timed over and over, each by itself: the processor then foretells the one plan better than the lists. Then by the
+/// middle times of calls in turn (one plan, one call with nothing closed, one list, one plan and so on), where what came
+/// before a call was another one.
 #[cfg(feature = "native")]
 fn closings(options: &Options, (n, m): (usize, usize)) {
+    let repeats = options.repeats;
     let mut figures: [Vec<f64>; 4] = Default::default();
     for i in 0..options.surveys {
         let survey = survey_of(options, (n, m), i);
@@ -219,38 +229,32 @@ fn closings(options: &Options, (n, m): (usize, usize)) {
             let mut result = [0; ROW * MAX_CLOSED];
             assert_eq!((LIBRARY.closed)(survey.view(), tracks, &mut result[..ROW * tracks.len()]), 0);
         };
-        let over = least(options.repeats, plan);
+        plan();
         let list = |is_picked: bool| -> Vec<u32> {
             let marks = &buffers.borrow().0;
             let of_kind = (0..m as u32).filter(|&t| (marks[t as usize] != 0) == is_picked).collect::<Vec<u32>>();
             of_kind.into_iter().cycle().take(MAX_CLOSED).collect()
         };
-        let (others, kept) = (list(false), list(true));
-        let besides = least(options.repeats, || closed(&[]));
-        let parts: f64 = kept.chunks(4).map(|part| least(options.repeats, || closed(part)) - besides).sum();
-        figures[0].push(least(options.repeats, || closed(&others)) / over);
-        figures[1].push((besides + parts) / over);
-        let [turn, all] = in_turn(options.repeats, [&plan, &|| closed(&others)]);
-        figures[2].push(all / turn);
-        let turns: Vec<[f64; 3]> = kept
-            .chunks(4)
-            .map(|part| in_turn(options.repeats, [&plan, &|| closed(&[]), &|| closed(part)]))
-            .collect();
-        let mean = |k: usize| turns.iter().map(|turn| turn[k]).sum::<f64>() / turns.len() as f64;
-        let parts: f64 = turns.iter().map(|[_, besides, part]| part - besides).sum();
-        figures[3].push((mean(1) + parts) / mean(0));
+        let (others, picked) = (list(false), list(true));
+        figures[0].push(least(repeats, || closed(&others)) / least(repeats, plan));
+        let over =
+            |part: &[u32]| [least(repeats, plan), least(repeats, || closed(&[])), least(repeats, || closed(part))];
+        let times: Vec<[f64; 3]> = picked.chunks(4).map(over).collect();
+        figures[1].push(in_plans(&times));
+        let [one, all] = in_turn(repeats, [&plan, &|| closed(&others)]);
+        figures[2].push(all / one);
+        let turn = |part: &[u32]| in_turn(repeats, [&plan, &|| closed(&[]), &|| closed(part)]);
+        let times: Vec<[f64; 3]> = picked.chunks(4).map(turn).collect();
+        figures[3].push(in_plans(&times));
     }
-    let told = figures.map(|figure| {
-        let [middle, _, most] = spread(figure);
-        [middle, most]
-    });
-    let line = |[unpicked, picked]: [[f64; 2]; 2]| {
-        format!("unpicked {:.2} (99 % {:.2}), picked {:.1} (99 % {:.1})", unpicked[0], unpicked[1], picked[0], picked[1])
+    let [unpicked, picked, unpicked_turn, picked_turn] = figures.map(spread);
+    let line = |[a, _, b]: [f64; 3], [c, _, d]: [f64; 3]| {
+        format!("unpicked {a:.2} (99 % {b:.2}), picked {c:.1} (99 % {d:.1})")
     };
     println!(
-        "{n} junctions, {m} tracks, {MAX_CLOSED} closed tracks, in plans: {}; timed in turn: {}",
-        line([told[0], told[1]]),
-        line([told[2], told[3]])
+        "{n} junctions, {m} tracks, {MAX_CLOSED} closed tracks, in plans: {}; in turn with plans: {}",
+        line(unpicked, picked),
+        line(unpicked_turn, picked_turn)
     );
 }
 
