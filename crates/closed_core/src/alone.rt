@@ -16,6 +16,7 @@ ghost use Rattle.closed_core.specs.Alone.{listed};
 use base_buffer::at32;
 use base_buffer::put32;
 use base_limits::MAX_EDGES;
+use base_limits::MAX_VERTICES;
 use base_limits::Verdict;
 use closed_rule::Closed;
 
@@ -36,9 +37,9 @@ fn list_picked(
     seconds: &[u32],
     weights: &[u32],
     picked: &[u8; MAX_EDGES],
-    starts: &mut [u32; MAX_EDGES],
-    ends: &mut [u32; MAX_EDGES],
-    prices: &mut [u32; MAX_EDGES],
+    starts: &mut [u32; MAX_VERTICES],
+    ends: &mut [u32; MAX_VERTICES],
+    prices: &mut [u32; MAX_VERTICES],
     ones: &mut [u8; MAX_EDGES],
 ) -> usize
     ensures { λ r. ⌜ r ≡ countBelow (length (old firsts)) (pickedIn (old picked)) ⌝ }
@@ -78,11 +79,11 @@ pub fn kept_alone(
     requires { ⌜ bound ≡ planOf (problemOf (surveyFrom (now groups) (now firsts) (now seconds) (now weights))) .bound ⌝ }
     ensures { λ r. ⌜ closedOutcome r ≡ closedOf (figuresJoined (lentSurvey groups firsts seconds weights)) ⌝ }
 {
-    let mut starts = [0u32; MAX_EDGES];
-    let mut ends = [0u32; MAX_EDGES];
-    let mut prices = [0u32; MAX_EDGES];
+    let mut starts = [0u32; MAX_VERTICES];
+    let mut ends = [0u32; MAX_VERTICES];
+    let mut prices = [0u32; MAX_VERTICES];
     let mut ones = [0u8; MAX_EDGES];
-    let mut marks = [0u8; MAX_EDGES];
+    let mut marks = [0u8; MAX_VERTICES];
     let count = list_picked(
         firsts,
         seconds,

@@ -40,15 +40,13 @@ fn copy_above(list: &[u32], c: usize, count: usize, left: &mut [u32; MAX_EDGES])
 }
 
 // The numbers of a list without entry c.
-fn leave_out(list: &[u32], c: usize) -> [u32; MAX_EDGES]
-    requires { ⌜ (c < length (now list)) × (length (now list) ≤ maxEdges) ⌝ }
+fn leave_out(list: &[u32], c: usize, left: &mut [u32; MAX_EDGES])
+    requires { ⌜ (c < length (now list)) × (length (now list) ≤ maxEdges) × (now left ≡ replicate maxEdges 0) ⌝ }
     ensures { λ r. let count = length (old list) - 1 in
-        ⌜ r ≡ remade (λ e x. getD (old list) (skipping c e) 0) count (replicate maxEdges 0) ⌝ }
+        ⌜ new left ≡ remade (λ e x. getD (old list) (skipping c e) 0) count (replicate maxEdges 0) ⌝ }
 {
-    let mut left = [0u32; MAX_EDGES];
-    copy_below(list, c, &mut left);
-    copy_above(list, c, list.len() - 1, &mut left);
-    left
+    copy_below(list, c, left);
+    copy_above(list, c, list.len() - 1, left);
 }
 
 // What is answered for a survey, with track c left out.
@@ -68,9 +66,12 @@ pub fn answer_without(
         ⌜ closedOutcome r ≡ closedOf (figuring (leftOut s c)) ⌝ }
 {
     let count = firsts.len() - 1;
-    let open_firsts = leave_out(firsts, c);
-    let open_seconds = leave_out(seconds, c);
-    let open_weights = leave_out(weights, c);
+    let mut open_firsts = [0u32; MAX_EDGES];
+    let mut open_seconds = [0u32; MAX_EDGES];
+    let mut open_weights = [0u32; MAX_EDGES];
+    leave_out(firsts, c, &mut open_firsts);
+    leave_out(seconds, c, &mut open_seconds);
+    leave_out(weights, c, &mut open_weights);
     crate::answer::sound_answer(
         groups,
         &open_firsts[0..count],

@@ -11,7 +11,7 @@ use lib.Seq.{getD-set-same, getD-set-other}
 use lib.Dec.{ltb}
 use borrow.Author.Tests.{lt-ltb, le-ltb}
 use Rattle.base_finite.specs.Below.{counted, countBelow, sumBelow, tabulate}
-use Rattle.base_finite.specs.Laws.Below.{lt-or-ge, count-le}
+use Rattle.base_finite.specs.Laws.Below.{lt-or-ge}
 use Rattle.base_buffer.specs.Laws.Store.{tabulate-cong, replicate-table, set-table}
 use Rattle.theory_steiner.specs.Problem.{Problem, Sound, Joins, allUsable, cost}
 use Rattle.theory_steiner.specs.Growth.{grown}
@@ -31,6 +31,13 @@ module _ (F : ℕ → Bool) where
   count-out : (e : ℕ) → F e ≡ false → countBelow (suc e) F ≡ countBelow e F
   unfolding countBelow sumBelow counted
   count-out e h = ap (λ (t : Bool). countBelow e F + counted t 1) h ∙ omega arith
+
+  count-grows : (e : ℕ) → countBelow e F ≤ countBelow (suc e) F
+  count-grows e = by (F e) refl
+    where
+      by : (t : Bool) → F e ≡ t → countBelow e F ≤ countBelow (suc e) F
+      by true h = omega (arith, count-in e h)
+      by false h = omega (arith, count-out e h)
 
   old-in : (e i : ℕ) → F e ≡ true → oldNumber F (suc e) i ≡ oldNumber F e i
   unfolding oldNumber
@@ -102,11 +109,11 @@ module _ (F : ℕ → Bool) where
     listed-end n e b c h = let z : e ≡ n = omega arith in h ∙ ap (λ (k : ℕ). listed F f k l) z
 
     -- What the loop stored for those of F.
-    pub listed-at : (m i : ℕ) → m ≤ length l → i < countBelow m F → getD (listed F f m l) i 0 ≡ f (oldNumber F m i)
+    pub listed-at : (m i : ℕ) → countBelow m F ≤ length l → i < countBelow m F → getD (listed F f m l) i 0 ≡ f (oldNumber F m i)
     unfolding listed countBelow sumBelow
     listed-at zero i fits b = absurd (omega arith)
     listed-at (suc m) i fits b =
-        by (λ c. getD-set-other (listed F f m l) (countBelow m F) i (f m) 0 (λ h. omega arith) ∙ listed-at m i (omega arith) c) (F m) refl
+        by (λ c. getD-set-other (listed F f m l) (countBelow m F) i (f m) 0 (λ h. omega arith) ∙ listed-at m i (omega (arith, fits, count-grows m)) c) (F m) refl
       where
         by : (i < countBelow m F → getD (listed F f (suc m) l) i 0 ≡ f (oldNumber F m i)) → (t : Bool) → F m ≡ t
             → getD (listed F f (suc m) l) i 0 ≡ f (oldNumber F (suc m) i)
@@ -116,7 +123,7 @@ module _ (F : ℕ → Bool) where
             let n = count-in m h in
             let z : i ≡ countBelow m F = omega arith in
             ap (λ (k : ℕ). getD (listed F f (suc m) l) k 0) z
-            ∙ getD-set-same (listed F f m l) (countBelow m F) (f m) 0 (omega (arith, length-listed m, count-le m F))
+            ∙ getD-set-same (listed F f m l) (countBelow m F) (f m) 0 (omega (arith, fits, n, length-listed m))
             ∙ ap f (sym (ap (oldNumber F m) z ∙ old-last m)))
             (lt-or-ge i (countBelow m F))
             ∙ ap f (sym (old-in m i h))

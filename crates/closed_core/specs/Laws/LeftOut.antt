@@ -13,6 +13,7 @@ use lib.Seq.{take-at}
 use Rattle.base_finite.specs.Below.{tabulate}
 use Rattle.base_finite.specs.Laws.Below.{lt-or-ge, length-tabulate, getD-tabulate}
 use Rattle.base_buffer.specs.Store.{remade}
+use Rattle.base_buffer.specs.Laws.Store.{length-remade}
 use Rattle.base_limits.specs.Limits.{maxEdges, maxWeight}
 use Rattle.base_limits.specs.Verdict.{_before_, Outcome, refusal, answer, outcome}
 use Rattle.base_limits.specs.declared.Verdict.{Verdict}
@@ -57,6 +58,9 @@ omitted-at m c l known long e =
         (lt-or-ge (skipping c e) m))
 
 -- What a loop leaves that copies the others.
+pub left-long : (f : ℕ → ℕ → ℕ) (i : ℕ) {left : List ℕ} → left ≡ remade f i (replicate maxEdges 0) → length left ≡ maxEdges
+left-long f i h = ap length h ∙ length-remade f i (replicate maxEdges 0) ∙ length-replicate {A = ℕ} maxEdges 0
+
 pub omitted-part : (m c : ℕ) (l : List ℕ) → m ≤ maxEdges → {left : List ℕ}
     → left ≡ remade (λ e x. getD l (skipping c e) 0) (m - 1) (replicate maxEdges 0) → take (m - 1 - 0) left ≡ omitted m c l
 unfolding omitted

@@ -1,6 +1,7 @@
 -- `kept_alone` meets its contract: dropping parts the picked tracks alone where 8 applies (`alone-parted`), and leaves the plan's cost (`alone-joined`).
 use native.Mathlib.Omega.{arith}
 use mathlib.Core.Path.{sym}
+use Rattle.base_limits.specs.Limits.{maxVertices, maxEdges}
 use Rattle.survey_core.specs.Laws.Group.{plain-bytes}
 use Rattle.closed_rule.specs.Closed.{closedOutcome}
 use Rattle.closed_core.specs.Laws.AloneSurvey.{count-few, listed-room, alone-picks, alone-parted, alone-joined}
@@ -9,13 +10,13 @@ use Rattle.closed_core.proofs.alone.kept_alone.Statement.{statement}
 use Rattle.closed_core.proofs.alone.kept_alone.Tie as tie
 
 part-part-end : tie.Need-part-part-end
-part-part-end c = let few = count-few _ (c .before .before .before .before .before .before .before .before .before .before .pre .0 .edges-few) (c .before .list-picked .ensures .0) in let long = listed-room _ _ _ (c .before .list-picked .ensures .1 .0) in search (needs, few, long)
+part-part-end c = let few = count-few _ _ _ _ (c .before .before .before .before .before .before .before .before .before .before .pre .0) (c .before .before .before .before .before .before .before .before .before .before .pre .1 .0) (c .before .list-picked .ensures .0) in let long = listed-room _ _ _ maxVertices (c .before .list-picked .ensures .1 .0) in search (needs, few, long)
 
 part-prune-picks-end : tie.Need-part-prune-picks-end
-part-prune-picks-end c = let few = count-few _ (c .before .before .before .before .before .before .before .before .before .before .before .before .pre .0 .edges-few) (c .before .before .before .list-picked .ensures .0) in let long = listed-room _ _ _ (c .before .before .before .list-picked .ensures .1 .1) in search (needs, few, long)
+part-prune-picks-end c = let few = count-few _ _ _ _ (c .before .before .before .before .before .before .before .before .before .before .before .before .pre .0) (c .before .before .before .before .before .before .before .before .before .before .before .before .pre .1 .0) (c .before .before .before .list-picked .ensures .0) in let long = listed-room _ _ _ maxVertices (c .before .before .before .list-picked .ensures .1 .1) in search (needs, few, long)
 
 slice-aggregate-prune-picks : tie.Need-slice-aggregate-prune-picks
-slice-aggregate-prune-picks c = sym (listed-room _ _ _ (c .before .before .before .before .before .list-picked .ensures .1 .3))
+slice-aggregate-prune-picks c = sym (listed-room _ _ _ maxEdges (c .before .before .before .before .before .list-picked .ensures .1 .3))
 
 prune-picks-requires : tie.Need-prune-picks-requires
 prune-picks-requires c κs = alone-picks _ _ _ _ (c .before .before .before .before .before .before .before .before .before .before .before .before .before .before .before .pre .0) (c .before .before .before .before .before .before .before .before .before .before .before .before .before .before .before .pre .1 .0) (c .before .before .before .before .before .before .list-picked .ensures .0) (c .before .before .before .before .before .before .list-picked .ensures .1 .0) (c .before .before .before .before .before .before .list-picked .ensures .1 .1) (c .before .before .before .before .before .before .list-picked .ensures .1 .2) (c .before .before .before .before .before .before .list-picked .ensures .1 .3)
@@ -26,7 +27,7 @@ unfolding closedOutcome
 returns c = alone-parted _ _ _ _ (c .before .before .before .before .before .before .before .before .before .before .before .before .before .before .before .before .before .before .before .pre .0) (c .before .before .before .before .before .before .before .before .before .before .before .before .before .before .before .before .before .before .before .pre .1 .0) (c .before .before .before .before .before .before .before .before .before .before .list-picked .ensures .0) (c .before .before .before .before .before .before .before .before .before .before .list-picked .ensures .1 .0) (c .before .before .before .before .before .before .before .before .before .before .list-picked .ensures .1 .1) (c .before .before .before .before .before .before .before .before .before .before .list-picked .ensures .1 .2) (c .before .before .before .before .before .before .before .before .before .before .list-picked .ensures .1 .3) (c .before .before .before .prune-picks .ensures .0) (c .enum-told2 .given .1)
 
 part-kept-cost-end : tie.Need-part-kept-cost-end
-part-kept-cost-end c = let few = count-few _ (c .before .before .before .before .before .before .before .before .before .before .before .before .before .before .before .before .before .before .before .before .pre .0 .edges-few) (c .before .before .before .before .before .before .before .before .before .before .before .list-picked .ensures .0) in let long = listed-room _ _ _ (c .before .before .before .before .before .before .before .before .before .before .before .list-picked .ensures .1 .2) in search (needs, few, long)
+part-kept-cost-end c = let few = count-few _ _ _ _ (c .before .before .before .before .before .before .before .before .before .before .before .before .before .before .before .before .before .before .before .before .pre .0) (c .before .before .before .before .before .before .before .before .before .before .before .before .before .before .before .before .before .before .before .before .pre .1 .0) (c .before .before .before .before .before .before .before .before .before .before .before .list-picked .ensures .0) in let long = listed-room _ _ _ maxVertices (c .before .before .before .before .before .before .before .before .before .before .before .list-picked .ensures .1 .2) in search (needs, few, long)
 
 -- cost and bound
 returns-2 : tie.Need-returns-2
