@@ -76,7 +76,8 @@ pub fn kept_alone(
     requires { ⌜ SurveySound (surveyFrom (now groups) (now firsts) (now seconds) (now weights)) ⌝ }
     requires { ⌜ now picks ≡ tabulate maxEdges
         (λ e. counted (picked (problemOf (surveyFrom (now groups) (now firsts) (now seconds) (now weights))) e) 1) ⌝ }
-    requires { ⌜ bound ≡ planOf (problemOf (surveyFrom (now groups) (now firsts) (now seconds) (now weights))) .bound ⌝ }
+    requires { ⌜ bound
+        ≡ planOf (problemOf (surveyFrom (now groups) (now firsts) (now seconds) (now weights))) .bound ⌝ }
     ensures { λ r. ⌜ closedOutcome r ≡ closedOf (figuresJoined (lentSurvey groups firsts seconds weights)) ⌝ }
 {
     let mut starts = [0u32; MAX_VERTICES];

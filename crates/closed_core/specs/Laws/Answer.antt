@@ -9,7 +9,7 @@ use Rattle.survey_core.specs.Survey.{Survey, surveyFrom, listsOf}
 use Rattle.survey_core.specs.Sound.{SurveySound}
 use Rattle.survey_lists.specs.Pouring.{pouredGroups}
 use Rattle.plan_rule.specs.Figures.{FigureCounts, figuring}
-use Rattle.plan_core.specs.Planned.{joinable, marksJoined, figuresJoined}
+use Rattle.plan_core.specs.Planned.{joinable, figuresJoined}
 use Rattle.plan_core.specs.Laws.Figures.{lists-parted, figures-finished}
 use Rattle.closed_rule.specs.Closed.{ClosedCounts}
 use Rattle.closed_core.specs.LeftOut.{closedOf}

@@ -9,7 +9,7 @@ use lib.Seq.{sets}
 use lib.Dec.{ltb}
 use borrow.Author.Tests.{lt-ltb, le-ltb}
 use Rattle.base_finite.specs.Laws.Test.{or-left, or-right}
-use Rattle.base_limits.specs.Verdict.{refuseIf, Outcome}
+use Rattle.base_limits.specs.Verdict.{refuseIf}
 use Rattle.base_limits.specs.declared.Verdict.{Verdict}
 use Rattle.base_limits.specs.declared.Verdict.the-variants.{Fine, Refused}
 use Rattle.base_limits.specs.Laws.Verdict.{passed-on, goes-on, refuse-true, refuse-false}

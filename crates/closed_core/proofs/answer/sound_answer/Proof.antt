@@ -1,6 +1,5 @@
 -- `sound_answer` meets its contract: the poured groups can be joined exactly if the lists can, and have their plan (`answer-finished`).
 use mathlib.Core.Path.{ap, sym, _∙_}
-use native.Mathlib.Omega.{arith}
 use Rattle.survey_lists.specs.Laws.Room.{part-poured}
 use Rattle.closed_rule.specs.Closed.{closedOutcome}
 use Rattle.plan_core.specs.Laws.Planned.{into-sound}
