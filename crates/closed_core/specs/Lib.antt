@@ -1,2 +1,3 @@
 pub mod LeftOut
+pub mod Alone
 pub mod Laws

@@ -7,8 +7,7 @@ ghost use Rattle.survey_core.specs.Survey.{surveyWith, lentWith};
 ghost use Rattle.survey_core.specs.Sound.{SurveySound};
 ghost use Rattle.plan_rule.specs.Figures.{figuring, marksFigured, figuredOutcome};
 ghost use Rattle.closed_rule.specs.Closed.{closedEntry, closedOutcome};
-use crate::omit::figures_without;
-use crate::row::row_of;
+use crate::omit::answer_without;
 use closed_rule::Closed;
 use plan_rule::Figured;
 
@@ -52,5 +51,5 @@ pub fn entry(
             return Closed::Finished { cost, bound };
         }
     }
-    row_of(figures_without(groups, firsts, seconds, weights, owners, others, c))
+    answer_without(groups, firsts, seconds, weights, owners, others, c)
 }

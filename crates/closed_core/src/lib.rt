@@ -16,6 +16,8 @@ use base_limits::MAX_EDGES;
 use base_limits::Verdict;
 use closed_rule::ROW_FIGURES;
 
+mod alone;
+mod answer;
 mod entry;
 mod omit;
 mod refusal;

@@ -1,4 +1,4 @@
-// A survey with one track left out, and its figures.
+// A survey with one track left out, and what is answered for it.
 ghost use Rattle.base_buffer.specs.Lent.{old, new};
 ghost use mathlib.Core.Path.{_≡_};
 ghost use Prim.Native.Nat.{_-_, _≤_, _<_};
@@ -8,10 +8,11 @@ ghost use Rattle.base_limits.specs.Limits.{maxEdges};
 ghost use Rattle.theory_steiner.specs.Closed.{skipping};
 ghost use Rattle.survey_core.specs.Survey.{surveyWith, lentWith};
 ghost use Rattle.survey_core.specs.Sound.{SurveySound};
-ghost use Rattle.plan_rule.specs.Figures.{figuring, figuredOutcome};
-ghost use Rattle.closed_core.specs.LeftOut.{leftOut};
+ghost use Rattle.plan_rule.specs.Figures.{figuring};
+ghost use Rattle.closed_rule.specs.Closed.{closedOutcome};
+ghost use Rattle.closed_core.specs.LeftOut.{leftOut, closedOf};
 use base_limits::MAX_EDGES;
-use plan_rule::Figured;
+use closed_rule::Closed;
 
 // The numbers before entry c, at their places.
 fn copy_below(list: &[u32], c: usize, left: &mut [u32; MAX_EDGES])
@@ -39,19 +40,17 @@ fn copy_above(list: &[u32], c: usize, count: usize, left: &mut [u32; MAX_EDGES])
 }
 
 // The numbers of a list without entry c.
-fn leave_out(list: &[u32], c: usize) -> [u32; MAX_EDGES]
-    requires { ⌜ (c < length (now list)) × (length (now list) ≤ maxEdges) ⌝ }
+fn leave_out(list: &[u32], c: usize, left: &mut [u32; MAX_EDGES])
+    requires { ⌜ (c < length (now list)) × (length (now list) ≤ maxEdges) × (now left ≡ replicate maxEdges 0) ⌝ }
     ensures { λ r. let count = length (old list) - 1 in
-        ⌜ r ≡ remade (λ e x. getD (old list) (skipping c e) 0) count (replicate maxEdges 0) ⌝ }
+        ⌜ new left ≡ remade (λ e x. getD (old list) (skipping c e) 0) count (replicate maxEdges 0) ⌝ }
 {
-    let mut left = [0u32; MAX_EDGES];
-    copy_below(list, c, &mut left);
-    copy_above(list, c, list.len() - 1, &mut left);
-    left
+    copy_below(list, c, left);
+    copy_above(list, c, list.len() - 1, left);
 }
 
-// Planning's figures, with track c left out.
-pub fn figures_without(
+// What is answered for a survey, with track c left out.
+pub fn answer_without(
     groups: &[u8],
     firsts: &[u32],
     seconds: &[u32],
@@ -59,25 +58,26 @@ pub fn figures_without(
     owners: &[u32],
     others: &[u8],
     c: usize,
-) -> Figured
+) -> Closed
     requires { ⌜ SurveySound
         (surveyWith (now groups) (now firsts) (now seconds) (now weights) (now owners) (now others)) ⌝ }
     requires { ⌜ c < length (now firsts) ⌝ }
     ensures { λ r. let s = lentWith groups firsts seconds weights owners others in
-        ⌜ figuredOutcome r ≡ figuring (leftOut s c) ⌝ }
+        ⌜ closedOutcome r ≡ closedOf (figuring (leftOut s c)) ⌝ }
 {
     let count = firsts.len() - 1;
-    let open_firsts = leave_out(firsts, c);
-    let open_seconds = leave_out(seconds, c);
-    let open_weights = leave_out(weights, c);
-    let mut marks = [0u8; MAX_EDGES];
-    plan_core::figures::sound_figures(
+    let mut open_firsts = [0u32; MAX_EDGES];
+    let mut open_seconds = [0u32; MAX_EDGES];
+    let mut open_weights = [0u32; MAX_EDGES];
+    leave_out(firsts, c, &mut open_firsts);
+    leave_out(seconds, c, &mut open_seconds);
+    leave_out(weights, c, &mut open_weights);
+    crate::answer::sound_answer(
         groups,
         &open_firsts[0..count],
         &open_seconds[0..count],
         &open_weights[0..count],
         owners,
         others,
-        &mut marks,
     )
 }

@@ -5,11 +5,8 @@ ghost use Prim.Native.Nat.{_<_, _^_};
 ghost use mathlib.Core.List.{[], _∷_};
 ghost use lib.Seq.{sets};
 ghost use Rattle.closed_rule.specs.Closed.{closedOutcome, rowOf};
-ghost use Rattle.plan_rule.specs.Figures.{figuredOutcome};
-ghost use Rattle.closed_core.specs.LeftOut.{closedOf};
 use base_buffer::put64;
 use closed_rule::Closed;
-use plan_rule::Figured;
 
 // Four numbers from place `at` on.
 fn store_four(result: &mut [u64], at: usize, one: u64, two: u64, three: u64, four: u64)
@@ -32,20 +29,5 @@ pub fn store_row(result: &mut [u64], at: usize, row: Closed)
         Closed::Refused { number, place } => {
             store_four(result, at, number, base_buffer::wide(place), 0, 0)
         }
-    }
-}
-
-// What is answered for a track, of the figures of its plan.
-pub fn row_of(figures: Figured) -> Closed
-    ensures { λ r. ⌜ closedOutcome r ≡ closedOf (figuredOutcome figures) ⌝ }
-{
-    match figures {
-        Figured::Finished {
-            terminals: _,
-            cost,
-            bound,
-            rounds: _,
-        } => Closed::Finished { cost, bound },
-        Figured::Refused { number, place } => Closed::Refused { number, place },
     }
 }

@@ -174,45 +174,87 @@ fn sample(options: &Options, planners: &mut [Timed]) {
     println!();
 }
 
-/// The least of R timings of a call, in nanoseconds.
+/// How long a call takes, in nanoseconds.
+#[cfg(feature = "native")]
+fn once(mut call: impl FnMut()) -> f64 {
+    let start = Instant::now();
+    call();
+    start.elapsed().as_nanos() as f64
+}
+
+/// The least of R timings of a call.
 #[cfg(feature = "native")]
 fn least(repeats: usize, mut call: impl FnMut()) -> f64 {
-    let once = |_| {
-        let start = Instant::now();
-        call();
-        start.elapsed().as_nanos() as f64
-    };
-    (0..repeats).map(once).fold(f64::INFINITY, f64::min)
+    (0..repeats).map(|_| once(&mut call)).fold(f64::INFINITY, f64::min)
+}
+
+/// The middle of R timings of each of some calls, in turn: the first of each, the second of each, and so on.
+#[cfg(feature = "native")]
+fn in_turn<const N: usize>(repeats: usize, calls: [&dyn Fn(); N]) -> [f64; N] {
+    let mut times = calls.map(|_| Vec::with_capacity(repeats));
+    for _ in 0..repeats {
+        for (times, call) in times.iter_mut().zip(calls) {
+            times.push(once(call));
+        }
+    }
+    times.map(|times| spread(times)[0])
+}
+
+/// A list in plans, by the times of a plan, of a call with nothing closed and of a call with a part of the list, for each
+/// part: the middle ones of the plan and of what a call takes besides, which is counted once.
+#[cfg(feature = "native")]
+fn in_plans(times: &[[f64; 3]]) -> f64 {
+    let [plan, besides] = [0, 1].map(|k| spread(times.iter().map(|time| time[k]).collect())[0]);
+    (besides + times.iter().map(|time| time[2] - besides).sum::<f64>()) / plan
 }
 
 /// Lists of 256 closed tracks (No. 12), those that a plan does not pick and those that it picks, in plans of the same
 /// survey: the outside library alone. Picked ones are timed four at a time, so that a busy machine shows less, and what a
-/// call takes besides, which is one plan, is counted once.
+/// call takes besides, which is one plan, is counted once. Two figures of each. First by the least times of calls that
+/// are timed over and over, each by itself: the processor then foretells the one plan better than the lists. Then by the
+/// middle times of calls in turn (one plan, one call with nothing closed, one list, one plan and so on), where what came
+/// before a call was another one.
 #[cfg(feature = "native")]
 fn closings(options: &Options, (n, m): (usize, usize)) {
-    let (mut unpicked, mut picked) = (Vec::new(), Vec::new());
+    let repeats = options.repeats;
+    let mut figures: [Vec<f64>; 4] = Default::default();
     for i in 0..options.surveys {
         let survey = survey_of(options, (n, m), i);
-        let (mut marks, mut records) = buffers(&survey);
-        let plan = least(options.repeats, || {
-            assert!(evidence::native::plan(survey.view(), &mut marks, &mut records).is_ok());
-        });
-        let closed = |tracks: &[u32]| {
-            let mut result = vec![0; ROW * tracks.len()];
-            least(options.repeats, || assert_eq!((LIBRARY.closed)(survey.view(), tracks, &mut result), 0))
+        let buffers = std::cell::RefCell::new(buffers(&survey));
+        let plan = || {
+            let (marks, records) = &mut *buffers.borrow_mut();
+            assert!(evidence::native::plan(survey.view(), marks, records).is_ok());
         };
+        let closed = |tracks: &[u32]| {
+            let mut result = [0; ROW * MAX_CLOSED];
+            assert_eq!((LIBRARY.closed)(survey.view(), tracks, &mut result[..ROW * tracks.len()]), 0);
+        };
+        plan();
         let list = |is_picked: bool| -> Vec<u32> {
+            let marks = &buffers.borrow().0;
             let of_kind = (0..m as u32).filter(|&t| (marks[t as usize] != 0) == is_picked).collect::<Vec<u32>>();
             of_kind.into_iter().cycle().take(MAX_CLOSED).collect()
         };
-        unpicked.push(closed(&list(false)) / plan);
-        let besides = closed(&[]);
-        let parts: f64 = list(true).chunks(4).map(|part| closed(part) - besides).sum();
-        picked.push((besides + parts) / plan);
+        let (others, picked) = (list(false), list(true));
+        figures[0].push(least(repeats, || closed(&others)) / least(repeats, plan));
+        let over =
+            |part: &[u32]| [least(repeats, plan), least(repeats, || closed(&[])), least(repeats, || closed(part))];
+        let times: Vec<[f64; 3]> = picked.chunks(4).map(over).collect();
+        figures[1].push(in_plans(&times));
+        let [one, all] = in_turn(repeats, [&plan, &|| closed(&others)]);
+        figures[2].push(all / one);
+        let turn = |part: &[u32]| in_turn(repeats, [&plan, &|| closed(&[]), &|| closed(part)]);
+        let times: Vec<[f64; 3]> = picked.chunks(4).map(turn).collect();
+        figures[3].push(in_plans(&times));
     }
-    let ([middle, _, most], [picked_middle, _, picked_most]) = (spread(unpicked), spread(picked));
+    let [unpicked, picked, unpicked_turn, picked_turn] = figures.map(spread);
+    let line = |[a, _, b]: [f64; 3], [c, _, d]: [f64; 3]| {
+        format!("unpicked {a:.2} (99 % {b:.2}), picked {c:.1} (99 % {d:.1})")
+    };
     println!(
-        "{n} junctions, {m} tracks, {MAX_CLOSED} closed tracks, in plans: unpicked {middle:.2} (99 % {most:.2}), picked {picked_middle:.1} (99 % {picked_most:.1})"
+        "{n} junctions, {m} tracks, {MAX_CLOSED} closed tracks, in plans: {}; in turn with plans: {}",
+        line(unpicked, picked),
+        line(unpicked_turn, picked_turn)
     );
 }
 

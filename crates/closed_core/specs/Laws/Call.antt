@@ -9,22 +9,18 @@ use lib.Seq.{sets}
 use lib.Dec.{ltb}
 use borrow.Author.Tests.{lt-ltb, le-ltb}
 use Rattle.base_finite.specs.Laws.Test.{or-left, or-right}
-use Rattle.base_limits.specs.Verdict.{refuseIf, Outcome, answer}
+use Rattle.base_limits.specs.Verdict.{refuseIf}
 use Rattle.base_limits.specs.declared.Verdict.{Verdict}
 use Rattle.base_limits.specs.declared.Verdict.the-variants.{Fine, Refused}
 use Rattle.base_limits.specs.Laws.Verdict.{passed-on, goes-on, refuse-true, refuse-false}
 use Rattle.survey_core.specs.Survey.{Survey}
 use Rattle.survey_core.specs.Sound.{ByteGroups}
 use Rattle.survey_core.specs.Refusal.{surveyRefusal}
-use Rattle.plan_rule.specs.declared.Figured.{Figured}
-use Rattle.plan_rule.specs.declared.Figured.the-variants.{Finished as FiguresFinished, Refused as FiguresRefused}
-use Rattle.plan_rule.specs.Figures.{figuredOutcome}
 use Rattle.closed_rule.specs.declared.Closed.{Closed}
 use Rattle.closed_rule.specs.declared.Closed.the-variants.{Finished as RowFinished, Refused as RowRefused}
 use Rattle.closed_rule.specs.Closed.{maxClosed, rowFigures, closedOutcome, rowOf, rowsOf, closedRefusal, resultAfter}
 use Rattle.closed_rule.specs.Promise.{ClosedPromises}
 use Rattle.closed_rule.specs.Laws.Promise.{result-fine, result-refused, closed-promises}
-use Rattle.closed_core.specs.LeftOut.{closedOf}
 
 -- ---- what ends the call
 
@@ -72,14 +68,6 @@ pub row-refused : (l : List ℕ) (at : ℕ) {row : Closed} {number place wide : 
 unfolding rowOf closedOutcome
 row-refused l at {row} {number} h w k =
     k ∙ ap (λ (x : ℕ). sets l at (number ∷ x ∷ 0 ∷ 0 ∷ [])) w ∙ sym (ap (λ (x : Closed). sets l at (rowOf (closedOutcome x))) h)
-
-pub figures-row : {f : Figured} {t x b r : ℕ} → f ≡ FiguresFinished t x b r → answer (record { cost = x; bound = b }) ≡ closedOf (figuredOutcome f)
-unfolding closedOf figuredOutcome
-figures-row h = sym (ap (λ (f : Figured). closedOf (figuredOutcome f)) h)
-
-pub refused-row : {f : Figured} {number place : ℕ} → f ≡ FiguresRefused number place → closedOutcome (RowRefused number place) ≡ closedOf (figuredOutcome f)
-unfolding closedOf figuredOutcome closedOutcome
-refused-row h = sym (ap (λ (f : Figured). closedOf (figuredOutcome f)) h)
 
 -- ---- the whole call
 

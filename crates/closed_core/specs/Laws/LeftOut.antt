@@ -13,6 +13,7 @@ use lib.Seq.{take-at}
 use Rattle.base_finite.specs.Below.{tabulate}
 use Rattle.base_finite.specs.Laws.Below.{lt-or-ge, length-tabulate, getD-tabulate}
 use Rattle.base_buffer.specs.Store.{remade}
+use Rattle.base_buffer.specs.Laws.Store.{length-remade}
 use Rattle.base_limits.specs.Limits.{maxEdges, maxWeight}
 use Rattle.base_limits.specs.Verdict.{_before_, Outcome, refusal, answer, outcome}
 use Rattle.base_limits.specs.declared.Verdict.{Verdict}
@@ -57,6 +58,9 @@ omitted-at m c l known long e =
         (lt-or-ge (skipping c e) m))
 
 -- What a loop leaves that copies the others.
+pub left-long : (f : ℕ → ℕ → ℕ) (i : ℕ) {left : List ℕ} → left ≡ remade f i (replicate maxEdges 0) → length left ≡ maxEdges
+left-long f i h = ap length h ∙ length-remade f i (replicate maxEdges 0) ∙ length-replicate {A = ℕ} maxEdges 0
+
 pub omitted-part : (m c : ℕ) (l : List ℕ) → m ≤ maxEdges → {left : List ℕ}
     → left ≡ remade (λ e x. getD l (skipping c e) 0) (m - 1) (replicate maxEdges 0) → take (m - 1 - 0) left ≡ omitted m c l
 unfolding omitted
@@ -192,7 +196,6 @@ left-out-lent s c sound {firsts} {seconds} {weights} a b d =
     ∙ ap (λ (l : List ℕ). surveyWith (s .groups) (omitted m c (s .firsts)) (omitted m c (s .seconds)) l (s .owners) (s .others)) (omitted-part m c (s .weights) few weight)
 
 -- The same for the number that was asked for.
-pub left-out-asked : (s : Survey) → SurveySound s → {c track : ℕ} → c ≡ track → c < length (s .firsts) → {f : Outcome FigureCounts} {o : Outcome ClosedCounts}
-    → f ≡ figuring (leftOut s c) → o ≡ closedOf f → o ≡ closedEntry s track
-left-out-asked s sound {c} same known f-is o-is =
-    o-is ∙ ap closedOf f-is ∙ left-out-entry s sound c known ∙ ap (closedEntry s) same
+pub left-out-asked : (s : Survey) → SurveySound s → {c track : ℕ} → c ≡ track → c < length (s .firsts) → {o : Outcome ClosedCounts}
+    → o ≡ closedOf (figuring (leftOut s c)) → o ≡ closedEntry s track
+left-out-asked s sound {c} same known o-is = o-is ∙ left-out-entry s sound c known ∙ ap (closedEntry s) same

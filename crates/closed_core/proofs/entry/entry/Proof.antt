@@ -25,14 +25,14 @@ returns-2 c =
     entry-unpicked _ _ (c .before .before .before .before .before .if1 .left) (record { own-byte = λ v. omega (arith, c .before .before .before .before .before .before .before .before .before .before .before .before .before .shared-slice-known .given v); other-byte = λ i. omega (arith, c .before .before .before .before .before .before .before .before .shared-slice-known6 .given i) }) (start .pre .0) (c .before .before .before .before .before .before .index32 .ensures) (replicate maxEdges 0) (start .pre .1 .0)
     (ap figuredOutcome (c .before .whole .given .1)) (start .pre .1 .1) (sym (c .before .before .before .before .is-picked .ensures) ∙ not-true _ (c .before .before .before .if2 .taken))
 
-figures-without-requires : tie.Need-figures-without-requires
-figures-without-requires c κs = (c .before .before .before .before .before .before .before .before .before .before .before .pre .0, c .before .before .if1 .left)
+answer-without-requires : tie.Need-answer-without-requires
+answer-without-requires c κs = (c .before .before .before .before .before .before .before .before .before .before .before .pre .0, c .before .before .if1 .left)
 
 -- planned anew
 returns-3 : tie.Need-returns-3
-returns-3 c = left-out-asked _ (c .before .before .before .before .before .before .before .before .before .before .before .before .before .pre .0) (c .before .before .before .before .before .index32 .ensures) (c .before .before .before .before .if1 .left) (c .before .figures-without .ensures) (c .row-of .ensures)
+returns-3 c = left-out-asked _ (c .before .before .before .before .before .before .before .before .before .before .before .before .pre .0) (c .before .before .before .before .index32 .ensures) (c .before .before .before .if1 .left) (c .answer-without .ensures)
 
 pub entry-spec : {M : Type 1} → statement M
 entry-spec =
     tie.close
-    (tie.spec (λ c κs. search needs) returns (λ c κs. search needs) (λ c. search needs) returns-2 (λ c. search needs) figures-without-requires (λ c κs. search needs) returns-3)
+    (tie.spec (λ c κs. search needs) returns (λ c κs. search needs) (λ c. search needs) returns-2 (λ c. search needs) answer-without-requires returns-3)
