@@ -1,4 +1,5 @@
 pub mod Chain
 pub mod Walk
 pub mod Done
+pub mod Tables
 pub mod Laws

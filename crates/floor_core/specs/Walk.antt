@@ -1,5 +1,5 @@
 -- What holds while the cut round a vertex is looked for, and of the cut that was found. A vertex has flag 1 when it is found and 2 when the arcs that lead to it are looked at.
-use Prim.Native.Nat.{ℕ, suc, _+_, _≤_, _<_}
+use Prim.Native.Nat.{ℕ, suc, _≤_, _<_}
 use mathlib.Core.Path.{_≡_}
 use mathlib.Core.Logic.{_⊎_, _↔_}
 use mathlib.Core.Bool.{Bool, true, false}
@@ -8,7 +8,7 @@ use lib.ListN.{length, getD}
 use lib.Dec.{eqb}
 use Rattle.base_finite.specs.Below.{countBelow}
 use Rattle.base_limits.specs.Limits.{maxVertices}
-use Rattle.floor_rule.specs.Ascent.{maxArcs, arcCount, tailOf, headOf, flagged}
+use Rattle.floor_rule.specs.Ascent.{arcCount, tailOf, headOf, flagged}
 use Rattle.floor_core.specs.Chain.{Ends, Chained, linkOf}
 use Rattle.floor_core.specs.Laws.Reach.{Leads}
 

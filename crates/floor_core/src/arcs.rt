@@ -2,9 +2,7 @@
 // second to its first.
 ghost use Rattle.base_buffer.specs.Lent.{old};
 ghost use mathlib.Core.Path.{_≡_};
-ghost use lib.ListN.{length};
-ghost use Rattle.floor_rule.specs.Ascent.{arcCount, edgeOf, tailOf, headOf, entersAt, prices};
-use base_buffer::at8;
+ghost use Rattle.floor_rule.specs.Ascent.{arcCount, edgeOf, tailOf, headOf, prices};
 use base_buffer::at32;
 use base_buffer::index32;
 use base_buffer::put32;
@@ -36,19 +34,6 @@ pub fn head_of(firsts: &[u32], seconds: &[u32], a: usize) -> usize
         return index32(at32(seconds, a));
     }
     index32(at32(firsts, a - firsts.len()))
-}
-
-// Arc a leads from a vertex without a flag to one with a flag.
-pub fn enters(firsts: &[u32], seconds: &[u32], flags: &[u8], a: usize) -> bool
-    ensures { λ r. ⌜ r ≡ entersAt (old firsts) (old seconds) (old flags) a ⌝ }
-{
-    if at8(flags, tail_of(firsts, seconds, a)) != 0 {
-        return false;
-    }
-    if at8(flags, head_of(firsts, seconds, a)) != 0 {
-        return true;
-    }
-    false
 }
 
 // What each arc can bear at first.

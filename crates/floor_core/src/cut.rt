@@ -72,7 +72,13 @@ fn less(rest: u32, d: u64) -> u32
 }
 
 // What arc a can bear is less by d, if it comes from outside.
-fn load_arc(links: &[u32; MAX_ARCS], flags: &[u8; MAX_VERTICES], rests: &mut [u32], d: u64, a: usize)
+fn load_arc(
+    links: &[u32; MAX_ARCS],
+    flags: &[u8; MAX_VERTICES],
+    rests: &mut [u32],
+    d: u64,
+    a: usize,
+)
     ensures { λ _. let inside = flagged (old flags) (getD (old links) a 0 % 512) in
         ⌜ new rests ≡ cond inside (old rests) (set (old rests) a (getD (old rests) a 0 - d)) ⌝ }
 {

@@ -1,6 +1,5 @@
 // A floor under every set of tracks that joins every group, by dual ascent over directed cuts, with the plan's figures.
 // Definitions and promises in floor_rule.
-ghost use Rattle.base_buffer.specs.Lent.{old};
 ghost use mathlib.Core.Path.{_≡_};
 ghost use Rattle.survey_core.specs.Survey.{surveyWith, lentWith};
 ghost use Rattle.survey_core.specs.Sound.{SurveySound};

@@ -7,7 +7,7 @@ ghost use lib.Dec.{eqb};
 ghost use Rattle.base_buffer.specs.Store.{remade};
 ghost use Rattle.base_limits.specs.Limits.{maxVertices, groupNumbers};
 ghost use Rattle.floor_rule.specs.Number.{lowerNumber, numberOf};
-ghost use Rattle.floor_core.specs.Laws.Number.{OwnLows, PairedLows};
+ghost use Rattle.floor_core.specs.Tables.{OwnLows, PairedLows};
 use base_buffer::at8;
 use base_buffer::at32;
 use base_buffer::index8;

@@ -10,7 +10,7 @@ ghost use Rattle.base_finite.specs.Below.{counted, sumBelow};
 ghost use Rattle.base_limits.specs.Limits.{groupNumbers};
 ghost use Rattle.floor_rule.specs.Ascent.{maxCost, arcCount, lesser, lowestIn, rootOf, inCompany, firstShares, lowered, afterList, sharesAfter, ascentFloor};
 ghost use Rattle.floor_core.specs.Chain.{Ends, Chained};
-ghost use Rattle.floor_core.specs.Laws.Shares.{Counts};
+ghost use Rattle.floor_core.specs.Tables.{Counts};
 use crate::ascent::ascend;
 use crate::chain::chain;
 use base_buffer::at8;

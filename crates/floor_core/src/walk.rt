@@ -38,7 +38,7 @@ fn look_arc(
     vertices: usize,
     arcs: usize,
 ) -> Seen
-    requires { ⌜ (vertices < 8192) × (arcs < 8192) ⌝ }
+    requires { ⌜ (vertices < maxVertices + maxArcs) × (arcs < maxArcs + maxArcs) ⌝ }
     ensures { λ r. ⌜ (r .vertices ≤ vertices + 1) × (r .arcs ≤ arcs + 1) ⌝ }
     ensures { λ r. ⌜ ((g : Ground) (i v : ℕ) → a < arcsIn g → headIn g a ≡ v → tail ≡ tailIn g a
         → Turn g (old rests) i v (suc a) (old flags) (old found) (old rim) vertices arcs

@@ -58,7 +58,7 @@ module _ (firsts seconds : List ℕ) where
         heads-below = λ a b. omega (arith, few, ends .heads-below a b);
       }
 
-  last-le : (v n : ℕ) → lastInto firsts seconds v n ≤ n
+  pub last-le : (v n : ℕ) → lastInto firsts seconds v n ≤ n
   unfolding lastInto
   last-le v zero = omega arith
   last-le v (suc a) = by (eqb (headOf firsts seconds a) v) (last-le v a)

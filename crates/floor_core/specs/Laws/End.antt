@@ -1,6 +1,6 @@
 -- The ascent's end is reached: one pass more changes nothing. A raise by 0 changes nothing; any other leaves an arc more without rest or a group more with its
 -- share, and none of them is ever lost. So a pass that changes something makes progress, and there is progress for at most as many passes as are made.
-use Prim.Native.Nat.{ℕ, zero, suc, _+_, _*_, _-_, _≤_, _<_}
+use Prim.Native.Nat.{ℕ, zero, suc, _+_, _-_, _≤_, _<_}
 use native.Mathlib.Omega.{arith}
 use native.Mathlib.Decide.{ℕ-discrete}
 use mathlib.Core.Path.{_≡_, refl, ap, sym, _∙_, subst}
@@ -14,15 +14,14 @@ use borrow.Author.Tests.{eqb-true, eqb-false, eq-eqb, ne-eqb, not-true}
 use Rattle.base_finite.specs.Below.{counted, sumBelow, countBelow, anyBelow}
 use Rattle.base_finite.specs.Laws.Test.{either, and-left, and-right, and-both, not-of-false}
 use Rattle.base_finite.specs.Laws.Below.{below-suc, sum-le, counted-true, counted-false, counted-zero, counted-mono, count-le, count-labels, any-intro, Found}
-use Rattle.base_buffer.specs.Store.{remade}
 use Rattle.base_buffer.specs.Laws.Store.{length-remade, remade-still}
 use Rattle.base_limits.specs.Limits.{maxVertices, maxEdges, groupNumbers}
 use Rattle.survey_core.specs.Survey.{surveyFrom, vertexCount}
-use Rattle.floor_rule.specs.Ascent.{maxArcs, maxCost, lesser, arcCount, flagged, entersAt, reaching, leastRest, loaded, State, stateWith, missing, raised, raisedBy, visit, visitMember, visitMembers, visitGroup, visitGroups, passes, passCount, prices, atFirst, rootOf, ascended, inCompany, sharesAfter}
+use Rattle.floor_rule.specs.Ascent.{maxArcs, maxCost, lesser, arcCount, flagged, entersAt, reaching, leastRest, loaded, State, missing, raised, raisedBy, visit, visitMember, visitMembers, visitGroup, visitGroups, passes, passCount, prices, atFirst, rootOf, ascended, inCompany, sharesAfter}
 use Rattle.floor_rule.specs.Laws.Root.{company-member}
 use Rattle.floor_rule.specs.Laws.Cut.{loaded-at}
 use Rattle.floor_rule.specs.Laws.Ascent.{share-limit}
-use Rattle.floor_core.specs.Laws.State.{AsLong, visit-long, member-long, members-long, group-long, groups-long, passes-long}
+use Rattle.floor_core.specs.Laws.State.{AsLong, members-long, groups-long, passes-long}
 
 -- ---- counts
 

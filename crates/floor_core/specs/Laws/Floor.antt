@@ -1,9 +1,7 @@
 -- The floor that the call answers, of the plan's figures and the ascent.
 use Prim.Native.Nat.{ℕ, _+_, _/_, _%_, _≤_, _<_}
 use native.Mathlib.Omega.{arith}
-use mathlib.Core.Path.{_≡_, refl, ap, sym, _∙_, subst}
-use mathlib.Core.Bool.{cond}
-use lib.Dec.{ltb}
+use mathlib.Core.Path.{_≡_, ap, sym, _∙_, subst}
 use borrow.Author.Tests.{lt-ltb, le-ltb}
 use Rattle.base_limits.specs.Verdict.{Outcome, refusal, answer, outcome}
 use Rattle.base_limits.specs.declared.Verdict.the-variants.{Fine}

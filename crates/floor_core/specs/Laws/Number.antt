@@ -1,31 +1,31 @@
 -- The numbers of the ascent's groups, read one after the other, and the groups over the poured lists.
-use Prim.Native.Nat.{ℕ, zero, suc, _+_, _-_, _≤_, _<_}
+use Prim.Native.Nat.{ℕ, _+_, _-_, _≤_, _<_}
 use native.Mathlib.Omega.{arith}
 use native.Mathlib.Decide.{ℕ-discrete}
 use native.Mathlib.Numerals.{add-one}
 use native.Mathlib.Nat.{sub-zero}
 use mathlib.Core.Path.{_≡_, refl, ap, sym, _∙_, subst}
-use mathlib.Core.Bool.{Bool, true, false, _||_, cond}
+use mathlib.Core.Bool.{cond}
 use mathlib.Core.List.{List}
 use lib.ListN.{length, getD, take, set, replicate, length-set, length-replicate, getD-replicate}
 use lib.Seq.{ext-getD, getD-take, length-take-le, getD-set-same, getD-set-other}
-use lib.Dec.{eqb, ltb}
+use lib.Dec.{eqb}
 use borrow.Author.Tests.{eq-eqb, ne-eqb, lt-ltb, le-ltb}
 use Rattle.base_finite.specs.Below.{counted, tabulate}
 use Rattle.base_finite.specs.Laws.Below.{counted-true, counted-false, length-tabulate, getD-tabulate}
 use Rattle.base_buffer.specs.Store.{remade}
 use Rattle.base_buffer.specs.Laws.Store.{length-remade, remade-passed}
 use Rattle.base_limits.specs.Limits.{maxVertices, groupNumbers}
-use Rattle.survey_core.specs.Lists.{Lists}
 use Rattle.survey_core.specs.Survey.{Survey, listsOf}
 use Rattle.survey_core.specs.Sound.{SurveySound}
-use Rattle.survey_lists.specs.Pouring.{poured, pouredGroups, roomOf}
+use Rattle.survey_lists.specs.Pouring.{poured, roomOf}
 use Rattle.survey_lists.specs.Laws.Room.{part-poured}
 use Rattle.floor_rule.specs.Ascent.{ascentFloor}
 use Rattle.floor_rule.specs.Number.{lowerNumber, lowestOwn, lowestPaired, numberOf, numberedGroups}
 use Rattle.floor_rule.specs.Floor.{ascentOf}
 use Rattle.floor_rule.specs.Laws.Number.{length-numbered}
 use Rattle.floor_core.specs.Chain.{Ends}
+use Rattle.floor_core.specs.Tables.{OwnLows, PairedLows}
 use Rattle.floor_core.specs.Laws.Chain.{survey-ends}
 
 module _ (x y : ℕ) where
@@ -46,14 +46,6 @@ module _ (x y : ℕ) where
   lower-more some also h = rw (ne-eqb y 0 some, ne-eqb x 0 also, le-ltb y x h)
 
 -- ---- the lowest numbers of all poured groups at once
-
-pub record OwnLows (pours groups : List ℕ) (v : ℕ) (lows : List ℕ) : Type 0 where
-  pub long : length lows ≡ groupNumbers
-  pub lowest : (c : ℕ) → c < groupNumbers → getD lows c 0 ≡ lowestOwn pours groups c v
-
-pub record PairedLows (pours groups owners others : List ℕ) (i : ℕ) (lows : List ℕ) : Type 0 where
-  pub long : length lows ≡ groupNumbers
-  pub lowest : (c : ℕ) → c < groupNumbers → getD lows c 0 ≡ lowestPaired pours groups owners others c i
 
 -- One list more is noted at its poured group, and at no other.
 noted : (lows : List ℕ) (c d number : ℕ) → c < length lows → getD (set lows d (lowerNumber (getD lows d 0) number)) c 0 ≡ lowerNumber (getD lows c 0) (counted (eqb d c) number)
@@ -92,12 +84,12 @@ module _ (pours groups : List ℕ) where
   own-more v {lows} {next} {d} {number} h d-is number-is next-is = record {
     long = ap length next-is ∙ length-set lows d (lowerNumber (getD lows d 0) number) ∙ h .long;
     lowest = λ c b.
-      ap (λ (l : List ℕ). getD l c 0) next-is
-      ∙ noted lows c d number (subst (λ n. c < n) (sym (h .long)) b)
-      ∙ ap (λ x. lowerNumber x (counted (eqb d c) number)) (h .lowest c b)
-      ∙ ap (λ x. lowerNumber (lowestOwn pours groups c v) (counted (eqb x c) number)) d-is
-      ∙ ap (λ x. lowerNumber (lowestOwn pours groups c v) (counted (eqb (getD pours v 0) c) x)) number-is
-      ∙ ap (lowestOwn pours groups c) (sym (add-one v));
+        ap (λ (l : List ℕ). getD l c 0) next-is
+        ∙ noted lows c d number (subst (λ n. c < n) (sym (h .long)) b)
+        ∙ ap (λ x. lowerNumber x (counted (eqb d c) number)) (h .lowest c b)
+        ∙ ap (λ x. lowerNumber (lowestOwn pours groups c v) (counted (eqb x c) number)) d-is
+        ∙ ap (λ x. lowerNumber (lowestOwn pours groups c v) (counted (eqb (getD pours v 0) c) x)) number-is
+        ∙ ap (lowestOwn pours groups c) (sym (add-one v));
   }
 
   pub own-end : (n v : ℕ) {lows : List ℕ} → v ≤ n → n ≤ v → OwnLows pours groups v lows → OwnLows pours groups n lows
@@ -114,12 +106,12 @@ module _ (pours groups : List ℕ) where
     paired-more i {lows} {next} {v} {d} {number} h v-is d-is number-is next-is = record {
       long = ap length next-is ∙ length-set lows d (lowerNumber (getD lows d 0) number) ∙ h .long;
       lowest = λ c b.
-        ap (λ (l : List ℕ). getD l c 0) next-is
-        ∙ noted lows c d number (subst (λ n. c < n) (sym (h .long)) b)
-        ∙ ap (λ x. lowerNumber x (counted (eqb d c) number)) (h .lowest c b)
-        ∙ ap (λ x. lowerNumber (lowestPaired pours groups owners others c i) (counted (eqb x c) number)) (d-is ∙ ap (λ u. getD pours u 0) v-is)
-        ∙ ap (λ x. lowerNumber (lowestPaired pours groups owners others c i) (counted (eqb (getD pours (getD owners i 0) 0) c) x)) number-is
-        ∙ ap (lowestPaired pours groups owners others c) (sym (add-one i));
+          ap (λ (l : List ℕ). getD l c 0) next-is
+          ∙ noted lows c d number (subst (λ n. c < n) (sym (h .long)) b)
+          ∙ ap (λ x. lowerNumber x (counted (eqb d c) number)) (h .lowest c b)
+          ∙ ap (λ x. lowerNumber (lowestPaired pours groups owners others c i) (counted (eqb x c) number)) (d-is ∙ ap (λ u. getD pours u 0) v-is)
+          ∙ ap (λ x. lowerNumber (lowestPaired pours groups owners others c i) (counted (eqb (getD pours (getD owners i 0) 0) c) x)) number-is
+          ∙ ap (lowestPaired pours groups owners others c) (sym (add-one i));
     }
 
     pub paired-end : (n i : ℕ) {lows : List ℕ} → i ≤ n → n ≤ i → PairedLows pours groups owners others i lows → PairedLows pours groups owners others n lows

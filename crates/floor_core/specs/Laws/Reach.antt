@@ -1,6 +1,6 @@
 -- The cut round a vertex is what it is meant to be: flagged are exactly the vertices from which arcs without rest lead to it. So many sweeps as there are vertices
 -- suffice, since a sweep that changes something leaves a flag more.
-use Prim.Native.Nat.{ℕ, zero, suc, _+_, _≤_, _<_}
+use Prim.Native.Nat.{ℕ, zero, suc, _≤_, _<_}
 use native.Mathlib.Omega.{arith}
 use native.Mathlib.Decide.{ℕ-discrete}
 use mathlib.Core.Path.{_≡_, refl, ap, sym, _∙_, subst}
@@ -18,8 +18,8 @@ use Rattle.base_limits.specs.Limits.{maxVertices}
 use Rattle.theory_directed.specs.Directed.{enters}
 use Rattle.floor_rule.specs.Ascent.{arcCount, tailOf, headOf, flagged, entersAt, flagAt, sweep, sweeps, reaching}
 use Rattle.floor_rule.specs.Laws.Cut.{reaching-self}
-use Rattle.floor_core.specs.Laws.Arcs.{length-flag, length-sweep, length-sweeps}
-use Rattle.floor_core.specs.Laws.End.{count-grows, count-more-than}
+use Rattle.floor_core.specs.Laws.Arcs.{length-sweep, length-sweeps}
+use Rattle.floor_core.specs.Laws.End.{count-more-than}
 
 module _ (firsts seconds rests : List ℕ) where
   -- Arcs without rest lead from v to t.

@@ -3,12 +3,11 @@ use Prim.Native.Nat.{ℕ, zero, suc, _+_, _-_, _%_, _≤_, _<_}
 use native.Mathlib.Omega.{arith}
 use native.Mathlib.Decide.{ℕ-discrete}
 use mathlib.Core.Path.{_≡_, refl, ap, sym, _∙_, subst}
-use mathlib.Core.Logic.{_⊎_, inl, inr, ⊎-elim, _↔_}
-use mathlib.Core.Bool.{Bool, true, false, not, cond, _&&_, true≢false, false≢true}
+use mathlib.Core.Logic.{_⊎_, inl, inr, ⊎-elim}
+use mathlib.Core.Bool.{Bool, true, false, not, cond, true≢false, false≢true}
 use mathlib.Core.List.{List}
 use lib.ListN.{length, getD, set, replicate, length-set}
 use lib.Seq.{ext-getD, getD-set-same, getD-set-other}
-use lib.Dec.{eqb}
 use borrow.Author.Tests.{not-true, lt-ltb, le-ltb, eq-eqb, ne-eqb}
 use Rattle.base_finite.specs.Below.{counted}
 use Rattle.base_finite.specs.Laws.Test.{either, and-left, and-right, and-both, same-test, not-of-false, true-not-false}
@@ -17,7 +16,7 @@ use Rattle.base_buffer.specs.Store.{remade}
 use Rattle.base_buffer.specs.Laws.Store.{remade-ahead}
 use Rattle.base_limits.specs.Limits.{maxVertices}
 use Rattle.theory_directed.specs.Directed.{enters}
-use Rattle.floor_rule.specs.Ascent.{lesser, arcCount, tailOf, headOf, flagged, entersAt, reaching, leastRest, loaded}
+use Rattle.floor_rule.specs.Ascent.{lesser, arcCount, flagged, entersAt, reaching, leastRest, loaded}
 use Rattle.floor_rule.specs.Laws.Cut.{lesser-left, lesser-right, least-le, least-cap, loaded-at, length-loaded}
 use Rattle.floor_rule.specs.Ascent.{maxArcs}
 use Rattle.floor_core.specs.Chain.{Ends, Chained, CutRaised}
@@ -90,7 +89,9 @@ module _ (g : Ground) (rests flags rim : List ℕ) (arcs : ℕ) (k : Cut g rests
             → (lesser least (getD rests a 0) ≡ cap) ⊎ Least (g .firsts) (g .seconds) rests flags (lesser least (getD rests a 0)) (arcsIn g)
         taken x (inl c) =
             inr (record {
-              arc = getD rim j 0; below = k .rim-below j more; entered = rim-enters j more outside;
+              arc = getD rim j 0;
+              below = k .rim-below j more;
+              entered = rim-enters j more outside;
               is = ap (λ y. getD rests y 0) (sym a-is) ∙ sym (lesser-is-right least (getD rests a 0) c);
             })
         taken (inl x) (inr c) = inl (lesser-is-left least (getD rests a 0) c ∙ x)

@@ -1,10 +1,10 @@
 -- The root, the members and the share of a group, and the shares after one list more.
-use Prim.Native.Nat.{ℕ, zero, suc, _+_, _*_, _-_, _^_, _≤_, _<_}
+use Prim.Native.Nat.{ℕ, zero, suc, _+_, _-_, _^_, _≤_, _<_}
 use native.Mathlib.Omega.{arith}
 use native.Mathlib.Decide.{ℕ-discrete}
 use native.Mathlib.Numerals.{add-one}
 use mathlib.Core.Path.{_≡_, refl, ap, sym, _∙_, subst}
-use mathlib.Core.Bool.{Bool, true, false, _&&_, not, cond}
+use mathlib.Core.Bool.{Bool, true, false, cond}
 use mathlib.Core.List.{List}
 use lib.ListN.{length, getD, set, replicate, length-set, length-replicate, getD-replicate}
 use lib.Seq.{getD-set-same, getD-set-other}
@@ -16,8 +16,9 @@ use Rattle.base_buffer.specs.Store.{remade}
 use Rattle.base_buffer.specs.Laws.Store.{length-remade, remade-end}
 use Rattle.base_limits.specs.Limits.{maxVertices, maxEdges, groupNumbers}
 use Rattle.survey_core.specs.Survey.{surveyFrom, vertexCount}
-use Rattle.floor_rule.specs.Ascent.{maxCost, lesser, lowestIn, rootOf, ascended, lowered, afterList, inCompany, firstShares, sharesAfter, ascentFloor}
+use Rattle.floor_rule.specs.Ascent.{maxCost, lesser, lowestIn, ascended, lowered, afterList, inCompany, firstShares, sharesAfter, ascentFloor}
 use Rattle.floor_rule.specs.Laws.Ascent.{share-limit}
+use Rattle.floor_core.specs.Tables.{Counts}
 
 module _ (groups : List ℕ) (l v : ℕ) {low : ℕ} (low-is : low ≡ lowestIn groups l v) where
   pub lowest-stays : (low ≡ v → ⊥) → low ≡ lowestIn groups l (suc v)
@@ -37,11 +38,6 @@ lowest-more groups l v h = h ∙ ap (lowestIn groups l) (sym (add-one v))
 
 pub lowest-end : (groups : List ℕ) (l n v : ℕ) {low : ℕ} → v ≤ n → n ≤ v → low ≡ lowestIn groups l v → low ≡ lowestIn groups l n
 lowest-end groups l n v b c h = let e : v ≡ n = omega arith in h ∙ ap (lowestIn groups l) e
-
--- How many of the vertices below v each group has.
-pub record Counts (groups : List ℕ) (v : ℕ) (counts : List ℕ) : Type 0 where
-  pub long : length counts ≡ groupNumbers
-  pub members : (l : ℕ) → l < groupNumbers → getD counts l 0 ≡ countBelow v (λ u. eqb (getD groups u 0) l)
 
 module _ (groups : List ℕ) where
   pub counts-start : {counts : List ℕ} → counts ≡ replicate groupNumbers 0 → Counts groups 0 counts

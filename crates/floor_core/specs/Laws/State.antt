@@ -8,7 +8,6 @@ use mathlib.Core.List.{List}
 use lib.ListN.{length, getD, set, replicate, length-set}
 use lib.Dec.{eqb, ltb}
 use borrow.Author.Tests.{eq-eqb, ne-eqb, lt-ltb, le-ltb}
-use Rattle.base_buffer.specs.Store.{remade}
 use Rattle.base_buffer.specs.Laws.Store.{length-remade}
 use Rattle.base_limits.specs.Limits.{groupNumbers}
 use Rattle.floor_rule.specs.Ascent.{arcCount, flagged, reaching, leastRest, loaded, State, stateWith, missing, raised, raisedBy, visit, visitMember, visitMembers, visitGroup, visitGroups, passes, passCount, prices, rootOf, atFirst, ascended}

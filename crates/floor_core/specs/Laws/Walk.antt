@@ -1,37 +1,29 @@
 -- A walk finds the cut: what holds before its first turn holds before the next, and at the end.
-use Prim.Native.Nat.{ℕ, zero, suc, _+_, _*_, _-_, _/_, _%_, _≤_, _<_}
+use Prim.Native.Nat.{ℕ, zero, suc, _+_, _-_, _/_, _%_, _≤_, _<_}
 use native.Mathlib.Omega.{arith}
 use native.Mathlib.Decide.{ℕ-discrete}
 use mathlib.Core.Path.{_≡_, refl, ap, sym, _∙_, subst}
-use mathlib.Core.Logic.{_⊎_, inl, inr, ⊎-elim, _↔_}
-use mathlib.Core.Bool.{Bool, true, false, not, cond, _&&_, true≢false, false≢true}
+use mathlib.Core.Logic.{_⊎_, inl, inr, ⊎-elim}
+use mathlib.Core.Bool.{Bool, true, false, not, true≢false, false≢true}
 use mathlib.Core.List.{List}
 use lib.ListN.{length, getD, set, replicate, length-set, length-replicate, getD-replicate, List·getD-eq-default}
 use lib.Seq.{getD-set-same, getD-set-other}
 use lib.Dec.{eqb}
 use borrow.Author.Tests.{eqb-true, eq-eqb, ne-eqb}
-use Rattle.base_finite.specs.Below.{counted, countBelow, sumBelow, anyBelow}
+use Rattle.base_finite.specs.Below.{counted, countBelow, anyBelow}
 use Rattle.base_finite.specs.Laws.Test.{either, true-not-false}
-use Rattle.base_finite.specs.Laws.Below.{lt-or-ge, below-suc, sum-at, sum-only, counted-true, counted-false, count-le, any-intro, any-elim, Found}
+use Rattle.base_finite.specs.Laws.Below.{lt-or-ge, below-suc, sum-at, sum-only, counted-true, counted-false, count-le, any-intro, any-elim}
 use Rattle.base_limits.specs.Limits.{maxVertices}
-use Rattle.floor_rule.specs.Ascent.{maxArcs, arcCount, tailOf, headOf, flagged}
-use Rattle.floor_core.specs.Chain.{lastInto, linkOf, Ends, Chained}
+use Rattle.floor_rule.specs.Ascent.{maxArcs, headOf, flagged}
+use Rattle.floor_core.specs.Chain.{lastInto, linkOf}
+use Rattle.floor_core.specs.Laws.Chain.{last-le}
 use Rattle.floor_core.specs.Laws.End.{count-more-than}
-use Rattle.floor_core.specs.Laws.Reach.{Leads, here, along}
+use Rattle.floor_core.specs.Laws.Reach.{here, along}
 use Rattle.floor_core.specs.Walk.{Ground, arcsIn, tailIn, headIn, LeadsIn, LinkedIn, ChainedIn, LeadsTo, looked, Among, Turn, Begun, Next, Cut, CutFound}
 
 -- ---- the last arc that leads to a vertex
 
 module _ (firsts seconds : List ℕ) (v : ℕ) where
-  pub last-le : (n : ℕ) → lastInto firsts seconds v n ≤ n
-  unfolding lastInto
-  last-le zero = omega arith
-  last-le (suc a) = by (eqb (headOf firsts seconds a) v) (last-le a)
-    where
-      by : (t : Bool) → lastInto firsts seconds v a ≤ a → cond t (suc a) (lastInto firsts seconds v a) ≤ suc a
-      by true h = omega arith
-      by false h = omega (arith, h)
-
   pub last-head : (n a : ℕ) → lastInto firsts seconds v n ≡ suc a → (a < n) × (headOf firsts seconds a ≡ v)
   unfolding lastInto
   last-head zero a e = absurd (omega (arith, e))
@@ -136,11 +128,6 @@ module _ (l : List ℕ) (n : ℕ) where
 
 -- ---- turns
 
-among-kept : (l : List ℕ) (e i x y : ℕ) → e ≤ i → Among l e y → Among (set l i x) e y
-among-kept l e i x y b h =
-    let c : h .place < e = h .below in
-    record { place = h .place; below = c; is = getD-set-other l i (h .place) x 0 (λ same. omega (arith, same, c, b)) ∙ h .is }
-
 module _ (g : Ground) (rests : List ℕ) where
   -- Before the first turn t alone is found.
   module _ (flags found rim : List ℕ) (flags-are : flags ≡ set (replicate maxVertices 0) (g .t) 1) (found-are : found ≡ set (replicate maxVertices 0) 0 (g .t)) where
@@ -209,11 +196,19 @@ module _ (g : Ground) (rests : List ℕ) where
     -- No arc that leads to v lies between.
     pub turn-skip : Turn g rests i v (lastInto (g .firsts) (g .seconds) v x) flags found rim vertices arcs
     turn-skip = record {
-      flags-long = w .flags-long; found-long = w .found-long; start = w .start; sound = w .sound; counted = w .counted;
-      queue = w .queue; queued = w .queued; ahead = w .ahead; passed = w .passed;
+      flags-long = w .flags-long;
+      found-long = w .found-long;
+      start = w .start;
+      sound = w .sound;
+      counted = w .counted;
+      queue = w .queue;
+      queued = w .queued;
+      ahead = w .ahead;
+      passed = w .passed;
       turned = λ b. w .turned (omega (arith, b, low));
       seen = λ a b h late. w .seen a b h (λ e. by a e (late e));
-      rim-below = w .rim-below; rim-looked = w .rim-looked;
+      rim-below = w .rim-below;
+      rim-looked = w .rim-looked;
       rim-late = λ j b e. omega (arith, low, w .rim-late j b e);
       distinct = w .distinct;
     }
@@ -235,9 +230,21 @@ module _ (g : Ground) (rests : List ℕ) where
     -- It is looked at already.
     pub turn-again : getD flags u 0 ≡ 2 → Turn g rests (i + 1) 0 0 flags found rim vertices arcs
     turn-again at = record {
-      flags-long = w .flags-long; found-long = w .found-long; start = w .start; sound = w .sound; counted = w .counted;
-      queue = w .queue; queued = w .queued; ahead = omega arith; passed = λ j b. by j (below-suc j i (omega (arith, b)));
-      turned = w .turned; seen = w .seen; rim-below = w .rim-below; rim-looked = w .rim-looked; rim-late = w .rim-late; distinct = w .distinct;
+      flags-long = w .flags-long;
+      found-long = w .found-long;
+      start = w .start;
+      sound = w .sound;
+      counted = w .counted;
+      queue = w .queue;
+      queued = w .queued;
+      ahead = omega arith;
+      passed = λ j b. by j (below-suc j i (omega (arith, b)));
+      turned = w .turned;
+      seen = w .seen;
+      rim-below = w .rim-below;
+      rim-looked = w .rim-looked;
+      rim-late = w .rim-late;
+      distinct = w .distinct;
     }
       where
         by : (j : ℕ) → (j < i) ⊎ (j ≡ i) → looked flags (getD found j 0) ≡ true
@@ -278,7 +285,8 @@ module _ (g : Ground) (rests : List ℕ) where
 
       pub turn-at : Turn g rests (i + 1) u (lastInto (g .firsts) (g .seconds) u (arcsIn g)) (set flags u 2) found rim vertices arcs
       turn-at = record {
-        flags-long = length-set flags u 2 ∙ w .flags-long; found-long = w .found-long;
+        flags-long = length-set flags u 2 ∙ w .flags-long;
+        found-long = w .found-long;
         start = flag-stays flags u 2 u-low two (g .t) (w .start);
         sound = λ y h. w .sound y (same-flags y h);
         counted = w .counted ∙ same-count;
@@ -314,11 +322,19 @@ module _ (g : Ground) (rests : List ℕ) where
 
     pub turn-inside : flagged flags (tailIn g a) ≡ true → Turn g rests i v a flags found rim vertices arcs
     turn-inside on = record {
-      flags-long = w .flags-long; found-long = w .found-long; start = w .start; sound = w .sound; counted = w .counted;
-      queue = w .queue; queued = w .queued; ahead = w .ahead; passed = w .passed;
+      flags-long = w .flags-long;
+      found-long = w .found-long;
+      start = w .start;
+      sound = w .sound;
+      counted = w .counted;
+      queue = w .queue;
+      queued = w .queued;
+      ahead = w .ahead;
+      passed = w .passed;
       turned = λ c. w .turned (omega arith);
       seen = λ c low h late. by c low h late (ℕ-discrete c a);
-      rim-below = w .rim-below; rim-looked = w .rim-looked;
+      rim-below = w .rim-below;
+      rim-looked = w .rim-looked;
       rim-late = λ j low e. omega (arith, w .rim-late j low e);
       distinct = w .distinct;
     }
@@ -363,7 +379,8 @@ module _ (g : Ground) (rests : List ℕ) where
       pub turn-found : getD rests a 0 ≡ 0 → Turn g rests i v a (set flags (tailIn g a) 1) (set found vertices (tailIn g a)) rim (suc vertices) arcs
       unfolding tail
       turn-found bare = record {
-        flags-long = length-set flags tail 1 ∙ w .flags-long; found-long = length-set found vertices tail ∙ w .found-long;
+        flags-long = length-set flags tail 1 ∙ w .flags-long;
+        found-long = length-set found vertices tail ∙ w .found-long;
         start = stays (g .t) (w .start);
         sound = λ y h. led y h (ℕ-discrete y tail);
         counted = ap suc (w .counted) ∙ one-more;
@@ -423,8 +440,15 @@ module _ (g : Ground) (rests : List ℕ) where
       -- It has a rest: it is at the rim.
       pub turn-rim : length rim ≡ maxArcs → (getD rests a 0 ≡ 0 → ⊥) → Turn g rests i v a flags found (set rim arcs a) vertices (suc arcs)
       turn-rim long rest = record {
-        flags-long = w .flags-long; found-long = w .found-long; start = w .start; sound = w .sound; counted = w .counted;
-        queue = w .queue; queued = w .queued; ahead = w .ahead; passed = w .passed;
+        flags-long = w .flags-long;
+        found-long = w .found-long;
+        start = w .start;
+        sound = w .sound;
+        counted = w .counted;
+        queue = w .queue;
+        queued = w .queued;
+        ahead = w .ahead;
+        passed = w .passed;
         turned = λ c. w .turned (omega arith);
         seen = λ c low h late. by c low h late (ℕ-discrete c a);
         rim-below = λ j c. at-rim j (λ y. y < arcsIn g) b (w .rim-below) (below-suc j arcs c);
@@ -460,11 +484,21 @@ module _ (g : Ground) (rests : List ℕ) where
   -- No arc that leads to v is left.
   pub turn-over : {i v : ℕ} {flags found rim : List ℕ} {vertices arcs : ℕ} → Turn g rests i v 0 flags found rim vertices arcs → Turn g rests i 0 0 flags found rim vertices arcs
   turn-over w = record {
-    flags-long = w .flags-long; found-long = w .found-long; start = w .start; sound = w .sound; counted = w .counted;
-    queue = w .queue; queued = w .queued; ahead = w .ahead; passed = w .passed;
+    flags-long = w .flags-long;
+    found-long = w .found-long;
+    start = w .start;
+    sound = w .sound;
+    counted = w .counted;
+    queue = w .queue;
+    queued = w .queued;
+    ahead = w .ahead;
+    passed = w .passed;
     turned = λ b. absurd (omega (arith, b));
     seen = λ a b h late. w .seen a b h (λ e. omega arith);
-    rim-below = w .rim-below; rim-looked = w .rim-looked; rim-late = λ j b e. omega arith; distinct = w .distinct;
+    rim-below = w .rim-below;
+    rim-looked = w .rim-looked;
+    rim-late = λ j b e. omega arith;
+    distinct = w .distinct;
   }
 
   -- ---- the end
@@ -604,17 +638,18 @@ module _ (links rests : List ℕ) (last : ℕ) (flags₀ found₀ rim₀ : List 
   module _ {x : ℕ} {flags found rim : List ℕ} {vertices arcs : ℕ} (h : TurnsFrom links rests last flags₀ found₀ rim₀ vertices₀ arcs₀ x flags found rim vertices arcs) where
     pub turns-more : 0 < x → {b link : ℕ} → b ≡ x - 1 → link ≡ getD links b 0 → {flags-after found-after rim-after : List ℕ} {vertices-after arcs-after : ℕ}
         → ((g : Ground) (i v : ℕ) → x - 1 < arcsIn g → headIn g (x - 1) ≡ v → link % 512 ≡ tailIn g (x - 1) → Turn g rests i v (suc (x - 1)) flags found rim vertices arcs
-          → Turn g rests i v (x - 1) flags-after found-after rim-after vertices-after arcs-after)
+        → Turn g rests i v (x - 1) flags-after found-after rim-after vertices-after arcs-after)
         → TurnsFrom links rests last flags₀ found₀ rim₀ vertices₀ arcs₀ (link / 512) flags-after found-after rim-after vertices-after arcs-after
     unfolding TurnsFrom
     turns-more some {b} {link} b-is link-is step g i v linked to w =
         let held = h g i v linked to w in
         let is : link ≡ getD links (x - 1) 0 = link-is ∙ ap (λ k. getD links k 0) b-is in
-        let this : x ≡ suc (x - 1) = omega arith in
-        (before-leads g rests links linked x v (held .0) some is,
-        turn-before g rests links linked x v (held .0) some is
-        (step g i v (arc-low g rests links linked x v (held .0) some) (arc-head g rests links linked x v (held .0) some) (arc-tail g rests links linked x v (held .0) some is)
-        (subst (λ y. Turn g rests i v y flags found rim vertices arcs) this (held .1))))
+        let this : x ≡ suc (x - 1) = omega arith in (
+          before-leads g rests links linked x v (held .0) some is,
+          turn-before g rests links linked x v (held .0) some is
+              (step g i v (arc-low g rests links linked x v (held .0) some) (arc-head g rests links linked x v (held .0) some) (arc-tail g rests links linked x v (held .0) some is)
+              (subst (λ y. Turn g rests i v y flags found rim vertices arcs) this (held .1))),
+        )
 
     pub turns-end : x ≤ 0 → (g : Ground) (i v : ℕ) → LinkedIn g links → LeadsTo g v last → Turn g rests i v last flags₀ found₀ rim₀ vertices₀ arcs₀
         → Turn g rests i v 0 flags found rim vertices arcs
@@ -631,9 +666,10 @@ module _ (tops links rests flags found rim : List ℕ) (v vertices arcs : ℕ) w
   pub next-ready : Next tops links rests flags found rim v vertices arcs → {last : ℕ} → last ≡ getD tops v 0
       → ((vertices ≤ maxVertices) × (arcs ≤ maxArcs) × (last ≤ maxArcs)) × ((a : ℕ) → a < last → getD links a 0 / 512 ≤ a)
   next-ready n last-is =
-      let low : v < maxVertices = next-below (n .ground) rests (n .turn) (n .more) (n .is) in
-      ((turn-few (n .ground) rests (n .turn), turn-arcs (n .ground) rests (n .turn), top-room (n .ground) tops links (n .chained) v low last-is),
-      links-fall (n .ground) tops links (n .chained) v low last-is)
+      let low : v < maxVertices = next-below (n .ground) rests (n .turn) (n .more) (n .is) in (
+        (turn-few (n .ground) rests (n .turn), turn-arcs (n .ground) rests (n .turn), top-room (n .ground) tops links (n .chained) v low last-is),
+        links-fall (n .ground) tops links (n .chained) v low last-is,
+      )
 
   pub look-again : {x : ℕ} → x ≡ getD flags v 0 → x ≡ 2 → (g : Ground) (i : ℕ) → ChainedIn g tops links → i < vertices → v ≡ getD found i 0
       → Turn g rests i 0 0 flags found rim vertices arcs → Turn g rests (i + 1) 0 0 flags found rim vertices arcs
@@ -669,7 +705,7 @@ module _ (tops links rests flags₀ found₀ rim₀ : List ℕ) where
 
     pub walks-more : i < vertices → {x v : ℕ} → x ≡ getD found i 0 → v ≡ x → {flags-after found-after rim-after : List ℕ} {vertices-after arcs-after : ℕ}
         → ((g : Ground) (j : ℕ) → ChainedIn g tops links → j < vertices → v ≡ getD found j 0 → Turn g rests j 0 0 flags found rim vertices arcs
-          → Turn g rests (j + 1) 0 0 flags-after found-after rim-after vertices-after arcs-after)
+        → Turn g rests (j + 1) 0 0 flags-after found-after rim-after vertices-after arcs-after)
         → Walks (i + 1) flags-after found-after rim-after vertices-after arcs-after
     walks-more more x-is v-is step g chained w = step g i chained more (v-is ∙ x-is) (h g chained w)
 

@@ -1,9 +1,7 @@
 -- `raise_cut` meets its contract: a walk finds the cut, and the arcs at its rim bear it.
 use Prim.Native.Nat.{ℕ}
-use native.Mathlib.Omega.{arith}
 use mathlib.Core.Path.{sym}
 use lib.ListN.{length-replicate}
-use borrow.Author.Tests.{not-true, not-false}
 use Rattle.base_limits.specs.Limits.{maxVertices}
 use Rattle.floor_core.specs.Laws.Rim.{walk-begins, cut-inside, cut-outside}
 use borrow.Author.Needs.{needs}

@@ -1,6 +1,5 @@
 -- `lower_number` meets its contract: a branch on each.
 use Rattle.floor_core.specs.Laws.Number.{lower-first, lower-second, lower-less, lower-more}
-use borrow.Author.Needs.{needs}
 use Rattle.floor_core.proofs.number.lower_number.Statement.{statement}
 use Rattle.floor_core.proofs.number.lower_number.Tie as tie
 

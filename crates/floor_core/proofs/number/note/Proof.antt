@@ -1,5 +1,4 @@
 -- `note` meets its contract: the lower of two numbers is stored.
-use mathlib.Core.Path.{ap, _∙_}
 use Rattle.floor_core.specs.Laws.Number.{noted-at}
 use borrow.Author.Needs.{needs}
 use Rattle.floor_core.proofs.number.note.Statement.{statement}

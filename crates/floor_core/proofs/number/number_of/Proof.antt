@@ -1,5 +1,4 @@
 -- `number_of` meets its contract, case by case.
-use mathlib.Core.Path.{_∙_}
 use Rattle.floor_core.specs.Laws.Number.{number-none, number-some}
 use borrow.Author.Needs.{needs}
 use Rattle.floor_core.proofs.number.number_of.Statement.{statement}

@@ -2,7 +2,8 @@
 use Prim.Native.Nat.{_≤_, _-_}
 use native.Mathlib.Omega.{arith}
 use lib.ListN.{length}
-use Rattle.floor_core.specs.Laws.Number.{OwnLows, own-start, own-more, own-end}
+use Rattle.floor_core.specs.Tables.{OwnLows}
+use Rattle.floor_core.specs.Laws.Number.{own-start, own-more, own-end}
 use borrow.Author.Needs.{needs}
 use Rattle.floor_core.proofs.number.own_lows.Statement.{statement}
 use Rattle.floor_core.proofs.number.own_lows.Tie as tie

@@ -3,7 +3,8 @@ use Prim.Native.Nat.{_≤_, _-_}
 use native.Mathlib.Omega.{arith}
 use mathlib.Core.Path.{_∙_}
 use lib.ListN.{length}
-use Rattle.floor_core.specs.Laws.Number.{PairedLows, paired-start, paired-more, paired-end}
+use Rattle.floor_core.specs.Tables.{PairedLows}
+use Rattle.floor_core.specs.Laws.Number.{paired-start, paired-more, paired-end}
 use borrow.Author.Needs.{needs}
 use Rattle.floor_core.proofs.number.paired_lows.Statement.{statement}
 use Rattle.floor_core.proofs.number.paired_lows.Tie as tie

@@ -1,9 +1,10 @@
 -- `count_members` meets its contract: one vertex after the other.
-use Prim.Native.Nat.{_≤_, _<_, _-_, _+_, _^_}
+use Prim.Native.Nat.{_≤_, _<_, _-_}
 use native.Mathlib.Omega.{arith}
 use lib.ListN.{length}
 use Rattle.base_limits.specs.Limits.{groupNumbers}
-use Rattle.floor_core.specs.Laws.Shares.{Counts, counts-start, count-fits, counts-more, counts-end}
+use Rattle.floor_core.specs.Tables.{Counts}
+use Rattle.floor_core.specs.Laws.Shares.{counts-start, count-fits, counts-more, counts-end}
 use borrow.Author.Needs.{needs}
 use Rattle.floor_core.proofs.shares.count_members.Statement.{statement}
 use Rattle.floor_core.proofs.shares.count_members.Tie as tie

@@ -1,10 +1,8 @@
 -- `look` meets its contract: one arc after the other, from the last on.
-use Prim.Native.Nat.{ℕ, _+_, _≤_, _<_}
+use Prim.Native.Nat.{_+_, _≤_}
 use native.Mathlib.Omega.{arith}
-use mathlib.Core.Path.{_≡_, subst}
 use Rattle.base_limits.specs.Limits.{maxVertices}
 use Rattle.floor_rule.specs.Ascent.{maxArcs}
-use Rattle.floor_core.specs.Walk.{Ground, LinkedIn, LeadsTo, Turn}
 use Rattle.floor_core.specs.Laws.Walk.{falls, TurnsFrom, turns-start, turns-more, turns-end}
 use borrow.Author.Needs.{needs}
 use Rattle.floor_core.proofs.walk.look.Statement.{statement}
@@ -34,9 +32,12 @@ loop-again : tie.Need-loop-again Inv-loop μ-loop
 loop-again c =
     let low = falls (c .before .before .before .before .before .before .before .before .before .args .links .now) _ (c .before .before .before .before .before .before .before .before .before .pre .1) (c .before .before .before .before .before .before .before .loop-test .taken) (c .before .before .before .before .before .before .before .before .loop .inv .0) (c .before .before .before .before .before .index32 .ensures) (c .before .before .before .before .at32 .ensures) in
     let seen = c .look-arc .ensures .0 in
-    let inv = c .before .before .before .before .before .before .before .before .loop .inv in
-    (omega (arith, low, inv .0), omega (arith, low, seen .0, inv .1), omega (arith, low, seen .1, inv .2),
-    turns-more _ _ _ _ _ _ _ _ (inv .3) (c .before .before .before .before .before .before .before .loop-test .taken) (c .before .before .before .before .before .index32 .ensures) (c .before .before .before .before .at32 .ensures) (c .look-arc .ensures .1))
+    let inv = c .before .before .before .before .before .before .before .before .loop .inv in (
+      omega (arith, low, inv .0),
+      omega (arith, low, seen .0, inv .1),
+      omega (arith, low, seen .1, inv .2),
+      turns-more _ _ _ _ _ _ _ _ (inv .3) (c .before .before .before .before .before .before .before .loop-test .taken) (c .before .before .before .before .before .index32 .ensures) (c .before .before .before .before .at32 .ensures) (c .look-arc .ensures .1),
+    )
 
 returns : tie.Need-returns Inv-loop μ-loop
 returns c = turns-end _ _ _ _ _ _ _ _ (c .before .loop .inv .3) (c .loop-test .left)

@@ -1,5 +1,4 @@
 -- `look_at` meets its contract: the vertex is looked at, once.
-use native.Mathlib.Omega.{arith}
 use Rattle.floor_core.specs.Laws.Walk.{next-ready, look-again, look-next}
 use borrow.Author.Needs.{needs}
 use Rattle.floor_core.proofs.walk.look_at.Statement.{statement}

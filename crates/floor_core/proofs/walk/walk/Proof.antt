@@ -1,5 +1,5 @@
 -- `walk` meets its contract: one vertex of the queue after the other, until the root is found or none is left.
-use Prim.Native.Nat.{ℕ, _-_, _≤_, _<_}
+use Prim.Native.Nat.{_-_}
 use native.Mathlib.Omega.{arith}
 use Rattle.base_limits.specs.Limits.{maxVertices}
 use Rattle.floor_core.specs.Laws.Walk.{Walks, walks-start, walks-next, walks-few, walks-more, walked-inside, walked-outside}
