@@ -102,3 +102,8 @@ pub record CutFound (g : Ground) (rests flags rim : List ℕ) (root : ℕ) (insi
   pub led : inside ≡ true → LeadsIn g rests root
   pub cut : inside ≡ false → Cut g rests flags rim arcs
   pub outside : inside ≡ false → flagged flags root ≡ false
+
+-- At the rim there are the arcs that enter alone.
+pub record Narrow (g : Ground) (rests flags rim : List ℕ) (arcs : ℕ) : Type 0 where
+  pub cut : Cut g rests flags rim arcs
+  pub outside : (j : ℕ) → j < arcs → flagged flags (tailIn g (getD rim j 0)) ≡ false

@@ -1,12 +1,13 @@
 // The cut round a vertex, and what the arcs that enter it bear.
 ghost use Rattle.base_buffer.specs.Lent.{old, new};
 ghost use mathlib.Core.Path.{_≡_};
-ghost use mathlib.Core.Bool.{cond};
-ghost use Prim.Native.Nat.{_-_, _%_, _<_};
-ghost use lib.ListN.{length, getD, set};
-ghost use Rattle.floor_rule.specs.Ascent.{maxArcs, arcCount, flagged, lesser, leastRest, loaded};
+ghost use Prim.Native.Nat.{ℕ, _+_, _-_, _^_, _≤_, _<_};
+ghost use mathlib.Core.List.{List};
+ghost use lib.ListN.{length};
+ghost use Rattle.floor_rule.specs.Ascent.{maxArcs, arcCount, lesser, leastRest, loaded};
 ghost use Rattle.floor_core.specs.Chain.{Ends, Chained, CutRaised};
-ghost use Rattle.floor_core.specs.Walk.{Ground, arcsIn, LinkedIn, Cut};
+ghost use Rattle.floor_core.specs.Walk.{Ground, arcsIn, LinkedIn, Cut, Narrow};
+ghost use Rattle.floor_core.specs.Laws.Rim.{Narrows};
 use crate::walk::walk;
 use base_buffer::at8;
 use base_buffer::at32;
@@ -17,48 +18,73 @@ use base_buffer::wide32;
 use base_limits::MAX_VERTICES;
 use floor_rule::MAX_ARCS;
 
-// The least so far, or the rest of arc a, if that comes from outside and has less.
-fn least_at(
-    links: &[u32; MAX_ARCS],
-    rests: &[u32; MAX_ARCS],
-    flags: &[u8; MAX_VERTICES],
+// By how much a cut can be raised, and how many arcs enter it.
+struct Narrowed {
     least: u64,
-    a: usize,
-) -> u64
-    ensures { λ r. let inside = flagged (old flags) (getD (old links) a 0 % 512) in
-        ⌜ r ≡ cond inside least (lesser least (getD (old rests) a 0)) ⌝ }
-{
-    let tail = index32(at32(links, a) % 512);
-    if at8(flags, tail) != 0 {
-        return least;
-    }
-    let rest = wide32(at32(rests, a));
-    if rest < least {
-        return rest;
-    }
-    least
+    arcs: usize,
 }
 
-// The least rest of the arcs that enter, and no more than the cap.
-fn least_rest(
+fn lesser(x: u64, y: u64) -> u64
+    ensures { λ r. ⌜ r ≡ lesser x y ⌝ }
+{
+    if y < x {
+        return y;
+    }
+    x
+}
+
+// The arc at place j of the rim: if it comes from outside it is kept in front, and its rest may be the least.
+fn narrow_at(
     links: &[u32; MAX_ARCS],
     rests: &[u32; MAX_ARCS],
     flags: &[u8; MAX_VERTICES],
-    rim: &[u32; MAX_ARCS],
+    rim: &mut [u32; MAX_ARCS],
+    j: usize,
+    least: u64,
+    kept: usize,
+) -> Narrowed
+    requires { ⌜ kept + 1 < 2 ^ 64 ⌝ }
+    ensures { λ r. ⌜ r .arcs ≤ kept + 1 ⌝ }
+    ensures { λ r. ⌜ ((first : List ℕ) (arcs cap : ℕ)
+        → Narrows (old links) (old flags) first arcs (old rests) cap j least kept (old rim) → j < arcs
+        → Narrows (old links) (old flags) first arcs (old rests) cap (j + 1) (r .least) (r .arcs) (new rim)) ⌝ }
+{
+    let a = at32(rim, j);
+    let i = index32(a);
+    let tail = index32(at32(links, i) % 512);
+    if at8(flags, tail) != 0 {
+        return Narrowed { least, arcs: kept };
+    }
+    put32(rim, kept, a);
+    Narrowed {
+        least: lesser(least, wide32(at32(rests, i))),
+        arcs: kept + 1,
+    }
+}
+
+// The arcs that enter, in front, and the least of their rests, no more than the cap.
+fn narrow(
+    links: &[u32; MAX_ARCS],
+    rests: &[u32; MAX_ARCS],
+    flags: &[u8; MAX_VERTICES],
+    rim: &mut [u32; MAX_ARCS],
     arcs: usize,
     cap: u64,
-) -> u64
+) -> Narrowed
     ensures { λ r. ⌜ ((g : Ground) → LinkedIn g (old links) → Cut g (old rests) (old flags) (old rim) arcs
-        → r ≡ leastRest (g .firsts) (g .seconds) (old rests) (old flags) cap (arcsIn g)) ⌝ }
+        → (r .least ≡ leastRest (g .firsts) (g .seconds) (old rests) (old flags) cap (arcsIn g))
+        × Narrow g (old rests) (old flags) (new rim) (r .arcs)) ⌝ }
 {
     let mut least = cap;
+    let mut kept = 0;
     let mut j = 0;
     while j < arcs {
-        let a = index32(at32(rim, j));
-        least = least_at(links, rests, flags, least, a);
+        let found = narrow_at(links, rests, flags, rim, j, least, kept);
+        least = found.least;
+        kept = found.arcs;
         j += 1;
     }
-    least
+    Narrowed { least, arcs: kept }
 }
 
 // A rest less by d, and 0 where that is more.
@@ -71,42 +97,17 @@ fn less(rest: u32, d: u64) -> u32
     rest - (d as u32)
 }
 
-// What arc a can bear is less by d, if it comes from outside.
-fn load_arc(
-    links: &[u32; MAX_ARCS],
-    flags: &[u8; MAX_VERTICES],
-    rests: &mut [u32],
-    d: u64,
-    a: usize,
-)
-    ensures { λ _. let inside = flagged (old flags) (getD (old links) a 0 % 512) in
-        ⌜ new rests ≡ cond inside (old rests) (set (old rests) a (getD (old rests) a 0 - d)) ⌝ }
-{
-    let tail = index32(at32(links, a) % 512);
-    if at8(flags, tail) != 0 {
-        return;
-    }
-    let rest = less(at32(rests, a), d);
-    put32(rests, a, rest);
-}
-
 // A cut of value d on the arcs that enter.
-fn load(
-    links: &[u32; MAX_ARCS],
-    flags: &[u8; MAX_VERTICES],
-    rim: &[u32; MAX_ARCS],
-    arcs: usize,
-    rests: &mut [u32],
-    d: u64,
-)
+fn load(rim: &[u32; MAX_ARCS], arcs: usize, rests: &mut [u32], d: u64)
     requires { ⌜ length (now rests) ≡ maxArcs ⌝ }
-    ensures { λ _. ⌜ ((g : Ground) → LinkedIn g (old links) → Cut g (old rests) (old flags) (old rim) arcs
-        → new rests ≡ loaded (g .firsts) (g .seconds) (old flags) d (old rests)) ⌝ }
+    ensures { λ _. ⌜ ((g : Ground) (flags : List ℕ) → Narrow g (old rests) flags (old rim) arcs
+        → new rests ≡ loaded (g .firsts) (g .seconds) flags d (old rests)) ⌝ }
 {
     let mut j = 0;
     while j < arcs {
         let a = index32(at32(rim, j));
-        load_arc(links, flags, rests, d, a);
+        let rest = less(at32(rests, a), d);
+        put32(rests, a, rest);
         j += 1;
     }
 }
@@ -148,7 +149,10 @@ pub fn raise_cut(
             by: 0,
         };
     }
-    let by = least_rest(links, rests, &flags, rim, walked.arcs, cap);
-    load(links, &flags, rim, walked.arcs, rests, by);
-    Raised { inside: false, by }
+    let found = narrow(links, rests, &flags, rim, walked.arcs, cap);
+    load(rim, found.arcs, rests, found.least);
+    Raised {
+        inside: false,
+        by: found.least,
+    }
 }

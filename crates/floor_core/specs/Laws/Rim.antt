@@ -4,7 +4,7 @@ use native.Mathlib.Omega.{arith}
 use native.Mathlib.Decide.{ℕ-discrete}
 use mathlib.Core.Path.{_≡_, refl, ap, sym, _∙_, subst}
 use mathlib.Core.Logic.{_⊎_, inl, inr, ⊎-elim}
-use mathlib.Core.Bool.{Bool, true, false, not, cond, true≢false, false≢true}
+use mathlib.Core.Bool.{Bool, true, false, not, true≢false, false≢true}
 use mathlib.Core.List.{List}
 use lib.ListN.{length, getD, set, replicate, length-set}
 use lib.Seq.{ext-getD, getD-set-same, getD-set-other}
@@ -22,8 +22,8 @@ use Rattle.floor_rule.specs.Ascent.{maxArcs}
 use Rattle.floor_core.specs.Chain.{Ends, Chained, CutRaised}
 use Rattle.floor_core.specs.Laws.End.{Least, least-found}
 use Rattle.floor_core.specs.Laws.Reach.{reaching-iff}
-use Rattle.floor_core.specs.Walk.{Ground, arcsIn, tailIn, headIn, LinkedIn, ChainedIn, Among, Turn, Begun, Cut, CutFound}
-use Rattle.floor_core.specs.Laws.Walk.{link-tail, turn-start}
+use Rattle.floor_core.specs.Walk.{Ground, arcsIn, tailIn, headIn, LinkedIn, ChainedIn, Among, Turn, Begun, Cut, CutFound, Narrow}
+use Rattle.floor_core.specs.Laws.Walk.{link-tail, turn-start, cut-arcs}
 
 lesser-is-right : (x y : ℕ) → y < x → lesser x y ≡ y
 unfolding lesser
@@ -115,6 +115,103 @@ module _ (g : Ground) (rests flags rim : List ℕ) (arcs : ℕ) (k : Cut g rests
       of (inl e) = omega (arith, e, least-cap (g .firsts) (g .seconds) rests flags cap (arcsIn g))
       of (inr x) = omega (arith, x .is, least-le (g .firsts) (g .seconds) rests flags cap (arcsIn g) (x .arc) (x .below) (x .entered))
 
+  -- ---- the arcs that enter, in front
+
+  -- Of the first j arcs at the rim those that enter stand in front, in `now`, and there are e of them; those behind stand where they did.
+  pub record NarrowTo (j e : ℕ) (now : List ℕ) : Type 0 where
+    pub few : e ≤ j
+    pub ahead : (i : ℕ) → j ≤ i → i < arcs → getD now i 0 ≡ getD rim i 0
+    pub taken : (i : ℕ) → i < e → Among rim j (getD now i 0)
+    pub outside : (i : ℕ) → i < e → flagged flags (tailIn g (getD now i 0)) ≡ false
+    pub apart : (i m : ℕ) → i < e → m < e → getD now i 0 ≡ getD now m 0 → i ≡ m
+    pub all : (i : ℕ) → i < j → flagged flags (tailIn g (getD rim i 0)) ≡ false → Among now e (getD rim i 0)
+
+  pub narrow-start : NarrowTo 0 0 rim
+  narrow-start = record {
+    few = omega arith;
+    ahead = λ i b c. refl;
+    taken = λ i b. absurd (omega (arith, b));
+    outside = λ i b. absurd (omega (arith, b));
+    apart = λ i m b c e. absurd (omega (arith, b));
+    all = λ i b. absurd (omega (arith, b));
+  }
+
+  later : {j x : ℕ} → Among rim j x → Among rim (j + 1) x
+  later {j} p = let c : p .place < j = p .below in record { place = p .place; below = omega arith; is = p .is }
+
+  module _ {j e : ℕ} {now : List ℕ} (h : NarrowTo j e now) (more : j < arcs) {a : ℕ} (a-is : a ≡ getD now j 0) where
+    a-rim : a ≡ getD rim j 0
+    a-rim = a-is ∙ h .ahead j (omega arith) more
+
+    pub narrow-inside : flagged flags (tailIn g a) ≡ true → NarrowTo (j + 1) e now
+    narrow-inside on = record {
+      few = omega (arith, h .few);
+      ahead = λ i b c. h .ahead i (omega (arith, b)) c;
+      taken = λ i b. later (h .taken i b);
+      outside = h .outside;
+      apart = h .apart;
+      all = λ i b off. by i off (below-suc i j (omega (arith, b)));
+    }
+      where
+        by : (i : ℕ) → flagged flags (tailIn g (getD rim i 0)) ≡ false → (i < j) ⊎ (i ≡ j) → Among now e (getD rim i 0)
+        by i off (inl c) = h .all i c off
+        by i off (inr c) = true-not-false (flagged flags (tailIn g a)) on (subst (λ y. flagged flags (tailIn g y) ≡ false) (ap (λ m. getD rim m 0) c ∙ sym a-rim) off)
+
+    pub narrow-outside : arcs ≤ length now → flagged flags (tailIn g a) ≡ false → NarrowTo (j + 1) (e + 1) (set now e a)
+    narrow-outside room off = record {
+      few = omega (arith, h .few);
+      ahead = λ i b c. getD-set-other now e i a 0 (λ same. omega (arith, same, b, h .few)) ∙ h .ahead i (omega (arith, b)) c;
+      taken = λ i b. at-front i (λ y. Among rim (j + 1) y) (record { place = j; below = omega arith; is = sym a-rim }) (λ m c. later (h .taken m c)) (below-suc i e (omega (arith, b)));
+      outside = λ i b. at-front i (λ y. flagged flags (tailIn g y) ≡ false) off (h .outside) (below-suc i e (omega (arith, b)));
+      apart = λ i m b c same. two i m same (below-suc i e (omega (arith, b))) (below-suc m e (omega (arith, c)));
+      all = λ i b out. by i out (below-suc i j (omega (arith, b)));
+    }
+      where
+        last : getD (set now e a) e 0 ≡ a
+        last = getD-set-same now e a 0 (omega (arith, h .few, more, room))
+
+        kept : (i : ℕ) → i < e → getD (set now e a) i 0 ≡ getD now i 0
+        kept i c = getD-set-other now e i a 0 (λ same. omega (arith, same, c))
+
+        at-front : (i : ℕ) (P : ℕ → Type 0) → P a → ((m : ℕ) → m < e → P (getD now m 0)) → (i < e) ⊎ (i ≡ e) → P (getD (set now e a) i 0)
+        at-front i P new old (inl c) = subst P (sym (kept i c)) (old i c)
+        at-front i P new old (inr c) = subst (λ m. P (getD (set now e a) m 0)) (sym c) (subst P (sym last) new)
+
+        -- a was not in front
+        fresh : (i : ℕ) → i < e → getD now i 0 ≡ a → ⊥
+        fresh i c same =
+            let p = h .taken i c in
+            let q : p .place < j = p .below in
+            omega (arith, q, k .distinct (p .place) j (omega (arith, q, more)) more (p .is ∙ same ∙ a-rim))
+
+        two : (i m : ℕ) → getD (set now e a) i 0 ≡ getD (set now e a) m 0 → (i < e) ⊎ (i ≡ e) → (m < e) ⊎ (m ≡ e) → i ≡ m
+        two i m same (inl c) (inl d) = h .apart i m c d (sym (kept i c) ∙ same ∙ kept m d)
+        two i m same (inl c) (inr d) = absurd (fresh i c (sym (kept i c) ∙ same ∙ ap (λ n. getD (set now e a) n 0) d ∙ last))
+        two i m same (inr c) (inl d) = absurd (fresh m d (sym (kept m d) ∙ sym same ∙ ap (λ n. getD (set now e a) n 0) c ∙ last))
+        two i m same (inr c) (inr d) = c ∙ sym d
+
+        by : (i : ℕ) → flagged flags (tailIn g (getD rim i 0)) ≡ false → (i < j) ⊎ (i ≡ j) → Among (set now e a) (e + 1) (getD rim i 0)
+        by i out (inl c) = let p = h .all i c out in let q : p .place < e = p .below in record { place = p .place; below = omega arith; is = kept (p .place) q ∙ p .is }
+        by i out (inr c) = record { place = e; below = omega arith; is = last ∙ a-rim ∙ ap (λ m. getD rim m 0) (sym c) }
+
+  pub narrow-whole : {e : ℕ} {now : List ℕ} (j : ℕ) → NarrowTo j e now → arcs ≤ j → j ≤ arcs → Narrow g rests flags now e
+  narrow-whole {e} {now} j h whole few = record {
+    cut = record {
+      inside = k .inside;
+      entering = λ a b on off.
+          let p = k .entering a b on off in
+          let c : p .place < arcs = p .below in
+          subst (Among now e) (p .is) (h .all (p .place) (omega (arith, c, whole)) (subst (λ y. flagged flags (tailIn g y) ≡ false) (sym (p .is)) off));
+      rim-below = λ i b. at i b (λ y. y < arcsIn g) (k .rim-below);
+      rim-heads = λ i b. at i b (λ y. flagged flags (headIn g y) ≡ true) (k .rim-heads);
+      distinct = h .apart;
+    };
+    outside = h .outside;
+  }
+    where
+      at : (i : ℕ) → i < e → (P : ℕ → Type 0) → ((m : ℕ) → m < arcs → P (getD rim m 0)) → P (getD now i 0)
+      at i b P old = let p = h .taken i b in let c : p .place < j = p .below in subst P (p .is) (old (p .place) (omega (arith, c, few)))
+
   -- ---- the rests
 
   -- The first j arcs at the rim bear d more where they enter, all others what they did.
@@ -127,19 +224,6 @@ module _ (g : Ground) (rests flags rim : List ℕ) (arcs : ℕ) (k : Cut g rests
   loaded-start d = record { long = refl; borne = λ i b h. absurd (omega (arith, b)); left = λ a none. refl }
 
   module _ {d j : ℕ} {now : List ℕ} (h : LoadedTo d j now) (more : j < arcs) {a : ℕ} (a-is : a ≡ getD rim j 0) where
-    pub loaded-inside : flagged flags (tailIn g a) ≡ true → LoadedTo d (j + 1) now
-    loaded-inside on = record {
-      long = h .long;
-      borne = λ i b e. by i e (below-suc i j (omega (arith, b)));
-      left = λ c none. h .left c (λ i b. none i (omega (arith, b)));
-    }
-      where
-        by : (i : ℕ) → entering (getD rim i 0) ≡ true → (i < j) ⊎ (i ≡ j) → getD now (getD rim i 0) 0 ≡ getD rests (getD rim i 0) 0 - d
-        by i e (inl c) = h .borne i c e
-        by i e (inr c) =
-            true-not-false (flagged flags (tailIn g a)) on
-            (subst (λ y. flagged flags (tailIn g y) ≡ false) (ap (λ m. getD rim m 0) c ∙ sym a-is) (enters-outside (getD rim i 0) e))
-
     pub loaded-outside : arcsIn g ≤ length rests → flagged flags (tailIn g a) ≡ false → LoadedTo d (j + 1) (set now a (getD now a 0 - d))
     loaded-outside room off = record {
       long = length-set now a (getD now a 0 - d) ∙ h .long;
@@ -231,52 +315,51 @@ module _ (links flags rim : List ℕ) (arcs : ℕ) where
       ap (flagged flags) (link-tail g a low (linked a low))
 
   module _ (rests : List ℕ) (cap : ℕ) where
-    abbrev pub Leasts : (j least : ℕ) → Type 0
-    Leasts j least = (g : Ground) → LinkedIn g links → (k : Cut g rests flags rim arcs) → LeastOf g rests flags rim arcs k cap j least
+    abbrev pub Narrows : (j least e : ℕ) (now : List ℕ) → Type 0
+    Narrows j least e now = (g : Ground) → LinkedIn g links → (k : Cut g rests flags rim arcs) → LeastOf g rests flags rim arcs k cap j least × NarrowTo g rests flags rim arcs k j e now
 
-    pub leasts-start : Leasts 0 cap
-    leasts-start g linked k = least-start g rests flags rim arcs k cap
+    pub narrows-start : Narrows 0 cap 0 rim
+    narrows-start g linked k = (least-start g rests flags rim arcs k cap, narrow-start g rests flags rim arcs k)
 
-    pub leasts-more : {j least : ℕ} → Leasts j least → j < arcs → {a next : ℕ} → a ≡ getD rim j 0 → next ≡ cond (flagged flags (getD links a 0 % 512)) least (lesser least (getD rests a 0)) → Leasts (j + 1) next
-    unfolding inner
-    leasts-more {j} {least} h more {a} {next} a-is next-is g linked k = by (either (inner a)) (inner-is g linked rests k j more a-is)
-      where
-        by : (inner a ≡ true) ⊎ (inner a ≡ false) → inner a ≡ flagged flags (tailIn g a) → LeastOf g rests flags rim arcs k cap (j + 1) next
-        by (inl on) same =
-            let is : next ≡ least = rw on at next-is in
-            subst (LeastOf g rests flags rim arcs k cap (j + 1)) (sym is) (least-inside g rests flags rim arcs k (h g linked k) more a-is (sym same ∙ on))
-        by (inr off) same =
-            let is : next ≡ lesser least (getD rests a 0) = rw off at next-is in
-            subst (LeastOf g rests flags rim arcs k cap (j + 1)) (sym is) (least-outside g rests flags rim arcs k (h g linked k) more a-is (sym same ∙ off))
+    module _ {j least e : ℕ} {now : List ℕ} (h : Narrows j least e now) (more : j < arcs) {a : ℕ} (a-is : a ≡ getD now j 0) where
+      -- As it stands at the rim.
+      at-rim : (g : Ground) (linked : LinkedIn g links) (k : Cut g rests flags rim arcs) → a ≡ getD rim j 0
+      at-rim g linked k = a-is ∙ h g linked k .1 .ahead j (omega arith) more
 
-    pub leasts-end : {j least : ℕ} → Leasts j least → arcs ≤ j → (g : Ground) → LinkedIn g links → Cut g rests flags rim arcs → least ≡ leastRest (g .firsts) (g .seconds) rests flags cap (arcsIn g)
-    leasts-end {j} h all g linked k = least-whole g rests flags rim arcs k j (h g linked k) all
+      pub narrows-inside : flagged flags (getD links a 0 % 512) ≡ true → Narrows (j + 1) least e now
+      unfolding inner
+      narrows-inside on g linked k =
+          let same = inner-is g linked rests k j more (at-rim g linked k) in
+          (least-inside g rests flags rim arcs k (h g linked k .0) more (at-rim g linked k) (sym same ∙ on), narrow-inside g rests flags rim arcs k (h g linked k .1) more a-is (sym same ∙ on))
 
-  module _ (rests : List ℕ) (d : ℕ) where
-    abbrev pub Loads : (j : ℕ) (now : List ℕ) → Type 0
-    Loads j now = (g : Ground) → LinkedIn g links → (k : Cut g rests flags rim arcs) → LoadedTo g rests flags rim arcs k d j now
+      pub narrows-outside : length now ≡ maxArcs → flagged flags (getD links a 0 % 512) ≡ false → Narrows (j + 1) (lesser least (getD rests a 0)) (e + 1) (set now e a)
+      unfolding inner
+      narrows-outside long off g linked k =
+          let same = inner-is g linked rests k j more (at-rim g linked k) in
+          (least-outside g rests flags rim arcs k (h g linked k .0) more (at-rim g linked k) (sym same ∙ off), narrow-outside g rests flags rim arcs k (h g linked k .1) more a-is (omega (arith, long, cut-arcs g k)) (sym same ∙ off))
 
-    pub loads-start : Loads 0 rests
-    loads-start g linked k = loaded-start g rests flags rim arcs k d
+    pub narrows-end : {j least e : ℕ} {now : List ℕ} → Narrows j least e now → arcs ≤ j → j ≤ arcs → (g : Ground) → LinkedIn g links → Cut g rests flags rim arcs
+        → (least ≡ leastRest (g .firsts) (g .seconds) rests flags cap (arcsIn g)) × Narrow g rests flags now e
+    narrows-end {j} h all few g linked k = (least-whole g rests flags rim arcs k j (h g linked k .0) all, narrow-whole g rests flags rim arcs k j (h g linked k .1) all few)
 
-    room : length rests ≡ maxArcs → (g : Ground) → arcsIn g ≤ length rests
-    room long g = omega (arith, long, g .ends .short)
+-- Every arc at a narrow rim bears d more.
+module _ (rim : List ℕ) (arcs : ℕ) (rests : List ℕ) (d : ℕ) where
+  abbrev pub Loads : (j : ℕ) (now : List ℕ) → Type 0
+  Loads j now = (g : Ground) (flags : List ℕ) → (n : Narrow g rests flags rim arcs) → LoadedTo g rests flags rim arcs (n .cut) d j now
 
-    pub loads-more : length rests ≡ maxArcs → {j : ℕ} {now : List ℕ} → Loads j now → j < arcs → {a : ℕ} {next : List ℕ} → a ≡ getD rim j 0
-        → next ≡ cond (flagged flags (getD links a 0 % 512)) now (set now a (getD now a 0 - d)) → Loads (j + 1) next
-    unfolding inner
-    loads-more long {j} {now} h more {a} {next} a-is next-is g linked k = by (either (inner a)) (inner-is g linked rests k j more a-is)
-      where
-        by : (inner a ≡ true) ⊎ (inner a ≡ false) → inner a ≡ flagged flags (tailIn g a) → LoadedTo g rests flags rim arcs k d (j + 1) next
-        by (inl on) same =
-            let is : next ≡ now = rw on at next-is in
-            subst (LoadedTo g rests flags rim arcs k d (j + 1)) (sym is) (loaded-inside g rests flags rim arcs k (h g linked k) more a-is (sym same ∙ on))
-        by (inr off) same =
-            let is : next ≡ set now a (getD now a 0 - d) = rw off at next-is in
-            subst (LoadedTo g rests flags rim arcs k d (j + 1)) (sym is) (loaded-outside g rests flags rim arcs k (h g linked k) more a-is (room long g) (sym same ∙ off))
+  pub loads-start : Loads 0 rests
+  loads-start g flags n = loaded-start g rests flags rim arcs (n .cut) d
 
-    pub loads-end : length rests ≡ maxArcs → {j : ℕ} {now : List ℕ} → Loads j now → arcs ≤ j → j ≤ arcs → (g : Ground) → LinkedIn g links → Cut g rests flags rim arcs → now ≡ loaded (g .firsts) (g .seconds) flags d rests
-    loads-end long {j} h all few g linked k = loaded-whole g rests flags rim arcs k j (h g linked k) all few (room long g)
+  room : length rests ≡ maxArcs → (g : Ground) → arcsIn g ≤ length rests
+  room long g = omega (arith, long, g .ends .short)
+
+  pub loads-more : length rests ≡ maxArcs → {j : ℕ} {now next : List ℕ} → Loads j now → j < arcs → {a x y : ℕ} → a ≡ getD rim j 0 → x ≡ getD now a 0 → y ≡ x - d → next ≡ set now a y → Loads (j + 1) next
+  loads-more long {j} {now} {next} h more {a} a-is x-is y-is next-is g flags n =
+      subst (LoadedTo g rests flags rim arcs (n .cut) d (j + 1)) (sym (next-is ∙ ap (set now a) (y-is ∙ ap (λ z. z - d) x-is)))
+      (loaded-outside g rests flags rim arcs (n .cut) (h g flags n) more a-is (room long g) (subst (λ z. flagged flags (tailIn g z) ≡ false) (sym a-is) (n .outside j more)))
+
+  pub loads-end : length rests ≡ maxArcs → {j : ℕ} {now : List ℕ} → Loads j now → arcs ≤ j → j ≤ arcs → (g : Ground) (flags : List ℕ) → Narrow g rests flags rim arcs → now ≡ loaded (g .firsts) (g .seconds) flags d rests
+  loads-end long {j} h all few g flags n = loaded-whole g rests flags rim arcs (n .cut) j (h g flags n) all few (room long g)
 
 -- ---- the cut raised
 
@@ -301,19 +384,20 @@ module _ (firsts seconds tops links : List ℕ) (n root v cap : ℕ) (ends : End
       root-outside = λ h. absurd (true≢false h);
     }
 
-    pub cut-outside : inside ≡ false → {by : ℕ} {after : List ℕ}
-        → ((g : Ground) → LinkedIn g links → Cut g rests flags-after rim-after arcs → by ≡ leastRest (g .firsts) (g .seconds) rests flags-after cap (arcsIn g))
-        → ((g : Ground) → LinkedIn g links → Cut g rests flags-after rim-after arcs → after ≡ loaded (g .firsts) (g .seconds) flags-after by rests)
+    pub cut-outside : inside ≡ false → {by kept : ℕ} {after narrowed : List ℕ}
+        → ((g : Ground) → LinkedIn g links → Cut g rests flags-after rim-after arcs → (by ≡ leastRest (g .firsts) (g .seconds) rests flags-after cap (arcsIn g)) × Narrow g rests flags-after narrowed kept)
+        → ((g : Ground) (flags : List ℕ) → Narrow g rests flags narrowed kept → after ≡ loaded (g .firsts) (g .seconds) flags by rests)
         → CutRaised firsts seconds n root v cap rests after false by
     unfolding ground what
-    cut-outside off {by} {after} least load =
+    cut-outside off {by} narrow load =
         let k = what .cut off in
+        let found = narrow ground (chained .links-are) k in
         record {
           root-inside = λ h. absurd (false≢true h);
           root-outside = λ h. (
             sym (same-flag ground rests flags-after rim-after arcs k root) ∙ what .outside off,
-            least ground (chained .links-are) k ∙ least-cut ground rests flags-after rim-after arcs k cap (arcCount firsts),
-            load ground (chained .links-are) k ∙ loaded-cut ground rests flags-after rim-after arcs k by,
+            found .0 ∙ least-cut ground rests flags-after rim-after arcs k cap (arcCount firsts),
+            load ground flags-after (found .1) ∙ loaded-cut ground rests flags-after rim-after arcs k by,
           );
         }
 
@@ -323,21 +407,25 @@ module _ (links flags : List ℕ) (a : ℕ) {x t y : ℕ} (x-is : x ≡ getD lin
   at-tail : y ≡ getD flags (getD links a 0 % 512) 0
   at-tail = y-is ∙ ap (λ k. getD flags k 0) (t-is ∙ ap (λ k. k % 512) x-is)
 
-  inner-on : (y ≡ 0 → ⊥) → flagged flags (getD links a 0 % 512) ≡ true
+  pub inner-on : (y ≡ 0 → ⊥) → flagged flags (getD links a 0 % 512) ≡ true
   inner-on some = ap not (ne-eqb (getD flags (getD links a 0 % 512) 0) 0 (λ z. some (at-tail ∙ z)))
 
-  inner-off : y ≡ 0 → flagged flags (getD links a 0 % 512) ≡ false
+  pub inner-off : y ≡ 0 → flagged flags (getD links a 0 % 512) ≡ false
   inner-off none = ap not (eq-eqb (getD flags (getD links a 0 % 512) 0) 0 (sym at-tail ∙ none))
 
-  pub least-kept : (rests : List ℕ) (least : ℕ) → (y ≡ 0 → ⊥) → least ≡ cond (flagged flags (getD links a 0 % 512)) least (lesser least (getD rests a 0))
-  least-kept rests least some = rw (inner-on some)
+-- ---- one place of the rim, as the code goes
 
-  pub least-met : (rests : List ℕ) (least : ℕ) {r : ℕ} → y ≡ 0 → r ≡ lesser least (getD rests a 0) → r ≡ cond (flagged flags (getD links a 0 % 512)) least (lesser least (getD rests a 0))
-  least-met rests least none r-is = rw (inner-off none) r-is
+module _ (links flags rests now : List ℕ) (j least kept : ℕ) {a i x t y : ℕ} (a-is : a ≡ getD now j 0) (i-is : i ≡ a) (x-is : x ≡ getD links i 0) (t-is : t ≡ x % 512) (y-is : y ≡ getD flags t 0) where
+  x-at : x ≡ getD links a 0
+  x-at = x-is ∙ ap (λ m. getD links m 0) i-is
 
-  pub rests-kept : (rests : List ℕ) (d : ℕ) → (y ≡ 0 → ⊥) → rests ≡ cond (flagged flags (getD links a 0 % 512)) rests (set rests a (getD rests a 0 - d))
-  rests-kept rests d some = rw (inner-on some)
+  pub place-inside : (y ≡ 0 → ⊥) → (rim : List ℕ) (arcs cap : ℕ) → Narrows links flags rim arcs rests cap j least kept now → j < arcs → Narrows links flags rim arcs rests cap (j + 1) least kept now
+  place-inside some rim arcs cap h more = narrows-inside links flags rim arcs rests cap h more a-is (inner-on links flags a x-at t-is y-is some)
 
-  pub rests-lowered : (rests : List ℕ) (d : ℕ) {after : List ℕ} {z w : ℕ} → y ≡ 0 → w ≡ getD rests a 0 → z ≡ w - d → after ≡ set rests a z
-      → after ≡ cond (flagged flags (getD links a 0 % 512)) rests (set rests a (getD rests a 0 - d))
-  rests-lowered rests d none w-is z-is after-is = rw (inner-off none) (after-is ∙ ap (set rests a) (z-is ∙ ap (λ k. k - d) w-is))
+  pub place-outside : y ≡ 0 → length now ≡ maxArcs → {next : List ℕ} {z w r : ℕ} → next ≡ set now kept a → z ≡ getD rests i 0 → w ≡ z → r ≡ lesser least w
+      → (rim : List ℕ) (arcs cap : ℕ) → Narrows links flags rim arcs rests cap j least kept now → j < arcs → Narrows links flags rim arcs rests cap (j + 1) r (kept + 1) next
+  place-outside none long {next} {z} {w} {r} next-is z-is w-is r-is rim arcs cap h more =
+      let r-at : lesser least (getD rests a 0) ≡ r = sym (r-is ∙ ap (lesser least) (w-is ∙ z-is ∙ ap (λ m. getD rests m 0) i-is)) in
+      subst (λ (l : List ℕ). Narrows links flags rim arcs rests cap (j + 1) r (kept + 1) l) (sym next-is)
+      (subst (λ q. Narrows links flags rim arcs rests cap (j + 1) q (kept + 1) (set now kept a)) r-at
+      (narrows-outside links flags rim arcs rests cap h more a-is long (inner-off links flags a x-at t-is y-is none)))

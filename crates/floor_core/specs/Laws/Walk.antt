@@ -662,6 +662,9 @@ pub turn-arcs : (g : Ground) (rests : List ℕ) {i v x : ℕ} {flags found rim :
 turn-arcs g rests {i} {v} {x} {flags} {found} {rim} {vertices} {arcs} w =
     omega (arith, different rim (arcsIn g) arcs (w .rim-below) (w .distinct), count-le (arcsIn g) (among rim (arcsIn g) arcs), g .ends .short)
 
+pub cut-arcs : (g : Ground) {rests flags rim : List ℕ} {arcs : ℕ} → Cut g rests flags rim arcs → arcs ≤ maxArcs
+cut-arcs g {rests} {flags} {rim} {arcs} k = omega (arith, different rim (arcsIn g) arcs (k .rim-below) (k .distinct), count-le (arcsIn g) (among rim (arcsIn g) arcs), g .ends .short)
+
 module _ (tops links rests flags found rim : List ℕ) (v vertices arcs : ℕ) where
   pub next-ready : Next tops links rests flags found rim v vertices arcs → {last : ℕ} → last ≡ getD tops v 0
       → ((vertices ≤ maxVertices) × (arcs ≤ maxArcs) × (last ≤ maxArcs)) × ((a : ℕ) → a < last → getD links a 0 / 512 ≤ a)
