@@ -1,5 +1,7 @@
 // Checking for a caller that gets one number back and the counts in a lent buffer. Definitions in specs/Call and
 // specs/VerifyCall. `check_call` judges marks and records, `verify_call` a printed plan behind its survey.
+#![tactic(auto)]
+
 ghost use Rattle.std.specs.Prelude.{◌≡◌};
 ghost use Rattle.survey_core.specs.Survey.{lent_with};
 ghost use Rattle.api_code.specs.Code.{code_of};

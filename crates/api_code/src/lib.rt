@@ -1,5 +1,7 @@
 // What every call from another language needs: a refusal as one number, counts stored, and the answer where they do not
 // fit. Definitions in specs/Code.
+#![tactic(auto)]
+
 ghost use Rattle.std.specs.Prelude.{◌≡◌, ◌+◌, ◌*◌};
 ghost use Rattle.base_limits.specs.Verdict.{◌before◌};
 ghost use Rattle.base_limits.specs.declared.Verdict.TheVariants.{Refused};

@@ -1,5 +1,7 @@
 // One survey of two neighbouring ones, for a caller that gets one number back and the counts in a lent buffer.
 // Definitions in specs/Call.
+#![tactic(auto)]
+
 ghost use Rattle.std.specs.Prelude.{◌≡◌, length};
 ghost use Rattle.survey_core.specs.Survey.{survey_with, lent_with};
 ghost use Rattle.api_code.specs.Code.{code_of, capped, verdict_of, counts_for};

@@ -1,6 +1,8 @@
 // Planning, growing, dropping, and copies for groups with strengths, for a caller that gets one number back and the
 // counts in a lent buffer. Definitions in specs/Call, specs/GrowCall and specs/WinterCall. `plan_call`, `grow_call`,
 // `drop_call` and `winter_call` answer 0, or number + 256 * place.
+#![tactic(auto)]
+
 ghost use Rattle.std.specs.Prelude.{◌≡◌};
 ghost use Rattle.survey_core.specs.Survey.{lent_with};
 ghost use Rattle.api_code.specs.Code.{code_of};

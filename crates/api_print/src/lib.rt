@@ -1,5 +1,7 @@
 // Printing, and packing of track tables, for a caller that gets one number back and a text's length in a lent buffer.
 // Definitions in specs/Call. Every call answers 0, or number + 256 * place.
+#![tactic(auto)]
+
 ghost use Rattle.std.specs.Prelude.{◌≡◌};
 ghost use Rattle.api_code.specs.Code.{code_of, capped};
 ghost use Rattle.api_print.specs.Call.{printed_code, printed_counts, dual_call, dual_out, dual_counts};

@@ -1,5 +1,7 @@
 // Reading for a caller that gets one number back and the counts in a lent buffer. Definitions in specs/Call and
 // specs/StpCall. `read_call` reads a survey's text, `stp_call` an STP file.
+#![tactic(auto)]
+
 ghost use Rattle.std.specs.Prelude.{◌≡◌, length};
 ghost use Rattle.format_survey.specs.Answer.{counts_outcome, counts_of};
 ghost use Rattle.api_code.specs.Code.{code_of, capped, verdict_of, counts_for};

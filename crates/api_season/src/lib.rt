@@ -1,5 +1,7 @@
 // The season for other languages: the report is a lent slice of bytes, which a call reads, adds a survey to and writes
 // back. Definitions in specs/: Bytes (the report as bytes), Call (what the calls answer and leave).
+#![tactic(auto)]
+
 ghost use Rattle.std.specs.Prelude.{◌≡◌};
 ghost use Rattle.survey_core.specs.Survey.{lent_with};
 ghost use Rattle.api_code.specs.Code.{code_of};

@@ -1,5 +1,7 @@
 // Why a track is on the sheet, for a caller that gets one number back and the reason's numbers in a lent buffer.
 // Definitions in specs/Call and specs/Stored. `why_call` answers 0, or number + 256 * place.
+#![tactic(auto)]
+
 ghost use Rattle.std.specs.Prelude.{◌≡◌};
 ghost use Rattle.survey_core.specs.Survey.{lent_with};
 ghost use Rattle.api_code.specs.Code.{code_of};

@@ -1,6 +1,8 @@
 // Lent buffers: reads and stores that are total, so that callers have no bound to show, and casts that lose nothing.
-// Past the end a read gives 0 and a store does nothing. Definitions in specs/: Lent (what a buffer holds before and
-// after a call), Store (what a loop of stores leaves), Part (how much of a buffer is meant).
+// Past the end a read gives 0 and a store does nothing. Definitions in specs/: Store
+// (what a loop of stores leaves), Part (how much of a buffer is meant).
+#![tactic(auto)]
+
 ghost use Rattle.std.specs.Prelude.{◌≡◌, get_or, set};
 
 mod part;

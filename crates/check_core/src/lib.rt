@@ -1,6 +1,8 @@
 // The checker of plans: any marks and any moat records against a survey. What it answers is check_rule's definition;
 // how sums and stages go is specs/Duals, Moats, Cost and Stage. `check` answers k, kept cost and bound, or 1 to 6, 18
 // or 9 to 15.
+#![tactic(auto)]
+
 ghost use Rattle.std.specs.Prelude.{◌≡◌, []};
 ghost use Rattle.base_limits.specs.Verdict.{outcome, answer};
 ghost use Rattle.survey_core.specs.Survey.{survey_from, lent_with};

@@ -1,6 +1,8 @@
 // A survey's text with a printed plan behind it, read and checked. Definitions in specs/Verify, what passing is worth
 // in specs/Worth. `verify` answers k, cost and bound as the checker finds them, or the refusal of either text, of the
 // checker, or 25 where a claim is false.
+#![tactic(auto)]
+
 ghost use Rattle.std.specs.Prelude.{◌≡◌, ◌≤◌, length};
 ghost use Rattle.base_limits.specs.Limits.{max_vertices, max_edges, max_pairs};
 ghost use Rattle.format_read.specs.Step.{stopped};

@@ -2,6 +2,8 @@
 // bound of the plan in which it is closed, or why there is none; or the two lines of a refusal. All between reading and
 // writing is `text_closed::closed_text`. Where an argument is no track number, or there is none or more than 256,
 // nothing is printed.
+#![tactic(auto)]
+
 ghost use Rattle.std.specs.Prelude.{◌≡◌, length};
 ghost use Rattle.base_limits.specs.Limits.{survey_room};
 

@@ -1,5 +1,7 @@
 // Plans with one track closed, for a list of tracks: the survey is planned once, and once more without each track that
 // this plan picks. Definitions and promises in closed_rule.
+#![tactic(auto)]
+
 ghost use Rattle.std.specs.Prelude.{◌≡◌, ◌≤◌, ◌*◌, ◌++◌, length, drop};
 ghost use Rattle.survey_core.specs.Survey.{survey_with, lent_with};
 ghost use Rattle.survey_core.specs.Sound.{SurveySound};

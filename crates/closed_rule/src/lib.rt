@@ -1,5 +1,7 @@
 // Plans with one track closed: what a call for a list of tracks answers and writes, and what it promises. Definitions
 // and laws in specs/, no functions.
+#![tactic(auto)]
+
 
 // Tracks of one call, and numbers of a row, at most.
 pub const MAX_CLOSED: usize = 256;

@@ -1,6 +1,8 @@
 // Reads a survey's text on standard input and prints a floor under every set of tracks that joins every group, what the
 // plan costs, and how far it may be above the cheapest in tenths of a percent; or the two lines of a refusal. All
 // between reading and writing is `text_floor::floor_text`.
+#![tactic(auto)]
+
 ghost use Rattle.std.specs.Prelude.{◌≡◌, length};
 ghost use Rattle.base_limits.specs.Limits.{survey_room};
 

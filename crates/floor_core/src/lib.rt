@@ -1,5 +1,7 @@
 // A floor under every set of tracks that joins every group, by dual ascent over directed cuts, with the plan's figures.
 // Definitions and promises in floor_rule.
+#![tactic(auto)]
+
 ghost use Rattle.std.specs.Prelude.{◌≡◌};
 ghost use Rattle.survey_core.specs.Survey.{survey_with, lent_with};
 ghost use Rattle.survey_core.specs.Sound.{SurveySound};

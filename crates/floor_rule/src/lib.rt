@@ -1,6 +1,8 @@
 // A floor under the cost of every set of tracks that joins every group: dual ascent over directed cuts (specs/Ascent),
 // over the survey's lists poured together (specs/Number), with the plan's figures (specs/Floor), and what is promised
 // of it (specs/Promise). It holds the type of the answer, and no function.
+#![tactic(auto)]
+
 use base_limits::{MAX_EDGES, MAX_WEIGHT};
 
 // Arcs, at most: each track is two.

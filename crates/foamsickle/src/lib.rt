@@ -1,6 +1,8 @@
 // The library for programs in other languages: every operation as a function that C can call. A slice crosses as a
 // pointer and a length in items; the answer is 0, or a refusal's number plus 256 times its place. Declared in
 // include/foamsickle.h.
+#![tactic(auto)]
+
 ghost use Rattle.std.specs.Prelude.{◌≡◌, length, ◌≤◌};
 ghost use Rattle.survey_core.specs.Survey.{survey_with, lent_with};
 ghost use Rattle.format_write.specs.Text.{plan_text};

@@ -1,6 +1,8 @@
 // The also lines of a survey's text, each a junction and a further group of it. Definitions in specs/Pair (17, 18 and 7
 // of a line) and specs/WellFormed. `pair_lines` reads them, up to the first byte that begins none, and `put_pairs`
 // writes them.
+#![tactic(auto)]
+
 ghost use Rattle.std.specs.Prelude.{◌≡◌};
 ghost use Rattle.std.proofs.lemmas.List.Edits.{sets};
 ghost use Rattle.format_read.specs.Answer.{number_step};

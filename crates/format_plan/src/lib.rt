@@ -1,6 +1,8 @@
 // A printed plan's text in. What its lines are is specs/Lines, what a plan is specs/Plan, which texts are plans
 // specs/WellFormed. `read_plan` answers the counts that the plan claims and fills marks and records, or refuses with 7,
 // 16, 26, 27 or 28.
+#![tactic(auto)]
+
 ghost use Rattle.std.specs.Prelude.{◌≡◌, ◌*◌, ◌++◌, length, drop};
 ghost use Rattle.base_limits.specs.Limits.{record_bytes};
 ghost use Rattle.format_read.specs.Answer.{number_step};

@@ -1,5 +1,7 @@
 // Plans, moat lines, rows of closed tracks and refusals out. What printing answers and writes is specs/Print, what fits
 // is specs/Within. Each call answers the text's length (`Printed`), or a refusal, and then the buffer holds what it held.
+#![tactic(auto)]
+
 mod closed;
 mod lines;
 mod plan;

@@ -1,6 +1,8 @@
 // What reading a text is, for any text: steps, words, lines, items up to a stop (specs/Step, Language, Lines, Items),
 // bytes and numbers (specs/Bytes, Number). Functions take fixed bytes, a number, a byte of a class or a line where a
 // reader stands; each answers a value with the next cursor, or the refusal.
+#![tactic(auto)]
+
 ghost use Rattle.std.specs.Prelude.{◌≡◌, min};
 ghost use Rattle.base_limits.specs.Limits.{max_digits};
 ghost use Rattle.format_read.specs.Number.{is_class, class_step, number_at};

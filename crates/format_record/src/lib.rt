@@ -1,6 +1,8 @@
 // Moat records: the amount, lowest byte first, then the members as bits, 8 to a byte. Definitions in specs/Record and
 // specs/Bits. Functions read and write a record's parts, and are total: bytes that a part lacks read as 0, and what has
 // no room is not written.
+#![tactic(auto)]
+
 ghost use Rattle.std.specs.Prelude.{◌≡◌, ◌%◌};
 ghost use Rattle.format_record.specs.Bits.{bit_at, with_bit, low_bytes};
 ghost use Rattle.format_record.specs.Record.{value_in, member_in, record_at};

@@ -1,5 +1,7 @@
 // SteinLib STP texts in, the undirected subset (docs/STP.md). The grammar is specs/Subset, how a text is read
 // specs/StpReading. `read_stp` answers n and m and fills the lent buffers of a survey, or refuses with 1, 3, 7 or 20.
+#![tactic(auto)]
+
 ghost use Rattle.std.specs.Prelude.{◌≡◌};
 ghost use Rattle.format_read.specs.Step.{found, stopped, ◌then◌};
 ghost use Rattle.format_read.specs.Answer.{number_step};

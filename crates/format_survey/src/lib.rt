@@ -1,6 +1,8 @@
 // A survey's text in: what its lines are (specs/Line), how it is read (specs/Reading), which texts are well-formed and
 // how a refused one begins (specs/WellFormed, Beginning). `read` answers n, m and the number of pairs and fills the
 // lent buffers, or refuses with 1, 3, 7, 16, 17 or 18 and writes nothing.
+#![tactic(auto)]
+
 ghost use Rattle.std.specs.Prelude.{◌≡◌, length};
 ghost use Rattle.format_survey.specs.Line.{lent_lengths};
 ghost use Rattle.format_survey.specs.Reading.{reading, filled};

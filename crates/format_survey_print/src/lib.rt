@@ -1,5 +1,7 @@
 // A survey's text out, which reading takes back. Definitions in specs/Print. `print_survey` answers the text's length,
 // or refuses with 2 or 7.
+#![tactic(auto)]
+
 ghost use Rattle.std.specs.Prelude.{◌≡◌};
 ghost use Rattle.format_survey_print.specs.Print.{survey_lent, survey_printed, survey_printed_out};
 

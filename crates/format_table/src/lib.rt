@@ -1,4 +1,6 @@
 // Track tables for the memory card: bytes of equal rank lie together, and back. Definitions in specs/.
+#![tactic(auto)]
+
 ghost use Rattle.std.specs.Prelude.{◌≡◌, ◌*◌, ◌++◌, length, drop};
 ghost use Rattle.format_table.specs.Table.{turned, table_refusal, packed_out, unpacked_out};
 ghost use Rattle.format_table.specs.Turning.{column_stored, Holds, HoldsColumn};

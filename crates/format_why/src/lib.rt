@@ -1,5 +1,7 @@
 // Reasons out: why a track has its mark, as lines of text. Definitions in specs/ReasonText and specs/Within.
 // `print_reason` answers the text's length, or 7.
+#![tactic(auto)]
+
 ghost use Rattle.std.specs.Prelude.{◌≡◌, length};
 ghost use Rattle.base_limits.specs.Limits.{why_room};
 

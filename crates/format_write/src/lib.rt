@@ -1,6 +1,8 @@
 // The keys of the texts, each in this one place (specs/Key), the text of a plan, its numbers and lines (specs/Text,
 // specs/Decimal), and what writing into a lent buffer leaves (specs/Wrote). Functions write bytes, numbers and lines as
 // far as the buffer reaches, and answer the next place.
+#![tactic(auto)]
+
 ghost use Rattle.std.specs.Prelude.{◌≡◌, ◌∷◌, [], ◌%◌};
 ghost use Rattle.format_write.specs.Decimal.{digit, decimal};
 ghost use Rattle.format_write.specs.Text.{line_of};

@@ -1,6 +1,8 @@
 // Reads two survey texts, one after the other, and the tie lines behind them on standard input, and prints the text of
 // the one survey that they become, or the two lines of a refusal. All between reading and writing is
 // `text_merge::merge_text`. More bytes than two surveys and their ties can have are not read.
+#![tactic(auto)]
+
 ghost use Rattle.std.specs.Prelude.{◌≡◌, ◌*◌, length};
 ghost use Rattle.base_limits.specs.Limits.{survey_room};
 

@@ -1,4 +1,6 @@
 // One survey of two neighbouring ones, given ties between them. Definitions and promises in merge_rule.
+#![tactic(auto)]
+
 ghost use Rattle.std.specs.Prelude.{◌≡◌};
 ghost use Rattle.survey_core.specs.Survey.{survey_with, lent_with};
 ghost use Rattle.merge_rule.specs.Ties.{ties_from};

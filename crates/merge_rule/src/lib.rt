@@ -1,5 +1,7 @@
 // One survey of two neighbouring ones and ties between them: what it is, what is refused, and that both can be read out
 // of it again. Definitions and laws in specs/, no functions.
+#![tactic(auto)]
+
 
 // Numbers of a merged survey that are answered: junctions, tracks, pairs.
 pub const MERGE_FIGURES: usize = 3;

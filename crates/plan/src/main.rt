@@ -2,6 +2,8 @@
 // writing is `text_plan::plan_whole`; a text longer than the buffer has the output of its first bytes
 // (`output_first_bytes`). Where the plan's figures show it, and the plan could be written, it says on standard error
 // that no cheaper plan exists (`format_plan::remark`).
+#![tactic(auto)]
+
 ghost use Rattle.std.specs.Prelude.{◌≡◌, length};
 ghost use Rattle.base_limits.specs.Limits.{survey_room};
 

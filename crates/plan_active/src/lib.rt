@@ -1,6 +1,8 @@
 // Which components are active, as flags by component number, and whether a merged one will be. Definitions in
 // specs/Flags. `active_flags` makes those of the start, `joined_flag` that of a merged component, `merge` its labels
 // and flags.
+#![tactic(auto)]
+
 ghost use Rattle.std.specs.Prelude.{◌≡◌};
 ghost use Rattle.plan_active.specs.Flags.{relabelled_first, merged_flags};
 

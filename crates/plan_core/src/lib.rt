@@ -1,5 +1,7 @@
 // Planning: growing, then dropping. Definitions and promises are plan_rule's; specs/Grown, Planned and
 // Picks say what the parts leave. `plan`, `grow_plan` and `prune_plan` answer counts and fill marks and records, or refuse.
+#![tactic(auto)]
+
 ghost use Rattle.std.specs.Prelude.{◌≡◌, length};
 ghost use Rattle.survey_core.specs.Survey.{lent_with};
 ghost use Rattle.plan_rule.specs.Plan.{counting, marks_after, records_after};

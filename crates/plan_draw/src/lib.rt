@@ -1,5 +1,7 @@
 // The moats of a growth as records, single junctions first, then merged components as they arose. Definitions in
 // specs/Trace, Members and Drawing. `draw` writes the records of a trace and answers how many there are.
+#![tactic(auto)]
+
 ghost use Rattle.std.specs.Prelude.{◌≡◌, length};
 ghost use Rattle.plan_draw.specs.Drawing.{records_over};
 ghost use Rattle.plan_draw.specs.Trace.{trace_from, lent_trace, trace_duals, Drawable, drawn_duals};

@@ -1,6 +1,8 @@
 // Which picked tracks of a forest are needed: each has a cut of its own, and 64 of them are judged at once. Definitions
 // in specs/Side, Needed, Judge and the like. `prune_picks` writes the marks, or answers 21 or 14; `prune` judges the
 // survey and the picks first.
+#![tactic(auto)]
+
 ghost use Rattle.std.specs.Prelude.{◌≡◌, [], length};
 ghost use Rattle.base_finite.specs.Below.{tabulate};
 ghost use Rattle.base_limits.specs.Limits.{max_vertices};

@@ -1,6 +1,8 @@
 // Growing over arrays: rounds until no candidate is left, at most n - 1. What a round makes of any arrays is
 // specs/Round, what they represent specs/Represents, what a growth leaves specs/Grown. `grow_rounds` answers the number of
 // rounds and the sum of all moats, and leaves values, picks and their order; `grow` judges the survey first.
+#![tactic(auto)]
+
 ghost use Rattle.std.specs.Prelude.{◌≡◌, ◌^◌, ◌<◌, length, replicate, slice_set};
 ghost use Rattle.base_limits.specs.Limits.{max_vertices, max_edges, max_duals};
 ghost use Rattle.base_limits.specs.Verdict.{written};

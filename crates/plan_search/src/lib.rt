@@ -1,6 +1,8 @@
 // The search for a round's winner over arrays: tracks that cannot win yet are passed over by their keys, and blocks by
 // their floors. Definitions in specs/Scan, Keys, Between, Held and Tables. `find_winner` answers the winner and its
 // wait; `start_keys` makes the keys of the start.
+#![tactic(auto)]
+
 ghost use Rattle.std.specs.Prelude.{◌≡◌, ◌-◌, ◌*◌, ◌<◌, ◌≤◌, set, length};
 ghost use Rattle.plan_search.specs.Scan.{time_limit, capped_time, block_edges, block_size, blocks_of, lowest_key};
 ghost use Rattle.plan_search.specs.Tables.{tables_in, on_by, pass_by, scan_from};

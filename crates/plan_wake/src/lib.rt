@@ -1,5 +1,7 @@
 // Waking the tracks that rest at a junction when it is joined: they get keys again, and the floors of their blocks are
 // lowered to these. Definitions in specs/Wake. `wake_joined` does it for the two components that a round joins.
+#![tactic(auto)]
+
 ghost use Rattle.std.specs.Prelude.{◌≡◌};
 ghost use Rattle.plan_search.specs.Tables.{tables_in};
 ghost use Rattle.plan_wake.specs.Wake.{notes_from, behind_by, woken_at, woken_by};

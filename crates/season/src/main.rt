@@ -1,6 +1,8 @@
 // Reads survey texts, one after the other, on standard input and prints the report over their surveys; or the two lines
 // of the refusal of the first text that reading refuses, with the place in that text, or of a 1,001st survey (3), and
 // nothing else. What is done with each text is `text_season::add_text`.
+#![tactic(auto)]
+
 ghost use Rattle.std.specs.Prelude.{◌≡◌, ◌*◌, ◌≤◌, length};
 ghost use Rattle.base_limits.specs.Limits.{survey_room};
 ghost use Rattle.base_buffer.specs.Part.{at_most};

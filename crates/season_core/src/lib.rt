@@ -1,5 +1,7 @@
 // Adds a survey to a season's report: plans it, without moats, in a buffer of its own for the marks. Definitions in
 // season_rule.
+#![tactic(auto)]
+
 ghost use Rattle.std.specs.Prelude.{◌≡◌};
 ghost use Rattle.survey_core.specs.Survey.{lent_with};
 ghost use Rattle.season_rule.specs.Figures.{figures};

@@ -1,5 +1,7 @@
 // The season's report: what adding a survey answers and what the report says. Definitions and laws in specs/, no
 // functions.
+#![tactic(auto)]
+
 use base_limits::Verdict;
 
 // Surveys of one report, at most.

@@ -1,6 +1,8 @@
 // Reads a SteinLib STP text on standard input and prints the survey that it says, as our own text, or the two lines of
 // a refusal. All between reading and writing is `text_stp::stp_whole`. One byte more than the room is read, so that
 // a longer text is refused and not cut (`stp_first_bytes`).
+#![tactic(auto)]
+
 ghost use Rattle.std.specs.Prelude.{◌≡◌, ◌+◌, length};
 ghost use Rattle.base_limits.specs.Limits.{survey_room};
 ghost use Rattle.text_stp.specs.StpOutput.{stp_room};

@@ -1,6 +1,8 @@
 // Sets of tracks by their marks, the components that a set makes, as labels in a buffer, and its loops. Definitions in
 // specs/Labels, Roots, Met, Forest and Buffer. `joined_labels` leaves labels, `loop_refusal` answers 21 or 14, of a survey
 // that 1 to 6 do not refuse; `set_labels` and `forest_refusal` judge it first.
+#![tactic(auto)]
+
 ghost use Rattle.std.specs.Prelude.{◌≡◌, ℕ, cond, [], get_or, length, replicate};
 ghost use Rattle.base_finite.specs.Below.{tabulate};
 ghost use Rattle.theory_graph.specs.Component.{components};

@@ -1,5 +1,7 @@
 // How the members of groups lie over components: a summary of each group (specs/Spread), the member of its group before
 // each junction (specs/Mate). Functions find the lowest split group, say whether a cut separates, and count sites.
+#![tactic(auto)]
+
 ghost use Rattle.std.specs.Prelude.{◌≡◌, ℕ, ◌+◌, ◌<◌, ◌^◌, get_or, length};
 ghost use Rattle.base_finite.specs.Below.{tabulate};
 ghost use Rattle.base_limits.specs.Limits.{group_numbers};

@@ -1,5 +1,7 @@
 // Refusals 1 to 6 and 18 of a survey, decided: definitions in survey_core, the test over all tracks at once in
 // specs/Fault. `survey_refusal` judges a survey with pairs, `edges::survey_refusal` one without.
+#![tactic(auto)]
+
 ghost use Rattle.std.specs.Prelude.{◌≡◌, ◌||◌, eqb, ltb};
 ghost use Rattle.base_limits.specs.Limits.{max_vertices};
 ghost use Rattle.base_limits.specs.Verdict.{refuse_if, ◌before◌};

@@ -3,6 +3,8 @@
 // `text_table::survey_table`, `format_table::pack_table` and `format_table::unpack_table`. A refusal's two lines go to
 // standard error, since every byte may stand in a table; then nothing is written to standard output. A text longer
 // than the buffer has the table of its first bytes (`table_first_bytes`); a table longer than every survey's is 7.
+#![tactic(auto)]
+
 ghost use Rattle.std.specs.Prelude.{◌≡◌, ◌+◌, length};
 ghost use Rattle.base_limits.specs.Limits.{survey_room};
 ghost use Rattle.format_table.specs.Table.{track_bytes};

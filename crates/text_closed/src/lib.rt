@@ -1,5 +1,7 @@
 // A survey's text and a list of tracks in, the rows of their closing out: what the program `closed` does between
 // reading and writing.
+#![tactic(auto)]
+
 ghost use Rattle.std.specs.Prelude.{◌≡◌};
 ghost use Rattle.format_print.specs.Print.{printed, printed_out};
 ghost use Rattle.text_closed.specs.Output.{closed_output};

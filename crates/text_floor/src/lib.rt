@@ -1,5 +1,7 @@
 // A survey's text in, the floor, the plan's cost and the gap between them out: what the program `floor` does between
 // reading and writing.
+#![tactic(auto)]
+
 ghost use Rattle.std.specs.Prelude.{◌≡◌};
 ghost use Rattle.format_print.specs.Print.{printed, printed_out};
 ghost use Rattle.text_floor.specs.Output.{floor_output};

@@ -1,5 +1,7 @@
 // Two survey texts one after the other and the ties behind them in, the text of the one survey that they become out:
 // what the program `merge` does between reading and writing. Definitions in specs/Output.
+#![tactic(auto)]
+
 ghost use Rattle.std.specs.Prelude.{◌≡◌};
 ghost use Rattle.format_print.specs.Print.{printed, printed_out};
 ghost use Rattle.text_merge.specs.Output.{merge_output};

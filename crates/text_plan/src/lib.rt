@@ -1,5 +1,7 @@
 // What `plan` prints for a text: a survey's text in, its plan's text or the two lines of a refusal out. Definitions in
 // specs/Output. `plan_text` answers the length for any buffer, `plan_whole` for one that always holds it.
+#![tactic(auto)]
+
 ghost use Rattle.std.specs.Prelude.{◌≡◌, ◌++◌, ◌≤◌, length, drop};
 ghost use Rattle.base_limits.specs.Limits.{plan_room};
 ghost use Rattle.format_print.specs.Print.{printed, printed_out};

@@ -1,5 +1,7 @@
 // A survey's text at the front of a text in, the report with its survey added out: what the program `season` does with
 // one text after another. Definitions in specs/.
+#![tactic(auto)]
+
 ghost use Rattle.std.specs.Prelude.{◌≡◌, ◌≤◌};
 ghost use Rattle.base_limits.specs.Limits.{max_vertices, max_edges, max_pairs};
 ghost use Rattle.format_read.specs.Step.{stopped};

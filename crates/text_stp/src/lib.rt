@@ -1,5 +1,7 @@
 // What `stp` prints for an STP text: our own survey text, or the two lines of a refusal. Definitions in
 // specs/StpOutput. `stp_text` answers the length for any buffer, `stp_whole` for one that always holds it.
+#![tactic(auto)]
+
 ghost use Rattle.std.specs.Prelude.{◌≡◌, ◌++◌, ◌≤◌, length, drop};
 ghost use Rattle.base_limits.specs.Limits.{survey_room};
 ghost use Rattle.format_print.specs.Print.{printed, printed_out};

@@ -1,5 +1,7 @@
 // A survey's text in, its track table out: what the program `table` does between reading and writing. Definitions in
 // specs/.
+#![tactic(auto)]
+
 ghost use Rattle.std.specs.Prelude.{◌≡◌};
 ghost use Rattle.format_print.specs.Print.{printed, printed_out};
 ghost use Rattle.text_table.specs.TrackTable.{track_table, text_table, table_printed, table_printed_out};

@@ -1,6 +1,8 @@
 // What `verify` prints for a survey's text with a plan's behind it: `passed` with the figures, or the two lines of a
 // refusal. Definitions in specs/Output. `verify_text` answers the length for any buffer, `verify_whole` for one that
 // always holds it.
+#![tactic(auto)]
+
 ghost use Rattle.std.specs.Prelude.{◌≡◌, ◌++◌, ◌≤◌, length, drop};
 ghost use Rattle.format_print.specs.Print.{printed, printed_out};
 ghost use Rattle.text_verify.specs.Output.{findings_room, verify_output};

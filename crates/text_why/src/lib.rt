@@ -1,6 +1,8 @@
 // What `why` prints for a text and a track: the reason's text, or the two lines of a refusal. Definitions in
 // specs/Output. `why_text` answers the length for any buffer, `why_whole` for one that always holds it; `track_number`
 // reads the argument.
+#![tactic(auto)]
+
 ghost use Rattle.std.specs.Prelude.{◌≡◌, ◌++◌, ◌≤◌, length, drop};
 ghost use Rattle.base_limits.specs.Limits.{why_room};
 ghost use Rattle.format_print.specs.Print.{printed, printed_out};

@@ -1,5 +1,7 @@
 // A survey's text with strength lines behind it in, copies of tracks out: what the program `winter` does between
 // reading and writing. Definitions in specs/.
+#![tactic(auto)]
+
 ghost use Rattle.std.specs.Prelude.{◌≡◌, ◌≤◌};
 ghost use Rattle.base_limits.specs.Limits.{max_vertices, max_edges, max_pairs};
 ghost use Rattle.format_print.specs.Print.{printed, printed_out};

@@ -2,6 +2,8 @@
 // terminals, cost and bound as the checker finds them, or the refusal. All between reading and writing is
 // `text_verify::verify_whole`; a text longer than the buffer does not pass (`passed_cut`). Where the figures show it,
 // and could be written, it says on standard error that no cheaper plan exists (`format_plan::remark`).
+#![tactic(auto)]
+
 ghost use Rattle.std.specs.Prelude.{◌≡◌, length};
 ghost use Rattle.base_limits.specs.Limits.{verify_room};
 

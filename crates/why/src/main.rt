@@ -1,6 +1,8 @@
 // Reads a survey's text on standard input and a track number as its argument, and prints why the track has its mark, or
 // the two lines of a refusal; nothing where the argument is no track number. All between reading and writing is
 // `text_why::why_whole`; a longer text has the output of its first bytes (`why_first_bytes`).
+#![tactic(auto)]
+
 ghost use Rattle.std.specs.Prelude.{◌≡◌, length};
 ghost use Rattle.base_limits.specs.Limits.{survey_room};
 

@@ -1,6 +1,8 @@
 // Why a track is on the sheet: the call, which plans in buffers of its own. Definitions and promises are why_rule's;
 // how pairs, rounds and routes are found is specs/Parted, Replay and Walk. `why` answers the reason and writes a kept
 // track's route, or refuses with 1 to 8, 18 or 19.
+#![tactic(auto)]
+
 ghost use Rattle.std.specs.Prelude.{◌≡◌, ◌++◌, length, drop, replicate};
 ghost use Rattle.base_limits.specs.Limits.{max_edges};
 ghost use Rattle.base_limits.specs.Verdict.{answer};

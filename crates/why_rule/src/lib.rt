@@ -1,5 +1,7 @@
 // Why a track is on the sheet: the reason for each mark (specs/Reason), when it is true (specs/True), what the call
 // answers and writes (specs/Why) and promises (specs/Promise). It holds the type of the answer, and no function.
+#![tactic(auto)]
+
 
 // What the call answers. Kept: the lowest list parted without the track, the lowest pair of its members so parted, and
 // how many entries the kept route between them has. Dropped: no list needs it. Passed, for a track that was not picked:

@@ -1,6 +1,8 @@
 // Reads a survey's text with strength lines behind it on standard input, and prints the total price and the copies of
 // each track that is copied, or the two lines of a refusal. All between reading and writing is
 // `text_winter::winter_text`.
+#![tactic(auto)]
+
 ghost use Rattle.std.specs.Prelude.{◌≡◌, ◌*◌, length};
 ghost use Rattle.base_limits.specs.Limits.{survey_room};
 

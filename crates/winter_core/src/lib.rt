@@ -1,5 +1,7 @@
 // Groups that carry a strength: the survey is planned for each of four bits, for the groups whose strength has it, and
 // a track that is kept counts 1, 2, 4 or 8 times. Definitions and promises in winter_rule.
+#![tactic(auto)]
+
 ghost use Rattle.std.specs.Prelude.{◌≡◌, ◌+◌, ◌<◌, length};
 ghost use Rattle.theory_steiner.specs.Strength.{strength_bits};
 ghost use Rattle.survey_core.specs.Survey.{survey_with, lent_with};

@@ -1,5 +1,7 @@
 // Groups that carry a strength, and copies of tracks that meet it: what the call answers and writes, and what it
 // promises. Definitions and laws in specs/, no functions.
+#![tactic(auto)]
+
 
 // Strengths of one call, that of group 1 first; the highest; and its bits.
 pub const STRENGTHS: usize = 255;

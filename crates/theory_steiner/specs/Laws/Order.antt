@@ -99,7 +99,7 @@ module _ (p : Problem) where
 
   placed_old : (e : ℕ) (es : List ℕ) (g : ℕ) → Memᴰ g es → Memᴰ g (placed p e es)
   unfolding placed
-  placed_old e [] g m = absurd (Memᴰ.not_nil m)
+  placed_old e [] g m = absurd (Memᴰ.not-nil m)
   placed_old e (f ∷ fs) g m = by (placed_old e fs g) (comes_before p e f) (Memᴰ.cases_cons m)
     where
       by : (Memᴰ g fs → Memᴰ g (placed p e fs)) → (t : Bool) → (g ≡ f) ⊎ Memᴰ g fs →
@@ -110,7 +110,7 @@ module _ (p : Problem) where
 
   placed_rising : (e : ℕ) (es : List ℕ) → Rising p es → (Memᴰ e es → ⊥) → Rising p (placed p e es)
   unfolding placed
-  placed_rising e [] none fresh = more (λ f m. absurd (Memᴰ.not_nil m)) none
+  placed_rising e [] none fresh = more (λ f m. absurd (Memᴰ.not-nil m)) none
   placed_rising e (f ∷ fs) (more low rest) fresh = by (placed_rising e fs rest (λ m. fresh (Memᴰ.tail m))) (comes_before p e f) refl
     where
       by : Rising p (placed p e fs) → (t : Bool) → comes_before p e f ≡ t → Rising p (cond t (e ∷ (f ∷ fs)) (f ∷ placed p e fs))
@@ -141,7 +141,7 @@ module _ (p : Problem) where
   -- The list holds no other edges than the usable ones,
   pub in_order_only : (m f : ℕ) → Memᴰ f (in_order_law p m) → (f < m) × (p.usable f ≡ true)
   unfolding in_order_law
-  in_order_only zero f h = absurd (Memᴰ.not_nil h)
+  in_order_only zero f h = absurd (Memᴰ.not-nil h)
   in_order_only (suc e) f h = by (in_order_only e f) (p.usable e) refl h
     where
       wider : (f < e) × (p.usable f ≡ true) → (f < suc e) × (p.usable f ≡ true)

@@ -165,7 +165,7 @@ module _ (p : Problem) (ok : Sound p) (some : 0 < p.vertices) (joinable : Joins 
       (λ h. (t.sound f h).1)
       (λ h.
       let its = picked_edges p ok some joinable f h in
-      t.whole f (⊎_elim (λ o. o) (λ m. absurd (Memᴰ.not_nil m)) (l.seen_or_left f its.0 its.1)) h)
+      t.whole f (⊎_elim (λ o. o) (λ m. absurd (Memᴰ.not-nil m)) (l.seen_or_left f its.0 its.1)) h)
   takes_all (e ∷ es) seen T l t f = takes_all es (with_edge seen e true) (with_edge T e (joins_parts p T e)) (left_next p seen e es l) (takes_next seen T e es l t) f
 
   taken_at : (f : ℕ) → taken p f ≡ picked p f

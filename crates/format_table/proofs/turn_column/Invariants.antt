@@ -1,0 +1,12 @@
+-- `turn_column` meets its contract: one byte more at a time, within the table and the buffer (`places`).
+use Prim.Native.Nat.{◌-◌}
+use mathlib.Core.Path.{refl}
+use borrow.Author.Rules.{rules}
+use Rattle.format_table.specs.Laws.Turning.{StoringColumn, column_start, column_more, column_end, places}
+use Rattle.format_table.proofs.turn_column.Given as goal
+
+abbrev pub invariant-loop-i : goal.invariant-loop-i
+invariant-loop-i l = StoringColumn l.rows l.columns l.j l.table l.initial.out l.i l.out
+
+abbrev pub decreases-loop-i : goal.decreases-loop-i
+decreases-loop-i l = l.rows - l.i

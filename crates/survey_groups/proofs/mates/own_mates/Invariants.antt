@@ -1,0 +1,16 @@
+-- `own_mates` meets its contract: it stores at rising places.
+use Prim.Native.Nat.{ℕ, ◌≤◌, ◌-◌}
+use mathlib.Core.Path.{◌≡◌, refl}
+use lib.ListN.{length-replicate}
+use native.Mathlib.Omega.{arith}
+use borrow.Author.Rules.{rules}
+use Rattle.base_limits.specs.Limits.{max_vertices}
+use Rattle.base_buffer.specs.Store.{remade}
+use Rattle.base_buffer.specs.Laws.Store.{remade_more, stored_table}
+use Rattle.survey_groups.proofs.mates.own_mates.Given as goal
+
+abbrev pub invariant-loop-v : goal.invariant-loop-v
+invariant-loop-v l = (l.v ≤ max_vertices) × (l.mates ≡ remade (λ l.v x. l.v) l.v l.initial.mates)
+
+abbrev pub decreases-loop-v : goal.decreases-loop-v
+decreases-loop-v l = max_vertices - l.v

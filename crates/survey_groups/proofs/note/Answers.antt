@@ -1,0 +1,16 @@
+-- `note` meets its contract: no group, no change; else one store.
+use borrow.Author.Tests.{eq-eqb, ne_eqb}
+use Rattle.survey_groups.specs.Spread.{noted_in}
+use borrow.Author.Rules.{rules}
+use Rattle.survey_groups.proofs.note.Goals as goal
+
+pub returns-then-group-eq0 : goal.returns-then-group-eq0
+unfolding noted_in
+returns-then-group-eq0 c = rw (eq-eqb c.args.group 0 c.if-group-eq0.true)
+
+pub shape_of-table : goal.shape_of-table
+shape_of-table c = c.put64.auto.0
+
+pub returns : goal.returns
+unfolding noted_in
+returns c = rw (ne_eqb c.args.group 0 c.before.before.before.before.before.before.before.before.if1.false, ← c.before.before.before.before.before.before.before.index8.ensures, ← c.at64.ensures, ← c.noted_label-x.ensures) c.put64.ensures

@@ -1,0 +1,6 @@
+-- `note_label` meets its contract: `note` with the label as it is.
+use borrow.Author.Rules.{rules}
+use Rattle.survey_groups.proofs.note_label.Goals as goal
+
+pub returns : goal.returns
+returns c = rw (← c.wide32.ensures) c.note.ensures

@@ -1,0 +1,30 @@
+-- `count_split` meets its contract: it counts upwards.
+use Prim.Native.Nat.{◌≤◌, ◌-◌}
+use mathlib.Core.Path.{◌≡◌, refl}
+use lib.ListN.{length, get_or}
+use lib.Dec.{eqb}
+use Rattle.base_finite.specs.Below.{counted, count_below}
+use Rattle.base_finite.specs.Laws.Count.{count_more, count_end, count_bound}
+use native.Mathlib.Omega.{arith}
+use borrow.Author.Rules.{rules}
+use Rattle.survey_groups.proofs.terminals.count_split.Goals as goal
+
+step : (c : tie.After-one-if-split invariant_loop decreases_loop)
+    → c.one-if-split.result ≡ counted (eqb (get_or c.before.before.before.before.before.before.before.before.args.table.now (get_or c.before.before.before.before.before.before.before.before.args.groups.now c.before.before.before.before.before.loop.v 0) 0) 1) 1
+step c = rw (← c.before.before.before.at8.ensures, ← c.before.before.index8.ensures, ← c.before.at64.ensures) c.one-if-split.ensures
+
+pub loop-v-init : goal.loop-v-init
+unfolding count_below Rattle.base_finite.specs.Below.sum_below
+loop-v-init c = (omega arith, refl)
+
+pub overflow_add-count : goal.overflow_add-count
+overflow_add-count c = let b = count_bound _ _ c.loop-v.invariant.1 (step c) in omega arith
+
+pub loop-v-smaller : goal.loop-v-smaller
+loop-v-smaller c = omega arith
+
+pub loop-v-preserved : goal.loop-v-preserved
+loop-v-preserved c = (omega arith, count_more _ _ c.loop-v.invariant.1 (step c))
+
+pub returns : goal.returns
+returns c = count_end _ _ _ (omega arith) (omega arith) c.loop-v.invariant.1

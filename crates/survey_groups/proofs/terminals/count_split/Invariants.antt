@@ -1,0 +1,16 @@
+-- `count_split` meets its contract: it counts upwards.
+use Prim.Native.Nat.{◌≤◌, ◌-◌}
+use mathlib.Core.Path.{◌≡◌, refl}
+use lib.ListN.{length, get_or}
+use lib.Dec.{eqb}
+use Rattle.base_finite.specs.Below.{counted, count_below}
+use Rattle.base_finite.specs.Laws.Count.{count_more, count_end, count_bound}
+use native.Mathlib.Omega.{arith}
+use borrow.Author.Rules.{rules}
+use Rattle.survey_groups.proofs.terminals.count_split.Given as goal
+
+abbrev pub invariant-loop-v : goal.invariant-loop-v
+invariant-loop-v l = (l.v ≤ length l.groups) × (l.count ≡ count_below l.v (λ l.v. eqb (get_or l.table (get_or l.groups l.v 0) 0) 1))
+
+abbrev pub decreases-loop-v : goal.decreases-loop-v
+decreases-loop-v l = length l.groups - l.v
