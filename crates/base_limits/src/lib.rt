@@ -85,7 +85,7 @@ pub const SURVEY_ROOM: usize = 65536;
 pub const VERIFY_ROOM: usize = 2097152;
 
 // A refusal is its number and its place; `Fine` where none applies.
-#[derive(Drop)]
+#[derive(Clone, Copy)]
 pub enum Verdict {
     Fine,
     Refused { number: u64, place: usize },

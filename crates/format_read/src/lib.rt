@@ -18,14 +18,14 @@ mod line;
 
 pub use line::{number_line, number_to};
 
-#[derive(Drop)]
+#[derive(Clone, Copy)]
 pub struct Cursor {
     pub at: usize,
 }
 
 // The classes of bytes that tell the parts of a line apart: the digit 0 and the others, what ends a line, what stands
 // between values and behind one, and the letters with which the line of a kept track and an also line begin.
-#[derive(Drop)]
+#[derive(Clone, Copy)]
 pub enum Class {
     Zero,
     Digit,
@@ -38,7 +38,7 @@ pub enum Class {
 }
 
 // A number with the next cursor; 0 where what was read has no value.
-#[derive(Drop)]
+#[derive(Clone, Copy)]
 pub enum Number {
     Value { value: u64, next: Cursor },
     Refused { number: u64, place: usize },

@@ -4,14 +4,14 @@ ghost use Rattle.plan_search.specs.Held.{settled_by};
 ghost use Rattle.plan_search.specs.Between.{vertex_end};
 
 // An edge's delay, if it is a candidate.
-#[derive(Drop)]
+#[derive(Clone, Copy)]
 pub enum Delay {
     Never,
     After(u64),
 }
 
 // The ends of an edge between two components, by how many are active.
-#[derive(Drop)]
+#[derive(Clone, Copy)]
 pub enum ActiveEnds {
     Neither,
     One,
@@ -19,14 +19,14 @@ pub enum ActiveEnds {
 }
 
 // The winner of a round, if there is a candidate.
-#[derive(Drop)]
+#[derive(Clone, Copy)]
 pub enum Winner {
     Nobody,
     Edge { e: usize, d: u64 },
 }
 
 // One end of an edge: the number of its component, 1 if that is active, and its load.
-#[derive(Drop)]
+#[derive(Clone, Copy)]
 pub struct End {
     pub label: u32,
     pub flag: u8,

@@ -36,7 +36,7 @@ pub const BLOCK_EDGES: usize = 8;
 pub const MAX_BLOCKS: usize = MAX_EDGES / BLOCK_EDGES + 1;
 
 // What the edges of a block leave: the best so far, and the lowest of their keys.
-#[derive(Drop)]
+#[derive(Clone, Copy)]
 struct Passed {
     best: Winner,
     low: u64,

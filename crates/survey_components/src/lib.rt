@@ -28,7 +28,7 @@ pub use forest::{forest_refusal, loop_refusal};
 pub use labels::{climb, merge, own_labels, relabel};
 
 // A set of edges: all of a survey's, or those that are marked kept.
-#[derive(Drop)]
+#[derive(Clone, Copy)]
 pub enum Chosen {
     All,
     Kept,

@@ -8,3 +8,7 @@ use Rattle.format_record.proofs.bit.Goals as goal
 
 pub returns-then-k-ge8 : goal.returns-then-k-ge8
 returns-then-k-ge8 c = sym (bit_past c.args.b c.args.k (omega arith) c.if-k-ge8.true)
+
+pub returns : goal.returns
+unfolding bit_at
+returns c = search rules

@@ -12,15 +12,19 @@ use Rattle.format_record.specs.Laws.Bytes.{number_down, number_part_lt}
 use Rattle.format_record.proofs.value.Goals as goal
 
 -- At most seven bytes are read so far.
-small : (c : tie.After-wide8 invariant_loop decreases_loop) → c.before.before.before.loop.x < 256 ^ 7
+small : (c : goal.After-wide8) → c.loop-i.x < 256 ^ 7
 small c =
-    let l = c.before.before.before.loop in
-    let part = c.before.before.before.before.before.args.part.now in
+    let l = c.loop-i in
+    let part = c.args.part.now in
     let few : 8 - l.i ≤ 7 = omega arith in
     let p : 256 ^ (8 - l.i) ≤ 256 ^ 7 = pow-le-pow_right (lit< tt) few in
     let b : number_of (take (8 - l.i) (drop l.i part)) < 256 ^ (8 - l.i) =
-    number_part_lt (8 - l.i) l.i part (λ j. (c.before.before.before.before.shared-slice-known.given j).fits) in
+    number_part_lt (8 - l.i) l.i part (λ j. (c.shared_slice_known-1.given j).fits) in
     omega arith
+
+pub loop-i-init : goal.loop-i-init
+unfolding number_of
+loop-i-init c = search rules
 
 pub overflow_mul-x : goal.overflow_mul-x
 overflow_mul-x c = let b = small c in omega arith

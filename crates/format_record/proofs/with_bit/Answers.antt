@@ -8,11 +8,11 @@ use Rattle.format_record.specs.Laws.Bits.{with_bit_set, with_bit_clear, with_bit
 use Rattle.format_record.proofs.with_bit.Goals as goal
 
 -- The sum is what the definition has.
-sum_is : (c : tie.Else1) → c.before.before.args.b + 1 * 2 ^ (c.before.before.args.k % 8) % 2 ^ 8 ≡ with_bit c.before.before.args.b (c.before.before.args.k % 8)
+sum_is : (c : goal.Else-bit) → c.args.b + 1 * 2 ^ (c.args.k % 8) % 2 ^ 8 ≡ with_bit c.args.b (c.args.k % 8)
 sum_is c =
-    let b = c.before.before.args.b in
-    let k = c.before.before.args.k % 8 in
-    ap (λ x. b + x) (power_byte k (omega arith)) ∙ sym (with_bit_clear b k (sym c.before.bit.ensures ∙ c.if1.false))
+    let b = c.args.b in
+    let k = c.args.k % 8 in
+    ap (λ x. b + x) (power_byte k (omega arith)) ∙ sym (with_bit_clear b k (sym c.bit.ensures ∙ c.if-bit.false))
 
 pub returns-then-bit : goal.returns-then-bit
 returns-then-bit c = sym (with_bit_set c.args.b (c.args.k % 8) (sym c.bit.ensures ∙ c.if-bit.true))

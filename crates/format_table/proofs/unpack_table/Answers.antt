@@ -12,7 +12,7 @@ pub returns-in_default : goal.returns-in_default
 unfolding unpacked_out
 returns-in_default c =
     let found = c.table_refusal-found.ensures in
-    (found, written_refused _ _ found c.in_default.is)
+    record { value = found; out_value = written_refused _ _ found c.in_default.is }
 
 pub turn-requires : goal.turn-requires
 turn-requires c =
@@ -23,4 +23,4 @@ turn-requires c =
 pub returns : goal.returns
 returns c =
     let fine = sym c.table_refusal-found.ensures ∙ c.in-Fine.is in
-    (sym fine, unpacked_after _ _ fine c.turn.ensures)
+    record { value = sym fine; out_value = unpacked_after _ _ fine c.turn.ensures }

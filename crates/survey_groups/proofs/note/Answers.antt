@@ -8,9 +8,6 @@ pub returns-then-group-eq0 : goal.returns-then-group-eq0
 unfolding noted_in
 returns-then-group-eq0 c = rw (eq-eqb c.args.group 0 c.if-group-eq0.true)
 
-pub shape_of-table : goal.shape_of-table
-shape_of-table c = c.put64.auto.0
-
 pub returns : goal.returns
 unfolding noted_in
-returns c = rw (ne_eqb c.args.group 0 c.before.before.before.before.before.before.before.before.if1.false, ← c.before.before.before.before.before.before.before.index8.ensures, ← c.at64.ensures, ← c.noted_label-x.ensures) c.put64.ensures
+returns c = rw (ne_eqb c.args.group 0 c.if-group-eq0.false, ← c.index8-g.ensures, ← c.at64.ensures, ← c.noted_label-x.ensures) c.put64.ensures

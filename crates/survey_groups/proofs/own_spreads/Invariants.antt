@@ -15,7 +15,7 @@ use Rattle.survey_groups.proofs.own_spreads.Given as goal
 
 abbrev pub invariant-loop-v : goal.invariant-loop-v
 invariant-loop-v l =
-    (l.v ≤ length l.groups) × (l.table ≡ tabulate group_numbers (λ g. spread (groups_alone l.groups) (λ l.v. l.v) g l.v))
+    (l.v ≤ length l.groups) × (l.table ≡ tabulate group_numbers (λ g. spread (groups_alone l.groups) (λ v. v) g l.v))
 
 abbrev pub decreases-loop-v : goal.decreases-loop-v
 decreases-loop-v l = length l.groups - l.v

@@ -15,7 +15,7 @@ use Rattle.survey_groups.proofs.spreads.Given as goal
 
 abbrev pub invariant-loop-v : goal.invariant-loop-v
 invariant-loop-v l =
-    (l.v ≤ length l.groups) × (l.table ≡ tabulate group_numbers (λ g. spread (groups_alone l.groups) (λ l.v. get_or l.labels l.v 0) g l.v))
+    (l.v ≤ length l.groups) × (l.table ≡ tabulate group_numbers (λ g. spread (groups_alone l.groups) (λ v. get_or l.labels v 0) g l.v))
 
 abbrev pub decreases-loop-v : goal.decreases-loop-v
 decreases-loop-v l = length l.groups - l.v

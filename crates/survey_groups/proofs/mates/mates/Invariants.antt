@@ -15,7 +15,7 @@ use Rattle.survey_groups.proofs.mates.mates.Given as goal
 
 abbrev pub invariant-loop-v : goal.invariant-loop-v
 invariant-loop-v l =
-    (l.v ≤ max_vertices) × (l.last ≡ tabulate group_numbers (λ g. last_below l.groups g l.v)) × (l.mates ≡ remade (λ l.v x. mate_of l.groups l.v) l.v l.initial.mates)
+    (l.v ≤ max_vertices) × (l.last ≡ tabulate group_numbers (λ g. last_below l.groups g l.v)) × (l.mates ≡ remade (λ v x. mate_of l.groups v) l.v l.initial.mates)
 
 abbrev pub decreases-loop-v : goal.decreases-loop-v
 decreases-loop-v l = max_vertices - l.v

@@ -10,7 +10,7 @@ use Rattle.base_buffer.specs.Laws.Store.{remade_more, stored_table}
 use Rattle.survey_groups.proofs.mates.own_mates.Given as goal
 
 abbrev pub invariant-loop-v : goal.invariant-loop-v
-invariant-loop-v l = (l.v ≤ max_vertices) × (l.mates ≡ remade (λ l.v x. l.v) l.v l.initial.mates)
+invariant-loop-v l = (l.v ≤ max_vertices) × (l.mates ≡ remade (λ v x. v) l.v l.initial.mates)
 
 abbrev pub decreases-loop-v : goal.decreases-loop-v
 decreases-loop-v l = max_vertices - l.v

@@ -11,7 +11,7 @@ use borrow.Author.Rules.{rules}
 use Rattle.survey_groups.proofs.separating.first_split.Given as goal
 
 abbrev pub invariant-loop-g : goal.invariant-loop-g
-invariant-loop-g l = Scanned group_numbers (λ l.g. refuse_if (eqb (get_or l.table l.g 0) 1) l.number l.g) l.g
+invariant-loop-g l = Scanned group_numbers (λ g. refuse_if (eqb (get_or l.table g 0) 1) l.number g) l.g
 
 abbrev pub decreases-loop-g : goal.decreases-loop-g
 decreases-loop-g l = group_numbers - l.g

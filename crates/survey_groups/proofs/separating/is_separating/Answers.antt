@@ -9,7 +9,7 @@ use Rattle.survey_groups.proofs.separating.is_separating.Goals as goal
 
 -- no group is split
 pub returns-in-Fine : goal.returns-in-Fine
-returns-in-Fine c =
+returns-in-Fine c S sides =
     let bytes = c.shared_slice_known-1.given in
     sym
     (whole_separates_none (groups_alone c.args.groups.now) S _ sides 0 (plain_bytes _ _ _ _ (λ v. omega (arith, bytes v)))
@@ -17,7 +17,7 @@ returns-in-Fine c =
 
 -- some group is split
 pub returns-in-Refused : goal.returns-in-Refused
-returns-in-Refused c =
+returns-in-Refused c S sides =
     sym
     (parted_separates (groups_alone c.args.groups.now) S _ sides 0
     (sym c.split_refusal-split.ensures ∙ c.in-Refused.is))

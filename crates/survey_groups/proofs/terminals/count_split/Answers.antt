@@ -9,9 +9,9 @@ use native.Mathlib.Omega.{arith}
 use borrow.Author.Rules.{rules}
 use Rattle.survey_groups.proofs.terminals.count_split.Goals as goal
 
-step : (c : tie.After-one-if-split invariant_loop decreases_loop)
-    → c.one-if-split.result ≡ counted (eqb (get_or c.before.before.before.before.before.before.before.before.args.table.now (get_or c.before.before.before.before.before.before.before.before.args.groups.now c.before.before.before.before.before.loop.v 0) 0) 1) 1
-step c = rw (← c.before.before.before.at8.ensures, ← c.before.before.index8.ensures, ← c.before.at64.ensures) c.one-if-split.ensures
+step : (c : goal.After-one_if_split-count)
+    → c.one_if_split-count.result ≡ counted (eqb (get_or c.args.table.now (get_or c.args.groups.now c.loop-v.v 0) 0) 1) 1
+step c = rw (← c.at8.ensures, ← c.index8.ensures, ← c.at64.ensures) c.one_if_split-count.ensures
 
 pub loop-v-init : goal.loop-v-init
 unfolding count_below Rattle.base_finite.specs.Below.sum_below

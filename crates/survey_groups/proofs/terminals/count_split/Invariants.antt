@@ -10,7 +10,7 @@ use borrow.Author.Rules.{rules}
 use Rattle.survey_groups.proofs.terminals.count_split.Given as goal
 
 abbrev pub invariant-loop-v : goal.invariant-loop-v
-invariant-loop-v l = (l.v ≤ length l.groups) × (l.count ≡ count_below l.v (λ l.v. eqb (get_or l.table (get_or l.groups l.v 0) 0) 1))
+invariant-loop-v l = (l.v ≤ length l.groups) × (l.count ≡ count_below l.v (λ v. eqb (get_or l.table (get_or l.groups v 0) 0) 1))
 
 abbrev pub decreases-loop-v : goal.decreases-loop-v
 decreases-loop-v l = length l.groups - l.v

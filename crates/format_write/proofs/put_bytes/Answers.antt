@@ -1,0 +1,26 @@
+-- `put_bytes`: what is written so far are the first bytes.
+use Prim.Native.Nat.{◌-◌, ◌≤◌}
+use native.Mathlib.Numerals.{add-one}
+use native.Mathlib.Omega.{arith}
+use mathlib.Core.Path.{ap, sym, ◌∙◌}
+use lib.ListN.{length, take}
+use lib.Seq.{take-suc, take_all}
+use borrow.Author.Rules.{rules}
+use Rattle.format_write.specs.Wrote.{farthest, Wrote}
+use Rattle.format_write.specs.Laws.Wrote.{wrote_none, wrote_length, wrote_then, wrote_as}
+use Rattle.format_write.proofs.put_bytes.Goals as goal
+
+pub loop-i-init : goal.loop-i-init
+loop-i-init c = wrote_none c.args.out.now c.args.at
+
+pub loop-i-preserved : goal.loop-i-preserved
+loop-i-preserved c =
+    let l = c.loop-i in
+    let a = c.args in
+    let small : length a.out.now ≤ farthest = omega arith in
+    wrote_as
+    (wrote_then small l.invariant c.put-next.ensures)
+    (sym (ap (λ n. take n a.bytes.now) (add-one l.i) ∙ take-suc a.bytes.now l.i 0 c.loop-i-test.true))
+
+pub returns : goal.returns
+returns c = wrote_as c.loop-i.invariant (take_all c.loop-i.i _ c.loop-i-test.false)

@@ -1,0 +1,18 @@
+-- `put_list`: what is written so far are the first numbers.
+use Prim.Native.Nat.{◌-◌, ◌≤◌}
+use native.Mathlib.Omega.{arith}
+use mathlib.Core.Path.{ap, sym}
+use lib.ListN.{length, take}
+use lib.Seq.{take_all}
+use borrow.Author.Rules.{rules}
+use Rattle.format_write.specs.Text.{listed}
+use Rattle.format_write.specs.Wrote.{farthest, Wrote}
+use Rattle.format_write.specs.Laws.Text.{list_none, list_next}
+use Rattle.format_write.specs.Laws.Wrote.{wrote_none, wrote_length, wrote_then, wrote_as}
+use Rattle.format_write.proofs.put_list.put_list.Given as goal
+
+abbrev pub invariant-loop-i : goal.invariant-loop-i
+invariant-loop-i l = Wrote l.initial.out l.at (listed (take l.i l.numbers)) l.out l.next
+
+abbrev pub decreases-loop-i : goal.decreases-loop-i
+decreases-loop-i l = length l.numbers - l.i

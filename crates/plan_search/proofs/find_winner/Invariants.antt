@@ -1,0 +1,18 @@
+-- `find_winner` meets its contract: before block b it has what the passes have.
+use Prim.Native.Nat.{◌-◌}
+use mathlib.Core.Path.{refl}
+use Rattle.plan_search.specs.Scan.{blocks_of}
+use Rattle.plan_search.specs.Tables.{tables_from}
+use Rattle.plan_search.specs.Between.{winner_in}
+use Rattle.plan_search.specs.Laws.Scan.{capped_is, capped_small}
+use Rattle.plan_search.specs.Laws.Loops.{BeforeBlock, next_less, passing_next, passing_start, block_starts, passing_look, passing_keys, passing_floors, passing_end}
+use borrow.Author.Rules.{rules}
+use Rattle.plan_search.proofs.find_winner.Given as goal
+
+abbrev pub invariant-loop-b : goal.invariant-loop-b
+invariant-loop-b l =
+    BeforeBlock (tables_from l.firsts l.seconds l.weights l.labels l.loads l.flags) l.capped l.initial.keys l.initial.floors l.blocks l.b l.limit (winner_in l.best) l.keys l.floors
+
+abbrev pub decreases-loop-b : goal.decreases-loop-b
+decreases-loop-b l =
+    l.blocks - l.b

@@ -1,0 +1,18 @@
+-- `start_keys` meets its contract: it stores at rising places.
+use Prim.Native.Nat.{◌≤◌, ◌-◌}
+use mathlib.Core.Path.{◌≡◌, refl, ap, ◌∙◌}
+use lib.ListN.{length}
+use Rattle.base_buffer.specs.Store.{remade}
+use Rattle.base_buffer.specs.Laws.Store.{length_remade, remade_more, remade_end}
+use Rattle.plan_search.specs.Keys.{start_key_of}
+use Rattle.plan_search.specs.Laws.Keys.{key_read}
+use native.Mathlib.Omega.{arith}
+use borrow.Author.Rules.{rules}
+use Rattle.plan_search.proofs.keys.start_keys.Given as goal
+
+abbrev pub invariant-loop-e : goal.invariant-loop-e
+invariant-loop-e l =
+    (l.e ≤ length l.firsts) × (l.keys ≡ remade (λ e x. start_key_of l.firsts l.seconds l.weights l.flags e) l.e l.initial.keys)
+
+abbrev pub decreases-loop-e : goal.decreases-loop-e
+decreases-loop-e l = length l.firsts - l.e

@@ -1,0 +1,19 @@
+-- `scan_block` meets its contract: before edge e it has what the scan has.
+use Prim.Native.Nat.{◌-◌}
+use mathlib.Core.Path.{ap, ◌∙◌}
+use mathlib.Core.Logic.{⊎_elim}
+use Rattle.plan_search.specs.Tables.{tables_from}
+use Rattle.plan_search.specs.Between.{winner_in}
+use Rattle.plan_search.specs.Laws.Scan.{capped_is}
+use Rattle.plan_search.specs.Laws.Loops.{Scanning, scanning_start, scanning_look, scanning_pass, scanning_long, scanning_low, scanning_end}
+use borrow.Author.Rules.{rules}
+use native.Mathlib.Omega.{arith}
+use Rattle.plan_search.proofs.scan_block.Given as goal
+
+abbrev pub invariant-loop-e : goal.invariant-loop-e
+invariant-loop-e l =
+    Scanning (tables_from l.firsts l.seconds l.weights l.labels l.loads l.flags) l.time (winner_in l.initial.winner) l.initial.keys l.from l.to l.e l.limit l.low (winner_in l.winner) l.keys
+
+abbrev pub decreases-loop-e : goal.decreases-loop-e
+decreases-loop-e l =
+    l.to - l.e
