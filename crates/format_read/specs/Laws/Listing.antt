@@ -114,9 +114,9 @@ module _ {S A : Type 0} {r : List ℕ → ItemReader S A} {P : A → Type 0} {te
       (omega arith, item (sym (x.stops t u at q (omega arith) k) ∙ e) (x.reads t u low i at a next q h n k f) (subst (λ (z : S). Standing (r u) z (i + 1) next l last end) (x.after t u low a) w.1))
 
   -- A refusal stands behind the items before it, inside the text.
-  pub broken_place : (t : List ℕ) {low : S} {i at p : ℕ} {l : List A} → at ≤ length t → Broken (r t) 16 p low i at l → (at + length l ≤ p) × (p ≤ length t)
-  broken_place t {low} {i} {at} {p} h (here e f) = let w = x.place t low i at p h f in let a = w.0 in (omega arith, w.1)
-  broken_place t {low} {i} {at} {p} h (later {next = next} {a = a} e f b) =
+  pub broken_place : (t : List ℕ) {p : ℕ} {low : S} {i at : ℕ} {l : List A} → at ≤ length t → Broken (r t) 16 p low i at l → (at + length l ≤ p) × (p ≤ length t)
+  broken_place t {p} {low} {i} {at} h (here e f) = let w = x.place t low i at p h f in let a = w.0 in (omega arith, w.1)
+  broken_place t {p} {low} {i} {at} h (later {next = next} {a = a} e f b) =
       let g = item_goes t low i at a next h f in
       let w = broken_place t g.inside b in
       let c = w.0 in
@@ -136,12 +136,12 @@ module _ {S A : Type 0} {r : List ℕ → ItemReader S A} {P : A → Type 0} {te
       (subst (λ (z : S). Broken (r u) 16 p z (i + 1) next l) (x.after t u low a) (broken_same t u p k g.inside b))
 
   -- The bytes before a refusal go on to the texts of items.
-  pub broken_extends : (t : List ℕ) {low : S} {i at p : ℕ} {l : List A} → at ≤ length t → Broken (r t) 16 p low i at l → Extends (Text (Each P) (text_from text i)) t at p
+  pub broken_extends : (t : List ℕ) {p : ℕ} {low : S} {i at : ℕ} {l : List A} → at ≤ length t → Broken (r t) 16 p low i at l → Extends (Text (Each P) (text_from text i)) t at p
   unfolding text_from
-  broken_extends t {low} {i} {at} {p} h (here e f) =
+  broken_extends t {p} {low} {i} {at} h (here e f) =
       let w = x.extends t low i at p h f in
       record { value = w.value ∷ []; word = w.word; member = record { holds = more w.member.holds none; word = w.member.word ∙ sym (append-nil (text i w.value)) }; rest = w.rest; whole = w.whole }
-  broken_extends t {low} {i} {at} {p} h (later {next = next} {a = a} e f b) =
+  broken_extends t {p} {low} {i} {at} h (later {next = next} {a = a} e f b) =
       let v = x.sound t low i at a next h f in
       let z = broken_extends t (bound v).1 b in
       record {
