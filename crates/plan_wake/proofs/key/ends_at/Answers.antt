@@ -1,0 +1,10 @@
+-- `ends_at` meets its contract: the first end decides, and then the second.
+use Rattle.plan_wake.specs.Laws.Loops.{ends_first, ends_second}
+use borrow.Author.Rules.{rules}
+use Rattle.plan_wake.proofs.key.ends_at.Goals as goal
+
+pub returns-then-at32-c : goal.returns-then-at32-c
+returns-then-at32-c c = ends_first _ _ _ _ c.at32.ensures c.if-at32-c.true
+
+pub returns : goal.returns
+returns c = ends_second _ _ _ _ c.at32.ensures c.at32-2.ensures c.if-at32-c.false

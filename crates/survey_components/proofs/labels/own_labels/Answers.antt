@@ -1,0 +1,29 @@
+-- `own_labels` meets its contract: it stores at rising places.
+use Prim.Native.Nat.{◌≤◌, ◌-◌}
+use mathlib.Core.Path.{◌≡◌, refl, ap, ◌∙◌}
+use lib.ListN.{length}
+use Rattle.base_limits.specs.Limits.{max_vertices}
+use Rattle.base_buffer.specs.Store.{remade}
+use Rattle.base_buffer.specs.Laws.Store.{length_remade, remade_more, remade_end}
+use native.Mathlib.Omega.{arith}
+use borrow.Author.Rules.{rules}
+use Rattle.survey_components.proofs.labels.own_labels.Goals as goal
+
+pub loop-v-init : goal.loop-v-init
+unfolding remade
+loop-v-init c = (omega arith, refl)
+
+pub overflow_cast-v : goal.overflow_cast-v
+overflow_cast-v c = omega arith
+
+pub overflow_add-v : goal.overflow_add-v
+overflow_add-v c = omega arith
+
+pub loop-v-smaller : goal.loop-v-smaller
+loop-v-smaller c = omega arith
+
+pub loop-v-preserved : goal.loop-v-preserved
+loop-v-preserved c = (omega arith, c.put32.ensures ∙ remade_more (λ v x. v) _ _ _ _ c.loop-v.invariant.1 refl)
+
+pub returns : goal.returns
+returns c = c.loop-v.invariant.1 ∙ remade_end _ _ _ _ (omega arith) (omega arith)

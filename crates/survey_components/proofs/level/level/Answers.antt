@@ -1,0 +1,30 @@
+-- `level` meets its contract: before each turn the vertices below v hang on their roots.
+use Prim.Native.Nat.{◌≤◌, ◌-◌}
+use mathlib.Core.Path.{◌≡◌, refl, ap, ◌∙◌}
+use lib.ListN.{length}
+use native.Mathlib.Omega.{arith}
+use borrow.Author.Rules.{rules}
+use Rattle.survey_components.specs.Roots.{levelled}
+use Rattle.survey_components.specs.Laws.Roots.{level_turn, level_end}
+use Rattle.survey_components.proofs.level.level.Goals as goal
+
+pub loop-v-init : goal.loop-v-init
+unfolding levelled
+loop-v-init c = (omega arith, refl, refl)
+
+pub overflow_add-v : goal.overflow_add-v
+overflow_add-v c = omega arith
+
+pub loop-v-smaller : goal.loop-v-smaller
+loop-v-smaller c = omega arith
+
+pub loop-v-preserved : goal.loop-v-preserved
+loop-v-preserved c =
+    let top = rw c.at32.ensures at c.climb-root.ensures in (
+      omega arith,
+      c.parents-in-loop-v-1.given ∙ c.parents-1.given ∙ c.loop-v.invariant.1,
+      rw (c.put32.ensures, top.root, top.left) (level_turn _ _ _ c.loop-v.invariant.2),
+    )
+
+pub returns : goal.returns
+returns c = c.loop-v.invariant.2 ∙ level_end _ _ _ _ (omega arith) (omega arith)
