@@ -51,9 +51,9 @@ pub record FailingPair (groups : List ℕ) (room : ℕ) (t : List ℕ) (low i at
   pub stands : Stands t at (pairs_text before ++ pair_text pair)
 
 module _ (groups : List ℕ) (room : ℕ) (t : List ℕ) where
-  broken_fails : {low i at n p : ℕ} {l : List Pair} → at ≤ length t → (n ≡ 16 → ⊥) → Broken (also_reader t groups room) n p low i at l → FailingPair groups room t low i at n p
+  broken_fails : {n p low i at : ℕ} {l : List Pair} → at ≤ length t → (n ≡ 16 → ⊥) → Broken (also_reader t groups room) n p low i at l → FailingPair groups room t low i at n p
   unfolding also_reader pairs_text text_of last_rank
-  broken_fails {low} {i} {at} {n} {p} h not_16 (here e f) = by_case (line_stops t groups room low i at f)
+  broken_fails {n} {p} {low} {i} {at} h not_16 (here e f) = by_case (line_stops t groups room low i at f)
     where
       by_line : i < max_pairs → Stops (pair_at t at) (λ x q. checked (also_test groups room low i x) x q) n p → FailingPair groups room t low i at n p
       by_line m (early q) = absurd (not_16 ((only_pair t at).is n p q))
@@ -73,7 +73,7 @@ module _ (groups : List ℕ) (room : ℕ) (t : List ℕ) where
       by_case : LineStops t groups room low i at n p → FailingPair groups room t low i at n p
       by_case (past m q r) = absurd (not_16 q)
       by_case (other m q) = by_line m (then_stops (pair_at t at) _ q)
-  broken_fails {low} {i} {at} {n} {p} h not_16 (later {next = next} {a = x} e f b) =
+  broken_fails {n} {p} {low} {i} {at} h not_16 (later {next = next} {a = x} e f b) =
       let c = line_passed t groups room low i at f in
       let w = reads_pair.sound t at x next h c.read in
       let s = text_stands w in

@@ -163,10 +163,10 @@ unfolding also_at whole
 broken_refused t groups room at few b = then_refused _ (ap (λ (z : Lines ℕ Pair). z.end) (broken_items (also_reader t groups room) also_turns (omega arith) b))
 
 -- The bytes before a 16 go on to the text of at most so many pairs that no line past the last is among them.
-broken_few : (t groups : List ℕ) (room : ℕ) {low i at p : ℕ} {l : List Pair} → at ≤ length t → i ≤ max_pairs → Broken (also_reader t groups room) 16 p low i at l
+broken_few : (t groups : List ℕ) (room : ℕ) {p low i at : ℕ} {l : List Pair} → at ≤ length t → i ≤ max_pairs → Broken (also_reader t groups room) 16 p low i at l
     → (e : Extends (Text (Each PairDigits) pairs_text) t at p) × (i + length e.value ≤ max_pairs)
 unfolding also_reader pairs_text text_of
-broken_few t groups room {low} {i} {at} {p} h k (here e f) = by_case (line_stops t groups room low i at f)
+broken_few t groups room {p} {low} {i} {at} h k (here e f) = by_case (line_stops t groups room low i at f)
   where
     by_case : LineStops t groups room low i at 16 p → (e : Extends (Text (Each PairDigits) pairs_text) t at p) × (i + length e.value ≤ max_pairs)
     by_case (past m n q) =
@@ -174,7 +174,7 @@ broken_few t groups room {low} {i} {at} {p} h k (here e f) = by_case (line_stops
     by_case (other m q) =
         let w = (reads_tested_pair groups room low i).extends t at p h q in
         (record { value = w.value ∷ []; word = w.word; member = record { holds = more w.member.holds none; word = w.member.word ∙ sym (append-nil (pair_text w.value)) }; rest = w.rest; whole = w.whole }, omega arith)
-broken_few t groups room {low} {i} {at} {p} h k (later {next = next} {a = a} e f b) =
+broken_few t groups room {p} {low} {i} {at} h k (later {next = next} {a = a} e f b) =
     let c = line_passed t groups room low i at f in
     let few = c.few in
     let v = reads_pair.sound t at a next h c.read in

@@ -1,0 +1,16 @@
+-- `drop_all` meets its contract: it stores at rising places.
+use Rattle.plan_drop.specs.Dropped.{dropped_marks}
+use Rattle.survey_components.specs.Labels.{picked_in}
+use Rattle.base_buffer.specs.Store.{remade}
+use Rattle.base_buffer.specs.Laws.Store.{length_remade, remade_more, remade_end}
+use Rattle.theory_steiner.specs.Pruning.{mark_of}
+use Rattle.std.proofs.Common.{◌≡◌, ◌-◌, ◌≤◌, false, length, refl, ap, ◌∙◌, arith, rules}
+use Rattle.plan_drop.proofs.dropped.drop_all.Given as goal
+
+abbrev pub invariant-loop-e : goal.invariant-loop-e
+invariant-loop-e l =
+    (l.e ≤ l.m) × (l.marks ≡ remade (λ e mark. mark_of (picked_in l.picked e) false) l.e l.initial.marks)
+
+abbrev pub decreases-loop-e : goal.decreases-loop-e
+decreases-loop-e l =
+    l.m - l.e

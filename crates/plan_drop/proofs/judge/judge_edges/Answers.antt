@@ -1,0 +1,34 @@
+-- `judge_edges` meets its contract: after e edges their marks are judged, and the index is that of the next picked one.
+use Rattle.plan_drop.specs.Laws.Needed.{marks_more}
+use Rattle.plan_drop.specs.Laws.Word.{count_start, next_index}
+use Rattle.plan_drop.specs.Needed.{judged, raised}
+use Rattle.survey_components.specs.Labels.{picked_in}
+use Rattle.base_buffer.specs.Store.{remade}
+use Rattle.base_buffer.specs.Laws.Store.{length_remade, remade_end}
+use Rattle.base_finite.specs.Laws.Below.{count_le}
+use Rattle.base_finite.specs.Below.{count_below}
+use Rattle.std.proofs.Common.{◌≡◌, ◌-◌, ◌≤◌, length, refl, ap, ◌∙◌, arith, rules}
+use Rattle.plan_drop.proofs.judge.judge_edges.Goals as goal
+
+pub loop-e-init : goal.loop-e-init
+unfolding remade
+loop-e-init c =
+    (omega arith, count_start _, refl)
+
+pub judge_edge-i-requires : goal.judge_edge-i-requires
+judge_edge-i-requires c =
+    omega (arith, count_le c.loop-e.e (picked_in c.args.picked.now))
+
+pub loop-e-preserved : goal.loop-e-preserved
+loop-e-preserved c =
+    let args = c.args in
+    let inv = c.loop-e.invariant in
+    let step = c.judge_edge-i.ensures in (
+      omega arith,
+      next_index _ _ inv.1 step.index,
+      marks_more (picked_in args.picked.now) (judged c.parted-bits.result args.base) _ _ _ inv.2 inv.1 step.marks_are,
+    )
+
+pub returns : goal.returns
+returns c =
+    rw (← c.parted-bits.ensures) (c.loop-e.invariant.2 ∙ remade_end _ _ _ _ (omega arith) (omega arith))

@@ -1,0 +1,13 @@
+-- `hung_words` meets its contract: what is left of the order leads to the whole.
+use Rattle.std.proofs.Common.{◌≡◌, replicate, sym, refl, ap, ◌∙◌, arith, rules}
+use Rattle.base_limits.specs.Limits.{max_vertices}
+use Rattle.plan_drop.specs.Word.{hung_from}
+use Rattle.plan_drop.specs.Laws.Alone.{hung_end, hung_less}
+use Rattle.plan_drop.proofs.sides.hung_words.Given as goal
+
+abbrev pub invariant-loop-k : goal.invariant-loop-k
+invariant-loop-k l =
+    hung_from l.order l.others l.marks l.base l.k l.words ≡ hung_from l.order l.others l.marks l.base l.count (replicate max_vertices 0)
+
+abbrev pub decreases-loop-k : goal.decreases-loop-k
+decreases-loop-k l = l.k

@@ -1,0 +1,19 @@
+-- `is_alone` meets its contract: before each turn the edges below e have passed.
+use Rattle.std.proofs.Common.{◌≡◌, ◌-◌, ◌≤◌, true, not, ◌||◌, eqb, length, get_or, sym, ap, ◌∙◌, arith, rules}
+use lib.Bits.{bit_xor}
+use borrow.Author.Tests.{not-true, not-false}
+use Rattle.base_finite.specs.Below.{count_below}
+use Rattle.base_finite.specs.Laws.Below.{count_le}
+use Rattle.survey_components.specs.Labels.{picked_in}
+use Rattle.plan_drop.specs.Word.{own_word, are_alone}
+use Rattle.plan_drop.specs.Laws.Word.{count_start, next_index}
+use Rattle.plan_drop.specs.Laws.Alone.{alone_none, alone_more, alone_end, alone_fails}
+use Rattle.plan_drop.proofs.sides.is_alone.Given as goal
+
+abbrev pub invariant-loop-e : goal.invariant-loop-e
+invariant-loop-e l =
+    (l.e ≤ length l.firsts) × (l.i ≡ count_below l.e (picked_in l.picked))
+    × (are_alone (λ e. get_or l.firsts e 0) (λ e. get_or l.seconds e 0) (picked_in l.picked) l.base l.e l.words ≡ true)
+
+abbrev pub decreases-loop-e : goal.decreases-loop-e
+decreases-loop-e l = length l.firsts - l.e

@@ -1,0 +1,17 @@
+-- `pair_group` meets its contract: a branch on the vertex of the pair.
+use native.Mathlib.Omega.{arith}
+use mathlib.Core.Path.{sym, ◌∙◌}
+use borrow.Author.Rules.{rules}
+use Rattle.survey_core.specs.Lists.{lists_from}
+use Rattle.survey_lists.specs.Laws.Split.{pair_group_law, pair_none}
+use Rattle.survey_lists.proofs.split.pair_group.Goals as goal
+
+pub returns-then-index32-groups : goal.returns-then-index32-groups
+returns-then-index32-groups c =
+    let args = c.args in
+    c.at8.ensures ∙ sym (pair_group_law (lists_from args.groups.now args.owners.now args.others.now) args.i (omega arith))
+
+pub returns : goal.returns
+returns c =
+    let args = c.args in
+    sym (pair_none (lists_from args.groups.now args.owners.now args.others.now) args.i (omega arith))
