@@ -25,7 +25,7 @@ unfolding number_step also_reader
 returns-then-not-is_class c =
     let a = c.args in
     pairs_ended a.text.now a.groups.now a.owners.now a.others.now a.cursor.at a.room
-    (pairs_stop _ _ _ _ _ _ _ _ _ c.loop-i.invariant c.wide.ensures c.loop-i-test.true (ap not (sym (c.is_class.ensures ∙ is_also _ _)) ∙ c.if-not-is_class.true))
+    (pairs_stop _ _ _ _ _ _ _ _ _ c.loop-i.invariant c.wide.ensures c.loop-i-test.true (ap not (sym (c.is_class.ensures ∙ is_also _ _) ∙ c.if-not-is_class.true)))
 
 -- a line is refused
 pub returns-in_default : goal.returns-in_default
@@ -34,7 +34,7 @@ returns-in_default c =
     let a = c.args in
     let told = c.in_default.is in
     let done = pairs_ended a.text.now a.groups.now a.owners.now a.others.now a.cursor.at a.room
-    (pairs_refused _ _ _ _ _ _ _ _ _ c.loop-i.invariant c.loop-i-test.true (ap not (sym (c.is_class.ensures ∙ is_also _ _)) ∙ c.if-not-is_class.false) (sym c.also_line-line.ensures ∙ ap pair_step told)) in
+    (pairs_refused _ _ _ _ _ _ _ _ _ c.loop-i.invariant c.loop-i-test.true (ap not (sym (c.is_class.ensures ∙ is_also _ _) ∙ c.if-not-is_class.false)) (sym c.also_line-line.ensures ∙ ap pair_step told)) in
     (c.stopped_line.ensures ∙ ap (λ x. stopped (pair_step x)) told ∙ done.0, done.1, done.2)
 
 pub overflow_cast-owner : goal.overflow_cast-owner
@@ -77,7 +77,7 @@ pub loop-i-preserved : goal.loop-i-preserved
 unfolding pair_step also_reader
 loop-i-preserved c =
     rw (c.put32.ensures, c.put8.ensures, c.rank-low.ensures)
-    (pairs_more _ _ _ _ _ _ _ _ _ c.loop-i.invariant c.loop-i-test.true (ap not (sym (c.is_class.ensures ∙ is_also _ _)) ∙ c.if-not-is_class.false) (sym c.also_line-line.ensures ∙ ap pair_step c.in-Pair.is))
+    (pairs_more _ _ _ _ _ _ _ _ _ c.loop-i.invariant c.loop-i-test.true (ap not (sym (c.is_class.ensures ∙ is_also _ _) ∙ c.if-not-is_class.false)) (sym c.also_line-line.ensures ∙ ap pair_step c.in-Pair.is))
 
 -- 16: no turn left
 pub returns : goal.returns

@@ -12,7 +12,7 @@ use Rattle.format_print.proofs.closed.print_rows.Goals as goal
 pub returns-then-out-need : goal.returns-then-out-need
 returns-then-out-need c =
     let a = c.args in
-    let text = row_lines a.tracks.now a.result.now in
+    let text = row_lines a.tracks.now a.res.now in
     let small : length a.out.now < farthest = omega arith in
     let p = short_prints text a.out.now small c.put_rows-need.ensures c.if-out-need.true in
     record { value = p.answers; out_value = p.leaves }
@@ -21,7 +21,7 @@ returns-then-out-need c =
 pub returns : goal.returns
 returns c =
     let a = c.args in
-    let text = row_lines a.tracks.now a.result.now in
+    let text = row_lines a.tracks.now a.res.now in
     let small : length a.out.now < farthest = omega arith in
     let p = fit_prints text a.out.now small c.put_rows-need.ensures c.if-out-need.false c.put_rows.ensures in
     record { value = p.answers; out_value = p.leaves }

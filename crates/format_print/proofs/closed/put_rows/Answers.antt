@@ -24,11 +24,11 @@ loop-i-preserved c =
     let a = c.args in
     
     let small : length a.out.now ≤ farthest = omega arith in
-    (omega arith, wrote_as (wrote_then small c.loop-i.invariant.1 c.put_line_of-next.ensures) (text_next (row_line a.tracks.now a.result.now) c.loop-i.i))
+    (omega arith, wrote_as (wrote_then small c.loop-i.invariant.1 c.put_line_of-next.ensures) (text_next (row_line a.tracks.now a.res.now) c.loop-i.i))
 
 pub returns : goal.returns
 unfolding row_lines
 returns c =
     let a = c.args in
     let all : c.loop-i.i ≡ length a.tracks.now = omega arith in
-    wrote_as c.loop-i.invariant.1 (ap (λ n. text_below n (row_line a.tracks.now a.result.now)) all)
+    wrote_as c.loop-i.invariant.1 (ap (λ n. text_below n (row_line a.tracks.now a.res.now)) all)

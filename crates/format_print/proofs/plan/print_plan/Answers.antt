@@ -10,9 +10,6 @@ use Rattle.format_print.specs.Laws.Room.{plan_text_room, holds_all_elim}
 use borrow.Author.Rules.{rules}
 use Rattle.format_print.proofs.plan.print_plan.Goals as goal
 
-small : (c : goal.Start) → length c.args.out.now < farthest
-small c = omega arith
-
 -- printed, not measured
 pub returns-then-holds_all : goal.returns-then-holds_all
 returns-then-holds_all c =
@@ -31,7 +28,7 @@ returns-then-holds_all c =
       records_bytes = λ i. (c.shared_slice_known-2-1.given i).fits;
     }) in
     let fits : length text ≤ length a.out.now = omega (arith, most, room) in
-    let p = whole_prints text a.out.now (small c) fits c.put_plan.ensures in
+    let p = whole_prints text a.out.now (omega arith) fits c.put_plan.ensures in
     record { value = p.answers; out_value = p.leaves }
 
 -- 7: the buffer is short
@@ -39,7 +36,7 @@ pub returns-then-out-need : goal.returns-then-out-need
 returns-then-out-need c =
     let a = c.args in
     let text = plan_text a.terminals a.cost a.bound a.rounds a.marks.now a.records.now in
-    let p = short_prints text a.out.now (small c) c.put_plan-need.ensures c.if-out-need.true in
+    let p = short_prints text a.out.now (omega arith) c.put_plan-need.ensures c.if-out-need.true in
     record { value = p.answers; out_value = p.leaves }
 
 -- measured and printed
@@ -47,5 +44,5 @@ pub returns : goal.returns
 returns c =
     let a = c.args in
     let text = plan_text a.terminals a.cost a.bound a.rounds a.marks.now a.records.now in
-    let p = fit_prints text a.out.now (small c) c.put_plan-need.ensures c.if-out-need.false c.put_plan-2.ensures in
+    let p = fit_prints text a.out.now (omega arith) c.put_plan-need.ensures c.if-out-need.false c.put_plan-2.ensures in
     record { value = p.answers; out_value = p.leaves }

@@ -12,7 +12,7 @@ use Rattle.format_print.proofs.plan.put_counts.Goals as goal
 pub returns : goal.returns
 unfolding count_lines terminals_key cost_key bound_key rounds_key
 returns c =
-    let small : length c.args.out.now ≤ farthest = omega (arith, entry.well_formed.0) in
+    let small : length c.args.out.now ≤ farthest = omega arith in
     wrote_then small
     (wrote_then small (wrote_then small c.put_line-next.ensures c.put_line-next-2.ensures) c.put_line-next-3.ensures)
     c.put_line.ensures

@@ -15,7 +15,7 @@ use Rattle.format_print.proofs.put_dual.put_dual.Goals as goal
 pub returns : goal.returns
 unfolding dual_line dual_key
 returns c =
-    let small : length c.args.out.now ≤ farthest = omega (arith, entry.well_formed.0) in
+    let small : length c.args.out.now ≤ farthest = omega arith in
     let start = wrote_then small c.put_bytes-next.ensures c.put_number-next.ensures in
     let value = wrote_as start (ap (λ x. dual_key ++ decimal x) c.value.ensures) in
     wrote_then small (wrote_then small (wrote_then small value c.put-next.ensures) c.put_members-next.ensures) c.put.ensures

@@ -35,10 +35,10 @@ loop-v-preserved c =
     let a = c.args in
     let t = member_in a.part.now in
     let small : length a.out.now ≤ farthest = omega arith in
-    let done = c.put_member-list.ensures in (
+    (
       omega arith,
-      wrote_as (wrote_then small c.loop-v.invariant.1 done.0) (members_next t c.loop-v.v c.loop-v.invariant.2),
-      none_next t c.loop-v.v c.loop-v.invariant.2 done.1,
+      wrote_as (wrote_then small c.loop-v.invariant.1 c.put_member-list.ensures.fact) (members_next t c.loop-v.v c.loop-v.invariant.2),
+      none_next t c.loop-v.v c.loop-v.invariant.2 c.put_member-list.ensures.first_value,
     )
 
 pub returns : goal.returns

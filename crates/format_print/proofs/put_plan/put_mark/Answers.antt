@@ -21,4 +21,4 @@ returns-in-2 c =
     wrote_as c.put_line.ensures (ap (line_of kept_key) c.wide.ensures ∙ kept_line_law a.mark a.e c.in-2.is)
 
 pub returns-in_default : goal.returns-in_default
-returns-in_default c = let a = c.args in wrote_as (wrote_none a.out.now a.at) (kept_line_none a.mark a.e c.in_default.rest.1)
+returns-in_default c = let a = c.args in wrote_as (wrote_none a.out.now a.at) (kept_line_none a.mark a.e (λ e. omega arith))

@@ -23,10 +23,10 @@ pub loop-e-preserved : goal.loop-e-preserved
 loop-e-preserved c =
     let args = c.args in
     let inv = c.loop-e.invariant in
-    let step = c.judge_edge-i.ensures in (
+    (
       omega arith,
-      next_index _ _ inv.1 step.index,
-      marks_more (picked_in args.picked.now) (judged c.parted-bits.result args.base) _ _ _ inv.2 inv.1 step.marks_are,
+      next_index _ _ inv.1 c.judge_edge-i.ensures.index,
+      marks_more (picked_in args.picked.now) (judged c.parted-bits.result args.base) _ _ _ inv.2 inv.1 c.judge_edge-i.ensures.marks_are,
     )
 
 pub returns : goal.returns

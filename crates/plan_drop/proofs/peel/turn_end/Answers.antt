@@ -6,8 +6,8 @@ use Rattle.plan_drop.proofs.peel.turn_end.Goals as goal
 pub returns : goal.returns
 returns c =
     let args = c.args in
-    let v = c.index32-i.ensures in
+    
     turned_by args.v args.w args.mark args.more args.degrees.now args.others.now args.marks.now
-    (rw (← v, ← c.at32.ensures, ← c.wrapping_add_u32-degree.ensures) c.put32.ensures)
-    (rw (← v, ← c.at32-2.ensures) c.put32-2.ensures)
-    (rw (← v, ← c.at32-3.ensures) c.put32-3.ensures)
+    (rw (← c.index32-i.ensures, ← c.at32.ensures, ← c.wrapping_add_u32-degree.ensures.value) c.put32.ensures)
+    (rw (← c.index32-i.ensures, ← c.at32-2.ensures) c.put32-2.ensures)
+    (rw (← c.index32-i.ensures, ← c.at32-3.ensures) c.put32-3.ensures)

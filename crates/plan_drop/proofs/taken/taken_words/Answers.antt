@@ -28,10 +28,9 @@ take_edge-i-requires c =
 
 pub loop-e-preserved : goal.loop-e-preserved
 loop-e-preserved c =
-    let step = c.take_edge-i.ensures in
     let inv = c.loop-e.invariant in
-    let more = taken_more max_vertices _ _ _ _ _ inv.1 inv.2 inv.3 step in
-    (omega arith, next_index _ _ inv.1 step.index, more.0, more.1)
+    let more = taken_more max_vertices _ _ _ _ _ inv.1 inv.2 inv.3 c.take_edge-i.ensures in
+    (omega arith, next_index _ _ inv.1 c.take_edge-i.ensures.index, more.0, more.1)
 
 pub returns : goal.returns
 returns c = taken_end max_vertices _ _ _ _ _ _ (omega arith) (omega arith) c.loop-e.invariant.3

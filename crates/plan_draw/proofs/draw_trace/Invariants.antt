@@ -1,0 +1,21 @@
+-- `draw_trace` meets its contract: up to component number c, trees and members are the trace's and the duals stand in the buffer.
+use borrow.Author.Rules.{rules}
+use Prim.Native.Nat.{ℕ, ◌*◌, ◌≤◌, ◌-◌}
+use mathlib.Core.Path.{sym}
+use mathlib.Core.List.{List}
+use lib.ListN.{length-replicate}
+use Rattle.base_limits.specs.Limits.{max_vertices}
+use Rattle.plan_draw.specs.Members.{no_member}
+use Rattle.plan_draw.specs.Trace.{trace_from}
+use Rattle.plan_draw.specs.Laws.Drawing.{written_length}
+use Rattle.plan_draw.specs.Laws.Trace.{Replayed, replayed_none, replayed_more, replayed_end}
+use native.Mathlib.Omega.{arith}
+use Rattle.plan_draw.proofs.draw_trace.Given as goal
+
+abbrev pub invariant-loop-c : goal.invariant-loop-c
+invariant-loop-c l =
+    (l.c ≤ l.end) × Replayed (trace_from l.n l.firsts l.seconds l.values l.order l.rounds) l.c l.ups l.sets l.initial.records l.records l.count
+
+abbrev pub decreases-loop-c : goal.decreases-loop-c
+decreases-loop-c l =
+    l.end - l.c

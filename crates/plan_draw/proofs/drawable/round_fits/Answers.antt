@@ -1,0 +1,38 @@
+-- `round_fits` meets its contract: each end is tested.
+use Prim.Native.Nat.{◌<◌, ◌≤◌}
+use mathlib.Core.Path.{sym}
+use Rattle.plan_draw.specs.Trace.{end_of}
+use Rattle.plan_draw.specs.Laws.Drawable.{fits_both, first_out, second_out}
+use borrow.Author.Rules.{rules}
+use Rattle.plan_draw.proofs.drawable.round_fits.Goals as goal
+
+-- the first end
+pub returns-then-n-index32 : goal.returns-then-n-index32
+unfolding end_of
+returns-then-n-index32 c =
+    let a = c.args in
+    let out : a.n ≤ end_of a.firsts.now a.order.now a.r =
+    rw (← c.at32.ensures, ← c.index32-e.ensures, ← c.at32-2.ensures, ← c.index32.ensures) c.if-n-index32.true in
+    sym (first_out a.n (end_of a.firsts.now a.order.now) (end_of a.seconds.now a.order.now) a.r out)
+
+-- the second end
+pub returns-then-n-index32-2 : goal.returns-then-n-index32-2
+unfolding end_of
+returns-then-n-index32-2 c =
+    let a = c.args in
+    let first : end_of a.firsts.now a.order.now a.r < a.n =
+    rw (← c.at32.ensures, ← c.index32-e.ensures, ← c.at32-2.ensures, ← c.index32.ensures) c.if-n-index32.false in
+    let out : a.n ≤ end_of a.seconds.now a.order.now a.r =
+    rw (← c.at32.ensures, ← c.index32-e.ensures, ← c.at32-3.ensures, ← c.index32-2.ensures) c.if-n-index32-2.true in
+    sym (second_out a.n (end_of a.firsts.now a.order.now) (end_of a.seconds.now a.order.now) a.r first out)
+
+-- both fit
+pub returns : goal.returns
+unfolding end_of
+returns c =
+    let a = c.args in
+    let first : end_of a.firsts.now a.order.now a.r < a.n =
+    rw (← c.at32.ensures, ← c.index32-e.ensures, ← c.at32-2.ensures, ← c.index32.ensures) c.if-n-index32.false in
+    let second : end_of a.seconds.now a.order.now a.r < a.n =
+    rw (← c.at32.ensures, ← c.index32-e.ensures, ← c.at32-3.ensures, ← c.index32-2.ensures) c.if-n-index32-2.false in
+    sym (fits_both a.n (end_of a.firsts.now a.order.now) (end_of a.seconds.now a.order.now) a.r first second)

@@ -1,0 +1,29 @@
+-- `copy_record` meets its contract: it stores at rising places.
+use Prim.Native.Nat.{◌≤◌, ◌-◌}
+use mathlib.Core.Path.{◌≡◌, refl, ap, ◌∙◌}
+use lib.ListN.{length, get_or}
+use Rattle.base_limits.specs.Limits.{record_bytes}
+use Rattle.base_buffer.specs.Store.{remade}
+use Rattle.base_buffer.specs.Laws.Store.{length_remade, remade_more, remade_end}
+use Rattle.plan_draw.specs.Members.{copied}
+use native.Mathlib.Omega.{arith}
+use borrow.Author.Rules.{rules}
+use Rattle.plan_draw.proofs.record.copy_record.Goals as goal
+
+pub loop-i-init : goal.loop-i-init
+unfolding remade
+loop-i-init c = (omega arith, refl)
+
+pub loop-i-preserved : goal.loop-i-preserved
+loop-i-preserved c =
+    (omega arith, c.put8.ensures ∙ remade_more _ _ _ _ _ c.loop-i.invariant.1 c.at8.ensures)
+
+pub returns : goal.returns
+unfolding copied
+returns c = c.loop-i.invariant.1 ∙ remade_end _ _ _ _ (omega arith) (omega arith)
+
+pub overflow_add-i : goal.overflow_add-i
+overflow_add-i c = omega arith
+
+pub loop-i-smaller : goal.loop-i-smaller
+loop-i-smaller c = omega arith

@@ -1,0 +1,13 @@
+-- `turn_members` meets its contract: before vertex v it has turned those below v.
+use Rattle.std.proofs.Common.{◌≡◌, ◌-◌, ◌≤◌, refl, ◌∙◌, ⊎_elim, arith, rules}
+use Rattle.base_buffer.specs.Store.{remade}
+use Rattle.base_buffer.specs.Laws.Store.{remade_end}
+use Rattle.plan_rounds.specs.Tables.{turned_members}
+use Rattle.plan_rounds.specs.Laws.Loads.{member_turned, member_passed}
+use Rattle.plan_rounds.proofs.settle.turn_members.Given as goal
+
+abbrev pub invariant-loop-v : goal.invariant-loop-v
+invariant-loop-v l = (l.v ≤ l.n) × (l.loads ≡ turned_members l.labels l.v l.time l.c l.initial.loads)
+
+abbrev pub decreases-loop-v : goal.decreases-loop-v
+decreases-loop-v l = l.n - l.v
