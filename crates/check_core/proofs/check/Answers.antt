@@ -15,7 +15,7 @@ use Rattle.check_core.proofs.check.Goals as goal
 pub returns-in-Refused : goal.returns-in-Refused
 unfolding checked_outcome
 returns-in-Refused c =
-let whole = promises _ _ _ _ (record { own_byte = λ v. omega (arith, c.shared_slice_known-1.given v); other_byte = λ i. omega (arith, c.shared_slice_known-6-1.given i) })
+    let whole = promises _ _ _ _ (record { own_byte = λ v. omega (arith, c.shared_slice_known-1.given v); other_byte = λ i. omega (arith, c.shared_slice_known-6-1.given i) })
     (sym (input_stops _ _ _ (sym c.input_refusal-unfit.ensures ∙ c.in-Refused.is))) in record { result_value = whole.0; passed = whole.1.0; accurate = whole.1.1.0; bounded = whole.1.1.1 }
 
 pub slice_bounds-duals_refusal-end : goal.slice_bounds-duals_refusal-end
@@ -28,7 +28,8 @@ pub returns-in-Refused-unsound : goal.returns-in-Refused-unsound
 unfolding checked_outcome
 returns-in-Refused-unsound c =
     let input = sym c.input_refusal-unfit.ensures ∙ c.in_default.is in
-    let sound = input_sound _ _ _ input in let whole = promises _ _ _ _ (record { own_byte = λ v. omega (arith, c.shared_slice_known-1.given v); other_byte = λ i. omega (arith, c.shared_slice_known-6-1.given i) })
+    let sound = input_sound _ _ _ input in
+    let whole = promises _ _ _ _ (record { own_byte = λ v. omega (arith, c.shared_slice_known-1.given v); other_byte = λ i. omega (arith, c.shared_slice_known-6-1.given i) })
     (sym (duals_stop _ _ _ input (sym (duals_poured _ sound (part_poured _ sound.few c.pour-poured.ensures) _) ∙ sym (c.duals_refusal-unsound.ensures ∙ few_duals _ _ (input_few _ _ _ input)) ∙ c.in-Refused-unsound.is))) in record { result_value = whole.0; passed = whole.1.0; accurate = whole.1.1.0; bounded = whole.1.1.1 }
 
 -- 14
@@ -36,7 +37,8 @@ pub returns-in-Refused-apart : goal.returns-in-Refused-apart
 unfolding checked_outcome
 returns-in-Refused-apart c =
     let input = sym c.input_refusal-unfit.ensures ∙ c.in_default.is in
-    let sound = input_sound _ _ _ input in let whole = promises _ _ _ _ (record { own_byte = λ v. omega (arith, c.shared_slice_known-1.given v); other_byte = λ i. omega (arith, c.shared_slice_known-6-1.given i) })
+    let sound = input_sound _ _ _ input in
+    let whole = promises _ _ _ _ (record { own_byte = λ v. omega (arith, c.shared_slice_known-1.given v); other_byte = λ i. omega (arith, c.shared_slice_known-6-1.given i) })
     (sym
     (groups_stop _ _ _ input
     (sym (duals_poured _ sound (part_poured _ sound.few c.pour-poured.ensures) _) ∙ sym (c.duals_refusal-unsound.ensures ∙ few_duals _ _ (input_few _ _ _ input)) ∙ c.in_default-unsound.is)
@@ -58,7 +60,8 @@ pub returns : goal.returns
 returns c =
     let input = sym c.input_refusal-unfit.ensures ∙ c.in_default.is in
     let sound = input_sound _ _ _ input in
-    let part = part_poured _ sound.few c.pour-poured.ensures in let whole = promises _ _ _ _ (record { own_byte = λ v. omega (arith, c.shared_slice_known-1.given v); other_byte = λ i. omega (arith, c.shared_slice_known-6-1.given i) })
+    let part = part_poured _ sound.few c.pour-poured.ensures in
+    let whole = promises _ _ _ _ (record { own_byte = λ v. omega (arith, c.shared_slice_known-1.given v); other_byte = λ i. omega (arith, c.shared_slice_known-6-1.given i) })
     (c.judge.ensures
     ∙ ap (λ counts. outcome (rule_refusal counts) counts) (checked_poured _ sound part _ _)
     ∙ sym

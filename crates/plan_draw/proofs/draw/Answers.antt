@@ -25,4 +25,5 @@ returns-then-is_drawable c =
 -- nothing is drawn
 pub returns : goal.returns
 returns c =
-    let a = c.args in let whole = drawn_none (trace_from a.n a.firsts.now a.seconds.now a.values.now a.order.now a.rounds) a.records.now (sym c.is_drawable.ensures ∙ c.if-is_drawable.false) in record { count = whole.0; written = whole.1 }
+    let a = c.args in
+    let whole = drawn_none (trace_from a.n a.firsts.now a.seconds.now a.values.now a.order.now a.rounds) a.records.now (sym c.is_drawable.ensures ∙ c.if-is_drawable.false) in record { count = whole.0; written = whole.1 }

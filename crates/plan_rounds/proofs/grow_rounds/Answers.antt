@@ -6,6 +6,7 @@ use Rattle.plan_rounds.specs.Represents.{arrays_from, Represents}
 use Rattle.plan_rounds.specs.Laws.Round.{going, merged_small, won_edge, round_over, round_won}
 use Rattle.plan_rounds.specs.Laws.Rounds.{represents_start, all_merged, time_fits, settled_left, grown_still}
 use Rattle.plan_rounds.proofs.grow_rounds.Goals as goal
+use Rattle.plan_rounds.proofs.grow_rounds.Goals.{else-loop-r-test, then-loop-r-test+in_default}
 
 pub overflow_cast-n : goal.overflow_cast-n
 overflow_cast-n c = let few = c.requires.survey_sound.few in record { fits = omega arith }
@@ -51,10 +52,10 @@ overflow_add-n-2 c =
 pub returns : goal.returns
 returns c =
     let inv = c.loop-r.invariant in
-    
-    ⊎_elim
-    (λ w. grown_still inv.0 (settled_left inv.0 w.1 w.2 c.settle_bound.ensures.values_value) refl refl (all_merged inv.0 (omega (arith, w.0.left))) c.settle_bound.ensures.rounds_value)
-    (λ w.
-    let over = round_over inv.0 _ inv.1 w.9.ensures.0 w.9.ensures.1 w.11.given.1 in
-    grown_still over.1 (settled_left over.1 w.12 w.13 c.settle_bound.ensures.values_value) refl refl over.0 c.settle_bound.ensures.rounds_value)
-    c.loop-r-test.branch
+    elim c.loop-r-test.branch [
+      else-loop-r-test w ↦
+        grown_still inv.0 (settled_left inv.0 w.values-is w.flags-is c.settle_bound.ensures.values_value) refl refl (all_merged inv.0 (omega (arith, w.loop-r-test.false))) c.settle_bound.ensures.rounds_value
+    | then-loop-r-test+in_default w ↦
+        let over = round_over inv.0 _ inv.1 w.round-found.ensures.result_value w.round-found.ensures.flags_value w.in_default.is in
+        grown_still over.1 (settled_left over.1 w.values-is w.flags-is c.settle_bound.ensures.values_value) refl refl over.0 c.settle_bound.ensures.rounds_value
+    ]

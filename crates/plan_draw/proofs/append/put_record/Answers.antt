@@ -9,5 +9,5 @@ pub returns : goal.returns
 returns c =
     let a = c.args in
     
-    let whole = copied_whole a.set.now _ c.write_record-arg-2-1.given.0 (place_long a.k a.records.now c.requires.room) in
+    let whole = copied_whole a.set.now _ c.write_record-arg-2-1.given (place_long a.k a.records.now c.requires.room) in
     put_whole a.k a.records.now (c.write_record.ensures ∙ ap (λ l. with_value l a.x) whole)

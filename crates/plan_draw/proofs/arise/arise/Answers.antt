@@ -10,6 +10,6 @@ returns c =
     
     let second = rw c.part_of-x.ensures.left at c.part_of-y.ensures in
     let x = c.index32.ensures ∙ c.part_of-x.ensures.part in
-    let y = c.index32-2.ensures ∙ second.0 in
+    let y = c.index32-2.ensures ∙ second.part in
     let set = c.union_of-set.ensures ∙ ap₂ (union_of a.sets.now a.n) x y in
-    record { set = set; ups = rw (← second.0, ← second.1, ← c.part_of-x.ensures.part) c.hang.ensures; sets = c.keep.ensures }
+    record { set = set; ups = rw (← second.part, ← second.left, ← c.part_of-x.ensures.part) c.hang.ensures; sets = c.keep.ensures }

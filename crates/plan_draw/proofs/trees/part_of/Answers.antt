@@ -20,4 +20,4 @@ returns c =
     let a = c.args in
     
     let past = le-ltb a.c a.n (rw (← c.index32-k.ensures) c.if-k-n.false) in
-    rw (past, ← c.index32-k.ensures, ← c.at32.ensures, ← c.index32-e.ensures, ← c.at32-2.ensures) (c.climb.ensures.root, c.climb.ensures.left)
+    rw (past, ← c.index32-k.ensures, ← c.at32.ensures, ← c.index32-e.ensures, ← c.at32-2.ensures) (record { part = c.climb.ensures.root; left = c.climb.ensures.left })

@@ -6,12 +6,12 @@ use Rattle.plan_rounds.proofs.round.round.Goals as goal
 -- no winner
 pub returns-in_default : goal.returns-in_default
 returns-in_default c =
-let whole = arrays_over _ _ _ _ _ _ _ _ _ _ c.find_winner-found.ensures.result_value c.find_winner-found.ensures.keys_value c.find_winner-found.ensures.floors_value c.in_default.is in record { result_value = whole.0; flags_value = whole.1 }
+    let whole = arrays_over _ _ _ _ _ _ _ _ _ _ c.find_winner-found.ensures.result_value c.find_winner-found.ensures.keys_value c.find_winner-found.ensures.floors_value c.in_default.is in record { result_value = whole.0; flags_value = whole.1 }
 
 -- an edge has won
 pub returns : goal.returns
 returns c =
-let whole = arrays_won _ _ _ _ _ _ _ _ _ _ c.find_winner-found.ensures.result_value c.find_winner-found.ensures.keys_value c.find_winner-found.ensures.floors_value c.in-Edge.is
+    let whole = arrays_won _ _ _ _ _ _ _ _ _ _ c.find_winner-found.ensures.result_value c.find_winner-found.ensures.keys_value c.find_winner-found.ensures.floors_value c.in-Edge.is
     c.wake_joined.ensures
     c.at32-first.ensures
     c.at32-second.ensures

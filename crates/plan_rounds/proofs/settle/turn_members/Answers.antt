@@ -5,6 +5,7 @@ use Rattle.base_buffer.specs.Laws.Store.{remade_end}
 use Rattle.plan_rounds.specs.Tables.{turned_members}
 use Rattle.plan_rounds.specs.Laws.Loads.{member_turned, member_passed}
 use Rattle.plan_rounds.proofs.settle.turn_members.Goals as goal
+use Rattle.plan_rounds.proofs.settle.turn_members.Goals.{then-at32-c, else-at32-c}
 
 pub loop-v-init : goal.loop-v-init
 unfolding turned_members remade
@@ -18,10 +19,10 @@ loop-v-preserved c =
     let made = c.loop-v.invariant.1 in
     (
       omega arith,
-      ⊎_elim
-          (λ w. member_turned _ _ _ _ _ made c.at32.ensures w.0.taken (w.3 ∙ w.2.ensures))
-          (λ w. member_passed _ _ _ _ _ made c.at32.ensures w.0.left w.1)
-          c.if-at32-c.branch,
+      elim c.if-at32-c.branch [
+        then-at32-c w ↦ member_turned _ _ _ _ _ made c.at32.ensures w.if-at32-c.true (w.loads-is ∙ w.turn_load.ensures)
+      | else-at32-c w ↦ member_passed _ _ _ _ _ made c.at32.ensures w.if-at32-c.false w.loads-is
+      ],
     )
 
 pub returns : goal.returns

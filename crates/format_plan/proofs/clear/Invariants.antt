@@ -1,0 +1,15 @@
+-- `format_plan::clear` meets its contract: the marks before e are 0.
+use native.Mathlib.Omega.{arith}
+use borrow.Author.Rules.{rules}
+use Prim.Native.Nat.{◌-◌, ◌≤◌}
+use mathlib.Core.Path.{◌≡◌, refl, ap, ◌∙◌}
+use lib.ListN.{length, set}
+use Rattle.format_plan.specs.Plan.{cleared}
+use Rattle.format_plan.specs.Laws.Fill.{cleared_length, cleared_next}
+use Rattle.format_plan.proofs.clear.Given as goal
+
+abbrev pub invariant-loop-e : goal.invariant-loop-e
+invariant-loop-e l = (l.e ≤ l.count) × (l.marks ≡ cleared l.e l.initial.marks)
+
+abbrev pub decreases-loop-e : goal.decreases-loop-e
+decreases-loop-e l = l.count - l.e

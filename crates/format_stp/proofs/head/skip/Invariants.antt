@@ -1,0 +1,14 @@
+-- `format_stp::head::skip` meets its contract: what is left of the empty lines ends where all of them end.
+use borrow.Author.Rules.{rules}
+use Prim.Native.Nat.{◌+◌, ◌-◌}
+use mathlib.Core.Path.{◌≡◌, ◌∙◌, refl}
+use lib.ListN.{drop, length}
+use Rattle.format_stp.specs.StpWord.{empty_lines}
+use Rattle.format_stp.specs.Laws.HeadTurn.{skip_on, skip_stop, skip_end}
+use Rattle.format_stp.proofs.head.skip.Given as goal
+
+abbrev pub invariant-loop-at : goal.invariant-loop-at
+invariant-loop-at l = l.at + empty_lines (drop l.at l.text) ≡ l.initial.at + empty_lines (drop l.initial.at l.text)
+
+abbrev pub decreases-loop-at : goal.decreases-loop-at
+decreases-loop-at l = length l.text - l.at

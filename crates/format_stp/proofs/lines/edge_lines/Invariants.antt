@@ -1,0 +1,26 @@
+-- `format_stp::lines::edge_lines` meets its contract: what is left to read and to store is what the whole reads and stores.
+use borrow.Author.Rules.{rules}
+use Prim.Native.Nat.{ℕ, ◌-◌}
+use mathlib.Core.Path.{◌≡◌, ap, sym, ◌∙◌}
+use mathlib.Core.List.{List}
+use Rattle.format_read.specs.Step.{Step, stopped}
+use Rattle.format_survey.specs.Line.{Edge, firsts_of, seconds_of, weights_of}
+use Rattle.format_read.specs.Answer.{number_step}
+use Rattle.format_survey.specs.LinesAnswer.{edge_step}
+use Rattle.format_read.specs.Laws.Lines.{LinesLeft, Stored, stored_length, left_start, stored_start, left_more, left_stop, left_done, stored_more, stored_stop, stored_done}
+use Rattle.format_stp.specs.StpReading.{stp_edge, stp_edges}
+use Rattle.format_stp.specs.StpWord.{after_empty}
+use Rattle.format_stp.specs.Laws.EdgeBound.{edge_words}
+use Rattle.format_stp.proofs.lines.edge_lines.Given as goal
+
+pub record Inv (text : List ℕ) (n count at₀ : ℕ) (firsts₀ seconds₀ weights₀ firsts seconds weights : List ℕ) (at edge : ℕ) : Type 0 where
+  pub left : LinesLeft (line_at text n) (stp_edges n text count at₀) count edge at
+  pub one : Stored (line_at text n) (stp_edges n text count at₀) count edge at (λ e. e.first) firsts₀ firsts
+  pub two : Stored (line_at text n) (stp_edges n text count at₀) count edge at (λ e. e.second) seconds₀ seconds
+  pub three : Stored (line_at text n) (stp_edges n text count at₀) count edge at (λ e. e.weight) weights₀ weights
+
+abbrev pub invariant-loop-edge : goal.invariant-loop-edge
+invariant-loop-edge l = Inv l.text l.vertices l.count l.initial.next.at l.initial.firsts l.initial.seconds l.initial.weights l.firsts l.seconds l.weights l.next.at l.edge
+
+abbrev pub decreases-loop-edge : goal.decreases-loop-edge
+decreases-loop-edge l = l.count - l.edge

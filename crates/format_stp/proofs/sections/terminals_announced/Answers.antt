@@ -1,0 +1,18 @@
+-- `format_stp::sections::terminals_announced` meets its contract: a refusal of any line stays, and a value goes on to the next.
+use borrow.Author.Rules.{rules}
+use mathlib.Core.Path.{sym, ◌∙◌}
+use Rattle.format_read.specs.Laws.NumberStep.{refusal_stays, value_goes}
+use Rattle.format_stp.specs.Section.{terminals_announced}
+use Rattle.format_stp.proofs.sections.terminals_announced.Goals as goal
+
+pub returns-in_default : goal.returns-in_default
+unfolding terminals_announced
+returns-in_default c = refusal_stays _ c.line-one.ensures c.in_default.is
+
+pub returns-in_default-two : goal.returns-in_default-two
+unfolding terminals_announced
+returns-in_default-two c = refusal_stays _ c.line-two.ensures c.in_default-two.is ∙ sym (value_goes _ c.line-one.ensures c.in-Value.is)
+
+pub returns : goal.returns
+unfolding terminals_announced
+returns c = c.terminal_count.ensures ∙ sym (value_goes _ c.line-two.ensures c.in-Value-two.is) ∙ sym (value_goes _ c.line-one.ensures c.in-Value.is)

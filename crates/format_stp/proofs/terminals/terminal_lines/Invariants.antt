@@ -1,0 +1,21 @@
+-- `format_stp::terminals::terminal_lines` meets its contract: what is left to read, from the groups so far, is what the whole reads.
+use borrow.Author.Rules.{rules}
+use Prim.Native.Nat.{ℕ}
+use mathlib.Core.List.{List}
+use mathlib.Core.Path.{◌≡◌, refl, ap, sym, ◌∙◌}
+use lib.ListN.{length, length-set}
+use Rattle.format_read.specs.Answer.{number_step}
+use Rattle.format_stp.specs.StpReading.{terminal_lines}
+use Rattle.format_stp.specs.TerminalsAnswer.{groups_step}
+use Rattle.format_stp.specs.Laws.TerminalTurn.{terminals_on, terminals_stop, terminals_done}
+use Rattle.format_stp.proofs.terminals.terminal_lines.Given as goal
+
+pub record Inv (text : List ℕ) (n count at₀ : ℕ) (groups₀ groups : List ℕ) (at left : ℕ) : Type 0 where
+  pub long : length groups ≡ length groups₀
+  pub rest : terminal_lines n left groups text at ≡ terminal_lines n count groups₀ text at₀
+
+abbrev pub invariant-loop-left : goal.invariant-loop-left
+invariant-loop-left l = Inv l.text l.vertices l.count l.initial.next.at l.initial.groups l.groups l.next.at l.left
+
+abbrev pub decreases-loop-left : goal.decreases-loop-left
+decreases-loop-left l = l.left

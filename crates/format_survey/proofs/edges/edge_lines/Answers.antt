@@ -1,0 +1,77 @@
+-- `format_survey::edges::edge_lines` meets its contract: what is left to read and to store is what the whole reads and stores.
+use native.Mathlib.Omega.{arith}
+use borrow.Author.Rules.{rules}
+use Prim.Native.Nat.{ℕ, ◌-◌}
+use mathlib.Core.Path.{◌≡◌, ap, sym, ◌∙◌}
+use mathlib.Core.List.{List}
+use Rattle.base_limits.specs.Limits.{endpoint_digits, weight_digits}
+use Rattle.format_read.specs.Step.{stopped}
+use Rattle.format_survey.specs.Line.{edge_line, edge_lines, firsts_of, seconds_of, weights_of}
+use Rattle.format_read.specs.Answer.{number_step}
+use Rattle.format_survey.specs.LinesAnswer.{edge_step}
+use Rattle.format_survey.specs.Laws.Tests.{edge_below, below_word}
+use Rattle.format_read.specs.Laws.Lines.{LinesLeft, Stored, stored_length, left_start, stored_start, left_more, left_stop, left_done, stored_more, stored_stop, stored_done}
+use Rattle.format_survey.proofs.edges.edge_lines.Goals as goal
+
+pub loop-edge-init : goal.loop-edge-init
+unfolding edge_lines
+loop-edge-init c =
+    let a = c.args in
+    let line = edge_line a.text.now in
+    record {
+      left = left_start line a.count a.cursor.at;
+      one = stored_start line a.count a.cursor.at (λ e. e.first) a.firsts.now;
+      two = stored_start line a.count a.cursor.at (λ e. e.second) a.seconds.now;
+      three = stored_start line a.count a.cursor.at (λ e. e.weight) a.weights.now;
+    }
+
+-- a line is refused
+pub returns-in_default : goal.returns-in_default
+unfolding number_step edge_step stopped firsts_of seconds_of weights_of
+returns-in_default c =
+    let h = c.loop-edge-test.true in
+    let told = c.in_default.is in
+    let e : edge_line c.args.text.now c.loop-edge.edge c.loop-edge.next.at ≡ _ = sym c.edge_line-line.ensures ∙ ap edge_step told in (
+      c.stopped_line.ensures ∙ ap (λ x. stopped (edge_step x)) told ∙ left_stop _ _ _ _ _ h e c.loop-edge.invariant.left,
+      stored_stop _ _ _ _ _ _ _ _ h e c.loop-edge.invariant.one,
+      stored_stop _ _ _ _ _ _ _ _ h e c.loop-edge.invariant.two,
+      stored_stop _ _ _ _ _ _ _ _ h e c.loop-edge.invariant.three,
+    )
+
+pub store32-requires : goal.store32-requires
+unfolding edge_step
+store32-requires c =
+    below_word endpoint_digits (omega arith) (edge_below c.args.text.now c.loop-edge.edge c.loop-edge.next.at (sym c.edge_line-line.ensures ∙ ap edge_step c.in-Edge.is)).first
+
+pub store32-requires-in-loop-edge : goal.store32-requires-in-loop-edge
+unfolding edge_step
+store32-requires-in-loop-edge c =
+    below_word endpoint_digits (omega arith) (edge_below c.args.text.now c.loop-edge.edge c.loop-edge.next.at (sym c.edge_line-line.ensures ∙ ap edge_step c.in-Edge.is)).second
+
+pub store32-requires-in-loop-edge-2 : goal.store32-requires-in-loop-edge-2
+unfolding edge_step
+store32-requires-in-loop-edge-2 c =
+    below_word weight_digits (omega arith) (edge_below c.args.text.now c.loop-edge.edge c.loop-edge.next.at (sym c.edge_line-line.ensures ∙ ap edge_step c.in-Edge.is)).weight
+
+pub loop-edge-preserved : goal.loop-edge-preserved
+unfolding edge_step
+loop-edge-preserved c =
+    let h = c.loop-edge-test.true in
+    let e : edge_line c.args.text.now c.loop-edge.edge c.loop-edge.next.at ≡ _ = sym c.edge_line-line.ensures ∙ ap edge_step c.in-Edge.is in
+    record {
+      left = left_more _ _ _ _ _ h e c.loop-edge.invariant.left;
+      one = rw c.store32.ensures (stored_more _ _ _ _ _ (λ e. e.first) _ _ h e c.loop-edge.invariant.one);
+      two = rw c.store32-in-loop-edge.ensures (stored_more _ _ _ _ _ (λ e. e.second) _ _ h e c.loop-edge.invariant.two);
+      three = rw c.store32-in-loop-edge-2.ensures (stored_more _ _ _ _ _ (λ e. e.weight) _ _ h e c.loop-edge.invariant.three);
+    }
+
+-- all lines are read
+pub returns : goal.returns
+unfolding number_step firsts_of seconds_of weights_of
+returns c =
+    let h = c.loop-edge-test.false in (
+      left_done _ _ _ _ _ h c.loop-edge.invariant.left,
+      stored_done _ _ _ _ _ _ _ _ h c.loop-edge.invariant.one,
+      stored_done _ _ _ _ _ _ _ _ h c.loop-edge.invariant.two,
+      stored_done _ _ _ _ _ _ _ _ h c.loop-edge.invariant.three,
+    )
