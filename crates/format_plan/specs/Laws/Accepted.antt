@@ -131,7 +131,7 @@ duals_printed t h none (stop e) = (none, omega arith)
 duals_printed t {low} {i} {at} h (more {a = d} w ws) (item {next = next} e f s) =
     let a = dual_printed_law t i at d next f w in
     let few = a.1 in
-    let b = duals_printed t (omega arith) ws s in
+    let b = duals_printed t {low = low + 1} (omega arith) ws s in
     let n = b.1 in
     (more a.0 b.0, omega arith)
 

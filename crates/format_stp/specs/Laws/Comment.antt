@@ -195,7 +195,7 @@ stands_drop {t} {at} (b ∷ w) s =
     let f = s.fits in
     let z : at + 1 + length w ≡ at + suc (length w) = omega arith in
     drop-cons t at 0 (omega arith)
-    ∙ ap (λ (l : List ℕ). get_or t at 0 ∷ l) (ap (λ (k : ℕ). drop k t) (sym (add-one at)) ∙ stands_drop w (stands_second (b ∷ []) w s) ∙ ap (λ (k : ℕ). w ++ drop k t) z)
+    ∙ ap (λ (l : List ℕ). get_or t at 0 ∷ l) (ap (λ (k : ℕ). drop k t) (sym (add-one at)) ∙ stands_drop {at = at + length (b ∷ [])} w (stands_second (b ∷ []) w s) ∙ ap (λ (k : ℕ). w ++ drop k t) z)
     ∙ ap (λ (x : ℕ). x ∷ w ++ drop (at + suc (length w)) t) (stands_head s)
 
 comment_complete : (t : List ℕ) (at a : ℕ) (w : List ℕ) → CommentWord a w → Stands t at w → comment_at t at ≡ found a (at + length w)

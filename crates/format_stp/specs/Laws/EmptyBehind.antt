@@ -1,5 +1,5 @@
 -- 'Empty lines may follow any line': behind any byte 10 of a text of the subset one more may stand, and the text says the same.
-use Prim.Native.Nat.{ℕ, suc, ◌≤◌, ◌<◌}
+use Prim.Native.Nat.{ℕ, zero, suc, ◌≤◌, ◌<◌}
 use Rattle.std.proofs.Common.{arith, sym, ◌∙◌, subst}
 use Rattle.std.specs.Prelude.{Bool, true, false, cond, ◌≡◌, refl, eqb, length, set, replicate}
 use mathlib.Core.List.{List, [], ◌∷◌, ◌++◌, append_assoc}
@@ -47,6 +47,7 @@ side (x ∷ a) {b} (there {v = v} d) = by_side (side a d)
     by_side (in_second c e f) = in_second c e (ap (λ (l : List ℕ). x ∷ l) f)
 
 doubled_blanks : (k : ℕ) {w : List ℕ} → Doubled (blanks k) w → w ≡ blanks (suc k)
+doubled_blanks zero {w = w} d = elim d [ ]
 doubled_blanks (suc k) here = refl
 doubled_blanks (suc k) (there d) = ap (λ (l : List ℕ). newline ∷ l) (doubled_blanks k d)
 
@@ -58,6 +59,7 @@ data Ended : List ℕ → Type 0 where
 
 doubled_line : {l w : List ℕ} → Ended l → Doubled l w → w ≡ l ++ (newline ∷ [])
 doubled_line at_end here = refl
+doubled_line at_end (there {v = v} d) = elim d [ ]
 doubled_line (before_end n e) here = absurd (n refl)
 doubled_line (before_end {b = b} n e) (there d) = ap (λ (l : List ℕ). b ∷ l) (doubled_line e d)
 
@@ -185,6 +187,7 @@ doubled_named {n} {m} {front} {back} {v = v} (one_name {count = k} {v = i} {x = 
 -- ---- the opening
 
 doubled_never : {l w : List ℕ} → OneLine l → Doubled l w → ⊥
+doubled_never {w = w} end d = elim d [ ]
 doubled_never (byte n o) here = n refl
 doubled_never (byte n o) (there d) = doubled_never o d
 

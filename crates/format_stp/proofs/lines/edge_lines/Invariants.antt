@@ -13,6 +13,10 @@ use Rattle.format_stp.specs.StpWord.{after_empty}
 use Rattle.format_stp.specs.Laws.EdgeBound.{edge_words}
 use Rattle.format_stp.proofs.lines.edge_lines.Given as goal
 
+-- The reader of line e.
+abbrev pub line_at : (text : List ℕ) (n e at : ℕ) → Step Edge
+line_at text n e at = after_empty (stp_edge n) text at
+
 pub record Inv (text : List ℕ) (n count at₀ : ℕ) (firsts₀ seconds₀ weights₀ firsts seconds weights : List ℕ) (at edge : ℕ) : Type 0 where
   pub left : LinesLeft (line_at text n) (stp_edges n text count at₀) count edge at
   pub one : Stored (line_at text n) (stp_edges n text count at₀) count edge at (λ e. e.first) firsts₀ firsts

@@ -19,7 +19,7 @@ pub returns-in_default-two : goal.returns-in_default-two
 unfolding terminals_from groups_step
 returns-in_default-two c =
     let told = c.in_default-two.is in
-    let made = c.terminal_lines-two.new.1.1.1.1.0 in
+    let made = c.terminal_lines-two.new.groups in
     ap (λ x. groups_step x made) told
     ∙ sym (then_refused _ (sym c.terminal_lines-two.ensures ∙ ap (λ x. groups_step x made) told))
     ∙ sym (value_goes _ c.terminals_announced-one.ensures c.in-Value.is)
@@ -27,7 +27,7 @@ returns-in_default-two c =
 pub returns : goal.returns
 unfolding terminals_from groups_step
 returns c =
-    let made = c.terminal_lines-two.new.1.1.1.1.0 in
+    let made = c.terminal_lines-two.new.groups in
     closes c.terminals_closed.result made c.terminals_closed.ensures
     ∙ sym (then_found _ (sym c.terminal_lines-two.ensures ∙ ap (λ x. groups_step x made) c.in-Value-two.is))
     ∙ sym (value_goes _ c.terminals_announced-one.ensures c.in-Value.is)

@@ -1,0 +1,15 @@
+-- `find_in` meets its contract: a scan of the list.
+use Prim.Native.Nat.{◌-◌}
+use mathlib.Core.Path.{refl, sym, ◌∙◌}
+use lib.ListN.{get_or}
+use lib.Dec.{eqb}
+use borrow.Author.Tests.{eq-eqb, ne_eqb}
+use Rattle.theory_route.specs.Laws.First.{Unmet, unmet_start, unmet_turn, unmet_found, unmet_end}
+use borrow.Author.Rules.{rules}
+use Rattle.merge_core.proofs.find.find_in.Given as goal
+
+abbrev pub invariant-loop-i : goal.invariant-loop-i
+invariant-loop-i l = Unmet l.count (λ i. eqb (get_or l.list i 0) l.x) l.i
+
+abbrev pub decreases-loop-i : goal.decreases-loop-i
+decreases-loop-i l = l.count - l.i

@@ -1,0 +1,15 @@
+-- `mark_pairs` meets its contract: one more pair in each turn (`paired_more`).
+use Prim.Native.Nat.{◌≤◌, ◌-◌}
+use native.Mathlib.Omega.{arith}
+use mathlib.Core.Path.{◌≡◌, ap, ◌∙◌}
+use lib.ListN.{length}
+use Rattle.merge_core.specs.Row.{marked, paired_below}
+use Rattle.merge_core.specs.Laws.Row.{length_marked, paired_none, paired_more, paired_end}
+use borrow.Author.Rules.{rules}
+use Rattle.merge_core.proofs.row.mark_pairs.Given as goal
+
+abbrev pub invariant-loop-i : goal.invariant-loop-i
+invariant-loop-i l = (l.i ≤ length l.owners) × (l.flags ≡ marked (λ g. paired_below l.owners l.others l.i g l.v) l.initial.flags)
+
+abbrev pub decreases-loop-i : goal.decreases-loop-i
+decreases-loop-i l = length l.owners - l.i

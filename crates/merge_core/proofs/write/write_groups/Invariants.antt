@@ -1,0 +1,20 @@
+-- `write_groups` meets its contract: one more store in each turn (`head_more`).
+use Prim.Native.Nat.{◌≤◌, ◌-◌}
+use native.Mathlib.Omega.{arith}
+use mathlib.Core.Path.{◌≡◌, refl, ◌∙◌}
+use lib.ListN.{length, take}
+use lib.Seq.{sets}
+use Rattle.base_finite.specs.Below.{tabulate}
+use Rattle.merge_core.specs.Row.{own_with}
+use Rattle.merge_core.specs.Pairs.{standing_in}
+use Rattle.merge_core.specs.Laws.Stored.{head_more, run_end, run_long}
+use Rattle.merge_core.specs.Laws.Copy.{table_below, table_end, table_read}
+use Rattle.merge_core.specs.Laws.Pairs.{own_read}
+use borrow.Author.Rules.{rules}
+use Rattle.merge_core.proofs.write.write_groups.Given as goal
+
+abbrev pub invariant-loop-w : goal.invariant-loop-w
+invariant-loop-w l = (l.w ≤ l.vertices) × (l.out ≡ sets l.initial.out 0 (take l.w (tabulate l.vertices (λ w. own_with l.groups l.second_groups w (standing_in l.places (length l.second_groups) w)))))
+
+abbrev pub decreases-loop-w : goal.decreases-loop-w
+decreases-loop-w l = l.vertices - l.w

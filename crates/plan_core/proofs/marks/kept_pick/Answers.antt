@@ -1,0 +1,11 @@
+-- `kept_pick` meets its contract: each return by its test.
+use Rattle.base_finite.specs.Laws.Below.{counted_true, counted_false}
+use mathlib.Core.Path.{sym, ◌∙◌}
+use borrow.Author.Rules.{rules}
+use Rattle.plan_core.proofs.marks.kept_pick.Goals as goal
+
+pub returns-then-is_picked : goal.returns-then-is_picked
+returns-then-is_picked c = sym (counted_true (sym c.is_picked.ensures ∙ c.if-is_picked.true) 2)
+
+pub returns : goal.returns
+returns c = sym (counted_false (sym c.is_picked.ensures ∙ c.if-is_picked.false) 2)

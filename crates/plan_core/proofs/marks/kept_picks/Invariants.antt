@@ -1,0 +1,19 @@
+-- `kept_picks` meets its contract: it stores at rising places.
+use Prim.Native.Nat.{ℕ, ◌≤◌, ◌-◌}
+use native.Mathlib.Omega.{arith}
+use mathlib.Core.Path.{◌≡◌, refl, ap, sym, ◌∙◌}
+use lib.ListN.{length, replicate, length-replicate}
+use Rattle.base_finite.specs.Below.{counted}
+use Rattle.base_limits.specs.Limits.{max_edges}
+use Rattle.base_buffer.specs.Store.{remade}
+use Rattle.base_buffer.specs.Laws.Store.{length_remade, remade_more, remade_end}
+use Rattle.survey_components.specs.Labels.{picked_in}
+use borrow.Author.Rules.{rules}
+use Rattle.plan_core.proofs.marks.kept_picks.Given as goal
+
+abbrev pub invariant-loop-e : goal.invariant-loop-e
+invariant-loop-e l =
+    (l.e ≤ l.m) × (l.picks ≡ remade (λ e x. counted (picked_in l.marks e) 2) l.e (replicate max_edges 0))
+
+abbrev pub decreases-loop-e : goal.decreases-loop-e
+decreases-loop-e l = l.m - l.e

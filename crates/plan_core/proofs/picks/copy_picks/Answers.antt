@@ -1,0 +1,22 @@
+-- `copy_picks` meets its contract: it stores at rising places.
+use Rattle.base_buffer.specs.Store.{remade}
+use Rattle.base_buffer.specs.Laws.Store.{length_remade, remade_more, remade_end}
+use lib.ListN.{length, get_or}
+use mathlib.Core.Path.{◌≡◌, refl, ap, ◌∙◌}
+use Prim.Native.Nat.{◌≤◌, ◌-◌}
+use borrow.Author.Rules.{rules}
+use native.Mathlib.Omega.{arith}
+use Rattle.plan_core.proofs.picks.copy_picks.Goals as goal
+
+pub loop-e-init : goal.loop-e-init
+unfolding remade
+loop-e-init c =
+    (omega arith, refl)
+
+pub loop-e-preserved : goal.loop-e-preserved
+loop-e-preserved c =
+    (omega arith, c.put8.ensures ∙ remade_more _ _ _ _ _ c.loop-e.invariant.1 c.at8.ensures)
+
+pub returns : goal.returns
+returns c =
+    c.loop-e.invariant.1 ∙ remade_end _ _ _ _ (omega arith) (omega arith)

@@ -1,0 +1,20 @@
+-- `unjoined_plan` meets its contract: 8 comes (`unjoined_comes`), and is planning's.
+use mathlib.Core.Path.{ap, sym, ◌∙◌}
+use native.Mathlib.Omega.{arith}
+use Rattle.base_limits.specs.Verdict.{outcome}
+use Rattle.plan_rule.specs.Answer.{planned_outcome}
+use Rattle.plan_rule.specs.Laws.Ready.{groups_of_all}
+use Rattle.plan_core.specs.Laws.Planned.{unjoined_comes}
+use borrow.Author.Rules.{rules}
+use Rattle.plan_core.proofs.whole.unjoined_plan.Goals as goal
+
+-- it would not come
+pub returns-in-Fine : goal.returns-in-Fine
+returns-in-Fine c =
+    unjoined_comes _ (record { own_byte = λ v. omega (arith, c.shared_slice_known-1.given v); other_byte = λ i. omega (arith, c.shared_slice_known-6-1.given i) })
+    c.requires.others_value (groups_of_all _ 8 _ ∙ sym c.unjoined_refusal-found.ensures ∙ c.in-Fine.is)
+
+-- 8
+pub returns-in-Refused : goal.returns-in-Refused
+unfolding planned_outcome outcome
+returns-in-Refused c = λ d. sym (ap (λ v. outcome v d) (groups_of_all _ 8 _ ∙ sym c.unjoined_refusal-found.ensures ∙ c.in-Refused.is))
