@@ -23,7 +23,7 @@ returns-in-Fine c =
     
     record {
       picked = _;
-      c.grow_rounds-grown.ensures = c.grow_rounds-grown.ensures;
+      grew = c.grow_rounds-grown.ensures;
       joins_is = picks_join _ _ _ _ sound c.grow_rounds-grown.ensures c.prune_picks-found.ensures.result_value (plain_bytes _ _ _ _ (λ v. omega (arith, c.shared_slice_known-1.given v))) c.in-Fine.is;
       marks_are = marks_joined_law _ _ _ _ sound c.grow_rounds-grown.ensures c.prune_picks-found.ensures.result_value _ c.prune_picks-found.ensures.marks_value (plain_bytes _ _ _ _ (λ v. omega (arith, c.shared_slice_known-1.given v))) c.requires.firsts_in_bounds c.in-Fine.is;
     }
@@ -36,7 +36,7 @@ returns-in-Refused c =
     
     record {
       picked = _;
-      c.grow_rounds-grown.ensures = c.grow_rounds-grown.ensures;
+      grew = c.grow_rounds-grown.ensures;
       joins_is = picks_part _ _ _ _ sound c.grow_rounds-grown.ensures c.prune_picks-found.ensures.result_value c.in-Refused.is;
       marks_are = marks_parted _ _ _ _ sound c.grow_rounds-grown.ensures c.prune_picks-found.ensures.result_value _ c.prune_picks-found.ensures.marks_value c.in-Refused.is;
     }

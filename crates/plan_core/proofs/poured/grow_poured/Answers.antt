@@ -22,7 +22,7 @@ slice_bounds-draw-end-2 c = sym (ap length c.grow_rounds-grown.ensures.order_is 
 pub returns : goal.returns
 returns c =
     record {
-      c = _;
+      growth = _;
       grew = c.grow_rounds-grown.ensures;
       marks_are = c.copy_picks.ensures;
       records_are = c.draw-duals.ensures.written;
