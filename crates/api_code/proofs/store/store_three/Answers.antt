@@ -1,0 +1,11 @@
+-- `store_three` meets its contract: three stores, one after the other.
+use mathlib.Core.Path.{ap, ◌∙◌}
+use lib.ListN.{set}
+use borrow.Author.Rules.{rules}
+use Rattle.api_code.proofs.store.store_three.Goals as goal
+
+pub returns : goal.returns
+returns c =
+    let a = c.args in
+    c.put64-3.ensures
+    ∙ ap (λ l. set l 2 a.bound) (c.put64-2.ensures ∙ ap (λ l. set l 1 a.cost) c.put64.ensures)

@@ -1,0 +1,19 @@
+-- `bit_groups` meets its contract: it stores at rising places.
+use Prim.Native.Nat.{ℕ, ◌≤◌, ◌-◌}
+use native.Mathlib.Omega.{arith}
+use mathlib.Core.Path.{◌≡◌, refl, ap, sym, ◌∙◌}
+use lib.ListN.{length, get_or, replicate, length-replicate}
+use Rattle.base_limits.specs.Limits.{max_vertices}
+use Rattle.base_buffer.specs.Store.{remade}
+use Rattle.base_buffer.specs.Laws.Store.{length_remade, remade_more, remade_end}
+use Rattle.winter_core.specs.Bit.{bit_group}
+use Rattle.winter_core.specs.Laws.Call.{group_at}
+use borrow.Author.Rules.{rules}
+use Rattle.winter_core.proofs.bit.bit_groups.Given as goal
+
+abbrev pub invariant-loop-v : goal.invariant-loop-v
+invariant-loop-v l =
+    (l.v ≤ length l.groups) × (l.room ≡ remade (λ v x. bit_group l.strengths l.bit (get_or l.groups v 0)) l.v (replicate max_vertices 0))
+
+abbrev pub decreases-loop-v : goal.decreases-loop-v
+decreases-loop-v l = length l.groups - l.v

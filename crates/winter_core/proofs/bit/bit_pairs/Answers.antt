@@ -1,0 +1,60 @@
+-- `bit_pairs` meets its contract: a pair that passes is stored behind the others (`passed_more`).
+use Prim.Native.Nat.{◌≤◌, ◌-◌}
+use native.Mathlib.Omega.{arith}
+use mathlib.Core.Path.{◌≡◌, refl, ap, ◌∙◌}
+use lib.ListN.{length}
+use Rattle.base_finite.specs.Below.{count_below, sum_below}
+use Rattle.base_finite.specs.Laws.Below.{count_le}
+use Rattle.winter_core.specs.Bit.{pair_carries, passed}
+use Rattle.winter_core.specs.Laws.Passing.{passed_start, length_passed, passed_more, passed_end}
+use Rattle.winter_core.specs.Laws.Call.{carries_at, count_on, count_end}
+use borrow.Author.Rules.{rules}
+use Rattle.winter_core.proofs.bit.bit_pairs.Goals as goal
+
+pub loop-i-init : goal.loop-i-init
+unfolding count_below sum_below
+loop-i-init c =
+    let a = c.args in
+    (omega arith, (refl, (passed_start (pair_carries a.strengths.now a.others.now a.bit) a.owners.now a.carriers.now, passed_start (pair_carries a.strengths.now a.others.now a.bit) a.others.now a.carried.now)))
+
+pub carries-keep-requires : goal.carries-keep-requires
+carries-keep-requires c =
+    c.requires.bit_lt_strength_bits
+
+pub next-count-requires : goal.next-count-requires
+next-count-requires c =
+    let a = c.args in
+    
+    omega (arith, c.loop-i.invariant.1.0, count_le c.loop-i.i (pair_carries a.strengths.now a.others.now a.bit), c.loop-i-test.true, c.requires.owners_len_bound)
+
+pub overflow_add-i : goal.overflow_add-i
+overflow_add-i c =
+    let few = c.requires.owners_len_bound in let below = c.loop-i-test.true in search (rules, few, below)
+
+pub loop-i-smaller : goal.loop-i-smaller
+loop-i-smaller c =
+    omega (arith, c.loop-i-test.true)
+
+pub loop-i-preserved : goal.loop-i-preserved
+loop-i-preserved c =
+    let a = c.args in
+    
+    let below = c.loop-i-test.true in
+    let inv = c.loop-i.invariant in
+    
+    let keep = (carries_at a.strengths.now a.bit c.at8-other.ensures c.carries-keep.ensures) in (
+      omega (arith, below),
+      (
+        count_on (pair_carries a.strengths.now a.others.now a.bit) c.loop-i.i inv.1.0 keep c.next-count.ensures,
+        (
+          passed_more (pair_carries a.strengths.now a.others.now a.bit) a.owners.now a.carriers.now c.loop-i.i (omega (arith, below, c.requires.owners_in_bounds)) inv.1.1.0 keep c.at32.ensures inv.1.0 c.keep32.ensures,
+          passed_more (pair_carries a.strengths.now a.others.now a.bit) a.others.now a.carried.now c.loop-i.i (omega (arith, below, c.requires.owners_in_bounds_2)) inv.1.1.1 keep c.at8-other.ensures inv.1.0 c.keep8.ensures,
+        ),
+      ),
+    )
+
+pub returns : goal.returns
+returns c =
+    let a = c.args in
+    let within = c.loop-i.invariant.0 in
+    let left = c.loop-i-test.false in record { value = count_end (pair_carries a.strengths.now a.others.now a.bit) within left c.loop-i.invariant.1.0; carriers_value = c.loop-i.invariant.1.1.0 ∙ passed_end (pair_carries a.strengths.now a.others.now a.bit) a.owners.now a.carriers.now within left; carried_value = c.loop-i.invariant.1.1.1 ∙ passed_end (pair_carries a.strengths.now a.others.now a.bit) a.others.now a.carried.now within left }

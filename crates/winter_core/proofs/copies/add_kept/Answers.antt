@@ -1,0 +1,34 @@
+-- `add_kept` meets its contract: it stores at rising places.
+use Prim.Native.Nat.{◌≤◌, ◌+◌, ◌-◌}
+use native.Mathlib.Omega.{arith}
+use mathlib.Core.Path.{◌≡◌, refl, ap, ◌∙◌}
+use lib.ListN.{length, get_or}
+use lib.Dec.{eqb}
+use Rattle.base_finite.specs.Below.{counted}
+use Rattle.base_buffer.specs.Store.{remade}
+use Rattle.base_buffer.specs.Laws.Store.{length_remade, remade_more, remade_end}
+use Rattle.winter_core.specs.Laws.Call.{room_ahead, more_read}
+use borrow.Author.Rules.{rules}
+use Rattle.winter_core.proofs.copies.add_kept.Goals as goal
+
+pub loop-e-init : goal.loop-e-init
+unfolding remade
+loop-e-init c =
+    (omega arith, refl)
+
+pub more-requires : goal.more-requires
+more-requires c =
+    let a = c.args in
+    room_ahead _ a.copies.now a.power c.requires c.loop-e-test.true c.loop-e.invariant.1 c.at8.ensures
+
+pub loop-e-smaller : goal.loop-e-smaller
+loop-e-smaller c =
+    omega (arith, c.loop-e-test.true)
+
+pub loop-e-preserved : goal.loop-e-preserved
+loop-e-preserved c =
+    (omega (arith, c.loop-e-test.true), c.put8.ensures ∙ remade_more _ _ _ _ _ c.loop-e.invariant.1 (more_read c.args.power c.at8.ensures c.at8-in-loop-e.ensures c.more.ensures))
+
+pub returns : goal.returns
+returns c =
+    c.loop-e.invariant.1 ∙ remade_end _ _ _ _ (omega (arith, c.loop-e.invariant.0)) (omega (arith, c.loop-e-test.false))

@@ -1,0 +1,19 @@
+-- `add_kept` meets its contract: it stores at rising places.
+use Prim.Native.Nat.{◌≤◌, ◌+◌, ◌-◌}
+use native.Mathlib.Omega.{arith}
+use mathlib.Core.Path.{◌≡◌, refl, ap, ◌∙◌}
+use lib.ListN.{length, get_or}
+use lib.Dec.{eqb}
+use Rattle.base_finite.specs.Below.{counted}
+use Rattle.base_buffer.specs.Store.{remade}
+use Rattle.base_buffer.specs.Laws.Store.{length_remade, remade_more, remade_end}
+use Rattle.winter_core.specs.Laws.Call.{room_ahead, more_read}
+use borrow.Author.Rules.{rules}
+use Rattle.winter_core.proofs.copies.add_kept.Given as goal
+
+abbrev pub invariant-loop-e : goal.invariant-loop-e
+invariant-loop-e l =
+    (l.e ≤ l.m) × (l.copies ≡ remade (λ e x. x + counted (eqb (get_or l.marks e 0) 2) l.power) l.e l.initial.copies)
+
+abbrev pub decreases-loop-e : goal.decreases-loop-e
+decreases-loop-e l = l.m - l.e

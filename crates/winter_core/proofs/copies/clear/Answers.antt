@@ -1,0 +1,22 @@
+-- `clear` meets its contract: it stores at rising places.
+use Prim.Native.Nat.{◌≤◌, ◌-◌}
+use native.Mathlib.Omega.{arith}
+use mathlib.Core.Path.{◌≡◌, refl, ap, ◌∙◌}
+use lib.ListN.{length}
+use Rattle.base_buffer.specs.Store.{remade}
+use Rattle.base_buffer.specs.Laws.Store.{length_remade, remade_more, remade_end}
+use borrow.Author.Rules.{rules}
+use Rattle.winter_core.proofs.copies.clear.Goals as goal
+
+pub loop-e-init : goal.loop-e-init
+unfolding remade
+loop-e-init c =
+    (omega arith, refl)
+
+pub loop-e-preserved : goal.loop-e-preserved
+loop-e-preserved c =
+    (omega arith, c.put8.ensures ∙ remade_more _ _ _ _ _ c.loop-e.invariant.1 refl)
+
+pub returns : goal.returns
+returns c =
+    c.loop-e.invariant.1 ∙ remade_end _ _ _ _ (omega arith) (omega arith)
