@@ -4,13 +4,16 @@
 // nothing is printed.
 #![tactic(auto)]
 
-ghost use Rattle.std.specs.Prelude.{◌≡◌, length};
+ghost use Rattle.std.specs.Prelude.{◌≡◌, ◌≤◌, IfSome, length};
 ghost use Rattle.base_limits.specs.Limits.{survey_room};
 
 use base_limits::{COUNT_DIGITS, SURVEY_ROOM};
 use closed_rule::MAX_CLOSED;
 use format_print::Printed;
 use format_read::Number;
+use std::io;
+use std::io::{Read, Write};
+use std::rt::Env;
 
 // What is said on standard error where the arguments are no track numbers.
 const USAGE: [u8; 73] =
@@ -27,23 +30,24 @@ fn room() -> [u8; SURVEY_ROOM]
 }
 
 // Reads the survey and prints the lines of these tracks.
-fn answer(tracks: &[u32]) {
-    let mut input = room();
-    let got = io::read_full(0, &mut input);
+fn answer<R: Read, W: Write>(input: &mut R, output: &mut W, tracks: &[u32]) -> io::Result<()> {
+    let mut bytes = room();
+    let got = program_io::read_full(input, &mut bytes)?;
     let mut out = [0u8; LINES_ROOM];
-    let told = text_closed::closed_text(&input[..got], tracks, &mut out);
+    let told = text_closed::closed_text(&bytes[..got], tracks, &mut out);
     let Printed::Length(printed) = told else {
-        return;
+        return Ok(());
     };
     if printed <= LINES_ROOM {
-        io::write_all(1, &out[..printed]);
+        output.write_all(&out[..printed])?;
     }
+    Ok(())
 }
 
 // The track number that an argument says; one that is longer than a track number can be says none.
-fn track_of(i: usize) -> Number {
+fn track_of<V: Env>(arguments: &V, i: usize) -> Number {
     let mut word = [0u8; COUNT_DIGITS];
-    let got = os::arg(i, &mut word);
+    let got = program_io::argument(arguments, i, &mut word);
     text_why::track_number(&word[..got])
 }
 
@@ -55,26 +59,34 @@ fn narrow(value: u64) -> u32 {
     4294967295
 }
 
-fn main() {
-    let count = os::arg_count();
+// Puts the tracks that the arguments say at the start and says how many they are. There are none where an argument is no
+// track number, or where there are no arguments or more than 256.
+fn tracks_asked<V: Env>(arguments: &V, tracks: &mut [u32; MAX_CLOSED]) -> Option<usize>
+    ensures { IfSome result (λ n. n ≤ length tracks.new) }
+{
+    let count = program_io::argument_count(arguments, MAX_CLOSED + 2);
     if count < 2 {
-        io::write_all(2, &USAGE);
-        return;
+        return None;
     }
     if MAX_CLOSED + 1 < count {
-        io::write_all(2, &USAGE);
-        return;
+        return None;
     }
-    let mut tracks = [0u32; MAX_CLOSED];
     let mut i = 1;
     while i < count {
-        let said = track_of(i);
+        let said = track_of(arguments, i);
         let Number::Value { value, next: _ } = said else {
-            io::write_all(2, &USAGE);
-            return;
+            return None;
         };
-        base_buffer::put32(&mut tracks, i - 1, narrow(value));
+        base_buffer::put32(tracks, i - 1, narrow(value));
         i += 1;
     }
-    answer(&tracks[0..count - 1]);
+    Some(count - 1)
+}
+
+fn main(rt: HostRuntime) -> io::Result<()> {
+    let mut tracks = [0u32; MAX_CLOSED];
+    match tracks_asked(&rt, &mut tracks) {
+        Some(n) => answer(&mut rt.stdin(), &mut rt.stdout(), &tracks[..n]),
+        None => rt.stderr().write_all(&USAGE),
+    }
 }

@@ -8,6 +8,8 @@ ghost use Rattle.base_limits.specs.Limits.{survey_room};
 
 use base_limits::SURVEY_ROOM;
 use format_print::Printed;
+use std::io;
+use std::io::{Read, Write};
 
 // Bytes that hold three lines with a number each, or a refusal's two.
 const LINES_ROOM: usize = 128;
@@ -19,15 +21,21 @@ fn room() -> [u8; SURVEY_ROOM]
     [0; SURVEY_ROOM]
 }
 
-fn main() {
-    let mut input = room();
-    let got = io::read_full(0, &mut input);
+// What the program does, from its input to its output.
+fn run<R: Read, W: Write>(input: &mut R, output: &mut W) -> io::Result<()> {
+    let mut bytes = room();
+    let got = program_io::read_full(input, &mut bytes)?;
     let mut out = [0u8; LINES_ROOM];
-    let told = text_floor::floor_text(&input[..got], &mut out);
+    let told = text_floor::floor_text(&bytes[..got], &mut out);
     let Printed::Length(printed) = told else {
-        return;
+        return Ok(());
     };
     if printed <= LINES_ROOM {
-        io::write_all(1, &out[..printed]);
+        output.write_all(&out[..printed])?;
     }
+    Ok(())
+}
+
+fn main(rt: HostRuntime) -> io::Result<()> {
+    run(&mut rt.stdin(), &mut rt.stdout())
 }

@@ -8,6 +8,8 @@ ghost use Rattle.base_limits.specs.Limits.{survey_room};
 
 use base_limits::SURVEY_ROOM;
 use format_print::Printed;
+use std::io;
+use std::io::{Read, Write};
 
 // Bytes for the texts of two surveys, and as many for the ties.
 const ROOM: usize = 3 * SURVEY_ROOM;
@@ -25,15 +27,21 @@ fn survey_buffer() -> [u8; SURVEY_ROOM]
     [0; SURVEY_ROOM]
 }
 
-fn main() {
-    let mut input = room();
-    let got = io::read_full(0, &mut input);
+// What the program does, from its input to its output.
+fn run<R: Read, W: Write>(input: &mut R, output: &mut W) -> io::Result<()> {
+    let mut bytes = room();
+    let got = program_io::read_full(input, &mut bytes)?;
     let mut out = survey_buffer();
-    let told = text_merge::merge_text(&input[..got], &mut out);
+    let told = text_merge::merge_text(&bytes[..got], &mut out);
     let Printed::Length(printed) = told else {
-        return;
+        return Ok(());
     };
     if printed <= SURVEY_ROOM {
-        io::write_all(1, &out[..printed]);
+        output.write_all(&out[..printed])?;
     }
+    Ok(())
+}
+
+fn main(rt: HostRuntime) -> io::Result<()> {
+    run(&mut rt.stdin(), &mut rt.stdout())
 }

@@ -8,6 +8,8 @@ ghost use Rattle.std.specs.Prelude.{◌≡◌, length};
 ghost use Rattle.base_limits.specs.Limits.{survey_room};
 
 use base_limits::SURVEY_ROOM;
+use std::io;
+use std::io::{Read, Write};
 
 // Bytes for every survey's text.
 fn room() -> [u8; SURVEY_ROOM]
@@ -16,14 +18,22 @@ fn room() -> [u8; SURVEY_ROOM]
     [0; SURVEY_ROOM]
 }
 
-fn main() {
-    let mut input = room();
-    let got = io::read_full(0, &mut input);
+// What the program does, from its input to its outputs.
+fn run<R: Read, W: Write, E: Write>(
+    input: &mut R,
+    output: &mut W,
+    errors: &mut E,
+) -> io::Result<()> {
+    let mut bytes = room();
+    let got = program_io::read_full(input, &mut bytes)?;
     let mut out = format_print::plan_buffer();
-    let printed = text_plan::plan_whole(&input[..got], &mut out);
+    let printed = text_plan::plan_whole(&bytes[..got], &mut out);
     let said = format_plan::remark::remark(&out[..printed], 0);
     let line = format_plan::remark::REMARK;
-    if io::write_all(1, &out[..printed]) {
-        io::write_all(2, &line[..said]);
-    }
+    output.write_all(&out[..printed])?;
+    errors.write_all(&line[..said])
+}
+
+fn main(rt: HostRuntime) -> io::Result<()> {
+    run(&mut rt.stdin(), &mut rt.stdout(), &mut rt.stderr())
 }

@@ -28,7 +28,7 @@ pub enum Dropped {
 }
 
 // What planning without moats answers: k, cost, bound and rounds; or a refusal's number and place.
-#[derive(Drop)]
+#[derive(Clone, Copy)]
 pub enum Figured {
     Finished {
         terminals: u64,

@@ -9,6 +9,8 @@ ghost use Rattle.base_buffer.specs.Part.{at_most};
 
 use base_limits::{SURVEY_ROOM, Verdict};
 use season_rule::{MAX_SURVEYS, REPORT_ROOM};
+use std::io;
+use std::io::{Read, Write};
 use text_season::TextAdded;
 
 // Bytes that are held: a text that begins in the first half ends within them.
@@ -39,35 +41,40 @@ struct Window {
 }
 
 // Moves these bytes to the front and reads behind them.
-fn refill(input: &mut [u8], at: usize, held: usize) -> Window {
+fn refill<R: Read>(reader: &mut R, input: &mut [u8], at: usize, held: usize) -> io::Result<Window> {
     let from = within(at, held);
     let left = held - from;
     text_season::to_front(input, from);
     let n = input.len();
     let kept = within(left, n);
-    let got = io::read_full(0, &mut input[kept..n]);
+    let got = program_io::read_full(reader, &mut input[kept..n])?;
     let more = within(got, n - kept);
-    Window {
+    Ok(Window {
         at: 0,
         held: kept + more,
-    }
+    })
 }
 
 // The same where the first half is used and there may be more to read: the last reading has filled the buffer.
-fn advance(input: &mut [u8], at: usize, held: usize) -> Window {
+fn advance<R: Read>(
+    reader: &mut R,
+    input: &mut [u8],
+    at: usize,
+    held: usize,
+) -> io::Result<Window> {
     if at < SURVEY_ROOM {
-        return Window { at, held };
+        return Ok(Window { at, held });
     }
     if held < input.len() {
-        return Window { at, held };
+        return Ok(Window { at, held });
     }
-    refill(input, at, held)
+    refill(reader, input, at, held)
 }
 
 // Adds text after text to the report, up to the end of the input or the first refusal.
-fn collect(input: &mut [u8]) -> TextAdded {
+fn collect<R: Read>(reader: &mut R, input: &mut [u8]) -> io::Result<TextAdded> {
     let mut report = season_core::empty_report();
-    let mut held = io::read_full(0, input);
+    let mut held = program_io::read_full(reader, input)?;
     let mut at = 0;
     let mut k = 0;
     while k <= MAX_SURVEYS {
@@ -79,28 +86,33 @@ fn collect(input: &mut [u8]) -> TextAdded {
         let added = text_season::add_text(report, &input[start..end]);
         let verdict = added.verdict;
         let Verdict::Fine = verdict else {
-            return added;
+            return Ok(added);
         };
         report = added.report;
         let used = within(added.used, end - start);
-        let window = advance(input, start + used, end);
+        let window = advance(reader, input, start + used, end)?;
         at = window.at;
         held = window.held;
         k += 1;
     }
-    TextAdded {
+    Ok(TextAdded {
         verdict: Verdict::Fine,
         used: 0,
         report,
-    }
+    })
 }
 
-fn main() {
-    let mut input = room();
-    let added = collect(&mut input);
+// What the program does, from its input to its output.
+fn run<R: Read, W: Write>(input: &mut R, output: &mut W) -> io::Result<()> {
+    let mut bytes = room();
+    let added = collect(input, &mut bytes)?;
     let verdict = added.verdict;
     let report = added.report;
     let mut out = [0u8; REPORT_ROOM];
     let printed = text_season::print_bytes(verdict, report, &mut out);
-    io::write_all(1, &out[0..printed]);
+    output.write_all(&out[0..printed])
+}
+
+fn main(rt: HostRuntime) -> io::Result<()> {
+    run(&mut rt.stdin(), &mut rt.stdout())
 }

@@ -15,7 +15,7 @@ pub const REPORT_ROOM: usize = 747;
 
 // The plan with the largest ratio of twice its cost to its bound: its position, the first survey being 0, and both
 // numbers; or that no plan has a bound above 0.
-#[derive(Drop)]
+#[derive(Clone, Copy)]
 pub enum Farthest {
     Nothing,
     At {
@@ -27,7 +27,7 @@ pub enum Farthest {
 
 // The report so far: surveys added, plans among them, their costs and bounds summed up, refusals by their number, and
 // the farthest plan.
-#[derive(Drop)]
+#[derive(Clone, Copy)]
 pub struct Report {
     pub surveys: u64,
     pub planned: u64,

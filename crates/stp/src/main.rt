@@ -8,6 +8,8 @@ ghost use Rattle.base_limits.specs.Limits.{survey_room};
 ghost use Rattle.text_stp.specs.StpOutput.{stp_room};
 
 use base_limits::SURVEY_ROOM;
+use std::io;
+use std::io::{Read, Write};
 use text_stp::STP_INPUT;
 
 // Bytes for every text that is read, and one more.
@@ -24,10 +26,15 @@ fn survey_buffer() -> [u8; SURVEY_ROOM]
     [0; SURVEY_ROOM]
 }
 
-fn main() {
-    let mut input = room();
-    let got = io::read_full(0, &mut input);
+// What the program does, from its input to its output.
+fn run<R: Read, W: Write>(input: &mut R, output: &mut W) -> io::Result<()> {
+    let mut bytes = room();
+    let got = program_io::read_full(input, &mut bytes)?;
     let mut out = survey_buffer();
-    let printed = text_stp::stp_whole(&input[..got], &mut out);
-    io::write_all(1, &out[..printed]);
+    let printed = text_stp::stp_whole(&bytes[..got], &mut out);
+    output.write_all(&out[..printed])
+}
+
+fn main(rt: HostRuntime) -> io::Result<()> {
+    run(&mut rt.stdin(), &mut rt.stdout())
 }

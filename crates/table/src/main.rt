@@ -14,6 +14,9 @@ use base_limits::{SURVEY_ROOM, Verdict, WORD_DIGITS};
 use format_print::Printed;
 use format_read::{Cursor, Number};
 use format_table::TRACK_BYTES;
+use std::io;
+use std::io::{Read, Write};
+use std::rt::Env;
 use text_table::TABLE_ROOM;
 
 // What is said on standard error where the argument is another.
@@ -51,57 +54,75 @@ fn table_input() -> [u8; TABLE_INPUT]
 }
 
 // Writes the first n of these bytes.
-fn write_first(descriptor: i32, bytes: &[u8], n: usize) {
+fn write_first<W: Write>(output: &mut W, bytes: &[u8], n: usize) -> io::Result<()> {
     let part = base_buffer::at_most(n, bytes.len());
-    io::write_all(descriptor, &bytes[0..part]);
+    output.write_all(&bytes[0..part])
 }
 
 // Writes a refusal's two lines to standard error.
-fn write_refusal(number: u64, place: usize) {
+fn write_refusal<E: Write>(errors: &mut E, number: u64, place: usize) -> io::Result<()> {
     let mut lines = [0u8; REFUSAL_ROOM];
     let said = format_print::print_refusal(number, place, &mut lines);
     let Printed::Length(n) = said else {
-        return;
+        return Ok(());
     };
-    write_first(2, &lines, n);
+    write_first(errors, &lines, n)
 }
 
 // Writes a table that was packed or unpacked, or the refusal.
-fn write_turned(found: Verdict, table: &[u8], n: usize) {
+fn write_turned<W: Write, E: Write>(
+    output: &mut W,
+    errors: &mut E,
+    found: Verdict,
+    table: &[u8],
+    n: usize,
+) -> io::Result<()> {
     match found {
-        Verdict::Fine => write_first(1, table, n),
-        Verdict::Refused { number, place } => write_refusal(number, place),
+        Verdict::Fine => write_first(output, table, n),
+        Verdict::Refused { number, place } => write_refusal(errors, number, place),
     }
 }
 
 // A survey's text in, its table out.
-fn write_survey_table() {
-    let mut input = survey_room();
-    let got = io::read_full(0, &mut input);
+fn write_survey_table<R: Read, W: Write, E: Write>(
+    input: &mut R,
+    output: &mut W,
+    errors: &mut E,
+) -> io::Result<()> {
+    let mut bytes = survey_room();
+    let got = program_io::read_full(input, &mut bytes)?;
     let mut table = table_room();
-    let said = text_table::survey_table(&input[..got], &mut table);
+    let said = text_table::survey_table(&bytes[..got], &mut table);
     match said {
-        Printed::Length(n) => write_first(1, &table, n),
-        Printed::Refused { number, place } => write_refusal(number, place),
+        Printed::Length(n) => write_first(output, &table, n),
+        Printed::Refused { number, place } => write_refusal(errors, number, place),
     }
 }
 
 // A table in, the packed one out.
-fn pack() {
-    let mut input = table_input();
-    let got = io::read_full(0, &mut input);
+fn pack<R: Read, W: Write, E: Write>(
+    input: &mut R,
+    output: &mut W,
+    errors: &mut E,
+) -> io::Result<()> {
+    let mut bytes = table_input();
+    let got = program_io::read_full(input, &mut bytes)?;
     let mut table = table_room();
-    let found = format_table::pack_table(&input[..got], &mut table);
-    write_turned(found, &table, got);
+    let found = format_table::pack_table(&bytes[..got], &mut table);
+    write_turned(output, errors, found, &table, got)
 }
 
 // A packed table in, the table out.
-fn unpack() {
-    let mut input = table_input();
-    let got = io::read_full(0, &mut input);
+fn unpack<R: Read, W: Write, E: Write>(
+    input: &mut R,
+    output: &mut W,
+    errors: &mut E,
+) -> io::Result<()> {
+    let mut bytes = table_input();
+    let got = program_io::read_full(input, &mut bytes)?;
     let mut table = table_room();
-    let found = format_table::unpack_table(&input[..got], &mut table);
-    write_turned(found, &table, got);
+    let found = format_table::unpack_table(&bytes[..got], &mut table);
+    write_turned(output, errors, found, &table, got)
 }
 
 // The argument is this word.
@@ -113,22 +134,43 @@ fn is_word(argument: &[u8], word: &[u8]) -> bool {
     argument.len() == word.len()
 }
 
-fn main() {
-    if os::arg_count() == 1 {
-        write_survey_table();
-        return;
+// What is done with the input.
+#[derive(Clone, Copy)]
+enum Task {
+    SurveyTable,
+    Pack,
+    Unpack,
+}
+
+// The task that the arguments name.
+fn task_asked<V: Env>(arguments: &V) -> Option<Task> {
+    let count = program_io::argument_count(arguments, 3);
+    if count == 1 {
+        return Some(Task::SurveyTable);
+    }
+    if count != 2 {
+        return None;
     }
     let mut argument = [0u8; 8];
-    let got = os::arg(1, &mut argument);
-    if os::arg_count() == 2 {
-        if is_word(&argument[..got], &PACK) {
-            pack();
-            return;
-        }
-        if is_word(&argument[..got], &UNPACK) {
-            unpack();
-            return;
-        }
+    let got = program_io::argument(arguments, 1, &mut argument);
+    if is_word(&argument[..got], &PACK) {
+        return Some(Task::Pack);
     }
-    io::write_all(2, &USAGE);
+    if is_word(&argument[..got], &UNPACK) {
+        return Some(Task::Unpack);
+    }
+    None
+}
+
+fn main(rt: HostRuntime) -> io::Result<()> {
+    match task_asked(&rt) {
+        Some(Task::SurveyTable) => write_survey_table(
+            &mut rt.stdin(),
+            &mut rt.stdout(),
+            &mut rt.stderr(),
+        ),
+        Some(Task::Pack) => pack(&mut rt.stdin(), &mut rt.stdout(), &mut rt.stderr()),
+        Some(Task::Unpack) => unpack(&mut rt.stdin(), &mut rt.stdout(), &mut rt.stderr()),
+        None => rt.stderr().write_all(&USAGE),
+    }
 }

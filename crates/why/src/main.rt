@@ -8,6 +8,9 @@ ghost use Rattle.base_limits.specs.Limits.{survey_room};
 
 use base_limits::{COUNT_DIGITS, SURVEY_ROOM};
 use format_read::Number;
+use std::io;
+use std::io::{Read, Write};
+use std::rt::Env;
 
 // What is said on standard error where the argument is no track number.
 const USAGE: [u8; 64] = *b"why: give a track number as the one argument, a survey as input\n";
@@ -20,26 +23,31 @@ fn room() -> [u8; SURVEY_ROOM]
 }
 
 // Reads the survey and prints why this track has its mark.
-fn answer(track: usize) {
-    let mut input = room();
-    let got = io::read_full(0, &mut input);
+fn answer<R: Read, W: Write>(input: &mut R, output: &mut W, track: usize) -> io::Result<()> {
+    let mut bytes = room();
+    let got = program_io::read_full(input, &mut bytes)?;
     let mut out = format_why::why_buffer();
-    let printed = text_why::why_whole(&input[..got], track, &mut out);
-    io::write_all(1, &out[..printed]);
+    let printed = text_why::why_whole(&bytes[..got], track, &mut out);
+    output.write_all(&out[..printed])
 }
 
-// An argument that is longer than a track number can be counts as none.
-fn main() {
+// The track that the one argument says. An argument that is longer than a track number can be counts as none.
+fn track_asked<V: Env>(arguments: &V) -> Option<usize> {
     let mut word = [0u8; COUNT_DIGITS];
-    let got = os::arg(1, &mut word);
+    let got = program_io::argument(arguments, 1, &mut word);
     let said = text_why::track_number(&word[..got]);
     let Number::Value { value, next: _ } = said else {
-        io::write_all(2, &USAGE);
-        return;
+        return None;
     };
-    if os::arg_count() != 2 {
-        io::write_all(2, &USAGE);
-        return;
+    if program_io::argument_count(arguments, 3) != 2 {
+        return None;
     }
-    answer(value as usize);
+    Some(value as usize)
+}
+
+fn main(rt: HostRuntime) -> io::Result<()> {
+    match track_asked(&rt) {
+        Some(track) => answer(&mut rt.stdin(), &mut rt.stdout(), track),
+        None => rt.stderr().write_all(&USAGE),
+    }
 }

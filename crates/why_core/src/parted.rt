@@ -23,7 +23,7 @@ pub struct Pair {
 }
 
 // Tracks by their marks: the picked ones, or the kept ones.
-#[derive(Drop)]
+#[derive(Clone, Copy)]
 pub enum Tracks {
     Picks,
     Keeps,

@@ -8,6 +8,8 @@ ghost use Rattle.base_limits.specs.Limits.{survey_room};
 
 use base_limits::SURVEY_ROOM;
 use format_print::Printed;
+use std::io;
+use std::io::{Read, Write};
 
 // Bytes that are read: more than every text that is accepted has, which is a survey's and 17 for each of 255 lines.
 const INPUT_ROOM: usize = 2 * SURVEY_ROOM;
@@ -27,15 +29,21 @@ fn lines_room() -> [u8; LINES_ROOM]
     [0; LINES_ROOM]
 }
 
-fn main() {
-    let mut input = room();
-    let got = io::read_full(0, &mut input);
+// What the program does, from its input to its output.
+fn run<R: Read, W: Write>(input: &mut R, output: &mut W) -> io::Result<()> {
+    let mut bytes = room();
+    let got = program_io::read_full(input, &mut bytes)?;
     let mut out = lines_room();
-    let told = text_winter::winter_text(&input[..got], &mut out);
+    let told = text_winter::winter_text(&bytes[..got], &mut out);
     let Printed::Length(printed) = told else {
-        return;
+        return Ok(());
     };
     if printed <= LINES_ROOM {
-        io::write_all(1, &out[..printed]);
+        output.write_all(&out[..printed])?;
     }
+    Ok(())
+}
+
+fn main(rt: HostRuntime) -> io::Result<()> {
+    run(&mut rt.stdin(), &mut rt.stdout())
 }
