@@ -1,4 +1,4 @@
-/* Foamsickle for C and C++: libfoamsickle.a, which `rt staticlib foamsickle` writes.
+/* Foamsickle for C and C++: libfoamsickle.a, which `tools/build foamsickle` writes.
  *
  * Slices. Each slice is a pointer and, right behind it, its length in items, not in bytes. A slice of length 0 may have
  * any pointer, NULL too. A slice that is lent for writing must not overlap any other slice of the call.

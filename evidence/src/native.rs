@@ -4,7 +4,7 @@
 //!
 //! The crate takes libfoamsickle.a from target/staticlib, or from the folder that FOAMSICKLE_LIB_DIR names:
 //!
-//!     rt staticlib foamsickle
+//!     tools/build foamsickle
 //!     cargo run --release --features native --bin calls
 //!
 //! Nothing else here knows of the product's names and forms.

@@ -1,7 +1,7 @@
 /* Plans and checks the survey of P3 with the handset's two calls, as a handset's program would: bytes alone, four for a
  * number and eight for a count, lowest first. Compares every byte that comes back with P3's numbers:
  *
- *     rt staticlib foamsickle
+ *     tools/build foamsickle
  *     gcc -Wall -Wextra -Werror -I include examples/c/handset.c target/staticlib/libfoamsickle.a -o handset
  *     ./handset
  *

@@ -1,6 +1,6 @@
 /* Plans a survey file and prints the tracks to clear:
  *
- *     rt staticlib foamsickle
+ *     tools/build foamsickle
  *     gcc -Wall -Wextra -Werror -I include examples/c/plan.c target/staticlib/libfoamsickle.a -o plan-c
  *     ./plan-c samples/p3.survey
  *

@@ -1,7 +1,7 @@
 /* Plans a survey file in two stages, with every call over foamsickle_survey.h's structs: grows, drops, checks what is left
  * and asks why each kept track is there:
  *
- *     rt staticlib foamsickle
+ *     tools/build foamsickle
  *     gcc -Wall -Wextra -Werror -I include examples/c/stages.c target/staticlib/libfoamsickle.a -o stages
  *     ./stages samples/p3.survey
  *

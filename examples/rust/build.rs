@@ -1,4 +1,4 @@
-//! Links libfoamsickle.a, which `rt staticlib foamsickle` writes: from the folder that FOAMSICKLE_LIB_DIR names, else from the
+//! Links libfoamsickle.a, which `tools/build foamsickle` writes: from the folder that FOAMSICKLE_LIB_DIR names, else from the
 //! repository's target/staticlib.
 
 use std::path::PathBuf;
@@ -15,7 +15,7 @@ fn main() {
     println!("cargo:rerun-if-changed={}", library.display());
     if !library.exists() {
         eprintln!(
-            "{} is not there: `rt staticlib foamsickle` in the repository writes target/staticlib/libfoamsickle.a;",
+            "{} is not there: `tools/build foamsickle` in the repository writes target/staticlib/libfoamsickle.a;",
             library.display()
         );
         eprintln!("where Foamsickle is installed, set FOAMSICKLE_LIB_DIR to the folder lib below its prefix");

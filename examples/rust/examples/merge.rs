@@ -1,7 +1,7 @@
 //! Makes one survey of two survey files and ties `u,v`, a junction of the first and the one of the second at the same
 //! place, and prints its text:
 //!
-//!     rt staticlib foamsickle
+//!     tools/build foamsickle
 //!     cd examples/rust && cargo run --example merge ../../samples/north.survey ../../samples/south.survey 3,0 4,1 1,3
 
 use foamsickle::{Refusal, SurveyText};

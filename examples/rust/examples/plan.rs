@@ -1,6 +1,6 @@
 //! Plans a survey file and prints the tracks to clear:
 //!
-//!     rt staticlib foamsickle
+//!     tools/build foamsickle
 //!     cd examples/rust && cargo run --example plan ../../samples/p3.survey
 
 use foamsickle::Refusal;

@@ -1,6 +1,6 @@
 //! Foamsickle from Rust: slices in, an enum out.
 //!
-//! Build the library first (`rt staticlib foamsickle`), then
+//! Build the library first (`tools/build foamsickle`), then
 //!
 //! ```
 //! let survey = foamsickle::Survey::new(&[1, 1], &[0], &[1], &[5])?;
