@@ -1,0 +1,18 @@
+-- `prices` meets its contract: it stores at rising places.
+use Prim.Native.Nat.{ℕ, ◌≤◌, ◌-◌}
+use native.Mathlib.Omega.{arith}
+use mathlib.Core.Path.{◌≡◌, refl, ap, sym, ◌∙◌}
+use lib.ListN.{length, get_or, replicate, length-replicate}
+use Rattle.base_buffer.specs.Store.{remade}
+use Rattle.base_buffer.specs.Laws.Store.{length_remade, remade_more}
+use Rattle.survey_core.specs.Laws.Pairs.{own_read}
+use Rattle.floor_rule.specs.Ascent.{max_arcs, edge_of}
+use Rattle.floor_core.specs.Laws.Arcs.{prices_end}
+use borrow.Author.Rules.{rules}
+use Rattle.floor_core.proofs.arcs.prices.Given as goal
+
+abbrev pub invariant-loop-a : goal.invariant-loop-a
+invariant-loop-a l = (l.a ≤ l.arcs) × (l.rests ≡ remade (λ b rest. get_or l.weights (edge_of l.firsts b) 0) l.a (replicate max_arcs 0))
+
+abbrev pub decreases-loop-a : goal.decreases-loop-a
+decreases-loop-a l = l.arcs - l.a

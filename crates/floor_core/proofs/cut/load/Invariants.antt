@@ -1,0 +1,14 @@
+-- `load` meets its contract: one arc at the rim after the other.
+use Prim.Native.Nat.{◌-◌, ◌≤◌}
+use native.Mathlib.Omega.{arith}
+use mathlib.Core.Path.{◌≡◌, refl, ◌∙◌}
+use lib.ListN.{length}
+use Rattle.floor_core.specs.Laws.Rim.{Loads, loads_start, loads_more, loads_end}
+use borrow.Author.Rules.{rules}
+use Rattle.floor_core.proofs.cut.load.Given as goal
+
+abbrev pub invariant-loop-j : goal.invariant-loop-j
+invariant-loop-j l = (l.j ≤ l.arcs) × (length l.rests ≡ length l.initial.rests) × Loads l.rim l.arcs l.initial.rests l.d l.j l.rests
+
+abbrev pub decreases-loop-j : goal.decreases-loop-j
+decreases-loop-j l = l.arcs - l.j

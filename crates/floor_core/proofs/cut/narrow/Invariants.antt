@@ -1,0 +1,12 @@
+-- `narrow` meets its contract: one arc at the rim after the other.
+use Prim.Native.Nat.{◌-◌, ◌≤◌}
+use native.Mathlib.Omega.{arith}
+use Rattle.floor_core.specs.Laws.Rim.{Narrows, narrows_start, narrows_end}
+use borrow.Author.Rules.{rules}
+use Rattle.floor_core.proofs.cut.narrow.Given as goal
+
+abbrev pub invariant-loop-j : goal.invariant-loop-j
+invariant-loop-j l = (l.j ≤ l.arcs) × (l.kept ≤ l.j) × Narrows l.links l.flags l.initial.rim l.arcs l.rests l.cap l.j l.least l.kept l.rim
+
+abbrev pub decreases-loop-j : goal.decreases-loop-j
+decreases-loop-j l = l.arcs - l.j

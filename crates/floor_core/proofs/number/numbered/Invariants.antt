@@ -1,0 +1,19 @@
+-- `numbered` meets its contract: it stores at rising places.
+use Prim.Native.Nat.{ℕ, ◌≤◌, ◌<◌, ◌-◌}
+use native.Mathlib.Omega.{arith}
+use mathlib.Core.Path.{◌≡◌, refl, ap, sym, ◌∙◌}
+use lib.ListN.{length, get_or, replicate, length-replicate}
+use Rattle.base_buffer.specs.Store.{remade}
+use Rattle.base_buffer.specs.Laws.Store.{length_remade, remade_more}
+use Rattle.base_limits.specs.Limits.{max_vertices, group_numbers}
+use Rattle.floor_rule.specs.Number.{number_of}
+use Rattle.floor_core.specs.Laws.Number.{number_is, at_end}
+use borrow.Author.Rules.{rules}
+use Rattle.floor_core.proofs.number.numbered.Given as goal
+
+abbrev pub invariant-loop-v : goal.invariant-loop-v
+invariant-loop-v l =
+    (l.v ≤ length l.groups) × (l.room ≡ remade (λ u x. number_of l.poured l.groups l.owners l.others (get_or l.poured u 0)) l.v (replicate max_vertices 0))
+
+abbrev pub decreases-loop-v : goal.decreases-loop-v
+decreases-loop-v l = length l.groups - l.v

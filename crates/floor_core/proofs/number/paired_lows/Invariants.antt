@@ -1,0 +1,15 @@
+-- `paired_lows` meets its contract: one pair after the other.
+use Prim.Native.Nat.{◌≤◌, ◌-◌}
+use native.Mathlib.Omega.{arith}
+use mathlib.Core.Path.{◌∙◌}
+use lib.ListN.{length}
+use Rattle.floor_core.specs.Tables.{PairedLows}
+use Rattle.floor_core.specs.Laws.Number.{paired_start, paired_more, paired_end}
+use borrow.Author.Rules.{rules}
+use Rattle.floor_core.proofs.number.paired_lows.Given as goal
+
+abbrev pub invariant-loop-i : goal.invariant-loop-i
+invariant-loop-i l = (l.i ≤ length l.owners) × PairedLows l.poured l.groups l.owners l.others l.i l.lows
+
+abbrev pub decreases-loop-i : goal.decreases-loop-i
+decreases-loop-i l = length l.owners - l.i

@@ -1,0 +1,13 @@
+-- `after_list` meets its contract: a group without a share has no list.
+use Rattle.floor_core.specs.Laws.Shares.{list_none, list_some}
+use borrow.Author.Rules.{rules}
+use Rattle.floor_core.proofs.shares.after_list.Goals as goal
+
+pub returns-then-at64-eq0 : goal.returns-then-at64-eq0
+returns-then-at64-eq0 c = list_none _ _ _ _ _ _ c.at64.ensures c.if-at64-eq0.true
+
+pub ascend-got-requires : goal.ascend-got-requires
+ascend-got-requires c = record { ends = c.requires.0; chained = c.requires.1 }
+
+pub returns : goal.returns
+returns c = list_some _ _ _ _ _ _ c.at64.ensures c.if-at64-eq0.false c.ascend-got.ensures c.lower.ensures

@@ -1,0 +1,27 @@
+-- `lower` meets its contract: it stores at rising places.
+use Prim.Native.Nat.{◌≤◌, ◌-◌}
+use native.Mathlib.Omega.{arith}
+use mathlib.Core.Path.{◌≡◌, refl, ap, ◌∙◌}
+use mathlib.Core.Bool.{cond}
+use lib.ListN.{length, get_or}
+use lib.Dec.{ltb}
+use Rattle.base_buffer.specs.Store.{remade}
+use Rattle.base_buffer.specs.Laws.Store.{length_remade, remade_more}
+use Rattle.base_limits.specs.Limits.{group_numbers}
+use Rattle.floor_rule.specs.Ascent.{lesser}
+use Rattle.floor_core.specs.Laws.Shares.{share_kept, lowered_end}
+use borrow.Author.Rules.{rules}
+use Rattle.floor_core.proofs.shares.lower.Goals as goal
+
+pub loop-l-init : goal.loop-l-init
+unfolding remade
+loop-l-init c = (omega arith, refl)
+
+pub loop-l-smaller : goal.loop-l-smaller
+loop-l-smaller c = omega arith
+
+pub loop-l-preserved : goal.loop-l-preserved
+loop-l-preserved c = (omega arith, c.put64.ensures ∙ remade_more _ _ _ _ _ c.loop-l.invariant.1 (share_kept c.args.got.now c.args.k c.loop-l.l c.at64-whole.ensures c.kept_share.ensures))
+
+pub returns : goal.returns
+returns c = lowered_end _ _ _ _ c.loop-l.invariant.0 c.loop-l-test.false c.loop-l.invariant.1

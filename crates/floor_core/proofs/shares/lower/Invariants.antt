@@ -1,0 +1,20 @@
+-- `lower` meets its contract: it stores at rising places.
+use Prim.Native.Nat.{◌≤◌, ◌-◌}
+use native.Mathlib.Omega.{arith}
+use mathlib.Core.Path.{◌≡◌, refl, ap, ◌∙◌}
+use mathlib.Core.Bool.{cond}
+use lib.ListN.{length, get_or}
+use lib.Dec.{ltb}
+use Rattle.base_buffer.specs.Store.{remade}
+use Rattle.base_buffer.specs.Laws.Store.{length_remade, remade_more}
+use Rattle.base_limits.specs.Limits.{group_numbers}
+use Rattle.floor_rule.specs.Ascent.{lesser}
+use Rattle.floor_core.specs.Laws.Shares.{share_kept, lowered_end}
+use borrow.Author.Rules.{rules}
+use Rattle.floor_core.proofs.shares.lower.Given as goal
+
+abbrev pub invariant-loop-l : goal.invariant-loop-l
+invariant-loop-l l = (l.l ≤ group_numbers) × (l.share ≡ remade (λ l x. cond (ltb l l.k) x (lesser x (get_or l.got l 0))) l.l l.initial.share)
+
+abbrev pub decreases-loop-l : goal.decreases-loop-l
+decreases-loop-l l = group_numbers - l.l

@@ -1,0 +1,12 @@
+-- `note_member` meets its contract: one more is stored.
+use Rattle.floor_core.specs.Laws.Shares.{noted_member, noted_fits}
+use borrow.Author.Rules.{rules}
+use Rattle.floor_core.proofs.shares.note_member.Goals as goal
+
+pub overflow_add-count : goal.overflow_add-count
+overflow_add-count c =
+    let fits = noted_fits c.args.counts.now _ c.requires c.index8.ensures c.at64-count.ensures in
+    search (rules, fits)
+
+pub returns : goal.returns
+returns c = noted_member c.args.counts.now _ c.index8.ensures c.at64-count.ensures c.index8-2.ensures c.put64.ensures

@@ -1,0 +1,15 @@
+-- `root_of` meets its contract: one vertex after the other.
+use Prim.Native.Nat.{◌≤◌, ◌-◌}
+use native.Mathlib.Omega.{arith}
+use mathlib.Core.Path.{◌≡◌, refl}
+use lib.ListN.{length}
+use Rattle.floor_rule.specs.Ascent.{lowest_in}
+use Rattle.floor_core.specs.Laws.Shares.{lowest_more, lowest_end}
+use borrow.Author.Rules.{rules}
+use Rattle.floor_core.proofs.shares.root_of.Given as goal
+
+abbrev pub invariant-loop-v : goal.invariant-loop-v
+invariant-loop-v l = (l.v ≤ length l.groups) × (l.low ≡ lowest_in l.groups l.l l.v)
+
+abbrev pub decreases-loop-v : goal.decreases-loop-v
+decreases-loop-v l = length l.groups - l.v

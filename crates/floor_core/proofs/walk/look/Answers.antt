@@ -1,0 +1,31 @@
+-- `look` meets its contract: one arc after the other, from the last on.
+use Prim.Native.Nat.{◌+◌, ◌≤◌}
+use native.Mathlib.Omega.{arith}
+use Rattle.base_limits.specs.Limits.{max_vertices}
+use Rattle.floor_rule.specs.Ascent.{max_arcs}
+use Rattle.floor_core.specs.Laws.Walk.{falls, TurnsFrom, turns_start, turns_more, turns_end}
+use borrow.Author.Rules.{rules}
+use Rattle.floor_core.proofs.walk.look.Goals as goal
+
+pub loop-x-init : goal.loop-x-init
+loop-x-init c = (omega arith, omega arith, omega arith, turns_start _ _ _ _ _ _ _ _)
+
+pub look_arc-seen-requires : goal.look_arc-seen-requires
+look_arc-seen-requires c = (omega arith, omega arith)
+
+pub loop-x-smaller : goal.loop-x-smaller
+loop-x-smaller c = falls c.args.links.now _ c.requires.by_index c.loop-x-test.true c.loop-x.invariant.0 c.index32.ensures c.at32-link.ensures
+
+pub loop-x-preserved : goal.loop-x-preserved
+loop-x-preserved c =
+    let low = falls c.args.links.now _ c.requires.by_index c.loop-x-test.true c.loop-x.invariant.0 c.index32.ensures c.at32-link.ensures in
+    let seen = c.look_arc-seen.ensures.vertices_bound in
+    let inv = c.loop-x.invariant in (
+      omega (arith, low, inv.0),
+      omega (arith, low, seen.0, inv.1),
+      omega (arith, low, seen.1, inv.2),
+      turns_more _ _ _ _ _ _ _ _ inv.3 c.loop-x-test.true c.index32.ensures c.at32-link.ensures c.look_arc-seen.ensures.turn,
+    )
+
+pub returns : goal.returns
+returns c = turns_end _ _ _ _ _ _ _ _ c.loop-x.invariant.3 c.loop-x-test.false

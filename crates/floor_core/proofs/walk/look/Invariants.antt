@@ -1,0 +1,16 @@
+-- `look` meets its contract: one arc after the other, from the last on.
+use Prim.Native.Nat.{◌+◌, ◌≤◌}
+use native.Mathlib.Omega.{arith}
+use Rattle.base_limits.specs.Limits.{max_vertices}
+use Rattle.floor_rule.specs.Ascent.{max_arcs}
+use Rattle.floor_core.specs.Laws.Walk.{falls, TurnsFrom, turns_start, turns_more, turns_end}
+use borrow.Author.Rules.{rules}
+use Rattle.floor_core.proofs.walk.look.Given as goal
+
+abbrev pub invariant-loop-x : goal.invariant-loop-x
+invariant-loop-x l =
+    (l.x ≤ l.last) × (l.vertices + l.x ≤ max_vertices + l.last) × (l.arcs + l.x ≤ max_arcs + l.last)
+    × TurnsFrom l.links l.rests l.last l.initial.flags l.initial.found l.initial.rim l.initial.vertices l.initial.arcs l.x l.flags l.found l.rim l.vertices l.arcs
+
+abbrev pub decreases-loop-x : goal.decreases-loop-x
+decreases-loop-x l = l.x

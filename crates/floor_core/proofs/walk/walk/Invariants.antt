@@ -1,0 +1,13 @@
+-- `walk` meets its contract: one vertex of the queue after the other, until the root is found or none is left.
+use Prim.Native.Nat.{◌-◌}
+use native.Mathlib.Omega.{arith}
+use Rattle.base_limits.specs.Limits.{max_vertices}
+use Rattle.floor_core.specs.Laws.Walk.{Walks, walks_start, walks_next, walks_few, walks_more, walked_inside, walked_outside}
+use borrow.Author.Rules.{rules}
+use Rattle.floor_core.proofs.walk.walk.Given as goal
+
+abbrev pub invariant-loop-i : goal.invariant-loop-i
+invariant-loop-i l = Walks l.tops l.links l.rests l.initial.flags l.initial.found l.initial.rim l.i l.flags l.found l.rim l.vertices l.arcs
+
+abbrev pub decreases-loop-i : goal.decreases-loop-i
+decreases-loop-i l = max_vertices - l.i
