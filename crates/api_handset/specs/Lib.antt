@@ -2,4 +2,3 @@ pub mod Words
 pub mod Slices
 pub mod Call
 pub mod Crossing
-pub mod Laws

@@ -1,4 +1,3 @@
 pub mod Check
 pub mod Passing
 pub mod Exact
-pub mod Laws

@@ -1,3 +1,2 @@
 pub mod Closed
 pub mod Promise
-pub mod Laws

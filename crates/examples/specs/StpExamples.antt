@@ -8,7 +8,7 @@ use Rattle.format_write.specs.Key.{ascii, newline}
 use Rattle.format_write.specs.Decimal.{decimal, digits_within, spelled_after}
 use Rattle.format_write.specs.Text.{line_of}
 use Rattle.format_read.specs.Language.{Text}
-use Rattle.format_read.specs.Laws.Bytes.{no_bool}
+use Rattle.format_read.proofs.Laws.Bytes.{no_bool}
 use Rattle.format_read.specs.Bytes.{byte_is, fixed_at, end_at}
 use Rattle.format_read.specs.Lines.{following, lines_from, whole}
 use Rattle.format_read.specs.Step.{found, ◌then◌}
@@ -16,7 +16,7 @@ use Rattle.format_read.specs.Number.{class_of, is_digit, digits_end, numeral_end
 use Rattle.format_survey.specs.Line.{Edge, vertices_test, edges_test}
 use Rattle.format_stp.specs.Grammar.{blanks, Followed, commented, StpText}
 use Rattle.format_stp.specs.Grammar.{none as no_name, one as one_name}
-use Rattle.format_stp.specs.Laws.Accepted.{in_accepted}
+use Rattle.format_stp.proofs.Laws.Accepted.{in_accepted}
 use Rattle.format_stp.specs.StpKey.{header_line, end_word, end_line}
 use Rattle.format_stp.specs.Subset.{StpEdgeIn, stp_edge_text, terminal_text}
 use Rattle.format_stp.specs.StpNumber.{is_free, leads_to, reaches, opens, with_digit, goes_on, ends_free, digits_after, more_after, free_to}

@@ -3,4 +3,3 @@ pub mod Number
 pub mod Floor
 pub mod Promise
 pub mod Examples
-pub mod Laws

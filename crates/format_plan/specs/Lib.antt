@@ -5,4 +5,3 @@ pub mod WellFormed
 pub mod Examples
 pub mod Answer
 pub mod Remark
-pub mod Laws

@@ -6,4 +6,3 @@ pub mod Lines
 pub mod Items
 pub mod Number
 pub mod Answer
-pub mod Laws

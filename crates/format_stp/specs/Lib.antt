@@ -11,4 +11,3 @@ pub mod TerminalsAnswer
 pub mod Terminals
 pub mod Parts
 pub mod Answer
-pub mod Laws

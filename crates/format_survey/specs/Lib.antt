@@ -6,4 +6,3 @@ pub mod Render
 pub mod WellFormed
 pub mod Beginning
 pub mod Answer
-pub mod Laws

@@ -1,4 +1,3 @@
 pub mod Table
 pub mod Turning
 pub mod Examples
-pub mod Laws

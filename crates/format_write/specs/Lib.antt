@@ -2,4 +2,3 @@ pub mod Key
 pub mod Decimal
 pub mod Text
 pub mod Wrote
-pub mod Laws

@@ -5,5 +5,4 @@ pub mod ReadOut
 pub mod Sound
 pub mod Promise
 pub mod Shifted
-pub mod Laws
 pub mod Examples

@@ -1,4 +1,3 @@
 pub mod Drawing
 pub mod Trace
 pub mod Members
-pub mod Laws

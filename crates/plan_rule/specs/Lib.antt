@@ -9,4 +9,3 @@ pub mod DropPromise
 pub mod Stages
 pub mod Answer
 pub mod Figures
-pub mod Laws

@@ -3,4 +3,3 @@ pub mod Between
 pub mod Scan
 pub mod Tables
 pub mod Keys
-pub mod Laws

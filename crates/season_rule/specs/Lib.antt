@@ -2,5 +2,4 @@ pub mod Figures
 pub mod Report
 pub mod Season
 pub mod Text
-pub mod Laws
 pub mod Examples

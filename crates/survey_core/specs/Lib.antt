@@ -4,4 +4,3 @@ pub mod Survey
 pub mod Sound
 pub mod Refusal
 pub mod Accuracy
-pub mod Laws

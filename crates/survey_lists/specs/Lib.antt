@@ -1,4 +1,3 @@
 pub mod Pouring
 pub mod Examples
 pub mod Split
-pub mod Laws

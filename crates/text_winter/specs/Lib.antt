@@ -1,4 +1,3 @@
 pub mod Given
 pub mod Render
 pub mod Output
-pub mod Laws

@@ -3,4 +3,3 @@ pub mod Calls
 pub mod Handset
 pub mod Texts
 pub mod Lines
-pub mod Laws

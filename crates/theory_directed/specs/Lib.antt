@@ -1,2 +1,1 @@
 pub mod Directed
-pub mod Laws

@@ -1,3 +1,2 @@
 pub mod Path
 pub mod Component
-pub mod Laws

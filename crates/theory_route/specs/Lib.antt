@@ -1,4 +1,3 @@
 pub mod First
 pub mod Route
 pub mod Cheapest
-pub mod Laws

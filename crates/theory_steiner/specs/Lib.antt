@@ -8,4 +8,3 @@ pub mod Requirement
 pub mod Closed
 pub mod Rounds
 pub mod Strength
-pub mod Laws

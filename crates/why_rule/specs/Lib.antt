@@ -3,4 +3,3 @@ pub mod Why
 pub mod True
 pub mod Answer
 pub mod Promise
-pub mod Laws

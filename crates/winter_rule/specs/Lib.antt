@@ -1,3 +1,2 @@
 pub mod Winter
 pub mod Promise
-pub mod Laws

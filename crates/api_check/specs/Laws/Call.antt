@@ -11,7 +11,7 @@ use Rattle.base_limits.specs.declared.Verdict.TheVariants.{Fine, Refused}
 use Rattle.base_limits.specs.Laws.Verdict.{fine_refuse}
 use Rattle.survey_core.specs.Survey.{Survey, edge_count}
 use Rattle.survey_core.specs.Refusal.{survey_refusal}
-use Rattle.survey_core.specs.Laws.Refusal.{fine_survey}
+use Rattle.survey_core.proofs.Laws.Refusal.{fine_survey}
 use Rattle.check_rule.specs.Check.{check_refusal, shape_refusal, dual_refusal, rule_refusal, checking}
 use Rattle.check_core.specs.Stage.{checked_outcome as check_outcome}
 use Rattle.check_core.specs.declared.Checking.{Checking}

@@ -10,7 +10,7 @@ use Rattle.survey_core.specs.Survey.{Survey, edge_count, lists_of}
 use Rattle.survey_core.specs.Lists.{Lists}
 use Rattle.survey_core.specs.Pairs.{pair_refusal, pairs_refusal}
 use Rattle.survey_core.specs.Refusal.{edge_refusal, survey_refusal, group_refusal}
-use Rattle.survey_core.specs.Laws.Pairs.{fine_pair}
+use Rattle.survey_core.proofs.Laws.Pairs.{fine_pair}
 use Rattle.api_code.specs.Code.{place_unit, code_of, capped}
 
 -- Number and place that one number tells.

@@ -16,8 +16,8 @@ use Rattle.merge_rule.specs.Merged.{merged}
 use Rattle.merge_rule.specs.declared.Merged.{Merged}
 use Rattle.merge_rule.specs.declared.Merged.TheVariants.{Finished as MergedFinished, Refused as MergedRefused}
 use Rattle.merge_rule.specs.Refusal.{SurveyCounts, counts_of, room_from, room_of, merge_refusal, merging, merged_outcome, over, merged_after}
-use Rattle.merge_rule.specs.Laws.Refusal.{fine_merge, fine_merge_room}
-use Rattle.merge_rule.specs.Laws.Sound.{merged_sound}
+use Rattle.merge_rule.proofs.Laws.Refusal.{fine_merge, fine_merge_room}
+use Rattle.merge_rule.proofs.Laws.Sound.{merged_sound}
 use Rattle.api_code.specs.Code.{place_unit, code_of, capped, verdict_of, counts_for, counts_after, lent_on}
 use Rattle.api_code.specs.Laws.Encodable.{Encodable, capped_code}
 use Rattle.api_code.specs.Laws.Lending.{lent_le, lent_part, lent_rest}

@@ -3,12 +3,12 @@ use Rattle.std.specs.Prelude.{ℕ, ◌<◌, ◌≤◌, ◌^◌, length}
 use Rattle.std.proofs.Common.{arith, lit<}
 use Rattle.base_limits.specs.Limits.{max_vertices}
 use Rattle.survey_core.specs.Survey.{Survey, vertex_count}
-use Rattle.survey_core.specs.Laws.Refusal.{fine_survey}
+use Rattle.survey_core.proofs.Laws.Refusal.{fine_survey}
 use Rattle.api_code.specs.Laws.Encodable.{Encodable, at_zero, at_place, encodable_refuse, encodable_before, encodable_first, survey_encodable}
 use Rattle.merge_rule.specs.Ties.{Ties}
 use Rattle.merge_rule.specs.Merged.{merged}
 use Rattle.merge_rule.specs.Refusal.{SurveyCounts, counts_of, Room, tie_refusal, ties_refusal, large_refusal, room_refusal, merge_refusal}
-use Rattle.merge_rule.specs.Laws.Refusal.{ties_before_few}
+use Rattle.merge_rule.proofs.Laws.Refusal.{ties_before_few}
 
 tie_encodable : (n m : ℕ) (ties : Ties) (i : ℕ) → i < 2 ^ 32 → Encodable (tie_refusal n m ties i)
 unfolding tie_refusal

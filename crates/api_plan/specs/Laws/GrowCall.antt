@@ -8,7 +8,7 @@ use Rattle.base_limits.specs.declared.Verdict.{Verdict}
 use Rattle.base_limits.specs.declared.Verdict.TheVariants.{Fine, Refused}
 use Rattle.survey_core.specs.Survey.{Survey, edge_count}
 use Rattle.survey_core.specs.Refusal.{survey_refusal}
-use Rattle.survey_core.specs.Laws.Refusal.{fine_survey}
+use Rattle.survey_core.proofs.Laws.Refusal.{fine_survey}
 use Rattle.survey_components.specs.Forest.{loop_refusal}
 use Rattle.plan_rule.specs.Growing.{growing, marks_grown}
 use Rattle.plan_rule.specs.Dropping.{drop_refusal, dropping, marks_dropped}

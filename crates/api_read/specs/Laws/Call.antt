@@ -10,14 +10,14 @@ use Rattle.base_limits.specs.Verdict.{Outcome, refusal, answer}
 use Rattle.base_limits.specs.declared.Verdict.{Verdict}
 use Rattle.format_write.specs.Key.{nodes_key}
 use Rattle.format_read.specs.Step.{found, refused, checked}
-use Rattle.format_read.specs.Laws.Step.{then_found, then_refused}
+use Rattle.format_read.proofs.Laws.Step.{then_found, then_refused}
 use Rattle.format_read.specs.Number.{number_line}
 use Rattle.format_survey.specs.Line.{Lengths, lengths_of, tests_for, vertices_test, count_line, counts_at}
-use Rattle.format_survey.specs.Laws.Tests.{vertices_short}
+use Rattle.format_survey.proofs.Laws.Tests.{vertices_short}
 use Rattle.format_survey.specs.Reading.{SurveyText, reading, filled}
 use Rattle.format_survey.specs.Answer.{TextCounts, counts_of, counts_outcome}
-use Rattle.format_survey.specs.Laws.Reading.{reading_refused}
-use Rattle.format_survey.specs.Laws.WellFormed.{accepted_render}
+use Rattle.format_survey.proofs.Laws.Reading.{reading_refused}
+use Rattle.format_survey.proofs.Laws.WellFormed.{accepted_render}
 use Rattle.format_survey.specs.declared.Reading.{Reading}
 use Rattle.format_survey.specs.declared.Reading.TheVariants.{Survey as SurveyFound, Refused as ReadingRefused}
 use Rattle.api_code.specs.Code.{place_unit, code_of, capped, verdict_of, counts_for, lent_on}

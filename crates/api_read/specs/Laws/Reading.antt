@@ -13,19 +13,19 @@ use Rattle.format_read.specs.Step.{Step, found, refused, ◌then◌, checked}
 use Rattle.format_read.specs.Bytes.{byte_is, fixed_at, end_at}
 use Rattle.format_read.specs.Items.{items_from}
 use Rattle.format_read.specs.Lines.{following, lines_from, whole}
-use Rattle.format_read.specs.Laws.Step.{Stops, early, late, then_stops}
-use Rattle.format_read.specs.Laws.Lines.{lines_unfold}
+use Rattle.format_read.proofs.Laws.Step.{Stops, early, late, then_stops}
+use Rattle.format_read.proofs.Laws.Lines.{lines_unfold}
 use Rattle.format_write.specs.Decimal.{spelled_after}
 use Rattle.format_read.specs.Number.{also_letter, numeral_at, number_at, number_to, number_line}
-use Rattle.format_read.specs.Laws.Near.{local_tested}
+use Rattle.format_read.proofs.Laws.Near.{local_tested}
 use Rattle.format_also.specs.Pair.{Pair, PairDigits, rank, pair_at, also_test, also_line, also_reader, also_turns, also_at}
 use Rattle.format_also.specs.Laws.Tests.{pair_digits, line_past, line_read}
 use Rattle.format_survey.specs.Line.{Lengths, pair_room, tests_for, vertices_test, edges_test, group_test, count_line, group_line, group_lines, edge_line, edge_lines}
-use Rattle.format_survey.specs.Laws.Tests.{vertices_passed}
+use Rattle.format_survey.proofs.Laws.Tests.{vertices_passed}
 use Rattle.format_survey.specs.Reading.{survey_at, step_outcome, reading}
-use Rattle.format_survey.specs.Laws.Content.{content_at, content_survey_law}
-use Rattle.format_survey.specs.Laws.WellFormed.{malformed_begins}
-use Rattle.format_survey.specs.Laws.Cut.{reading_first_bytes}
+use Rattle.format_survey.proofs.Laws.Content.{content_at, content_survey_law}
+use Rattle.format_survey.proofs.Laws.WellFormed.{malformed_begins}
+use Rattle.format_survey.proofs.Laws.Cut.{reading_first_bytes}
 use Rattle.api_code.specs.Laws.Encodable.{Telling, Encodable, encodable_refuse, encodable_before, at_zero, at_place}
 
 -- A refusal of a step is 16, or one that is told wherever it is.

@@ -9,9 +9,9 @@ use Rattle.base_limits.specs.declared.Verdict.{Verdict}
 use Rattle.format_survey.specs.Reading.{filled}
 use Rattle.format_survey.specs.Line.{SurveyCounts, firsts_of, seconds_of, weights_of}
 use Rattle.format_stp.specs.StpReading.{StpContent, stp_reading}
-use Rattle.format_stp.specs.Laws.Promises.{promised}
+use Rattle.format_stp.proofs.Laws.Promises.{promised}
 use Rattle.format_stp.specs.Promises.{StpGives, gives_1, gives_3, gives_7, gives_20, stp_buffers, StpPromises}
-use Rattle.format_stp.specs.Laws.Accepted.{accepted_in, stp_numbers, stp_malformed_begins}
+use Rattle.format_stp.proofs.Laws.Accepted.{accepted_in, stp_numbers, stp_malformed_begins}
 use Rattle.format_stp.specs.Answer.{stp_answer, stp_counts_of}
 use Rattle.format_stp.specs.declared.StpRead.{StpRead}
 use Rattle.format_stp.specs.declared.StpRead.TheVariants.{Survey as SurveyFound, Refused as ReadRefused}

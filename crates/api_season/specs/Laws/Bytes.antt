@@ -7,16 +7,16 @@ use Rattle.std.proofs.lemmas.List.Edits.{sets, sets-eq}
 use Rattle.std.proofs.Math.Seq.{length-sets}
 use Rattle.base_finite.specs.Below.{tabulate}
 use Rattle.base_buffer.specs.Store.{remade}
-use Rattle.base_buffer.specs.Laws.Store.{remade_more, stored_table}
+use Rattle.base_buffer.proofs.Laws.Store.{remade_more, stored_table}
 use Rattle.format_record.specs.Bits.{number_of}
 use Rattle.format_record.specs.Record.{value_in, overwritten}
-use Rattle.format_record.specs.Laws.Record.{overwritten_whole}
+use Rattle.format_record.proofs.Laws.Record.{overwritten_whole}
 use Rattle.season_rule.specs.declared.Farthest.{Farthest}
 use Rattle.season_rule.specs.declared.Farthest.TheVariants.{Nothing, At}
 use Rattle.season_rule.specs.declared.Report.{Report}
 use Rattle.season_rule.specs.Report.{refusal_numbers}
 use Rattle.api_handset.specs.Words.{figure_bytes, spelled_counts, with_spelled}
-use Rattle.api_handset.specs.Laws.Words.{length_spelled, spelled_append, sets_append}
+use Rattle.api_handset.proofs.Laws.Words.{length_spelled, spelled_append, sets_append}
 use Rattle.api_season.specs.Bytes.{head_figures, report_bytes, figure_at, far_in, far_numbers, report_in, report_numbers, with_report}
 
 -- ---- reading

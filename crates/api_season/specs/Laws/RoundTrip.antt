@@ -9,14 +9,14 @@ use Rattle.std.proofs.Math.Seq.{drop-append-add, get_or-append-add}
 use Rattle.base_finite.specs.Below.{tabulate}
 use Rattle.base_finite.specs.Laws.Below.{lt_or_ge, length_tabulate, get_d_tabulate}
 use Rattle.format_record.specs.Bits.{number_of, low_bytes}
-use Rattle.format_record.specs.Laws.Bytes.{length_low, number_of_low}
+use Rattle.format_record.proofs.Laws.Bytes.{length_low, number_of_low}
 use Rattle.season_rule.specs.declared.Farthest.{Farthest}
 use Rattle.season_rule.specs.declared.Farthest.TheVariants.{Nothing, At}
 use Rattle.season_rule.specs.declared.Report.{Report}
 use Rattle.season_rule.specs.Report.{refusal_numbers, word_limit, empty_report}
 use Rattle.season_rule.specs.Text.{Words, FarWords, nothing, numbers}
 use Rattle.api_handset.specs.Words.{figure_bytes, spelled_counts}
-use Rattle.api_handset.specs.Laws.Words.{length_spelled}
+use Rattle.api_handset.proofs.Laws.Words.{length_spelled}
 use Rattle.api_season.specs.Bytes.{
   head_figures,
   report_figures,

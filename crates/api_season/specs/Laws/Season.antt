@@ -20,9 +20,9 @@ use Rattle.season_rule.specs.declared.Report.{Report}
 use Rattle.season_rule.specs.Figures.{Figures, figures, cost_of, bound_of}
 use Rattle.season_rule.specs.Report.{max_surveys, refusal_numbers, word_limit, most_cost, most_bound, empty_report, farther, add_plan, add_refusal, add_outcome, season_refusal, added, add_survey, add_surveys, season_of}
 use Rattle.season_rule.specs.Text.{Words, FarWords, nothing, numbers}
-use Rattle.season_rule.specs.Laws.Figures.{Limited, limited}
-use Rattle.season_rule.specs.Laws.Report.{refused_unchanged, fine_added}
-use Rattle.season_rule.specs.Laws.Season.{season_goes_on, season_full}
+use Rattle.season_rule.proofs.Laws.Figures.{Limited, limited}
+use Rattle.season_rule.proofs.Laws.Report.{refused_unchanged, fine_added}
+use Rattle.season_rule.proofs.Laws.Season.{season_goes_on, season_full}
 use Rattle.season_core.specs.Laws.Room.{PlanFits, plan_refusal_law, plan_fits, CountFits, count_refusal_law, count_fits}
 use Rattle.api_season.specs.Bytes.{report_bytes, report_in, with_report, FarSome, nothing as none_some, some, Storable}
 use Rattle.api_season.specs.Call.{season_call, season_bytes, season_calls}

@@ -1,9 +1,9 @@
 -- `check` meets its contract: the stages, one after the other, come to the definition; 11 to 13 and the counts are those of the poured groups.
 use mathlib.Core.Path.{ap, sym, ◌∙◌}
 use Rattle.base_limits.specs.Verdict.{outcome}
-use Rattle.survey_lists.specs.Laws.Room.{part_poured}
+use Rattle.survey_lists.proofs.Laws.Room.{part_poured}
 use Rattle.check_rule.specs.Check.{rule_refusal}
-use Rattle.check_rule.specs.Laws.Accuracy.{promises}
+use Rattle.check_rule.proofs.Laws.Accuracy.{promises}
 use Rattle.check_core.specs.Laws.Duals.{few_duals}
 use Rattle.check_core.specs.Stage.{checked_outcome}
 use Rattle.check_core.specs.Laws.Stage.{input_sound, input_few, input_stops, group_found, duals_stop, groups_stop, rule_decides, duals_poured, poured_fits, checked_poured}

@@ -12,12 +12,12 @@ use Rattle.base_limits.specs.declared.Verdict.TheVariants.{Fine}
 use Rattle.base_limits.specs.Laws.Verdict.{none_lowest}
 use Rattle.format_record.specs.Record.{value_in, member_in, record_at}
 use Rattle.theory_steiner.specs.Dual.{weigh, dual_load}
-use Rattle.theory_steiner.specs.Laws.Dual.{weigh_tabulate}
+use Rattle.theory_steiner.proofs.Laws.Dual.{weigh_tabulate}
 use Rattle.survey_core.specs.Survey.{Survey, problem_of}
 use Rattle.base_finite.specs.Laws.Count.{sum_end}
 use Rattle.check_rule.specs.Check.{dual_at, duals_in, dual_refusal}
 use Rattle.check_core.specs.Moats.{load_between, DualsFit, duals_refusal, few_duals_refusal}
-use Rattle.check_rule.specs.Laws.Meaning.{fine_dual}
+use Rattle.check_rule.proofs.Laws.Meaning.{fine_dual}
 
 -- What record i adds to the duals that pass the test.
 abbrev pub weighed_at : List ℕ → ((ℕ → Bool) → Bool) → ℕ → ℕ

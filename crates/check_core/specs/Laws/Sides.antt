@@ -8,7 +8,7 @@ use Rattle.base_finite.specs.Laws.Below.{lt_or_ge, counted_false, length_tabulat
 use Rattle.base_limits.specs.Limits.{max_vertices, value_bytes, record_bytes}
 use Rattle.format_record.specs.Bits.{bit_at, member_at}
 use Rattle.format_record.specs.Record.{member_in, record_at}
-use Rattle.format_record.specs.Laws.Bits.{bit_of_zero}
+use Rattle.format_record.proofs.Laws.Bits.{bit_of_zero}
 use Rattle.survey_groups.specs.Spread.{Sides}
 
 pub record_short : (records : List ℕ) (i : ℕ) → length (record_at records i) ≤ record_bytes

@@ -17,15 +17,15 @@ use Rattle.survey_core.specs.Refusal.{survey_refusal, group_refusal}
 use Rattle.survey_components.specs.Labels.{chosen_mark, chosen}
 use Rattle.survey_components.specs.declared.Chosen.TheVariants.{Kept}
 use Rattle.survey_core.specs.Sound.{SurveySound}
-use Rattle.survey_core.specs.Laws.Refusal.{fine_survey}
+use Rattle.survey_core.proofs.Laws.Refusal.{fine_survey}
 use Rattle.survey_lists.specs.Pouring.{poured_groups, poured_survey}
-use Rattle.survey_lists.specs.Laws.Pouring.{length_poured}
-use Rattle.survey_lists.specs.Laws.Plan.{poured_sound, poured_separates, poured_plan}
+use Rattle.survey_lists.proofs.Laws.Pouring.{length_poured}
+use Rattle.survey_lists.proofs.Laws.Plan.{poured_sound, poured_separates, poured_plan}
 use Rattle.check_rule.specs.Check.{Checked, dual_at, duals_in, kept_by, shape_refusal, dual_refusal, rule_refusal, checked_of, check_refusal, checking}
 use Rattle.check_core.specs.Moats.{duals_refusal}
 use Rattle.check_core.specs.Laws.Duals.{duals_fit}
 use Rattle.check_core.specs.Stage.{checked_as, input_refusal, PlanFits}
-use Rattle.check_rule.specs.Laws.Meaning.{fine_shape}
+use Rattle.check_rule.proofs.Laws.Meaning.{fine_shape}
 use Rattle.check_core.specs.Laws.Counts.{counts_fit}
 
 module _ (s : Survey) (marks records : List ℕ) where

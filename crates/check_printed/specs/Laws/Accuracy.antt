@@ -9,7 +9,7 @@ use Rattle.format_survey.specs.Line.{widest}
 use Rattle.format_survey.specs.Reading.{SurveyText}
 use Rattle.survey_core.specs.Survey.{edge_count}
 use Rattle.check_rule.specs.Check.{Checked, checking}
-use Rattle.check_rule.specs.Laws.Accuracy.{checking_accurate, checking_bound}
+use Rattle.check_rule.proofs.Laws.Accuracy.{checking_accurate, checking_bound}
 use Rattle.format_plan.specs.Plan.{Claims, PrintedPlan, marks_of, dual_records}
 use Rattle.check_printed.specs.Verify.{prefix_at, survey_in, claim_test, claims_judged, plan_verified, plan_from, verified_from, verifying}
 use Rattle.check_printed.specs.Worth.{Claimed, Worth}

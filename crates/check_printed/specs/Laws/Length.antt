@@ -1,7 +1,7 @@
 -- How long a text that passes can be: a survey's longest text and a plan's, so that what the checking program cannot read whole does not pass.
 use Rattle.std.specs.Prelude.{ℕ, zero, suc, ◌+◌, ◌*◌, ◌≤◌, ◌≡◌, List, [], ◌∷◌, ◌++◌, length}
 use Rattle.std.proofs.Common.{arith, add-one, ap, sym, ◌∙◌, ⊎_elim, length-append}
-use Rattle.format_read.specs.Laws.NumberWord.{digits_most}
+use Rattle.format_read.proofs.Laws.NumberWord.{digits_most}
 use Rattle.base_finite.specs.Below.{sum_below}
 use Rattle.base_finite.specs.Laws.Below.{lt_or_ge}
 use Rattle.base_limits.specs.Limits.{record_bytes, max_vertices, max_edges, max_duals, value_digits, longest_members, longest_dual, kept_room, plan_room}
@@ -15,10 +15,10 @@ use Rattle.format_survey.specs.Line.{Lengths, widest, tests_for}
 use Rattle.format_survey.specs.Reading.{SurveyText}
 use Rattle.format_read.specs.Lines.{text_of}
 use Rattle.format_survey.specs.Render.{render, longest_text}
-use Rattle.format_read.specs.Laws.Step.{then_value}
-use Rattle.format_survey.specs.Laws.Content.{content_at, reads_content}
-use Rattle.format_survey.specs.Laws.WellFormed.{never_malformed, accepted_within}
-use Rattle.format_survey.specs.Laws.Longest.{longest_within}
+use Rattle.format_read.proofs.Laws.Step.{then_value}
+use Rattle.format_survey.proofs.Laws.Content.{content_at, reads_content}
+use Rattle.format_survey.proofs.Laws.WellFormed.{never_malformed, accepted_within}
+use Rattle.format_survey.proofs.Laws.Longest.{longest_within}
 use Rattle.survey_core.specs.Survey.{edge_count}
 use Rattle.check_rule.specs.Check.{Checked}
 use Rattle.format_read.specs.Language.{Each, none, more}
@@ -27,10 +27,10 @@ use Rattle.format_plan.specs.Plan.{PrintedPlan, plan_at}
 use Rattle.check_printed.specs.Verify.{prefix_at, survey_in, plan_from, verifying}
 use Rattle.check_printed.specs.Laws.Accuracy.{verified_parts}
 use Rattle.check_printed.specs.Laws.Prefix.{prefix_content}
-use Rattle.format_plan.specs.Laws.Room.{room_answer}
+use Rattle.format_plan.proofs.Laws.Room.{room_answer}
 use Rattle.format_plan.specs.WellFormed.{Rising, ended, rising, dual_text, claims_text, plan_words, Printed, Printable}
-use Rattle.format_plan.specs.Laws.RoundTrip.{followers, member_words, listed_text}
-use Rattle.format_plan.specs.Laws.Accepted.{found_rendering}
+use Rattle.format_plan.proofs.Laws.RoundTrip.{followers, member_words, listed_text}
+use Rattle.format_plan.proofs.Laws.Accepted.{found_rendering}
 
 -- ---- moat lines
 

@@ -13,20 +13,20 @@ use Rattle.format_survey.specs.Line.{Edge, Lengths}
 use Rattle.format_survey.specs.Reading.{step_outcome, reading, SurveyText}
 use Rattle.format_survey.specs.Render.{render, longest_text}
 use Rattle.format_survey.specs.WellFormed.{WithinCounts, survey_of_text}
-use Rattle.format_survey.specs.Laws.WellFormed.{accepted_render}
-use Rattle.format_survey.specs.Laws.Longest.{longest_read}
+use Rattle.format_survey.proofs.Laws.WellFormed.{accepted_render}
+use Rattle.format_survey.proofs.Laws.Longest.{longest_read}
 use Rattle.survey_core.specs.Survey.{Survey, edge_count}
 use Rattle.survey_core.specs.Sound.{ByteGroups}
 use Rattle.check_rule.specs.Check.{Checked, dual_at, checked_of, checking}
 use Rattle.check_core.specs.Moats.{DualsFit}
 use Rattle.check_core.specs.Stage.{CountsFit}
-use Rattle.check_rule.specs.Laws.Accuracy.{checking_passing}
+use Rattle.check_rule.proofs.Laws.Accuracy.{checking_passing}
 use Rattle.check_core.specs.Laws.Counts.{counts_fit}
 use Rattle.format_plan.specs.Plan.{Claims, plan_at}
 use Rattle.check_printed.specs.Verify.{survey_in, plan_verified, plan_from, verified_from, verifying}
 use Rattle.check_printed.specs.Laws.Verify.{claim_fine, room_suffices}
 use Rattle.format_plan.specs.WellFormed.{ClaimDigits, plan_in, PrintFits}
-use Rattle.format_plan.specs.Laws.Printed.{read_back}
+use Rattle.format_plan.proofs.Laws.Printed.{read_back}
 use Rattle.check_printed.specs.Laws.Prefix.{within_numbered, plan_behind, prefix_render}
 use Rattle.check_printed.specs.Laws.Same.{drawn_passes}
 

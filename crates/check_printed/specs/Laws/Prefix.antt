@@ -11,12 +11,12 @@ use Rattle.format_also.specs.Laws.Passing.{pairs_few}
 use Rattle.format_survey.specs.Line.{Lengths, widest, tests_for, Edge, lines_at, lines_of}
 use Rattle.format_survey.specs.Reading.{SurveyText, survey_of}
 use Rattle.format_survey.specs.Render.{render}
-use Rattle.format_read.specs.Laws.Step.{then_found, then_value}
-use Rattle.format_read.specs.Laws.Bytes.{byte_not}
-use Rattle.format_read.specs.Laws.Stands.{stands_first, stands_whole, stands_end, stands_head}
-use Rattle.format_survey.specs.Laws.Content.{content_at, content_survey, reads_content, content_then}
+use Rattle.format_read.proofs.Laws.Step.{then_found, then_value}
+use Rattle.format_read.proofs.Laws.Bytes.{byte_not}
+use Rattle.format_read.proofs.Laws.Stands.{stands_first, stands_whole, stands_end, stands_head}
+use Rattle.format_survey.proofs.Laws.Content.{content_at, content_survey, reads_content, content_then}
 use Rattle.format_survey.specs.WellFormed.{WithinCounts, survey_of_text}
-use Rattle.format_survey.specs.Laws.WellFormed.{content_from, never_malformed, within_accepted, accepted_within}
+use Rattle.format_survey.proofs.Laws.WellFormed.{content_from, never_malformed, within_accepted, accepted_within}
 use Rattle.format_write.specs.Key.{terminals_key}
 use Rattle.format_write.specs.Text.{count_lines, line_of, plan_text}
 use Rattle.format_plan.specs.Plan.{PrintedPlan}

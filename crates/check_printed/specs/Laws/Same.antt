@@ -9,9 +9,9 @@ use Rattle.base_finite.specs.Laws.Below.{lt_or_ge, get_d_tabulate}
 use Rattle.base_limits.specs.Limits.{value_bytes, member_bytes, record_bytes}
 use Rattle.format_record.specs.Bits.{Bytes, bytes_of, low_bytes, number_of, member_at}
 use Rattle.format_record.specs.Record.{record_of, value_in, member_in, record_at}
-use Rattle.format_record.specs.Laws.Bits.{bytes_cong, bytes_of_members}
-use Rattle.format_record.specs.Laws.Bytes.{low_of_number, bytes_part}
-use Rattle.format_record.specs.Laws.Record.{bytes_record_at}
+use Rattle.format_record.proofs.Laws.Bits.{bytes_cong, bytes_of_members}
+use Rattle.format_record.proofs.Laws.Bytes.{low_of_number, bytes_part}
+use Rattle.format_record.proofs.Laws.Record.{bytes_record_at}
 use Rattle.format_write.specs.Text.{members_of}
 use Rattle.base_limits.specs.Verdict.{answer}
 use Rattle.theory_steiner.specs.Problem.{Joins, terminals, cost}
@@ -20,7 +20,7 @@ use Rattle.survey_core.specs.Survey.{Survey, edge_count, problem_of}
 use Rattle.survey_core.specs.Sound.{ByteGroups}
 use Rattle.check_rule.specs.Check.{Checked, duals_in, kept_by, checked_of, checking}
 use Rattle.check_rule.specs.Passing.{Passing}
-use Rattle.check_rule.specs.Laws.Accuracy.{checking_passing}
+use Rattle.check_rule.proofs.Laws.Accuracy.{checking_passing}
 use Rattle.format_plan.specs.Lines.{PrintedDual, is_in, dual_record}
 use Rattle.format_plan.specs.Plan.{marks_of, dual_records}
 use Rattle.format_plan.specs.WellFormed.{kept_in, printed_dual, printed_duals}

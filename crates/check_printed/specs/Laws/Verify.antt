@@ -7,7 +7,7 @@ use Rattle.std.proofs.Math.ListN.{length}
 use Rattle.std.proofs.lemmas.List.{length-map}
 use Rattle.std.proofs.lemmas.List.Edits.{sets}
 use borrow.Author.Tests.{eq-eqb, ne_eqb}
-use Rattle.format_survey.specs.Laws.LinesBody.{lines_sizes, lines_room, with_room_law, sets_filled}
+use Rattle.format_survey.proofs.Laws.LinesBody.{lines_sizes, lines_room, with_room_law, sets_filled}
 use Rattle.base_finite.specs.Laws.Below.{length_tabulate}
 use Rattle.base_limits.specs.Limits.{record_bytes, max_edges, max_vertices, max_pairs}
 use Rattle.base_limits.specs.Verdict.{refuse_if, Outcome, refusal, answer, outcome, ◌before◌}
@@ -15,15 +15,15 @@ use Rattle.format_read.specs.Step.{Step, found, refused, ◌then◌}
 use Rattle.format_survey.specs.Reading.{survey_of, step_outcome}
 use Rattle.format_also.specs.Pair.{owners_of, others_of}
 use Rattle.format_survey.specs.Line.{SurveyCounts, widest, tests_for, counts_at, firsts_of, seconds_of, weights_of, SurveyLines, lines_at, lines_with}
-use Rattle.format_survey.specs.Laws.Tests.{counts_passed}
+use Rattle.format_survey.proofs.Laws.Tests.{counts_passed}
 use Rattle.survey_core.specs.Survey.{Survey, survey_with, edge_count}
 use Rattle.check_rule.specs.Check.{Checked, checking}
 use Rattle.format_plan.specs.Lines.{PrintedDual, dual_record}
 use Rattle.format_plan.specs.Plan.{Claims, PrintedPlan, plan_at, with_room, marks_of, dual_records, marks_read, records_read}
 use Rattle.check_printed.specs.Verify.{survey_lines_at, prefix_at, claim_test, claims_judged, plan_verified, plan_from, verified_from, verifying}
 use Rattle.format_plan.specs.Answer.{Read, read_of}
-use Rattle.format_plan.specs.Laws.Lines.{length_dual_record}
-use Rattle.format_plan.specs.Laws.Room.{room_answer, room_enough}
+use Rattle.format_plan.proofs.Laws.Lines.{length_dual_record}
+use Rattle.format_plan.proofs.Laws.Room.{room_answer, room_enough}
 
 -- ---- claims
 

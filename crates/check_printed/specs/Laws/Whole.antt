@@ -9,17 +9,17 @@ use Rattle.format_also.specs.Pair.{Pair}
 use Rattle.format_survey.specs.Line.{Edge, widest, firsts_of}
 use Rattle.format_survey.specs.Reading.{survey_of, step_outcome, SurveyText}
 use Rattle.format_survey.specs.Render.{render}
-use Rattle.format_read.specs.Laws.Stands.{stands_end}
+use Rattle.format_read.proofs.Laws.Stands.{stands_end}
 use Rattle.survey_core.specs.Survey.{edge_count}
 use Rattle.check_rule.specs.Check.{Checked, checking}
 use Rattle.format_plan.specs.Plan.{plan_at, marks_of, dual_records}
 use Rattle.check_printed.specs.Verify.{survey_in, plan_verified, plan_from, verified_from, verifying}
 use Rattle.check_printed.specs.Laws.Verify.{claim_fine, room_suffices}
 use Rattle.check_printed.specs.Laws.Accuracy.{verified_parts}
-use Rattle.format_plan.specs.Laws.Room.{room_answer}
-use Rattle.format_plan.specs.Laws.RoundTrip.{plan_reads_back}
+use Rattle.format_plan.proofs.Laws.Room.{room_answer}
+use Rattle.format_plan.proofs.Laws.RoundTrip.{plan_reads_back}
 use Rattle.check_printed.specs.Laws.Prefix.{prefix_start, prefix_render, words_behind}
-use Rattle.format_plan.specs.Laws.Accepted.{found_rendering, rendering_whole}
+use Rattle.format_plan.proofs.Laws.Accepted.{found_rendering, rendering_whole}
 use Rattle.check_printed.specs.Worth.{survey_rendered, PassingText}
 use Rattle.format_plan.specs.WellFormed.{Printable, plan_words}
 use Rattle.format_survey.specs.WellFormed.{survey_of_text}

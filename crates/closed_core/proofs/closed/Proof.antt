@@ -1,7 +1,7 @@
 -- `closed` meets its contract: refused with nothing written (`closed_stops`), or a row for each track (`closed_goes`).
 use native.Mathlib.Omega.{arith}
 use mathlib.Core.Path.{sym, ◌∙◌}
-use Rattle.closed_rule.specs.Laws.Promise.{fine_ready}
+use Rattle.closed_rule.proofs.Laws.Promise.{fine_ready}
 use Rattle.closed_core.specs.Laws.Call.{closed_stops, closed_goes}
 use borrow.Author.Rules.{rules}
 use Rattle.closed_core.proofs.closed.Statement.{statement}

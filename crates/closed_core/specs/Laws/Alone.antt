@@ -12,13 +12,13 @@ use Rattle.std.proofs.Math.ListN.{get_or, set, length-set}
 use Rattle.std.proofs.Math.Seq.{get_or-set_same, get_or-set_other}
 use Rattle.base_finite.specs.Below.{counted, count_below, sum_below, tabulate}
 use Rattle.base_finite.specs.Laws.Below.{lt_or_ge}
-use Rattle.base_buffer.specs.Laws.Store.{tabulate_cong, replicate_table, set_table}
+use Rattle.base_buffer.proofs.Laws.Store.{tabulate_cong, replicate_table, set_table}
 use Rattle.theory_steiner.specs.Problem.{Problem, Sound, Joins, all_usable, cost}
 use Rattle.theory_steiner.specs.Growth.{grown}
 use Rattle.theory_steiner.specs.Pruning.{picked, kept, dual_bound}
 use Rattle.theory_steiner.specs.Closed.{skipping, omitting}
-use Rattle.theory_steiner.specs.Laws.Closed.{unpicked_picked, unpicked_plan, unpicked_joins}
-use Rattle.theory_steiner.specs.Laws.Omitted.{skipping_low, skipping_high, omitting_sound, omitted_picked, omitted_plan, omitted_joins}
+use Rattle.theory_steiner.proofs.Laws.Closed.{unpicked_picked, unpicked_plan, unpicked_joins}
+use Rattle.theory_steiner.proofs.Laws.Omitted.{skipping_low, skipping_high, omitting_sound, omitted_picked, omitted_plan, omitted_joins}
 use Rattle.closed_core.specs.Alone.{listed, old_number, choosing}
 
 -- ---- the numbers

@@ -7,7 +7,7 @@ use Rattle.std.proofs.Math.ListN.{length, length-replicate, get_or-eq_default}
 use Rattle.base_finite.specs.Below.{counted, count_below, tabulate}
 use Rattle.base_finite.specs.Laws.Below.{lt_or_ge}
 use Rattle.base_finite.specs.Laws.Test.{not_true_false, same_test_law}
-use Rattle.base_buffer.specs.Laws.Store.{tabulate_cong}
+use Rattle.base_buffer.proofs.Laws.Store.{tabulate_cong}
 use Rattle.base_limits.specs.Limits.{max_vertices, max_edges, max_duals, max_weight}
 use Rattle.base_limits.specs.Verdict.{◌before◌, refusal, answer, written}
 use Rattle.base_limits.specs.declared.Verdict.{Verdict}
@@ -15,13 +15,13 @@ use Rattle.base_limits.specs.declared.Verdict.TheVariants.{Fine, Refused}
 use Rattle.theory_steiner.specs.Problem.{Problem, all_usable}
 use Rattle.theory_steiner.specs.Growth.{grown}
 use Rattle.theory_steiner.specs.Pruning.{picked, dual_bound}
-use Rattle.theory_steiner.specs.Laws.Joined.{joined_iff}
-use Rattle.theory_steiner.specs.Laws.Partition.{picked_usable}
-use Rattle.theory_steiner.specs.Laws.Rounds.{grown_reached, rounds_lt, picked_count}
+use Rattle.theory_steiner.proofs.Laws.Joined.{joined_iff}
+use Rattle.theory_steiner.proofs.Laws.Partition.{picked_usable}
+use Rattle.theory_steiner.proofs.Laws.Rounds.{grown_reached, rounds_lt, picked_count}
 use Rattle.survey_core.specs.Survey.{Survey, survey_from, vertex_count, edge_count, same_group, problem_of}
 use Rattle.survey_core.specs.Sound.{ByteGroups, EdgeSound, SurveySound}
 use Rattle.survey_core.specs.Refusal.{group_refusal}
-use Rattle.survey_core.specs.Laws.Refusal.{survey_sound}
+use Rattle.survey_core.proofs.Laws.Refusal.{survey_sound}
 use Rattle.survey_components.specs.Labels.{picked_in}
 use Rattle.survey_components.specs.Forest.{loop_refusal}
 use Rattle.check_core.specs.Cost.{kept_cost, kept_cost_all}
@@ -31,7 +31,7 @@ use Rattle.plan_drop.specs.Prunable.{Picks, unweighted}
 use Rattle.plan_drop.specs.Judge.{pruned_marks}
 use Rattle.plan_rule.specs.Plan.{plan_of}
 use Rattle.plan_rule.specs.Figures.{FigureCounts, figure_counts_of}
-use Rattle.plan_rule.specs.Laws.Ready.{all_bounded}
+use Rattle.plan_rule.proofs.Laws.Ready.{all_bounded}
 use Rattle.plan_core.specs.Planned.{joinable, MarkedInto, figures_joined}
 use Rattle.plan_core.specs.Laws.Planned.{grown_picks_law, picks_pruned, picks_join, picks_part, marks_joined_law}
 use Rattle.plan_core.specs.Laws.Figures.{figures_joined_law}

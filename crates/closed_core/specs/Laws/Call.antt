@@ -15,7 +15,7 @@ use Rattle.closed_rule.specs.declared.Closed.{Closed}
 use Rattle.closed_rule.specs.declared.Closed.TheVariants.{Finished as RowFinished, Refused as RowRefused}
 use Rattle.closed_rule.specs.Closed.{max_closed, row_figures, closed_outcome, row_of, rows_of, closed_refusal, result_after}
 use Rattle.closed_rule.specs.Promise.{ClosedPromises}
-use Rattle.closed_rule.specs.Laws.Promise.{result_fine, result_refused, closed_promises}
+use Rattle.closed_rule.proofs.Laws.Promise.{result_fine, result_refused, closed_promises}
 
 -- ---- what ends the call
 

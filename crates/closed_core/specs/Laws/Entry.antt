@@ -21,13 +21,13 @@ use Rattle.theory_steiner.specs.Closed.{closing}
 use Rattle.survey_core.specs.Survey.{Survey, edge_count, problem_of}
 use Rattle.survey_core.specs.Sound.{ByteGroups, SurveySound}
 use Rattle.survey_core.specs.Refusal.{survey_refusal, group_refusal}
-use Rattle.survey_core.specs.Laws.Group.{group_fine}
+use Rattle.survey_core.proofs.Laws.Group.{group_fine}
 use Rattle.survey_components.specs.Labels.{picked_in}
 use Rattle.plan_rule.specs.Plan.{plan_of}
 use Rattle.plan_rule.specs.Figures.{FigureCounts, figures_refusal, figure_counts_of, figuring, marks_figured}
-use Rattle.plan_rule.specs.Laws.Ready.{all_bounded}
+use Rattle.plan_rule.proofs.Laws.Ready.{all_bounded}
 use Rattle.closed_rule.specs.Closed.{ClosedCounts, closed_counts_of, closed_entry}
-use Rattle.closed_rule.specs.Laws.Entry.{unknown_entry, unpicked_entry}
+use Rattle.closed_rule.proofs.Laws.Entry.{unknown_entry, unpicked_entry}
 
 -- 19
 pub entry_unknown : (s : Survey) {c track : ℕ} → c ≡ track → length s.firsts ≤ c → refusal 19 c ≡ closed_entry s track

@@ -9,7 +9,7 @@ use Rattle.std.proofs.lemmas.List.{length-replicate}
 use Rattle.base_finite.specs.Below.{tabulate}
 use Rattle.base_finite.specs.Laws.Below.{lt_or_ge, length_tabulate, get_d_tabulate}
 use Rattle.base_buffer.specs.Store.{remade}
-use Rattle.base_buffer.specs.Laws.Store.{length_remade}
+use Rattle.base_buffer.proofs.Laws.Store.{length_remade}
 use Rattle.base_limits.specs.Limits.{max_edges, max_weight}
 use Rattle.base_limits.specs.Verdict.{◌before◌, Outcome, refusal, answer, outcome}
 use Rattle.base_limits.specs.declared.Verdict.{Verdict}
@@ -18,18 +18,18 @@ use Rattle.base_limits.specs.Laws.Verdict.{before_fine}
 use Rattle.theory_graph.specs.Path.{Linked}
 use Rattle.theory_steiner.specs.Problem.{Problem, Bounded, all_usable}
 use Rattle.theory_steiner.specs.Closed.{closing, skipping, omitting}
-use Rattle.theory_steiner.specs.Laws.Finish.{all_usable_edges}
-use Rattle.theory_steiner.specs.Laws.Omitted.{skipping_low, skipping_high, skipping_below, omitted_linked, omitted_plan}
+use Rattle.theory_steiner.proofs.Laws.Finish.{all_usable_edges}
+use Rattle.theory_steiner.proofs.Laws.Omitted.{skipping_low, skipping_high, skipping_below, omitted_linked, omitted_plan}
 use Rattle.survey_core.specs.Survey.{Survey, survey_with, lists_of, vertex_count, edge_count, member, same_group, problem_of, JoinsGroup}
 use Rattle.survey_core.specs.Sound.{EdgeSound, SurveySound}
 use Rattle.survey_core.specs.Refusal.{survey_refusal, group_refusal}
-use Rattle.survey_core.specs.Laws.Refusal.{survey_fine}
+use Rattle.survey_core.proofs.Laws.Refusal.{survey_fine}
 use Rattle.plan_rule.specs.Plan.{Plan, plan_of}
 use Rattle.plan_rule.specs.Figures.{FigureCounts, figures_refusal, figure_counts_of, figuring}
 use Rattle.plan_core.specs.Laws.Finish.{remade_front}
 use Rattle.closed_rule.specs.Closed.{ClosedCounts, closed_counts_of, entry_refusal, closed_entry}
-use Rattle.closed_rule.specs.Laws.Groups.{same_finding}
-use Rattle.closed_rule.specs.Laws.Entry.{open_bounded, known_entry}
+use Rattle.closed_rule.proofs.Laws.Groups.{same_finding}
+use Rattle.closed_rule.proofs.Laws.Entry.{open_bounded, known_entry}
 use Rattle.closed_core.specs.LeftOut.{omitted, left_out, closed_of}
 
 pub length_omitted : (m c : ℕ) (l : List ℕ) → length (omitted m c l) ≡ m - 1

@@ -11,7 +11,7 @@ use Rattle.std.proofs.Math.Seq.{sets-eq, drop-append-add, take-length}
 use Rattle.base_limits.specs.Verdict.{Outcome}
 use Rattle.survey_core.specs.Survey.{Survey}
 use Rattle.closed_rule.specs.Closed.{ClosedCounts, row_figures, closed_entry, row_of, rows_of}
-use Rattle.closed_rule.specs.Laws.Rows.{length_row, length_rows, rows_append}
+use Rattle.closed_rule.proofs.Laws.Rows.{length_row, length_rows, rows_append}
 use Rattle.closed_core.specs.LeftOut.{rows_over}
 
 -- The row of the number that stands in the list.

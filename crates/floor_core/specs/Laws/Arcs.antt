@@ -6,7 +6,7 @@ use Rattle.std.proofs.Math.Path.{refl}
 use Rattle.std.proofs.Math.Bool.{true, false}
 use Rattle.std.proofs.Math.ListN.{length, length-set}
 use Rattle.base_buffer.specs.Store.{remade}
-use Rattle.base_buffer.specs.Laws.Store.{remade_end}
+use Rattle.base_buffer.proofs.Laws.Store.{remade_end}
 use Rattle.floor_rule.specs.Ascent.{max_arcs, lesser, arc_count, edge_of, tail_of, head_of, enters_at, flag_at, sweep, sweeps, prices}
 
 pub lesser_taken : (x y : ℕ) {r : ℕ} → r ≡ y → r < x → r ≡ lesser x y

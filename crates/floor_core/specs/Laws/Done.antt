@@ -7,10 +7,10 @@ use Rattle.std.proofs.lemmas.List.{get_or-replicate}
 use Rattle.std.proofs.Math.ListN.{get_or-eq_default}
 use Rattle.base_finite.specs.Below.{counted}
 use Rattle.base_finite.specs.Laws.Below.{lt_or_ge}
-use Rattle.base_buffer.specs.Laws.Store.{remade_passed}
+use Rattle.base_buffer.proofs.Laws.Store.{remade_passed}
 use Rattle.base_limits.specs.Limits.{max_vertices}
 use Rattle.floor_rule.specs.Ascent.{arc_count, flagged, enters_at, reaching, loaded}
-use Rattle.floor_rule.specs.Laws.Cut.{length_loaded}
+use Rattle.floor_rule.proofs.Laws.Cut.{length_loaded}
 use Rattle.floor_core.specs.Chain.{Ends, CutRaised}
 use Rattle.floor_core.specs.Done.{Done}
 use Rattle.floor_core.specs.Laws.Reach.{Leads, here, along, reaching_iff}

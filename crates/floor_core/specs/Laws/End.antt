@@ -16,13 +16,13 @@ use borrow.Author.Tests.{eqb-true, eqb-false, eq-eqb, ne_eqb, not-true}
 use Rattle.base_finite.specs.Below.{counted, sum_below, count_below, any_below}
 use Rattle.base_finite.specs.Laws.Test.{either, and_left, and_right, and_both, not_of_false}
 use Rattle.base_finite.specs.Laws.Below.{below_suc, sum_le, counted_true, counted_false, counted_zero, counted_mono, count_le, count_labels, any_intro, Found}
-use Rattle.base_buffer.specs.Laws.Store.{length_remade, remade_still}
+use Rattle.base_buffer.proofs.Laws.Store.{length_remade, remade_still}
 use Rattle.base_limits.specs.Limits.{max_vertices, max_edges, group_numbers}
 use Rattle.survey_core.specs.Survey.{survey_from, vertex_count}
 use Rattle.floor_rule.specs.Ascent.{max_arcs, max_cost, lesser, arc_count, flagged, enters_at, reaching, least_rest, loaded, State, missing, raised, raised_by, visit, visit_member, visit_members, visit_group, visit_groups, passes, pass_count, prices, at_first, root_of, ascended, in_company, shares_after}
-use Rattle.floor_rule.specs.Laws.Root.{company_member}
-use Rattle.floor_rule.specs.Laws.Cut.{loaded_at}
-use Rattle.floor_rule.specs.Laws.Ascent.{share_limit}
+use Rattle.floor_rule.proofs.Laws.Root.{company_member}
+use Rattle.floor_rule.proofs.Laws.Cut.{loaded_at}
+use Rattle.floor_rule.proofs.Laws.Ascent.{share_limit}
 use Rattle.floor_core.specs.Laws.State.{AsLong, members_long, groups_long, passes_long}
 
 -- ---- counts

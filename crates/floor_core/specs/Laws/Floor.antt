@@ -13,7 +13,7 @@ use Rattle.plan_rule.specs.declared.Figured.{Figured}
 use Rattle.plan_rule.specs.declared.Figured.TheVariants.{Finished, Refused}
 use Rattle.floor_rule.specs.Floor.{greater, half_up, ascent_of, floor_of, FloorCounts, floor_counts_of, flooring}
 use Rattle.floor_rule.specs.Promise.{FloorPromises}
-use Rattle.floor_rule.specs.Laws.Promise.{fine_floorable, floor_promises}
+use Rattle.floor_rule.proofs.Laws.Promise.{fine_floorable, floor_promises}
 
 half_sum : (b : ℕ) → b / 2 + b % 2 ≡ half_up b
 unfolding half_up

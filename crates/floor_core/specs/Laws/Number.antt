@@ -11,16 +11,16 @@ use borrow.Author.Tests.{eq-eqb, ne_eqb, lt-ltb, le-ltb}
 use Rattle.base_finite.specs.Below.{counted, tabulate}
 use Rattle.base_finite.specs.Laws.Below.{counted_true, counted_false, length_tabulate, get_d_tabulate}
 use Rattle.base_buffer.specs.Store.{remade}
-use Rattle.base_buffer.specs.Laws.Store.{length_remade, remade_passed}
+use Rattle.base_buffer.proofs.Laws.Store.{length_remade, remade_passed}
 use Rattle.base_limits.specs.Limits.{max_vertices, group_numbers}
 use Rattle.survey_core.specs.Survey.{Survey, lists_of}
 use Rattle.survey_core.specs.Sound.{SurveySound}
 use Rattle.survey_lists.specs.Pouring.{poured, room_of}
-use Rattle.survey_lists.specs.Laws.Room.{part_poured}
+use Rattle.survey_lists.proofs.Laws.Room.{part_poured}
 use Rattle.floor_rule.specs.Ascent.{ascent_floor}
 use Rattle.floor_rule.specs.Number.{lower_number, lowest_own, lowest_paired, number_of, numbered_groups}
 use Rattle.floor_rule.specs.Floor.{ascent_of}
-use Rattle.floor_rule.specs.Laws.Number.{length_numbered}
+use Rattle.floor_rule.proofs.Laws.Number.{length_numbered}
 use Rattle.floor_core.specs.Chain.{Ends}
 use Rattle.floor_core.specs.Tables.{OwnLows, PairedLows}
 use Rattle.floor_core.specs.Laws.Chain.{survey_ends}

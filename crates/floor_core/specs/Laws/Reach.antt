@@ -18,7 +18,7 @@ use Rattle.base_finite.specs.Laws.Below.{lt_or_ge, count_le}
 use Rattle.base_limits.specs.Limits.{max_vertices}
 use Rattle.theory_directed.specs.Directed.{enters}
 use Rattle.floor_rule.specs.Ascent.{arc_count, tail_of, head_of, flagged, enters_at, flag_at, sweep, sweeps, reaching}
-use Rattle.floor_rule.specs.Laws.Cut.{reaching_self}
+use Rattle.floor_rule.proofs.Laws.Cut.{reaching_self}
 use Rattle.floor_core.specs.Laws.Arcs.{length_sweep, length_sweeps}
 use Rattle.floor_core.specs.Laws.End.{count_more_than}
 

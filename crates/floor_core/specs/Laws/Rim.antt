@@ -14,11 +14,11 @@ use Rattle.base_finite.specs.Below.{counted}
 use Rattle.base_finite.specs.Laws.Test.{either, and_left, and_right, and_both, same_test_law, not_of_false, true_not_false}
 use Rattle.base_finite.specs.Laws.Below.{lt_or_ge, below_suc, counted_true, counted_false}
 use Rattle.base_buffer.specs.Store.{remade}
-use Rattle.base_buffer.specs.Laws.Store.{remade_ahead}
+use Rattle.base_buffer.proofs.Laws.Store.{remade_ahead}
 use Rattle.base_limits.specs.Limits.{max_vertices}
 use Rattle.theory_directed.specs.Directed.{enters}
 use Rattle.floor_rule.specs.Ascent.{lesser, arc_count, flagged, enters_at, reaching, least_rest, loaded}
-use Rattle.floor_rule.specs.Laws.Cut.{lesser_left, lesser_right, least_le, least_cap, loaded_at, length_loaded}
+use Rattle.floor_rule.proofs.Laws.Cut.{lesser_left, lesser_right, least_le, least_cap, loaded_at, length_loaded}
 use Rattle.floor_rule.specs.Ascent.{max_arcs}
 use Rattle.floor_core.specs.Chain.{Ends, Chained, CutRaised}
 use Rattle.floor_core.specs.Laws.End.{Least, least_found}

@@ -13,11 +13,11 @@ use borrow.Author.Tests.{eq-eqb, ne_eqb, lt-ltb, le-ltb}
 use Rattle.base_finite.specs.Below.{counted, sum_below, count_below}
 use Rattle.base_finite.specs.Laws.Below.{counted_true, counted_false, counted_le, sum_limit, sum_suc, count_le}
 use Rattle.base_buffer.specs.Store.{remade}
-use Rattle.base_buffer.specs.Laws.Store.{length_remade, remade_end}
+use Rattle.base_buffer.proofs.Laws.Store.{length_remade, remade_end}
 use Rattle.base_limits.specs.Limits.{max_vertices, max_edges, group_numbers}
 use Rattle.survey_core.specs.Survey.{survey_from, vertex_count}
 use Rattle.floor_rule.specs.Ascent.{max_cost, lesser, lowest_in, ascended, lowered, after_list, in_company, first_shares, shares_after, ascent_floor}
-use Rattle.floor_rule.specs.Laws.Ascent.{share_limit}
+use Rattle.floor_rule.proofs.Laws.Ascent.{share_limit}
 use Rattle.floor_core.specs.Tables.{Counts}
 
 module _ (groups : List ℕ) (l v : ℕ) {low : ℕ} (low_is : low ≡ lowest_in groups l v) where

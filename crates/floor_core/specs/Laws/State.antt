@@ -9,10 +9,10 @@ use mathlib.Core.List.{List}
 use Rattle.std.proofs.Math.ListN.{get_or, set, length-set}
 use Rattle.std.proofs.Math.Dec.{eqb}
 use borrow.Author.Tests.{eq-eqb, ne_eqb, lt-ltb, le-ltb}
-use Rattle.base_buffer.specs.Laws.Store.{length_remade}
+use Rattle.base_buffer.proofs.Laws.Store.{length_remade}
 use Rattle.base_limits.specs.Limits.{group_numbers}
 use Rattle.floor_rule.specs.Ascent.{arc_count, flagged, reaching, least_rest, loaded, State, state_with, missing, raised, raised_by, visit, visit_member, visit_members, visit_group, visit_groups, passes, pass_count, prices, root_of, at_first, ascended}
-use Rattle.floor_rule.specs.Laws.Cut.{least_cap}
+use Rattle.floor_rule.proofs.Laws.Cut.{least_cap}
 use Rattle.floor_core.specs.Chain.{CutRaised}
 
 -- As long as before.

@@ -6,7 +6,7 @@ use mathlib.Core.Path.{ap, sym, ◌∙◌}
 use mathlib.Core.Bool.{not}
 use Rattle.format_read.specs.Step.{stopped}
 use Rattle.format_read.specs.Answer.{number_step}
-use Rattle.format_read.specs.Laws.Byte.{is_also}
+use Rattle.format_read.proofs.Laws.Byte.{is_also}
 use Rattle.format_also.specs.Pair.{also_reader, also_turns, also_at}
 use Rattle.format_also.specs.Answer.{pair_step}
 use Rattle.format_also.specs.Laws.Tests.{line_passed}

@@ -15,10 +15,10 @@ use Rattle.format_read.specs.Step.{Step, found, refused, ◌then◌, checked}
 use Rattle.format_read.specs.Lines.{text_of, whole}
 use Rattle.format_read.specs.Items.{Broken, here, later}
 use Rattle.format_read.specs.Stands.{Stands}
-use Rattle.format_read.specs.Laws.Language.{bound, text_stands}
-use Rattle.format_read.specs.Laws.Stands.{stands_append, stands_first, stands_second}
-use Rattle.format_read.specs.Laws.Step.{Stops, early, late, then_stops}
-use Rattle.format_read.specs.Laws.OnlyMalformed.{OnlyMalformed, only_found, only_then, only_fixed, only_number_to}
+use Rattle.format_read.proofs.Laws.Language.{bound, text_stands}
+use Rattle.format_read.proofs.Laws.Stands.{stands_append, stands_first, stands_second}
+use Rattle.format_read.proofs.Laws.Step.{Stops, early, late, then_stops}
+use Rattle.format_read.proofs.Laws.OnlyMalformed.{OnlyMalformed, only_found, only_then, only_fixed, only_number_to}
 use Rattle.format_also.specs.Pair.{Pair, pair_of, PairDigits, rank, pair_at, also_test, also_reader, also_at}
 use Rattle.format_also.specs.Render.{pair_text, pairs_text}
 use Rattle.format_also.specs.WellFormed.{PairsPass, no_pair, next_pair, last_rank}

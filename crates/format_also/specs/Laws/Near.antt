@@ -15,12 +15,12 @@ use Rattle.format_read.specs.Bytes.{byte_is}
 use Rattle.format_read.specs.Lines.{Lines, following, whole}
 use Rattle.format_read.specs.Items.{items_from}
 use Rattle.format_read.specs.Language.{LooksWithin, Any}
-use Rattle.format_read.specs.Laws.Bytes.{byte_alike}
-use Rattle.format_read.specs.Laws.Local.{local_value, local_checked, local_then, local_as, local_fixed}
-use Rattle.format_read.specs.Laws.Stands.{take_less}
-use Rattle.format_read.specs.Laws.Step.{then_value}
+use Rattle.format_read.proofs.Laws.Bytes.{byte_alike}
+use Rattle.format_read.proofs.Laws.Local.{local_value, local_checked, local_then, local_as, local_fixed}
+use Rattle.format_read.proofs.Laws.Stands.{take_less}
+use Rattle.format_read.proofs.Laws.Step.{then_value}
 use Rattle.format_read.specs.Number.{also_letter}
-use Rattle.format_read.specs.Laws.Near.{local_number}
+use Rattle.format_read.proofs.Laws.Near.{local_number}
 use Rattle.format_also.specs.Pair.{Pair, pair_of, rank, pair_at, also_test, also_line, also_reader, also_turns, also_at}
 use Rattle.format_also.specs.Render.{pair_bytes}
 use Rattle.format_also.specs.Laws.Tests.{line_past, line_read}

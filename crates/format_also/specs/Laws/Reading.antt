@@ -15,12 +15,12 @@ use Rattle.format_read.specs.Lines.{Lines, following, text_of, whole}
 use Rattle.format_read.specs.Items.{items_from, Standing, stop, item, Broken, here, later}
 use Rattle.format_read.specs.Language.{ReadsBefore, Word, Extends, Text, Each, none, more, NotMalformed, read, otherwise}
 use Rattle.format_read.specs.Stands.{Stands}
-use Rattle.format_read.specs.Laws.Bytes.{byte_is_law}
-use Rattle.format_read.specs.Laws.Items.{items_reads_back, items_stop}
-use Rattle.format_read.specs.Laws.Language.{bound}
-use Rattle.format_read.specs.Laws.Listing.{items_standing, standing_words, standing_same, broken_place, broken_same, broken_items, text_from_law, ItemsMet, all_read, one_refused, Tested, met_lines}
-use Rattle.format_read.specs.Laws.Stands.{stands_first, stands_second, stands_head}
-use Rattle.format_read.specs.Laws.Step.{then_found, then_refused, then_value, Stops, early, late, then_stops}
+use Rattle.format_read.proofs.Laws.Bytes.{byte_is_law}
+use Rattle.format_read.proofs.Laws.Items.{items_reads_back, items_stop}
+use Rattle.format_read.proofs.Laws.Language.{bound}
+use Rattle.format_read.proofs.Laws.Listing.{items_standing, standing_words, standing_same, broken_place, broken_same, broken_items, text_from_law, ItemsMet, all_read, one_refused, Tested, met_lines}
+use Rattle.format_read.proofs.Laws.Stands.{stands_first, stands_second, stands_head}
+use Rattle.format_read.proofs.Laws.Step.{then_found, then_refused, then_value, Stops, early, late, then_stops}
 use Rattle.format_read.specs.Number.{also_letter}
 use Rattle.format_also.specs.Pair.{Pair, PairDigits, rank, also_test, also_line, also_reader, also_turns, also_at}
 use Rattle.format_also.specs.Render.{pair_text, pairs_text}

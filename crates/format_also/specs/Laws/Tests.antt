@@ -11,9 +11,9 @@ use Rattle.base_limits.specs.Laws.Verdict.{fine_left, fine_right, fine_refuse, n
 use Rattle.format_write.specs.Key.{also_key, comma, newline}
 use Rattle.format_read.specs.Step.{Step, found, refused, ◌then◌, checked}
 use Rattle.format_read.specs.Bytes.{fixed_at}
-use Rattle.format_read.specs.Laws.Step.{then_found, then_refused, then_value, checked_fine, checked_value, checked_next}
+use Rattle.format_read.proofs.Laws.Step.{then_found, then_refused, then_value, checked_fine, checked_value, checked_next}
 use Rattle.format_read.specs.Number.{number_to}
-use Rattle.format_read.specs.Laws.Digits.{number_to_below}
+use Rattle.format_read.proofs.Laws.Digits.{number_to_below}
 use Rattle.format_also.specs.Pair.{Pair, pair_of, PairDigits, rank, pair_at, also_test, also_line}
 use Rattle.format_also.specs.WellFormed.{PairInOrder, PairOutOfOrder, PairPasses}
 

@@ -8,9 +8,9 @@ use Rattle.std.proofs.lemmas.List.Edits.{sets}
 use Rattle.format_read.specs.Step.{Step, found, refused}
 use Rattle.format_read.specs.Lines.{Lines, following}
 use Rattle.format_read.specs.Items.{ItemReader, items_from, puts, Ends}
-use Rattle.format_read.specs.Laws.Step.{then_found, then_refused}
-use Rattle.format_read.specs.Laws.Lines.{one_less_law}
-use Rattle.format_read.specs.Laws.Items.{ItemsLeft, left_start, left_more, left_stop, left_refused, left_out_law, left_length}
+use Rattle.format_read.proofs.Laws.Step.{then_found, then_refused}
+use Rattle.format_read.proofs.Laws.Lines.{one_less_law}
+use Rattle.format_read.proofs.Laws.Items.{ItemsLeft, left_start, left_more, left_stop, left_refused, left_out_law, left_length}
 use Rattle.format_also.specs.Pair.{Pair, also_reader, also_turns, also_at, pairs_counted, owners_of, others_of, put_owner, put_other}
 
 -- Stores one after another are stores of a list.

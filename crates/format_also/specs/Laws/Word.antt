@@ -9,13 +9,13 @@ use Rattle.base_limits.specs.declared.Verdict.{Verdict}
 use Rattle.base_limits.specs.declared.Verdict.TheVariants.{Fine, Refused}
 use Rattle.format_write.specs.Key.{also_key, comma, newline}
 use Rattle.format_read.specs.Number.{also_letter, number_text}
-use Rattle.format_read.specs.Laws.NumberWord.{NumberWord, reads_number, number_most}
-use Rattle.format_read.specs.Laws.Keyed.{newline_no_digit, comma_no_digit}
+use Rattle.format_read.proofs.Laws.NumberWord.{NumberWord, reads_number, number_most}
+use Rattle.format_read.proofs.Laws.Keyed.{newline_no_digit, comma_no_digit}
 use Rattle.format_read.specs.Step.{Step, found, refused, ◌then◌, checked}
 use Rattle.format_read.specs.Items.{ListsItems}
 use Rattle.format_read.specs.Language.{Reads, Word, Extends, Seq, Empty, Fixed, Text}
-use Rattle.format_read.specs.Laws.Bytes.{reads_fixed, byte_alike}
-use Rattle.format_read.specs.Laws.Language.{reads_then, reads_as, reads_value, reads_checked, read_again}
+use Rattle.format_read.proofs.Laws.Bytes.{reads_fixed, byte_alike}
+use Rattle.format_read.proofs.Laws.Language.{reads_then, reads_as, reads_value, reads_checked, read_again}
 use Rattle.format_also.specs.Pair.{Pair, pair_of, PairDigits, pair_at, also_test, also_line, also_reader}
 use Rattle.format_also.specs.Render.{pair_text, pair_bytes}
 use Rattle.format_also.specs.Laws.Tests.{line_past, line_read, line_passed}

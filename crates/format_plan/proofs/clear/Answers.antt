@@ -5,7 +5,7 @@ use Prim.Native.Nat.{◌-◌, ◌≤◌}
 use mathlib.Core.Path.{◌≡◌, refl, ap, ◌∙◌}
 use lib.ListN.{length, set}
 use Rattle.format_plan.specs.Plan.{cleared}
-use Rattle.format_plan.specs.Laws.Fill.{cleared_length, cleared_next}
+use Rattle.format_plan.proofs.Laws.Fill.{cleared_length, cleared_next}
 use Rattle.format_plan.proofs.clear.Goals as goal
 
 pub loop-e-init : goal.loop-e-init

@@ -5,7 +5,7 @@ use Rattle.format_read.specs.Items.{puts}
 use Rattle.format_read.specs.Answer.{number_step}
 use Rattle.format_plan.specs.Lines.{put_dual}
 use Rattle.format_plan.specs.Plan.{plan_lines_at}
-use Rattle.format_plan.specs.Laws.Reading.{plan_lines_refused, plan_lines_found}
+use Rattle.format_plan.proofs.Laws.Reading.{plan_lines_refused, plan_lines_found}
 use Rattle.format_plan.proofs.plan_body.Goals as goal
 
 -- a keep line is refused

@@ -3,12 +3,12 @@ use borrow.Author.Rules.{rules}
 use mathlib.Core.Path.{ap, sym, ◌∙◌}
 use lib.ListN.{length}
 use Rattle.format_read.specs.Step.{stored_if}
-use Rattle.format_read.specs.Laws.Items.{empty_pass}
+use Rattle.format_read.proofs.Laws.Items.{empty_pass}
 use Rattle.format_plan.specs.Lines.{put_mark, put_dual}
-use Rattle.format_plan.specs.Laws.Puts.{mark_length, dual_length}
+use Rattle.format_plan.proofs.Laws.Puts.{mark_length, dual_length}
 use Rattle.format_read.specs.Answer.{number_step}
 use Rattle.format_plan.specs.Plan.{plan_lines_at}
-use Rattle.format_plan.specs.Laws.Reading.{roomed_refused, short_marks, short_records, roomed_found, marks_stored, records_stored}
+use Rattle.format_plan.proofs.Laws.Reading.{roomed_refused, short_marks, short_records, roomed_found, marks_stored, records_stored}
 use Rattle.format_plan.proofs.plan_lines.Goals as goal
 
 -- the first pass is refused

@@ -3,12 +3,12 @@ use borrow.Author.Rules.{rules}
 use mathlib.Core.Path.{ap, sym, ◌∙◌}
 use Rattle.base_limits.specs.Verdict.{answer}
 use Rattle.format_read.specs.Step.{stopped}
-use Rattle.format_read.specs.Laws.Step.{stored_found, stored_refused}
+use Rattle.format_read.proofs.Laws.Step.{stored_found, stored_refused}
 use Rattle.format_read.specs.Answer.{number_step}
 use Rattle.format_survey.specs.Reading.{step_outcome}
 use Rattle.format_plan.specs.Plan.{marks_read, records_read}
 use Rattle.format_plan.specs.Answer.{Read, claims_step, plan_outcome, read_of}
-use Rattle.format_plan.specs.Laws.Reading.{outcome_uncounted, plan_outcome_refused, outcome_found}
+use Rattle.format_plan.proofs.Laws.Reading.{outcome_uncounted, plan_outcome_refused, outcome_found}
 use Rattle.format_plan.proofs.read_plan.Goals as goal
 
 -- the counts are refused

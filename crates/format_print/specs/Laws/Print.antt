@@ -12,7 +12,7 @@ use Rattle.format_print.specs.declared.Printed.TheVariants.{Length, Refused}
 use Rattle.format_write.specs.Text.{dual_line}
 use Rattle.format_print.specs.Print.{print_refusal, answer_of, out_after, printed, printed_out, dual_print_refusal, dual_printed, dual_printed_out}
 use Rattle.format_write.specs.Wrote.{farthest, Wrote}
-use Rattle.format_write.specs.Laws.Wrote.{sets_past}
+use Rattle.format_write.proofs.Laws.Wrote.{sets_past}
 
 -- What a print call does, the answer and the buffer at once.
 pub record Prints (text out new : List ℕ) (r : Printed) : Type 0 where

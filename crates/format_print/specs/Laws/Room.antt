@@ -8,7 +8,7 @@ use Rattle.base_limits.specs.Limits.{member_bytes, record_bytes, max_edges, reco
 use Rattle.base_limits.specs.Verdict.{refuse_if, ◌before◌}
 use Rattle.format_record.specs.Bits.{Bytes}
 use Rattle.format_record.specs.Record.{value_in, member_in, record_at}
-use Rattle.format_record.specs.Laws.Record.{value_lt, bytes_record_at}
+use Rattle.format_record.proofs.Laws.Record.{value_lt, bytes_record_at}
 use Rattle.format_print.specs.declared.Printed.TheVariants.{Length}
 use Rattle.format_write.specs.Key.{terminals_key, cost_key, bound_key, rounds_key, kept_key, dual_key, refused_key, place_key, colon, newline}
 use Rattle.format_write.specs.Decimal.{digits_within, decimal}
@@ -16,8 +16,8 @@ use Rattle.format_write.specs.Text.{line_of, listed, members_of, dual_line, text
 use Rattle.format_write.specs.Wrote.{is_none, item_of}
 use Rattle.format_print.specs.Print.{print_refusal, answer_of, printed, dual_print_refusal, dual_printed}
 use Rattle.format_print.specs.Within.{PlanWithin, holds_all}
-use Rattle.format_write.specs.Laws.Decimal.{length_decimal}
-use Rattle.format_write.specs.Laws.Text.{listed_snoc}
+use Rattle.format_write.proofs.Laws.Decimal.{length_decimal}
+use Rattle.format_write.proofs.Laws.Text.{listed_snoc}
 
 -- ---- a list of members
 

@@ -4,7 +4,7 @@ use borrow.Author.Rules.{rules}
 use mathlib.Core.Path.{sym, ◌∙◌}
 use Rattle.format_read.specs.Number.{class_step}
 use Rattle.format_read.specs.Answer.{number_step}
-use Rattle.format_read.specs.Laws.Byte.{class_inside}
+use Rattle.format_read.proofs.Laws.Byte.{class_inside}
 use Rattle.format_read.proofs.class_step.Goals as goal
 
 pub overflow_add-result : goal.overflow_add-result

@@ -5,7 +5,7 @@ use mathlib.Core.Path.{◌≡◌, refl, sym, ◌∙◌}
 use lib.ListN.{length, drop}
 use Rattle.format_read.specs.Bytes.{fixed_at}
 use Rattle.format_read.specs.Answer.{number_step}
-use Rattle.format_read.specs.Laws.Bytes.{fixed_more, fixed_short, fixed_other, fixed_done}
+use Rattle.format_read.proofs.Laws.Bytes.{fixed_more, fixed_short, fixed_other, fixed_done}
 use Rattle.format_read.proofs.fixed_from.Goals as goal
 
 pub loop-i-init : goal.loop-i-init

@@ -6,7 +6,7 @@ use lib.Seq.{get_or-drop}
 use borrow.Author.Rules.{rules}
 use Rattle.format_record.specs.Bits.{with_bit, with_member}
 use Rattle.format_record.specs.Record.{with_member_in}
-use Rattle.format_record.specs.Laws.Record.{set_past}
+use Rattle.format_record.proofs.Laws.Record.{set_past}
 use Rattle.format_record.proofs.add_member.Goals as goal
 
 pub returns : goal.returns

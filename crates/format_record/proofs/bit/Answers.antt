@@ -3,7 +3,7 @@ use mathlib.Core.Path.{sym}
 use native.Mathlib.Omega.{arith}
 use borrow.Author.Rules.{rules}
 use Rattle.format_record.specs.Bits.{bit_at}
-use Rattle.format_record.specs.Laws.Bits.{bit_past}
+use Rattle.format_record.proofs.Laws.Bits.{bit_past}
 use Rattle.format_record.proofs.bit.Goals as goal
 
 pub returns-then-k-ge8 : goal.returns-then-k-ge8

@@ -8,7 +8,7 @@ use lib.Dec.{lit<}
 use borrow.Author.Rules.{rules}
 use Rattle.format_record.specs.Bits.{number_of}
 use Rattle.format_record.specs.Record.{value_in}
-use Rattle.format_record.specs.Laws.Bytes.{number_down, number_part_lt}
+use Rattle.format_record.proofs.Laws.Bytes.{number_down, number_part_lt}
 use Rattle.format_record.proofs.value.Goals as goal
 
 -- At most seven bytes are read so far.

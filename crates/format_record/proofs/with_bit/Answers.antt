@@ -4,7 +4,7 @@ use mathlib.Core.Path.{◌≡◌, ap, sym, ◌∙◌}
 use native.Mathlib.Omega.{arith}
 use borrow.Author.Rules.{rules}
 use Rattle.format_record.specs.Bits.{with_bit}
-use Rattle.format_record.specs.Laws.Bits.{with_bit_set, with_bit_clear, with_bit_lt, power_byte}
+use Rattle.format_record.proofs.Laws.Bits.{with_bit_set, with_bit_clear, with_bit_lt, power_byte}
 use Rattle.format_record.proofs.with_bit.Goals as goal
 
 -- The sum is what the definition has.

@@ -8,7 +8,7 @@ use lib.Seq.{sets}
 use borrow.Author.Rules.{rules}
 use Rattle.format_record.specs.Bits.{low_bytes}
 use Rattle.format_record.specs.Record.{overwritten}
-use Rattle.format_record.specs.Laws.Bytes.{store_low}
+use Rattle.format_record.proofs.Laws.Bytes.{store_low}
 use Rattle.format_record.proofs.write_low.Goals as goal
 
 pub loop-i-init : goal.loop-i-init

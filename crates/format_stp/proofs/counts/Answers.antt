@@ -2,10 +2,10 @@
 use borrow.Author.Rules.{rules}
 use mathlib.Core.Path.{sym, ◌∙◌}
 use Rattle.format_survey.specs.LinesAnswer.{counts_step}
-use Rattle.format_read.specs.Laws.NumberStep.{stopped_stays, value_goes}
+use Rattle.format_read.proofs.Laws.NumberStep.{stopped_stays, value_goes}
 use Rattle.format_stp.specs.StpReading.{stp_tests}
 use Rattle.format_stp.specs.Parts.{stp_counts}
-use Rattle.format_stp.specs.Laws.StpParts.{line_after}
+use Rattle.format_stp.proofs.Laws.StpParts.{line_after}
 use Rattle.format_stp.proofs.counts.Goals as goal
 
 pub returns-in_default : goal.returns-in_default

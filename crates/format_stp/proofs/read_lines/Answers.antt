@@ -4,11 +4,11 @@ use mathlib.Core.List.{List}
 use mathlib.Core.Path.{ap, sym, ◌∙◌}
 use Prim.Native.Nat.{ℕ}
 use lib.Seq.{sets}
-use Rattle.format_read.specs.Laws.Step.{then_found, then_refused}
+use Rattle.format_read.proofs.Laws.Step.{then_found, then_refused}
 use Rattle.format_read.specs.Answer.{number_step}
 use Rattle.format_survey.specs.Line.{firsts_of, seconds_of, weights_of}
 use Rattle.format_stp.specs.StpReading.{stp_edges}
-use Rattle.format_stp.specs.Laws.Lines.{lines_early, lines_late, lines_said, said_found, said_refused, kept_by_law, stored_by_law, pass_nothing, groups_kept, groups_made}
+use Rattle.format_stp.proofs.Laws.Lines.{lines_early, lines_late, lines_said, said_found, said_refused, kept_by_law, stored_by_law, pass_nothing, groups_kept, groups_made}
 use Rattle.format_stp.proofs.read_lines.Goals as goal
 
 -- a track is refused

@@ -4,14 +4,14 @@ use mathlib.Core.Path.{ap, sym, ◌∙◌}
 use Rattle.base_limits.specs.Verdict.{answer}
 use Rattle.format_read.specs.Step.{stopped}
 use Rattle.format_read.specs.Answer.{number_step}
-use Rattle.format_survey.specs.Laws.Reading.{buffer_kept}
+use Rattle.format_survey.proofs.Laws.Reading.{buffer_kept}
 use Rattle.format_survey.specs.LinesAnswer.{counts_step}
 use Rattle.format_survey.specs.Line.{SurveyCounts, firsts_of, seconds_of, weights_of}
 use Rattle.format_stp.specs.StpReading.{stp_outcome}
 use Rattle.format_stp.specs.Answer.{stp_answer, stp_counts_of}
-use Rattle.format_stp.specs.Laws.Lines.{said_found, said_refused}
-use Rattle.format_stp.specs.Laws.StpParts.{stp_refused, stp_stopped, stp_found, stp_fits, buffer_none, buffer_all}
-use Rattle.format_stp.specs.Laws.Promises.{promised}
+use Rattle.format_stp.proofs.Laws.Lines.{said_found, said_refused}
+use Rattle.format_stp.proofs.Laws.StpParts.{stp_refused, stp_stopped, stp_found, stp_fits, buffer_none, buffer_all}
+use Rattle.format_stp.proofs.Laws.Promises.{promised}
 use Rattle.format_stp.specs.Promises.{stp_buffers}
 use Rattle.format_stp.proofs.read_stp.Goals as goal
 

@@ -9,11 +9,11 @@ use Rattle.format_read.specs.Step.{found, ◌then◌, stopped}
 use Rattle.format_read.specs.Answer.{number_step}
 use Rattle.format_survey.specs.LinesAnswer.{counts_step}
 use Rattle.format_survey.specs.Line.{SurveyLines, lengths_of, lines_at, lines_with, tests_for}
-use Rattle.format_survey.specs.Laws.LinesBody.{with_room_law}
+use Rattle.format_survey.proofs.Laws.LinesBody.{with_room_law}
 use Rattle.format_survey.specs.Reading.{body_at, body_of, step_outcome}
 use Rattle.format_survey.specs.Answer.{TextCounts, counts_outcome, counts_of}
-use Rattle.format_survey.specs.Laws.Reading.{reading_refused, buffer_kept, counts_read_fit}
-use Rattle.format_survey.specs.Laws.Storing.{read_refused, read_found}
+use Rattle.format_survey.proofs.Laws.Reading.{reading_refused, buffer_kept, counts_read_fit}
+use Rattle.format_survey.proofs.Laws.Storing.{read_refused, read_found}
 use Rattle.format_survey.proofs.read.Goals as goal
 
 -- With room for the groups the lines end as they are to.

@@ -15,7 +15,7 @@ use Rattle.format_also.specs.Laws.Render.{map_tabulate, tabulate_get_d, owners_f
 use Rattle.format_survey.specs.Line.{Edge, firsts_of, seconds_of, weights_of, Lengths}
 use Rattle.format_survey.specs.Reading.{SurveyText, survey_of, reading}
 use Rattle.format_survey.specs.WellFormed.{WithinCounts, SurveyRoom, survey_of_text}
-use Rattle.format_survey.specs.Laws.WellFormed.{read_render}
+use Rattle.format_survey.proofs.Laws.WellFormed.{read_render}
 use Rattle.format_survey_print.specs.Laws.Print.{edges_count}
 use Rattle.format_survey_print.specs.Print.{survey_of_lists, edge_at, edges_from, edges_in, pairs_in, survey_text, survey_print_refusal, survey_printed, survey_printed_out}
 

@@ -8,7 +8,7 @@ use Rattle.format_print.specs.Print.{print_refusal, answer_of, printed}
 use Rattle.format_survey.specs.Line.{Lengths}
 use Rattle.format_survey.specs.Reading.{SurveyText, reading}
 use Rattle.format_survey.specs.WellFormed.{WithinCounts}
-use Rattle.format_survey.specs.Laws.Longest.{longest_within, longest_read}
+use Rattle.format_survey.proofs.Laws.Longest.{longest_within, longest_read}
 use Rattle.format_survey_print.specs.Print.{edges_in, pairs_in, survey_text, survey_printed}
 use Rattle.format_survey_print.specs.Laws.Print.{whole_answer}
 

@@ -4,7 +4,7 @@ use native.Mathlib.Omega.{arith}
 use borrow.Author.Rules.{rules}
 use Rattle.base_limits.specs.Laws.Verdict.{written_refused}
 use Rattle.format_table.specs.Table.{unpacked_out}
-use Rattle.format_table.specs.Laws.Turning.{takes, turning_holds, unpacked_after}
+use Rattle.format_table.proofs.Laws.Turning.{takes, turning_holds, unpacked_after}
 use Rattle.format_table.proofs.unpack_table.Goals as goal
 
 -- refused: nothing is written

@@ -10,7 +10,7 @@ use Rattle.base_limits.specs.Verdict.{refuse_if}
 use Rattle.format_write.specs.Key.{track_key, mark_key, group_key, from_key, to_key, route_key, round_key, comma, newline}
 use Rattle.format_write.specs.Decimal.{decimal}
 use Rattle.format_write.specs.Text.{line_of, listed}
-use Rattle.format_write.specs.Laws.Decimal.{length_decimal}
+use Rattle.format_write.proofs.Laws.Decimal.{length_decimal}
 use Rattle.format_print.specs.Print.{print_refusal, answer_of, printed}
 use Rattle.format_print.specs.declared.Printed.TheVariants.{Length}
 use Rattle.format_print.specs.Laws.Room.{word_digits_law, length_line}

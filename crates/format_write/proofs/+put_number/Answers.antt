@@ -1,8 +1,8 @@
 -- `put_number`: the digits of the quotient, then the last.
 use Rattle.std.proofs.Common.{ℕ, ◌<◌, ◌≤◌, length, arith}
 use Rattle.format_write.specs.Wrote.{farthest}
-use Rattle.format_write.specs.Laws.Decimal.{decimal_one, decimal_next}
-use Rattle.format_write.specs.Laws.Wrote.{wrote_then, wrote_as}
+use Rattle.format_write.proofs.Laws.Decimal.{decimal_one, decimal_next}
+use Rattle.format_write.proofs.Laws.Wrote.{wrote_then, wrote_as}
 use Rattle.format_write.proofs.+put_number.Goals as goal
 
 pub returns-then-x-lt10 : goal.returns-then-x-lt10

@@ -5,7 +5,7 @@ use lib.ListN.{length}
 use Rattle.base_finite.specs.Below.{tabulate}
 use Rattle.base_limits.specs.Limits.{max_vertices, max_pairs}
 use Rattle.survey_core.specs.Survey.{survey_with, lists_of}
-use Rattle.survey_core.specs.Laws.Refusal.{fine_survey}
+use Rattle.survey_core.proofs.Laws.Refusal.{fine_survey}
 use Rattle.merge_rule.specs.Ties.{ties_from, placed}
 use Rattle.merge_core.specs.Pairs.{pairs_by}
 use Rattle.merge_core.specs.Laws.Merge.{stored_long, merged_most, first_stops, second_stops, ties_stop, large_stops, short_stops, pairs_kept, merge_goes}

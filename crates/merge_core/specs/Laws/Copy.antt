@@ -4,7 +4,7 @@ use Rattle.std.proofs.Common.{arith, ap, sym, ◌∙◌, length-take-le, get_or-
 use Rattle.std.proofs.lemmas.List.{length-map}
 use Rattle.base_finite.specs.Below.{tabulate}
 use Rattle.base_finite.specs.Laws.Below.{length_tabulate, get_d_tabulate}
-use Rattle.merge_rule.specs.Laws.Those.{get_d_map_below}
+use Rattle.merge_rule.proofs.Laws.Those.{get_d_map_below}
 
 module _ (f : ℕ → ℕ) (list : List ℕ) {i : ℕ} where
   pub mapped_below : i < length list → i < length (map f list)

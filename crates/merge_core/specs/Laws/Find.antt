@@ -15,7 +15,7 @@ use Rattle.base_limits.specs.declared.Verdict.{Verdict}
 use Rattle.base_limits.specs.declared.Verdict.TheVariants.{Fine, Refused}
 use Rattle.base_limits.specs.Laws.Verdict.{before_fine, before_refused, refuse_true, refuse_false}
 use Rattle.theory_route.specs.First.{first_below}
-use Rattle.theory_route.specs.Laws.First.{first_none, first_exists}
+use Rattle.theory_route.proofs.Laws.First.{first_none, first_exists}
 use Rattle.merge_rule.specs.Ties.{Ties, is_tied_below, is_tied, tie_of, is_untied, placed, merged_count}
 use Rattle.merge_rule.specs.Refusal.{tie_refusal, ties_refusal}
 

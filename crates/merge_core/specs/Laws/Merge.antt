@@ -11,17 +11,17 @@ use Rattle.std.proofs.Math.Seq.{length-sets}
 use Rattle.std.proofs.Math.Dec.{eqb}
 use Rattle.base_finite.specs.Below.{tabulate}
 use Rattle.base_finite.specs.Laws.Below.{length_tabulate, get_d_tabulate, count_le}
-use Rattle.base_buffer.specs.Laws.Store.{tabulate_cong}
+use Rattle.base_buffer.proofs.Laws.Store.{tabulate_cong}
 use Rattle.base_limits.specs.Limits.{max_vertices, max_pairs, group_numbers}
 use Rattle.base_limits.specs.Verdict.{◌before◌, answer, outcome}
 use Rattle.base_limits.specs.declared.Verdict.{Verdict}
 use Rattle.base_limits.specs.declared.Verdict.TheVariants.{Fine, Refused}
 use Rattle.base_limits.specs.Laws.Verdict.{before_fine, before_refused, written_fine, written_refused}
-use Rattle.theory_route.specs.Laws.First.{first_cong}
+use Rattle.theory_route.proofs.Laws.First.{first_cong}
 use Rattle.survey_core.specs.Survey.{Survey, survey_with, lists_of, vertex_count, edge_count, member}
 use Rattle.survey_core.specs.Sound.{ByteGroups, SurveySound}
 use Rattle.survey_core.specs.Refusal.{survey_refusal}
-use Rattle.survey_core.specs.Laws.Refusal.{fine_survey}
+use Rattle.survey_core.proofs.Laws.Refusal.{fine_survey}
 use Rattle.merge_rule.specs.Ties.{Ties, is_untied, placed, merged_count, standing_at}
 use Rattle.merge_rule.specs.Merged.{merged_vertices, second_at, own_at, belongs, is_further, pair_vertex, pair_group, merged_pairs, merged}
 use Rattle.merge_rule.specs.declared.Merged.{Merged}
@@ -29,9 +29,9 @@ use Rattle.merge_rule.specs.declared.Merged.TheVariants.{Finished as MergedFinis
 use Rattle.merge_rule.specs.Refusal.{SurveyCounts, counts_from, counts_of, room_from, room_of, ties_refusal, large_refusal, room_refusal, merge_refusal, merging, merged_outcome, over, merged_after}
 use Rattle.merge_rule.specs.Sound.{RoomFor}
 use Rattle.merge_rule.specs.Promise.{MergePromises}
-use Rattle.merge_rule.specs.Laws.Refusal.{fine_merge, fine_merge_room}
-use Rattle.merge_rule.specs.Laws.Sound.{merged_sound}
-use Rattle.merge_rule.specs.Laws.Promise.{merge_promises}
+use Rattle.merge_rule.proofs.Laws.Refusal.{fine_merge, fine_merge_room}
+use Rattle.merge_rule.proofs.Laws.Sound.{merged_sound}
+use Rattle.merge_rule.proofs.Laws.Promise.{merge_promises}
 use Rattle.merge_core.specs.Row.{own_with, further_with}
 use Rattle.merge_core.specs.Pairs.{standing_in, pairs_by}
 use Rattle.merge_core.specs.Laws.Stored.{sets_head, take_sets}

@@ -13,7 +13,7 @@ use Rattle.base_limits.specs.Limits.{group_numbers}
 use Rattle.theory_route.specs.First.{first_below}
 use Rattle.survey_core.specs.Lists.{Lists}
 use Rattle.merge_rule.specs.Merged.{pair_vertex, pair_group}
-use Rattle.merge_rule.specs.Laws.Member.{split_vertex, split_group}
+use Rattle.merge_rule.proofs.Laws.Member.{split_vertex, split_group}
 use Rattle.merge_core.specs.Row.{own_with, further_with}
 use Rattle.merge_core.specs.Pairs.{standing_in, flagged, row_pairs, pairs_by}
 use Rattle.merge_core.specs.Laws.Stored.{sets_append}

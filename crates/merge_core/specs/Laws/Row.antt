@@ -9,7 +9,7 @@ use Rattle.std.proofs.lemmas.List.{length-replicate, get_or-replicate}
 use Rattle.std.proofs.Math.Dec.{eqb}
 use Rattle.base_finite.specs.Below.{any_below, counted, tabulate}
 use Rattle.base_finite.specs.Laws.Below.{length_tabulate, get_d_tabulate}
-use Rattle.base_buffer.specs.Laws.Store.{tabulate_cong, set_table}
+use Rattle.base_buffer.proofs.Laws.Store.{tabulate_cong, set_table}
 use Rattle.base_limits.specs.Limits.{group_numbers}
 use Rattle.survey_core.specs.Lists.{Lists, own, is_paired, in_list}
 use Rattle.merge_core.specs.Row.{marked, paired_below, own_with, further_with}

@@ -14,7 +14,7 @@ use Rattle.theory_steiner.specs.Growth.{active}
 use Rattle.survey_core.specs.Survey.{Survey, vertex_count, problem_of}
 use Rattle.survey_groups.specs.Spread.{split}
 use Rattle.survey_groups.specs.Laws.Spread.{active_split}
-use Rattle.base_buffer.specs.Laws.Store.{tabulate_cong, set_table}
+use Rattle.base_buffer.proofs.Laws.Store.{tabulate_cong, set_table}
 use Rattle.plan_active.specs.Flags.{flagged}
 
 -- A vertex below v makes component c active.

@@ -15,13 +15,13 @@ use Rattle.base_limits.specs.Limits.{max_vertices, max_duals}
 use Rattle.theory_graph.specs.Component.{merged}
 use Rattle.theory_steiner.specs.Problem.{separates}
 use Rattle.theory_steiner.specs.Growth.{active}
-use Rattle.theory_steiner.specs.Laws.Joined.{separates_cong}
-use Rattle.theory_steiner.specs.Laws.Activity.{active_cong, active_other, active_gone}
+use Rattle.theory_steiner.proofs.Laws.Joined.{separates_cong}
+use Rattle.theory_steiner.proofs.Laws.Activity.{active_cong, active_other, active_gone}
 use Rattle.survey_core.specs.Survey.{groups_alone, vertex_count, problem_of}
-use Rattle.survey_core.specs.Laws.Member.{member_elim}
+use Rattle.survey_core.proofs.Laws.Member.{member_elim}
 use Rattle.survey_groups.specs.Mate.{mate_of}
 use Rattle.survey_groups.specs.Laws.Mate.{Mated, mated, separates_mates}
-use Rattle.base_buffer.specs.Laws.Store.{set_table, remade_passed}
+use Rattle.base_buffer.proofs.Laws.Store.{set_table, remade_passed}
 use Rattle.plan_active.specs.Flags.{active_flags, has_mate, MatesListed, of_either, apart_from_mate, joined_active, relabelled_first, merged_flags}
 use Rattle.plan_active.specs.Laws.Listed.{any_gathered}
 

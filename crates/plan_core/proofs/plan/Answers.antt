@@ -2,8 +2,8 @@
 use mathlib.Core.Path.{sym, ◌∙◌}
 use native.Mathlib.Omega.{arith}
 use Rattle.plan_rule.specs.Answer.{planned_outcome}
-use Rattle.plan_rule.specs.Laws.Promise.{refused_call}
-use Rattle.plan_rule.specs.Laws.Stages.{planned_call}
+use Rattle.plan_rule.proofs.Laws.Promise.{refused_call}
+use Rattle.plan_rule.proofs.Laws.Stages.{planned_call}
 use Rattle.plan_core.specs.Laws.Whole.{lent_fits, lent_stops}
 use borrow.Author.Rules.{rules}
 use Rattle.plan_core.proofs.plan.Goals as goal

@@ -9,12 +9,12 @@ use Rattle.base_limits.specs.declared.Verdict.TheVariants.{Fine, Refused}
 use Rattle.survey_core.specs.Survey.{Survey, survey_from, lists_of, edge_count, problem_of}
 use Rattle.survey_core.specs.Sound.{ByteGroups}
 use Rattle.survey_lists.specs.Pouring.{poured, room_of}
-use Rattle.survey_lists.specs.Laws.Room.{part_poured}
+use Rattle.survey_lists.proofs.Laws.Room.{part_poured}
 use Rattle.plan_draw.specs.Drawing.{records_over}
 use Rattle.plan_rule.specs.Plan.{plan_of, plan_refusal, PlanCounts, records_after}
 use Rattle.plan_rule.specs.Growing.{grown_counts_of, picked_marks, growing, marks_grown}
-use Rattle.plan_rule.specs.Laws.Ready.{fine_ready}
-use Rattle.plan_rule.specs.Laws.Same.{ready_poured, poured_counts, poured_marks, poured_records}
+use Rattle.plan_rule.proofs.Laws.Ready.{fine_ready}
+use Rattle.plan_rule.proofs.Laws.Same.{ready_poured, poured_counts, poured_marks, poured_records}
 use Rattle.plan_core.specs.Grown.{GrownInto}
 use Rattle.plan_core.specs.Laws.Finish.{grown_plan}
 

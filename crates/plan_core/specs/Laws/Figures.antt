@@ -13,16 +13,16 @@ use Rattle.theory_steiner.specs.Growth.{grown}
 use Rattle.survey_core.specs.Survey.{Survey, survey_from, lists_of, vertex_count, edge_count, problem_of}
 use Rattle.survey_core.specs.Sound.{ByteGroups, SurveySound}
 use Rattle.survey_core.specs.Refusal.{survey_refusal, group_refusal}
-use Rattle.survey_core.specs.Laws.Refusal.{survey_fine}
-use Rattle.survey_core.specs.Laws.Group.{joins_fine}
+use Rattle.survey_core.proofs.Laws.Refusal.{survey_fine}
+use Rattle.survey_core.proofs.Laws.Group.{joins_fine}
 use Rattle.survey_components.specs.Labels.{chosen}
 use Rattle.survey_components.specs.declared.Chosen.TheVariants.{All}
 use Rattle.survey_lists.specs.Pouring.{poured_groups}
 use Rattle.check_rule.specs.Check.{kept_by}
 use Rattle.plan_rule.specs.Plan.{Plan, plan_of}
 use Rattle.plan_rule.specs.Figures.{FigureCounts, figures_refusal, figure_counts_of, figuring, marks_figured}
-use Rattle.plan_rule.specs.Laws.Ready.{all_bounded, groups_of_all}
-use Rattle.plan_rule.specs.Laws.Same.{plan_poured}
+use Rattle.plan_rule.proofs.Laws.Ready.{all_bounded, groups_of_all}
+use Rattle.plan_rule.proofs.Laws.Same.{plan_poured}
 use Rattle.plan_core.specs.Planned.{joinable, marks_joined, MarkedInto, figures_joined}
 use Rattle.plan_core.specs.Laws.Planned.{planned_cost, joinable_joins, unjoined_comes, joinable_poured, joined_by, parted_by}
 

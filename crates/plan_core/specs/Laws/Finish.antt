@@ -10,21 +10,21 @@ use Rattle.base_limits.specs.Verdict.{Outcome, answer}
 use Rattle.theory_steiner.specs.Problem.{Problem, Sound}
 use Rattle.theory_steiner.specs.Growth.{edge, winner, state_at, grown}
 use Rattle.theory_steiner.specs.Pruning.{picked}
-use Rattle.theory_steiner.specs.Laws.Rounds.{rounds_lt, grown_reached}
+use Rattle.theory_steiner.proofs.Laws.Rounds.{rounds_lt, grown_reached}
 use Rattle.survey_core.specs.Survey.{Survey, survey_from, vertex_count, edge_count, problem_of}
-use Rattle.survey_core.specs.Laws.Refusal.{survey_sound}
+use Rattle.survey_core.proofs.Laws.Refusal.{survey_sound}
 use Rattle.base_buffer.specs.Store.{remade}
-use Rattle.base_buffer.specs.Laws.Store.{tabulate_cong, length_remade, remade_passed, remade_ahead}
+use Rattle.base_buffer.proofs.Laws.Store.{tabulate_cong, length_remade, remade_passed, remade_ahead}
 use Rattle.plan_rounds.specs.Represents.{pick_at, winner_edge}
 use Rattle.plan_rounds.specs.Grown.{Growth, GrownAfter}
 use Rattle.plan_draw.specs.Trace.{Trace, trace_from, drawn_duals, Drawable, TraceOf}
-use Rattle.plan_draw.specs.Laws.Drawable.{drawn_all}
-use Rattle.plan_draw.specs.Laws.Growth.{trace_duals_law, trace_drawable, traces_from}
+use Rattle.plan_draw.proofs.Laws.Drawable.{drawn_all}
+use Rattle.plan_draw.proofs.Laws.Growth.{trace_duals_law, trace_drawable, traces_from}
 use Rattle.plan_draw.specs.Drawing.{records_over}
 use Rattle.plan_rule.specs.Promise.{Ready}
 use Rattle.plan_rule.specs.Plan.{plan_of, PlanCounts}
 use Rattle.plan_rule.specs.Growing.{grown_counts_of, picked_marks}
-use Rattle.plan_rule.specs.Laws.Same.{plan_terminals}
+use Rattle.plan_rule.proofs.Laws.Same.{plan_terminals}
 use Rattle.plan_core.specs.Grown.{GrownInto}
 
 -- A buffer whose first m places were made anew.

@@ -14,7 +14,7 @@ use Rattle.base_finite.specs.Below.{counted}
 use Rattle.base_finite.specs.Laws.Below.{lt_or_ge}
 use Rattle.base_finite.specs.Laws.Test.{not_true_false}
 use Rattle.base_buffer.specs.Store.{remade}
-use Rattle.base_buffer.specs.Laws.Store.{length_remade, remade_passed, remade_table}
+use Rattle.base_buffer.proofs.Laws.Store.{length_remade, remade_passed, remade_table}
 use Rattle.base_limits.specs.Limits.{max_edges}
 use Rattle.base_limits.specs.Verdict.{refuse_if, ◌before◌, lowest_below, Outcome, outcome, written}
 use Rattle.base_limits.specs.declared.Verdict.{Verdict}
@@ -25,15 +25,15 @@ use Rattle.theory_steiner.specs.Pruning.{needed, mark_of}
 use Rattle.survey_core.specs.Survey.{Survey, survey_from, lists_of, groups_alone, vertex_count, edge_count, problem_of}
 use Rattle.survey_core.specs.Sound.{ByteGroups}
 use Rattle.survey_core.specs.Refusal.{survey_refusal, group_refusal}
-use Rattle.survey_core.specs.Laws.Group.{group_refused}
+use Rattle.survey_core.proofs.Laws.Group.{group_refused}
 use Rattle.survey_components.specs.Labels.{chosen, chosen_mark, picked_in}
 use Rattle.survey_components.specs.declared.Chosen.TheVariants.{Kept}
 use Rattle.survey_components.specs.Forest.{closes_loop, loop_refusal}
 use Rattle.survey_components.specs.Laws.Forest.{unweighted_refusal}
 use Rattle.survey_components.specs.Laws.Picked.{picked_below}
 use Rattle.survey_lists.specs.Pouring.{poured_groups, poured_survey}
-use Rattle.survey_lists.specs.Laws.Pouring.{length_poured}
-use Rattle.survey_lists.specs.Laws.Split.{poured_refusal}
+use Rattle.survey_lists.proofs.Laws.Pouring.{length_poured}
+use Rattle.survey_lists.proofs.Laws.Split.{poured_refusal}
 use Rattle.check_rule.specs.Check.{kept_by}
 use Rattle.plan_drop.specs.Prunable.{Picks, unweighted}
 use Rattle.plan_drop.specs.Judge.{pruned_marks}
@@ -41,8 +41,8 @@ use Rattle.plan_drop.specs.Laws.Prunable.{survey_picks, pruned_unweighted}
 use Rattle.plan_rule.specs.Plan.{Plan, plan_of}
 use Rattle.plan_rule.specs.Dropping.{drop_refusal, DropCounts, drop_counts_of, dropping, needed_marks, marks_dropped}
 use Rattle.plan_rule.specs.DropPromise.{Marked, Droppable, DropPromises}
-use Rattle.plan_rule.specs.Laws.Dropping.{marked_later, stages_marked, loop_lowest, picks_bounded, fine_droppable, kept_cost_law, dropping_promises}
-use Rattle.plan_rule.specs.Laws.Same.{plan_terminals, plan_poured, poured_needed}
+use Rattle.plan_rule.proofs.Laws.Dropping.{marked_later, stages_marked, loop_lowest, picks_bounded, fine_droppable, kept_cost_law, dropping_promises}
+use Rattle.plan_rule.proofs.Laws.Same.{plan_terminals, plan_poured, poured_needed}
 use Rattle.plan_rule.specs.declared.Dropped.TheVariants.{Finished, Refused as DropRefused}
 use Rattle.plan_rule.specs.Answer.{dropped_outcome}
 use Rattle.plan_core.specs.Picks.{marked_refusal, by_lists}

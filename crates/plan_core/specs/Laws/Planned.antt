@@ -18,33 +18,33 @@ use Rattle.base_limits.specs.Verdict.{◌before◌, refusal, answer, written}
 use Rattle.base_limits.specs.declared.Verdict.{Verdict}
 use Rattle.base_limits.specs.declared.Verdict.TheVariants.{Fine, Refused}
 use Rattle.base_limits.specs.Laws.Verdict.{before_fine, fine_right, no_refusal}
-use Rattle.theory_graph.specs.Laws.Linked.{linked_mono}
+use Rattle.theory_graph.proofs.Laws.Linked.{linked_mono}
 use Rattle.theory_steiner.specs.Problem.{Problem, Sound, Joins, Bounded, joined, all_usable, cost}
 use Rattle.theory_steiner.specs.Growth.{grown}
 use Rattle.theory_steiner.specs.Pruning.{needed, picked, kept, mark_of, mark}
-use Rattle.theory_steiner.specs.Laws.Joined.{joined_iff}
-use Rattle.theory_steiner.specs.Laws.Partition.{picked_usable}
-use Rattle.theory_steiner.specs.Laws.Rounds.{grown_reached}
-use Rattle.theory_steiner.specs.Laws.Finish.{picked_joins, picked_acyclic}
+use Rattle.theory_steiner.proofs.Laws.Joined.{joined_iff}
+use Rattle.theory_steiner.proofs.Laws.Partition.{picked_usable}
+use Rattle.theory_steiner.proofs.Laws.Rounds.{grown_reached}
+use Rattle.theory_steiner.proofs.Laws.Finish.{picked_joins, picked_acyclic}
 use Rattle.survey_core.specs.Survey.{Survey, survey_from, lists_of, vertex_count, edge_count, problem_of}
 use Rattle.survey_core.specs.Sound.{SurveySound, ByteGroups}
 use Rattle.survey_core.specs.Refusal.{group_refusal}
-use Rattle.survey_core.specs.Laws.Refusal.{survey_sound}
-use Rattle.survey_core.specs.Laws.Group.{group_fine, joins_fine}
+use Rattle.survey_core.proofs.Laws.Refusal.{survey_sound}
+use Rattle.survey_core.proofs.Laws.Group.{group_fine, joins_fine}
 use Rattle.survey_components.specs.Labels.{picked_in}
 use Rattle.survey_components.specs.Forest.{loop_refusal}
 use Rattle.survey_components.specs.Laws.Forest.{forest_fine, unweighted_refusal}
 use Rattle.survey_lists.specs.Pouring.{poured_groups, poured_survey}
-use Rattle.survey_lists.specs.Laws.Plan.{poured_sound, poured_joins}
+use Rattle.survey_lists.proofs.Laws.Plan.{poured_sound, poured_joins}
 use Rattle.check_rule.specs.Check.{kept_by}
 use Rattle.plan_rounds.specs.Grown.{Growth, GrownAfter}
 use Rattle.plan_drop.specs.Prunable.{Picks, unweighted}
 use Rattle.plan_drop.specs.Judge.{pruned_marks}
 use Rattle.plan_drop.specs.Laws.Prunable.{survey_picks, pruned_unweighted}
 use Rattle.plan_rule.specs.Plan.{plan_of}
-use Rattle.plan_rule.specs.Laws.Ready.{all_bounded}
-use Rattle.plan_rule.specs.Laws.Stages.{one_or_none}
-use Rattle.plan_rule.specs.Laws.Dropping.{mark_kept}
+use Rattle.plan_rule.proofs.Laws.Ready.{all_bounded}
+use Rattle.plan_rule.proofs.Laws.Stages.{one_or_none}
+use Rattle.plan_rule.proofs.Laws.Dropping.{mark_kept}
 use Rattle.plan_core.specs.Laws.Finish.{remade_front}
 use Rattle.plan_core.specs.Planned.{joinable, marks_joined}
 

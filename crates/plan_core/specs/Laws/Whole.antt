@@ -15,19 +15,19 @@ use Rattle.theory_steiner.specs.Problem.{all_usable, cost}
 use Rattle.survey_core.specs.Survey.{Survey, survey_from, lists_of, vertex_count, edge_count, problem_of}
 use Rattle.survey_core.specs.Sound.{ByteGroups}
 use Rattle.survey_core.specs.Refusal.{survey_refusal, group_refusal}
-use Rattle.survey_core.specs.Laws.Refusal.{survey_fine, fine_survey}
+use Rattle.survey_core.proofs.Laws.Refusal.{survey_fine, fine_survey}
 use Rattle.survey_components.specs.Labels.{chosen}
 use Rattle.survey_components.specs.declared.Chosen.TheVariants.{All}
 use Rattle.survey_lists.specs.Pouring.{poured_groups}
-use Rattle.survey_lists.specs.Laws.Pouring.{length_poured}
+use Rattle.survey_lists.proofs.Laws.Pouring.{length_poured}
 use Rattle.check_rule.specs.Check.{kept_by}
 use Rattle.plan_draw.specs.Trace.{trace_from, drawn_duals}
 use Rattle.plan_draw.specs.Drawing.{records_over}
 use Rattle.plan_rule.specs.Plan.{Plan, PlanCounts, plan_of, plan_counts_of, plan_refusal, counting, marks_after, records_after}
 use Rattle.plan_rule.specs.Promise.{Ready}
-use Rattle.plan_rule.specs.Laws.Ready.{groups_of_all, ready_fine}
-use Rattle.plan_rule.specs.Laws.Promise.{refused_call, finished_call}
-use Rattle.plan_rule.specs.Laws.Same.{plan_poured}
+use Rattle.plan_rule.proofs.Laws.Ready.{groups_of_all, ready_fine}
+use Rattle.plan_rule.proofs.Laws.Promise.{refused_call, finished_call}
+use Rattle.plan_rule.proofs.Laws.Same.{plan_poured}
 use Rattle.plan_core.specs.Planned.{joinable, marks_joined, MarkedInto, lent_refusal, Fits, counts_joined, records_joined}
 use Rattle.plan_core.specs.Laws.Finish.{rounds_plan, bound_plan, duals_plan}
 use Rattle.plan_core.specs.Laws.Planned.{planned_cost, joinable_joins, unjoined_comes, into_sound, joinable_poured, joined_by, parted_by}

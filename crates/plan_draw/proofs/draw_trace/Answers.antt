@@ -7,8 +7,8 @@ use lib.ListN.{length-replicate}
 use Rattle.base_limits.specs.Limits.{max_vertices}
 use Rattle.plan_draw.specs.Members.{no_member}
 use Rattle.plan_draw.specs.Trace.{trace_from}
-use Rattle.plan_draw.specs.Laws.Drawing.{written_length}
-use Rattle.plan_draw.specs.Laws.Trace.{Replayed, replayed_none, replayed_more, replayed_end}
+use Rattle.plan_draw.proofs.Laws.Drawing.{written_length}
+use Rattle.plan_draw.proofs.Laws.Trace.{Replayed, replayed_none, replayed_more, replayed_end}
 use native.Mathlib.Omega.{arith}
 use Rattle.plan_draw.proofs.draw_trace.Goals as goal
 

@@ -2,7 +2,7 @@
 use Rattle.std.proofs.Common.{[], sym, refl, ◌∙◌, arith, rules}
 use Rattle.base_limits.specs.Verdict.{written}
 use Rattle.base_limits.specs.Laws.Verdict.{written_refused}
-use Rattle.survey_core.specs.Laws.Group.{plain_bytes}
+use Rattle.survey_core.proofs.Laws.Group.{plain_bytes}
 use Rattle.plan_drop.specs.Laws.Prunable.{picks_ends, picks_prunable}
 use Rattle.plan_drop.proofs.prune_picks.Goals as goal
 

@@ -2,7 +2,7 @@
 use Rattle.std.specs.Prelude.{◌≡◌, ℕ, Bool, true, false, List, length, refl}
 use Rattle.base_finite.specs.Below.{counted}
 use Rattle.theory_steiner.specs.Pruning.{mark_of}
-use Rattle.base_buffer.specs.Laws.Store.{length_remade}
+use Rattle.base_buffer.proofs.Laws.Store.{length_remade}
 use Rattle.plan_drop.specs.Dropped.{dropped_marks}
 
 -- ---- one edge

@@ -16,9 +16,9 @@ use Rattle.survey_core.specs.Survey.{groups_alone, problem_of, vertex_count, edg
 use Rattle.survey_groups.specs.Mate.{mate_of}
 use Rattle.survey_groups.specs.Laws.Mate.{separates_mates}
 use Rattle.base_buffer.specs.Store.{remade}
-use Rattle.base_buffer.specs.Laws.Store.{length_remade}
+use Rattle.base_buffer.proofs.Laws.Store.{length_remade}
 use Rattle.theory_graph.specs.Path.{crosses}
-use Rattle.theory_steiner.specs.Laws.Cut.{needed_by_cut}
+use Rattle.theory_steiner.proofs.Laws.Cut.{needed_by_cut}
 use Rattle.survey_components.specs.Labels.{picked_in}
 use Rattle.plan_drop.specs.Word.{word_bits, in_batch, Alone, CutEndsBelow}
 use Rattle.plan_drop.specs.Tried.{tried_words}

@@ -8,9 +8,9 @@ use Rattle.base_finite.specs.Below.{count_below, any_below}
 use Rattle.base_finite.specs.Laws.Below.{counted_true, counted_false}
 use Rattle.base_finite.specs.Laws.Test.{and_both}
 use Rattle.format_record.specs.Bits.{bit_at}
-use Rattle.format_record.specs.Laws.Bits.{bit_of_zero, bit_or_law}
+use Rattle.format_record.proofs.Laws.Bits.{bit_of_zero, bit_or_law}
 use Rattle.base_buffer.specs.Store.{remade}
-use Rattle.base_buffer.specs.Laws.Store.{remade_more}
+use Rattle.base_buffer.proofs.Laws.Store.{remade_more}
 use Rattle.plan_drop.specs.Word.{word_bits, in_batch}
 use Rattle.plan_drop.specs.Laws.Word.{bit_xor_law}
 use Rattle.plan_drop.specs.Parted.{parted_below}

@@ -13,8 +13,8 @@ use Rattle.theory_steiner.specs.Pruning.{needed}
 use Rattle.survey_core.specs.Survey.{Survey, survey_from, vertex_count, edge_count, member, same_group, problem_of}
 use Rattle.survey_core.specs.Sound.{SurveySound, ByteGroups}
 use Rattle.survey_core.specs.Refusal.{group_refusal}
-use Rattle.survey_core.specs.Laws.Refusal.{survey_fine, fine_survey, survey_sound}
-use Rattle.survey_core.specs.Laws.Group.{group_fine, joins_fine}
+use Rattle.survey_core.proofs.Laws.Refusal.{survey_fine, fine_survey, survey_sound}
+use Rattle.survey_core.proofs.Laws.Group.{group_fine, joins_fine}
 use Rattle.survey_components.specs.Labels.{picked_in}
 use Rattle.survey_components.specs.Forest.{loop_refusal, forest_refusal, EndsBelow}
 use Rattle.survey_components.specs.Laws.Picked.{picked_below}

@@ -9,7 +9,7 @@ use Rattle.base_finite.specs.Laws.Test.{either, and_both}
 use Rattle.base_finite.specs.Laws.Below.{below_suc}
 use Rattle.theory_graph.specs.Path.{crosses, Forest}
 use Rattle.theory_graph.specs.Component.{components}
-use Rattle.theory_graph.specs.Laws.Component.{components_right}
+use Rattle.theory_graph.proofs.Laws.Component.{components_right}
 use Rattle.survey_components.specs.Laws.Forest.{forest_apart}
 use Rattle.plan_drop.specs.Side.{side_step, sides}
 

@@ -6,7 +6,7 @@ use Rattle.base_finite.specs.Below.{count_below, tabulate}
 use Rattle.base_finite.specs.Laws.Below.{counted_true, counted_false, length_tabulate}
 use Rattle.base_finite.specs.Laws.Test.{either}
 use Rattle.theory_graph.specs.Component.{components}
-use Rattle.base_buffer.specs.Laws.Store.{length_remade}
+use Rattle.base_buffer.proofs.Laws.Store.{length_remade}
 use Rattle.survey_components.specs.Buffer.{relabelled, ends_joined}
 use Rattle.survey_components.specs.Laws.Buffer.{components_none, components_more}
 use Rattle.plan_drop.specs.Word.{own_word, turned_all, edge_taken, side_words}

@@ -13,8 +13,8 @@ use Rattle.base_finite.specs.Laws.Below.{below_suc, counted_true, counted_false,
 use Rattle.base_finite.specs.Laws.Test.{either, and_left, and_right, and_both, not_true_false, true_not_false}
 use Rattle.theory_graph.specs.Component.{components}
 use Rattle.format_record.specs.Bits.{bit_at, with_bit}
-use Rattle.format_record.specs.Laws.Bits.{bit_of_zero, bit_set, bit_set_other, with_bit_clear}
-use Rattle.base_buffer.specs.Laws.Store.{remade_table, tabulate_cong}
+use Rattle.format_record.proofs.Laws.Bits.{bit_of_zero, bit_set, bit_set_other, with_bit_clear}
+use Rattle.base_buffer.proofs.Laws.Store.{remade_table, tabulate_cong}
 use Rattle.survey_components.specs.Buffer.{relabelled, ends_joined}
 use Rattle.plan_drop.specs.Side.{side_step, sides}
 use Rattle.plan_drop.specs.Word.{word_bits, in_batch, own_word, turned, side_words, turned_all, edge_taken}

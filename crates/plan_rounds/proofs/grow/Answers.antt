@@ -1,7 +1,7 @@
 -- `grow` meets its contract: a survey that is not refused is sound.
 use Rattle.std.proofs.Common.{sym, refl, ◌∙◌, rules}
 use Rattle.base_limits.specs.Verdict.{written}
-use Rattle.survey_core.specs.Laws.Refusal.{fine_survey}
+use Rattle.survey_core.proofs.Laws.Refusal.{fine_survey}
 use Rattle.plan_rounds.specs.Laws.Rounds.{grown_start}
 use Rattle.plan_rounds.proofs.grow.Goals as goal
 

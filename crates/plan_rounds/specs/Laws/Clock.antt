@@ -7,16 +7,16 @@ use Rattle.std.proofs.Math.Seq.{set_out}
 use Rattle.base_finite.specs.Below.{tabulate}
 use Rattle.base_finite.specs.Laws.Below.{counted_true, counted_false, counted_le, length_tabulate, get_d_tabulate, lt_or_ge}
 use Rattle.base_finite.specs.Laws.Test.{either, not_true_false}
-use Rattle.base_buffer.specs.Laws.Store.{tabulate_cong, set_table}
+use Rattle.base_buffer.proofs.Laws.Store.{tabulate_cong, set_table}
 use Rattle.theory_graph.specs.Component.{merged}
 use Rattle.theory_steiner.specs.Problem.{Problem}
 use Rattle.theory_steiner.specs.Growth.{State, active, numbers, pick, Reached}
-use Rattle.theory_steiner.specs.Laws.Round.{pick_label, pick_value}
-use Rattle.theory_steiner.specs.Laws.Partition.{active_below_law}
-use Rattle.theory_steiner.specs.Laws.Weighed.{value_fresh, value_newborn}
-use Rattle.theory_steiner.specs.Laws.Activity.{active_cong, active_other, active_gone}
+use Rattle.theory_steiner.proofs.Laws.Round.{pick_label, pick_value}
+use Rattle.theory_steiner.proofs.Laws.Partition.{active_below_law}
+use Rattle.theory_steiner.proofs.Laws.Weighed.{value_fresh, value_newborn}
+use Rattle.theory_steiner.proofs.Laws.Activity.{active_cong, active_other, active_gone}
 use Rattle.plan_search.specs.Held.{held_value, settled_by}
-use Rattle.plan_search.specs.Laws.Held.{held_on, held_off, settled_on, settled_off}
+use Rattle.plan_search.proofs.Laws.Held.{held_on, held_off, settled_on, settled_off}
 use Rattle.plan_rounds.specs.Tables.{settled_at}
 
 -- Three of them settled, at places that were read.

@@ -6,18 +6,18 @@ use Rattle.std.proofs.Math.Path.{refl, sym}
 use Rattle.std.proofs.lemmas.List.{set-get_or}
 use Rattle.base_finite.specs.Below.{counted}
 use Rattle.base_finite.specs.Laws.Below.{counted_le, lt_or_ge}
-use Rattle.base_buffer.specs.Laws.Store.{length_remade, remade_ahead, remade_passed, remade_more}
+use Rattle.base_buffer.proofs.Laws.Store.{length_remade, remade_ahead, remade_passed, remade_more}
 use Rattle.theory_graph.specs.Component.{merged}
-use Rattle.theory_graph.specs.Laws.Component.{Merging, inside, outside, merged_in, merged_out}
+use Rattle.theory_graph.proofs.Laws.Component.{Merging, inside, outside, merged_in, merged_out}
 use Rattle.theory_steiner.specs.Problem.{Problem, Sound}
 use Rattle.theory_steiner.specs.Growth.{State, start, active, numbers, load, pick, Reached, first, next}
-use Rattle.theory_steiner.specs.Laws.Round.{pick_label}
-use Rattle.theory_steiner.specs.Laws.Partition.{label_merging, label_below_law}
-use Rattle.theory_steiner.specs.Laws.Weighed.{load_pick}
-use Rattle.theory_steiner.specs.Laws.Activity.{active_cong, active_other}
+use Rattle.theory_steiner.proofs.Laws.Round.{pick_label}
+use Rattle.theory_steiner.proofs.Laws.Partition.{label_merging, label_below_law}
+use Rattle.theory_steiner.proofs.Laws.Weighed.{load_pick}
+use Rattle.theory_steiner.proofs.Laws.Activity.{active_cong, active_other}
 use Rattle.plan_active.specs.Flags.{relabelled_first, merged_flags}
 use Rattle.plan_search.specs.Held.{held_value, settled_by}
-use Rattle.plan_search.specs.Laws.Held.{settled_off}
+use Rattle.plan_search.proofs.Laws.Held.{settled_off}
 use Rattle.plan_rounds.specs.Tables.{turned_at, turned_members, turned_component, turned_to}
 use Rattle.plan_rounds.specs.Represents.{held_load}
 

@@ -15,23 +15,23 @@ use Rattle.base_limits.specs.Limits.{max_vertices, max_edges, max_weight, max_du
 use Rattle.theory_steiner.specs.Problem.{Problem, Sound, separates}
 use Rattle.theory_steiner.specs.Growth as theory
 use Rattle.theory_steiner.specs.Growth.{State, active, numbers, load, slack, delay, nobody, edge, winner, pick, state_at, Reached}
-use Rattle.theory_steiner.specs.Laws.Activity.{active_cong}
-use Rattle.theory_steiner.specs.Laws.Round.{state_at_reached, pick_rounds, pick_label, pick_picked, pick_new}
-use Rattle.theory_steiner.specs.Laws.Rounds.{rounds_lt, state_at_pick, delay_le}
-use Rattle.theory_steiner.specs.Laws.Partition.{label_below_law, winner_below_law, winner_candidate}
+use Rattle.theory_steiner.proofs.Laws.Activity.{active_cong}
+use Rattle.theory_steiner.proofs.Laws.Round.{state_at_reached, pick_rounds, pick_label, pick_picked, pick_new}
+use Rattle.theory_steiner.proofs.Laws.Rounds.{rounds_lt, state_at_pick, delay_le}
+use Rattle.theory_steiner.proofs.Laws.Partition.{label_below_law, winner_below_law, winner_candidate}
 use Rattle.survey_core.specs.Lists.{is_paired, in_list, same_list}
 use Rattle.survey_core.specs.Survey.{Survey, survey_with, groups_alone, vertex_count, edge_count, same_group, member, problem_of}
-use Rattle.survey_core.specs.Laws.Refusal.{survey_sound}
-use Rattle.base_buffer.specs.Laws.Store.{set_table, remade_part}
+use Rattle.survey_core.proofs.Laws.Refusal.{survey_sound}
+use Rattle.base_buffer.proofs.Laws.Store.{set_table, remade_part}
 use Rattle.plan_search.specs.Held.{held_value, settled_by}
-use Rattle.plan_search.specs.Laws.Held.{settled_off, held_settled}
+use Rattle.plan_search.proofs.Laws.Held.{settled_off, held_settled}
 use Rattle.plan_search.specs.Between.{winner_in, vertex_end, slack_between, delay_between}
 use Rattle.plan_search.specs.declared.delay.Winner.{Winner}
 use Rattle.plan_search.specs.declared.delay.Winner.TheVariants.{Nobody, Edge}
 use Rattle.plan_search.specs.Scan.{time_limit, idle_alone, resting, reach, key, capped_time, Scan, scan_of, Keyed, Pass, blocks_of, pass_of, Floored}
 use Rattle.plan_search.specs.Tables.{Tables, tables_from, first_by, second_by, delay_by, alone_at, rests_between, reach_between, key_between, key_by, pass_by}
-use Rattle.plan_search.specs.Laws.Scan.{capped_is, idle_elim, scan_wins, keyed_next}
-use Rattle.plan_search.specs.Laws.Blocks.{passes_scan, passes_cong}
+use Rattle.plan_search.proofs.Laws.Scan.{capped_is, idle_elim, scan_wins, keyed_next}
+use Rattle.plan_search.proofs.Laws.Blocks.{passes_scan, passes_cong}
 use Rattle.plan_wake.specs.Wake.{ends_at, idle_vertex, KeyNotes, notes_from, behind_by, woken_key, woken_by}
 use Rattle.plan_wake.specs.Laws.Wake.{woken_keys, woken_floored}
 use Rattle.plan_active.specs.Flags.{active_flags, MatesListed, relabelled_first, merged_flags}

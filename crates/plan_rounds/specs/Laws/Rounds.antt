@@ -13,21 +13,21 @@ use Rattle.base_limits.specs.Limits.{max_vertices, max_edges, max_weight, max_va
 use Rattle.theory_steiner.specs.Problem.{Problem}
 use Rattle.theory_steiner.specs.Growth.{Winner, nobody, edge, active, slack, winner, numbers, start, state_at}
 use Rattle.theory_steiner.specs.Pruning.{dual_bound}
-use Rattle.theory_steiner.specs.Laws.Round.{state_at_reached, pick_rounds}
-use Rattle.theory_steiner.specs.Laws.Rounds.{rounds_lt, state_at_pick, state_at_last, value_bounded}
-use Rattle.theory_steiner.specs.Laws.Partition.{active_below_law}
-use Rattle.theory_steiner.specs.Laws.Feasible.{load_start}
+use Rattle.theory_steiner.proofs.Laws.Round.{state_at_reached, pick_rounds}
+use Rattle.theory_steiner.proofs.Laws.Rounds.{rounds_lt, state_at_pick, state_at_last, value_bounded}
+use Rattle.theory_steiner.proofs.Laws.Partition.{active_below_law}
+use Rattle.theory_steiner.proofs.Laws.Feasible.{load_start}
 use Rattle.base_buffer.specs.Store.{remade}
-use Rattle.base_buffer.specs.Laws.Store.{tabulate_cong, remade_passed, remade_table, remade_part, replicate_table}
+use Rattle.base_buffer.proofs.Laws.Store.{tabulate_cong, remade_passed, remade_table, remade_part, replicate_table}
 use Rattle.survey_core.specs.Survey.{Survey, vertex_count, edge_count, problem_of}
 use Rattle.survey_core.specs.Sound.{SurveySound}
-use Rattle.survey_core.specs.Laws.Refusal.{survey_sound}
+use Rattle.survey_core.proofs.Laws.Refusal.{survey_sound}
 use Rattle.plan_active.specs.Flags.{active_flags}
 use Rattle.plan_search.specs.Scan.{no_key, idle_alone, resting, reach, max_blocks}
-use Rattle.plan_search.specs.Laws.Scan.{slack_reach, reach_lone, slack_start, keyed_start, floored_start}
+use Rattle.plan_search.proofs.Laws.Scan.{slack_reach, reach_lone, slack_start, keyed_start, floored_start}
 use Rattle.plan_search.specs.Keys.{start_key, start_key_of}
 use Rattle.plan_search.specs.Held.{held_value, settled_by}
-use Rattle.plan_search.specs.Laws.Held.{held_off, held_settled}
+use Rattle.plan_search.proofs.Laws.Held.{held_off, held_settled}
 use Rattle.plan_rounds.specs.Tables.{settled_values}
 use Rattle.plan_rounds.specs.Represents.{winner_edge, pick_at, held_label, held_load, Arrays, arrays_from, Represents}
 use Rattle.plan_rounds.specs.Grown.{growth_from, GrownAfter}

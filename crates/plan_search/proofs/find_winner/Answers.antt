@@ -4,8 +4,8 @@ use mathlib.Core.Path.{refl}
 use Rattle.plan_search.specs.Scan.{blocks_of}
 use Rattle.plan_search.specs.Tables.{tables_from}
 use Rattle.plan_search.specs.Between.{winner_in}
-use Rattle.plan_search.specs.Laws.Scan.{capped_is, capped_small}
-use Rattle.plan_search.specs.Laws.Loops.{BeforeBlock, next_less, passing_next, passing_start, block_starts, passing_look, passing_keys, passing_floors, passing_end}
+use Rattle.plan_search.proofs.Laws.Scan.{capped_is, capped_small}
+use Rattle.plan_search.proofs.Laws.Loops.{BeforeBlock, next_less, passing_next, passing_start, block_starts, passing_look, passing_keys, passing_floors, passing_end}
 use borrow.Author.Rules.{rules}
 use Rattle.plan_search.proofs.find_winner.Goals as goal
 

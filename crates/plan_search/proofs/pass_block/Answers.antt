@@ -2,7 +2,7 @@
 use mathlib.Core.Path.{ap, ◌∙◌}
 use lib.ListN.{length, set}
 use Rattle.plan_search.specs.Tables.{on_by}
-use Rattle.plan_search.specs.Laws.Blocks.{size_fits, size_is}
+use Rattle.plan_search.proofs.Laws.Blocks.{size_fits, size_is}
 use native.Mathlib.Omega.{arith}
 use borrow.Author.Rules.{rules}
 use Rattle.plan_search.proofs.pass_block.Goals as goal

@@ -4,8 +4,8 @@ use mathlib.Core.Path.{ap, ◌∙◌}
 use mathlib.Core.Logic.{⊎_elim}
 use Rattle.plan_search.specs.Tables.{tables_from}
 use Rattle.plan_search.specs.Between.{winner_in}
-use Rattle.plan_search.specs.Laws.Scan.{capped_is}
-use Rattle.plan_search.specs.Laws.Loops.{Scanning, scanning_start, scanning_look, scanning_pass, scanning_long, scanning_low, scanning_end}
+use Rattle.plan_search.proofs.Laws.Scan.{capped_is}
+use Rattle.plan_search.proofs.Laws.Loops.{Scanning, scanning_start, scanning_look, scanning_pass, scanning_long, scanning_low, scanning_end}
 use borrow.Author.Rules.{rules}
 use native.Mathlib.Omega.{arith}
 use Rattle.plan_search.proofs.scan_block.Goals as goal

@@ -14,7 +14,7 @@ use Rattle.theory_steiner.specs.Problem.{Problem}
 use Rattle.theory_steiner.specs.Growth.{State, slack}
 use Rattle.plan_search.specs.Scan.{idle_alone, reach, Keyed, Woken, block_edges, Floored}
 use Rattle.plan_search.specs.Tables.{Tables}
-use Rattle.plan_search.specs.Laws.Scan.{slack_reach, set_low}
+use Rattle.plan_search.proofs.Laws.Scan.{slack_reach, set_low}
 use Rattle.plan_wake.specs.Wake.{ends_at, idle_vertex, KeyNotes, notes_from, behind_by, woken_key, lowered, woken_edge, woken_on, woken_at, woken_by}
 
 -- ---- a number lowered

@@ -1,6 +1,6 @@
 -- `within` meets its contract.
 use native.Mathlib.Omega.{arith}
-use Rattle.base_buffer.specs.Laws.Part.{most_room, most_wanted}
+use Rattle.base_buffer.proofs.Laws.Part.{most_room, most_wanted}
 use Rattle.season.proofs.within.Statement.{statement}
 use Rattle.season.proofs.within.Tie as tie
 

@@ -8,7 +8,7 @@ use Rattle.survey_core.specs.Survey.{Survey}
 use Rattle.season_rule.specs.declared.Report.{Report}
 use Rattle.season_rule.specs.Report.{max_surveys, season_of}
 use Rattle.season_rule.specs.Text.{report_text, report_room, Words}
-use Rattle.season_rule.specs.Laws.Text.{report_text_le, season_words}
+use Rattle.season_rule.proofs.Laws.Text.{report_text_le, season_words}
 
 pub report_prints : (r : Report) → Words r → (out : List ℕ) → report_room ≤ length out → printed (report_text r) out ≡ Length (length (report_text r))
 unfolding printed print_refusal refuse_if answer_of

@@ -10,7 +10,7 @@ use Rattle.season_rule.specs.declared.Farthest.{Farthest}
 use Rattle.season_rule.specs.declared.Report.{Report}
 use Rattle.season_rule.specs.Figures.{Figures, cost_of}
 use Rattle.season_rule.specs.Report.{max_surveys, word_limit, most_cost, farther, add_plan, add_refusal, add_outcome, passes_word, season_refusal, added}
-use Rattle.season_rule.specs.Laws.Report.{refused_unchanged, fine_added}
+use Rattle.season_rule.proofs.Laws.Report.{refused_unchanged, fine_added}
 use Rattle.season_core.specs.Room.{plan_refusal, count_refusal}
 
 pub plan_refusal_law : (r : Report) (cost bound : ℕ)

@@ -8,7 +8,7 @@ use Rattle.plan_rule.specs.Figures.{FigureCounts, figuring}
 use Rattle.season_rule.specs.declared.Report.{Report}
 use Rattle.season_rule.specs.Figures.{figures, figures_of, cost_of}
 use Rattle.season_rule.specs.Report.{most_cost, season_refusal, added, add_survey}
-use Rattle.season_rule.specs.Laws.Figures.{limited}
+use Rattle.season_rule.proofs.Laws.Figures.{limited}
 
 pub survey_added_law : (s : Survey) (r : Report) {counts : Outcome FigureCounts} {verdict : Verdict} {after : Report}
     → counts ≡ figuring s → verdict ≡ season_refusal r (figures_of counts)

@@ -3,7 +3,7 @@ use mathlib.Core.Path.{refl, ◌∙◌}
 use mathlib.Core.List.{[]}
 use native.Mathlib.Omega.{arith}
 use Rattle.base_limits.specs.Limits.{max_vertices}
-use Rattle.base_buffer.specs.Laws.Store.{remade_table}
+use Rattle.base_buffer.proofs.Laws.Store.{remade_table}
 use Rattle.survey_core.specs.Survey.{survey_from}
 use Rattle.survey_components.specs.Laws.Labels.{front_fits, front_labelled}
 use borrow.Author.Rules.{rules}

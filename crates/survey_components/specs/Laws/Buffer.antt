@@ -9,7 +9,7 @@ use Rattle.base_finite.specs.Laws.Below.{memo_is, length_tabulate, get_d_tabulat
 use Rattle.base_finite.specs.Laws.Test.{either}
 use Rattle.theory_graph.specs.Component.{merged, components}
 use Rattle.survey_components.specs.Buffer.{relabelled, ends_joined}
-use Rattle.base_buffer.specs.Laws.Store.{remade_table, tabulate_cong}
+use Rattle.base_buffer.proofs.Laws.Store.{remade_table, tabulate_cong}
 
 -- Relabelling a table of labels.
 pub relabelled_table : (x y z n : ℕ) (label : ℕ → ℕ) {labels : List ℕ} → labels ≡ tabulate n label → relabelled x y z labels ≡ tabulate n (merged x y z label)

@@ -12,9 +12,9 @@ use Rattle.base_finite.specs.Laws.Below.{below_suc, length_tabulate, get_d_tabul
 use Rattle.base_finite.specs.Laws.Test.{either, and_left, and_right, and_both, not_true_false, true_not_false}
 use Rattle.theory_graph.specs.Path.{Linked, Forest}
 use Rattle.theory_graph.specs.Component.{components}
-use Rattle.theory_graph.specs.Laws.Linked.{linked_mono, without_intro, without_mono}
-use Rattle.theory_graph.specs.Laws.Component.{below, components_iff, components_right}
-use Rattle.theory_graph.specs.Laws.Forest.{forest_more}
+use Rattle.theory_graph.proofs.Laws.Linked.{linked_mono, without_intro, without_mono}
+use Rattle.theory_graph.proofs.Laws.Component.{below, components_iff, components_right}
+use Rattle.theory_graph.proofs.Laws.Forest.{forest_more}
 use Rattle.base_limits.specs.Limits.{max_vertices, group_numbers}
 use Rattle.base_limits.specs.Verdict.{refuse_if, ◌before◌, lowest_below}
 use Rattle.base_limits.specs.declared.Verdict.{Verdict}
@@ -37,7 +37,7 @@ use Rattle.base_limits.specs.Laws.Verdict.{
 use Rattle.theory_steiner.specs.Problem.{Bounded}
 use Rattle.survey_core.specs.Survey.{Survey, survey_from, groups_alone, vertex_count, edge_count, member, group_joined, components_of, problem_of}
 use Rattle.survey_core.specs.Refusal.{survey_refusal, group_refusal}
-use Rattle.survey_core.specs.Laws.Refusal.{fine_survey}
+use Rattle.survey_core.proofs.Laws.Refusal.{fine_survey}
 use Rattle.survey_components.specs.Roots.{ends_hung, one_root, levelled}
 use Rattle.survey_components.specs.Laws.Buffer.{components_stored}
 use Rattle.survey_components.specs.Laws.Front.{table_front}

@@ -8,7 +8,7 @@ use Rattle.std.proofs.Math.Path.{refl, subst}
 use Rattle.base_finite.specs.Below.{tabulate}
 use Rattle.base_finite.specs.Laws.Below.{length_tabulate, get_d_tabulate}
 use Rattle.theory_graph.specs.Component.{merged, components}
-use Rattle.theory_graph.specs.Laws.Component.{merged_out}
+use Rattle.theory_graph.proofs.Laws.Component.{merged_out}
 use Rattle.survey_components.specs.Buffer.{EndsWithin}
 use Rattle.survey_components.specs.Laws.Buffer.{components_suc}
 

@@ -15,7 +15,7 @@ use Rattle.base_finite.specs.Below.{tabulate}
 use Rattle.base_finite.specs.Laws.Below.{below_suc, length_tabulate, get_d_tabulate}
 use Rattle.base_finite.specs.Laws.Test.{either}
 use Rattle.theory_graph.specs.Component.{merged, components}
-use Rattle.theory_graph.specs.Laws.Component.{merged_in, merged_out, merged_cong}
+use Rattle.theory_graph.proofs.Laws.Component.{merged_in, merged_out, merged_cong}
 use Rattle.survey_components.specs.Roots.{Climbed, climbed_to, climbed, climbed_twice, ends_hung, one_root, levelled}
 use Rattle.survey_components.specs.Laws.Buffer.{components_suc, merged_one}
 

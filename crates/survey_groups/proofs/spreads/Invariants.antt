@@ -8,7 +8,7 @@ use Rattle.base_limits.specs.Limits.{group_numbers}
 use Rattle.survey_core.specs.Survey.{groups_alone}
 use Rattle.survey_groups.specs.Spread.{spread}
 use Rattle.survey_groups.specs.Laws.Spread.{spread_step, spread_none, spread_end}
-use Rattle.base_buffer.specs.Laws.Store.{replicate_table}
+use Rattle.base_buffer.proofs.Laws.Store.{replicate_table}
 use native.Mathlib.Omega.{arith}
 use borrow.Author.Rules.{rules}
 use Rattle.survey_groups.proofs.spreads.Given as goal

@@ -15,12 +15,12 @@ use Rattle.base_limits.specs.declared.Verdict.{Verdict}
 use Rattle.base_limits.specs.declared.Verdict.TheVariants.{Fine, Refused}
 use Rattle.base_limits.specs.Laws.Verdict.{no_refusal, refuse_false, fine_refuse, lowest_none, none_lowest}
 use Rattle.theory_steiner.specs.Problem.{separates}
-use Rattle.theory_steiner.specs.Laws.Joined.{Split, separates_elim, separates_intro}
+use Rattle.theory_steiner.proofs.Laws.Joined.{Split, separates_elim, separates_intro}
 use Rattle.survey_core.specs.Survey.{Survey, vertex_count, member, problem_of, group_joined}
 use Rattle.survey_core.specs.Sound.{ByteGroups}
 use Rattle.survey_groups.specs.Spread.{Sides}
-use Rattle.survey_core.specs.Laws.Member.{labels_joined_elim, labels_joined_intro}
-use Rattle.survey_core.specs.Laws.Group.{Shared, same_group_shared, members_same_group, member_byte}
+use Rattle.survey_core.proofs.Laws.Member.{labels_joined_elim, labels_joined_intro}
+use Rattle.survey_core.proofs.Laws.Group.{Shared, same_group_shared, members_same_group, member_byte}
 
 module _ (s : Survey) (S : ℕ → Bool) (label : ℕ → ℕ) (sided : (v : ℕ) → v < length s.groups → label v ≡ counted (S v) 1) where
   -- A pair on two sides has two labels.

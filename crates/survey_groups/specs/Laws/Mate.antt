@@ -12,12 +12,12 @@ use Rattle.base_finite.specs.Laws.Below.{below_suc, any_elim, any_none, length_t
 use Rattle.base_finite.specs.Laws.Test.{either, true_not_false, same_test_law}
 use Rattle.base_limits.specs.Limits.{group_numbers}
 use Rattle.base_buffer.specs.Store.{remade}
-use Rattle.base_buffer.specs.Laws.Store.{remade_part}
+use Rattle.base_buffer.proofs.Laws.Store.{remade_part}
 use Rattle.theory_steiner.specs.Problem.{separates}
-use Rattle.theory_steiner.specs.Laws.Joined.{Split, separates_elim, separates_intro}
+use Rattle.theory_steiner.proofs.Laws.Joined.{Split, separates_elim, separates_intro}
 use Rattle.survey_core.specs.Survey.{groups_alone, vertex_count, member, problem_of}
-use Rattle.survey_core.specs.Laws.Member.{member_elim, member_intro}
-use Rattle.survey_core.specs.Laws.Group.{Shared, same_group_shared, members_same_group}
+use Rattle.survey_core.proofs.Laws.Member.{member_elim, member_intro}
+use Rattle.survey_core.proofs.Laws.Group.{Shared, same_group_shared, members_same_group}
 use Rattle.survey_groups.specs.Laws.Spread.{spread_table_more}
 use Rattle.survey_groups.specs.Mate.{last_below, mate_by, mate_of, last_in}
 

@@ -19,10 +19,10 @@ use Rattle.theory_steiner.specs.Problem.{separates, terminal, terminals}
 use Rattle.theory_steiner.specs.Growth.{active}
 use Rattle.survey_core.specs.Survey.{Survey, vertex_count, member, same_group, problem_of, group_joined}
 use Rattle.survey_groups.specs.Spread.{noted, spread, split, noted_in}
-use Rattle.survey_core.specs.Laws.Refusal.{same_group_symmetric}
-use Rattle.survey_core.specs.Laws.Group.{plain_same}
-use Rattle.survey_core.specs.Laws.Member.{member_elim, member_intro, labels_joined_elim, labels_joined_intro}
-use Rattle.base_buffer.specs.Laws.Store.{tabulate_cong, set_table}
+use Rattle.survey_core.proofs.Laws.Refusal.{same_group_symmetric}
+use Rattle.survey_core.proofs.Laws.Group.{plain_same}
+use Rattle.survey_core.proofs.Laws.Member.{member_elim, member_intro, labels_joined_elim, labels_joined_intro}
+use Rattle.base_buffer.proofs.Laws.Store.{tabulate_cong, set_table}
 
 -- Two members of g below n with different labels.
 pub record Apart (s : Survey) (label : ℕ → ℕ) (g n : ℕ) : Type 0 where

@@ -1,7 +1,7 @@
 -- `survey_refusal::edges` meets its contract: pairs of two lengths, or the other buffers and then the pairs.
 use mathlib.Core.Path.{sym, ◌∙◌}
 use Rattle.base_limits.specs.Laws.Verdict.{passed_on, goes_on_law}
-use Rattle.survey_core.specs.Laws.Refusal.{pairs_differ, pairs_decide}
+use Rattle.survey_core.proofs.Laws.Refusal.{pairs_differ, pairs_decide}
 use native.Mathlib.Omega.{arith}
 use borrow.Author.Rules.{rules}
 use Rattle.survey_refusal.proofs.survey_refusal.Goals as goal

@@ -13,7 +13,7 @@ use Rattle.base_limits.specs.declared.Verdict.TheVariants.{Fine}
 use Rattle.base_limits.specs.Laws.Verdict.{lowest_none}
 use Rattle.survey_core.specs.Survey.{Survey, edge_count}
 use Rattle.survey_core.specs.Refusal.{edge_refusal}
-use Rattle.survey_core.specs.Laws.Refusal.{edge_fine}
+use Rattle.survey_core.proofs.Laws.Refusal.{edge_fine}
 use Rattle.survey_refusal.specs.Fault.{faulty}
 use Rattle.survey_refusal.specs.Laws.Fault.{or_counted}
 

@@ -6,7 +6,7 @@ use lib.ListN.{replicate}
 use Rattle.base_limits.specs.Limits.{max_vertices, max_edges, max_pairs}
 use Rattle.format_survey.specs.Answer.{counts_outcome}
 use Rattle.text_plan.specs.Laws.Read.{survey_buffers, refused_read, counts_few, survey_said}
-use Rattle.text_floor.specs.Laws.Output.{printed_as, refused_output, said_output}
+use Rattle.text_floor.proofs.Laws.Output.{printed_as, refused_output, said_output}
 use Rattle.text_floor.proofs.floor_text.Statement.{statement}
 use Rattle.text_floor.proofs.floor_text.Tie as tie
 

@@ -11,7 +11,7 @@ use Rattle.format_read.specs.Step.{Step, found, refused, ◌then◌}
 use Rattle.format_also.specs.Pair.{owners_of, others_of}
 use Rattle.format_survey.specs.Line.{SurveyCounts, widest, tests_for, counts_at, firsts_of, seconds_of, weights_of, SurveyLines, lines_at, lines_with}
 use Rattle.format_survey.specs.Reading.{SurveyText, survey_of}
-use Rattle.format_survey.specs.Laws.LinesBody.{lines_sizes, with_room_law, sets_filled}
+use Rattle.format_survey.proofs.Laws.LinesBody.{lines_sizes, with_room_law, sets_filled}
 use Rattle.check_printed.specs.Verify.{survey_lines_at, prefix_at, survey_in}
 use Rattle.check_printed.specs.Laws.Verify.{parts_of, BeforeLines, AfterLines, lines_pairs, counted_few}
 use Rattle.text_merge.specs.declared.Front.{Front}

@@ -18,7 +18,7 @@ use Rattle.format_print.specs.Print.{printed, printed_out}
 use Rattle.format_also.specs.Pair.{Pair, pairs_counted, owners_of, others_of}
 use Rattle.format_survey.specs.Line.{widest}
 use Rattle.format_survey.specs.Reading.{SurveyText}
-use Rattle.format_survey.specs.Laws.LinesBody.{sets_filled}
+use Rattle.format_survey.proofs.Laws.LinesBody.{sets_filled}
 use Rattle.format_survey_print.specs.Print.{survey_of_lists, survey_text, survey_printed, survey_printed_out}
 use Rattle.format_survey_print.specs.Laws.Print.{whole_answer, whole_out}
 use Rattle.survey_core.specs.Survey.{Survey, survey_with}

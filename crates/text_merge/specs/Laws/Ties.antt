@@ -12,8 +12,8 @@ use Rattle.format_read.specs.Lines.{following}
 use Rattle.format_read.specs.Bytes.{fixed_at}
 use Rattle.format_read.specs.Items.{items_from}
 use Rattle.format_read.specs.Number.{OfDigits, number_to}
-use Rattle.format_read.specs.Laws.Step.{then_value}
-use Rattle.format_read.specs.Laws.Digits.{number_to_below}
+use Rattle.format_read.proofs.Laws.Step.{then_value}
+use Rattle.format_read.proofs.Laws.Digits.{number_to_below}
 use Rattle.format_also.specs.Pair.{Pair, pair_of}
 use Rattle.text_merge.specs.Ties.{tie_key, max_ties, tie_at, tie_line, tie_reader, tie_turns, tie_lines}
 

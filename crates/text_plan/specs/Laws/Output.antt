@@ -14,17 +14,17 @@ use Rattle.base_limits.specs.declared.Verdict.{Verdict}
 use Rattle.base_limits.specs.declared.Verdict.TheVariants.{Fine, Refused}
 use Rattle.format_write.specs.Text.{plan_text, refusal_text}
 use Rattle.format_print.specs.Laws.Room.{plan_text_le, refusal_text_le}
-use Rattle.theory_steiner.specs.Laws.Rounds.{grown_reached}
-use Rattle.theory_steiner.specs.Laws.Dual.{duals_count}
+use Rattle.theory_steiner.proofs.Laws.Rounds.{grown_reached}
+use Rattle.theory_steiner.proofs.Laws.Dual.{duals_count}
 use Rattle.survey_core.specs.Survey.{Survey, vertex_count, edge_count, problem_of}
 use Rattle.survey_core.specs.Sound.{SurveySound, ByteGroups}
-use Rattle.survey_core.specs.Laws.Refusal.{survey_sound}
+use Rattle.survey_core.proofs.Laws.Refusal.{survey_sound}
 use Rattle.plan_draw.specs.Drawing.{records_of}
-use Rattle.plan_draw.specs.Laws.Drawing.{bytes_records, length_records}
+use Rattle.plan_draw.proofs.Laws.Drawing.{bytes_records, length_records}
 use Rattle.plan_rule.specs.Plan.{Plan, plan_of, plan_refusal, planning, PlanCounts, plan_counts_of, counting, marks_after, records_after}
 use Rattle.plan_rule.specs.Promise.{Ready}
-use Rattle.plan_rule.specs.Laws.Ready.{fine_ready}
-use Rattle.plan_rule.specs.Laws.Promise.{cut_marks, cut_records}
+use Rattle.plan_rule.proofs.Laws.Ready.{fine_ready}
+use Rattle.plan_rule.proofs.Laws.Promise.{cut_marks, cut_records}
 use Rattle.text_plan.specs.Laws.Read.{SaidBy}
 use Rattle.text_plan.specs.Output.{survey_read, survey_plan, read_plan, text_plan, outcome_text, survey_output, plan_output}
 

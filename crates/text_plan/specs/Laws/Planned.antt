@@ -12,7 +12,7 @@ use Rattle.format_print.specs.declared.Printed.{Printed}
 use Rattle.format_print.specs.Print.{printed, printed_out}
 use Rattle.plan_rule.specs.Plan.{PlanCounts}
 use Rattle.base_buffer.specs.Part.{at_most}
-use Rattle.base_buffer.specs.Laws.Part.{whole_part, most_part}
+use Rattle.base_buffer.proofs.Laws.Part.{whole_part, most_part}
 use Rattle.text_plan.specs.Planned.{planned_text, records_held, WordsIn, refused_words, finished_words}
 
 pub held_room : (duals room : ℕ) → room / record_bytes < duals → room ≡ records_held duals room

@@ -11,7 +11,7 @@ use Rattle.format_survey.specs.Line.{Lengths, lengths_of, widest, firsts_of, sec
 use Rattle.format_survey.specs.Reading.{SurveyText, reading, filled, survey_of}
 use Rattle.format_survey.specs.Answer.{TextCounts, counts_of}
 use Rattle.format_survey.specs.WellFormed.{survey_of_text}
-use Rattle.format_survey.specs.Laws.WellFormed.{accepted_render}
+use Rattle.format_survey.proofs.Laws.WellFormed.{accepted_render}
 use Rattle.survey_core.specs.Survey.{Survey, survey_with}
 use Rattle.text_plan.specs.Output.{survey_read}
 

@@ -6,8 +6,8 @@ use Rattle.base_limits.specs.Verdict.{written}
 use Rattle.base_limits.specs.declared.Verdict.TheVariants.{Fine}
 use Rattle.format_write.specs.Text.{line_of}
 use Rattle.format_read.specs.Number.{also_letter}
-use Rattle.format_read.specs.Laws.Bytes.{byte_not}
-use Rattle.format_read.specs.Laws.Stands.{stands_head, stands_end}
+use Rattle.format_read.proofs.Laws.Bytes.{byte_not}
+use Rattle.format_read.proofs.Laws.Stands.{stands_head, stands_end}
 use Rattle.format_also.specs.WellFormed.{NoAlso}
 use Rattle.format_survey.specs.Render.{render}
 use Rattle.survey_core.specs.Survey.{Survey}
@@ -16,7 +16,7 @@ use Rattle.season_rule.specs.declared.Report.{Report}
 use Rattle.season_rule.specs.Figures.{figures}
 use Rattle.season_rule.specs.Report.{max_surveys, empty_report, season_refusal, add_survey, add_surveys, season_of}
 use Rattle.season_rule.specs.Text.{report_text}
-use Rattle.season_rule.specs.Laws.Season.{season_goes_on}
+use Rattle.season_rule.proofs.Laws.Season.{season_goes_on}
 use Rattle.text_season.specs.declared.TextAdded.{TextAdded}
 use Rattle.text_season.specs.Added.{survey_added, added_from, text_added, answer_text}
 use Rattle.text_season.specs.Season.{texts_added, season_output, Rendered, rendered_text, rendered_survey, texts_of}

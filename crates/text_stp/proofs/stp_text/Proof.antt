@@ -3,7 +3,7 @@ use native.Mathlib.Omega.{arith}
 use borrow.Author.Rules.{rules}
 use Prim.Native.Nat.{ℕ}
 use lib.ListN.{replicate, length}
-use Rattle.base_buffer.specs.Laws.Part.{most_le, most_part}
+use Rattle.base_buffer.proofs.Laws.Part.{most_le, most_part}
 use Rattle.base_limits.specs.Limits.{max_vertices, max_edges}
 use Rattle.text_stp.specs.Laws.StpOutput.{read_printed}
 use Rattle.text_stp.specs.StpOutput.{stp_room}

@@ -17,8 +17,8 @@ use Rattle.format_print.specs.Print.{printed, printed_out}
 use Rattle.format_write.specs.Text.{refusal_text}
 use Rattle.format_also.specs.Render.{pairs_from}
 use Rattle.format_survey.specs.Line.{Edge, widest, SurveyCounts, firsts_of, seconds_of, weights_of}
-use Rattle.format_survey.specs.Laws.Longest.{longest_within}
-use Rattle.format_survey.specs.Laws.WellFormed.{read_render}
+use Rattle.format_survey.proofs.Laws.Longest.{longest_within}
+use Rattle.format_survey.proofs.Laws.WellFormed.{read_render}
 use Rattle.format_survey.specs.Reading.{SurveyText, reading, filled}
 use Rattle.format_survey.specs.Render.{render}
 use Rattle.format_survey.specs.WellFormed.{WithinCounts, survey_of_text}
@@ -27,10 +27,10 @@ use Rattle.format_survey_print.specs.Print.{edge_at, edges_from, survey_text, su
 use Rattle.format_stp.specs.StpReading.{StpContent, stp_reading}
 use Rattle.format_stp.specs.Answer.{stp_counts_of}
 use Rattle.format_stp.specs.Grammar.{StpText}
-use Rattle.format_stp.specs.Laws.Accepted.{accepted_in, in_accepted}
+use Rattle.format_stp.proofs.Laws.Accepted.{accepted_in, in_accepted}
 use Rattle.format_stp.specs.Promises.{StpFits}
-use Rattle.format_stp.specs.Laws.Beginning.{stp_refused_longer}
-use Rattle.format_stp.specs.Laws.Within.{stp_within, stp_sizes}
+use Rattle.format_stp.proofs.Laws.Beginning.{stp_refused_longer}
+use Rattle.format_stp.proofs.Laws.Within.{stp_within, stp_sizes}
 use Rattle.text_stp.specs.Stored.{stored_survey, stored_printed, stored_printed_out, StoredWords, unread_words, read_words}
 use Rattle.text_stp.specs.StpOutput.{stp_room, before_cut, judged, stp_read, stp_text, stp_output}
 

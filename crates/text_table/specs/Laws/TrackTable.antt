@@ -12,17 +12,17 @@ use Rattle.base_finite.specs.Laws.Below.{length_tabulate}
 use Rattle.base_limits.specs.Limits.{max_edges, survey_room}
 use Rattle.base_limits.specs.Verdict.{Outcome, refusal, answer, refuse_if, written}
 use Rattle.format_record.specs.Bits.{low_bytes}
-use Rattle.format_record.specs.Laws.Bytes.{length_low}
+use Rattle.format_record.proofs.Laws.Bytes.{length_low}
 use Rattle.format_print.specs.declared.Printed.{Printed}
 use Rattle.format_print.specs.declared.Printed.TheVariants.{Length, Refused as PrintRefused}
 use Rattle.format_print.specs.Print.{answer_of, out_after, print_refusal, printed, printed_out}
 use Rattle.format_survey.specs.Line.{widest, firsts_of}
 use Rattle.format_survey.specs.Reading.{SurveyText, reading, survey_of}
 use Rattle.format_survey.specs.WellFormed.{survey_of_text}
-use Rattle.format_survey.specs.Laws.Cut.{reading_first_bytes}
-use Rattle.format_survey.specs.Laws.WellFormed.{accepted_render}
+use Rattle.format_survey.proofs.Laws.Cut.{reading_first_bytes}
+use Rattle.format_survey.proofs.Laws.WellFormed.{accepted_render}
 use Rattle.format_table.specs.Table.{track_bytes}
-use Rattle.format_table.specs.Laws.Turning.{stored_more}
+use Rattle.format_table.proofs.Laws.Turning.{stored_more}
 use Rattle.survey_core.specs.Survey.{Survey, survey_with}
 use Rattle.text_plan.specs.Output.{survey_read}
 use Rattle.text_plan.specs.Laws.Read.{SaidBy}

@@ -19,14 +19,14 @@ use Rattle.theory_steiner.specs.Pruning.{kept}
 use Rattle.theory_route.specs.Route.{Route, arrived, onward}
 use Rattle.survey_core.specs.Survey.{Survey, vertex_count, edge_count, problem_of}
 use Rattle.survey_core.specs.Sound.{SurveySound, ByteGroups}
-use Rattle.survey_core.specs.Laws.Refusal.{survey_sound}
-use Rattle.theory_steiner.specs.Laws.Finish.{kept_edges}
+use Rattle.survey_core.proofs.Laws.Refusal.{survey_sound}
+use Rattle.theory_steiner.proofs.Laws.Finish.{kept_edges}
 use Rattle.why_rule.specs.Reason.{Reason, needs, spared, passed, reason_of}
 use Rattle.why_rule.specs.True.{TrueOf, needs_true, spared_true, passed_true}
 use Rattle.why_rule.specs.Why.{WhyCounts, why_counts, route_in, why_refusal, reasoning, route_after}
 use Rattle.why_rule.specs.Promise.{Explainable}
-use Rattle.why_rule.specs.Laws.Promise.{fine_explainable}
-use Rattle.why_rule.specs.Laws.Reason.{reason_true}
+use Rattle.why_rule.proofs.Laws.Promise.{fine_explainable}
+use Rattle.why_rule.proofs.Laws.Reason.{reason_true}
 use Rattle.text_plan.specs.Output.{survey_read}
 use Rattle.text_plan.specs.Laws.Read.{SaidBy}
 use Rattle.text_why.specs.Output.{survey_reason, read_reason, reason_lines, survey_lines, why_output, ReasonCountsFit}

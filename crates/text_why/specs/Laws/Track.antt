@@ -7,11 +7,11 @@ use Rattle.base_limits.specs.Limits.{count_digits}
 use Rattle.format_write.specs.Decimal.{decimal}
 use Rattle.format_read.specs.Step.{found, refused, ◌then◌}
 use Rattle.format_read.specs.Stands.{Stands}
-use Rattle.format_read.specs.Laws.Step.{then_found, then_refused}
-use Rattle.format_read.specs.Laws.Bytes.{end_here, end_later}
-use Rattle.format_read.specs.Laws.Stands.{stands_whole}
+use Rattle.format_read.proofs.Laws.Step.{then_found, then_refused}
+use Rattle.format_read.proofs.Laws.Bytes.{end_here, end_later}
+use Rattle.format_read.proofs.Laws.Stands.{stands_whole}
 use Rattle.format_read.specs.Number.{class_of, is_digit, number_at}
-use Rattle.format_read.specs.Laws.NumberWord.{numeral_end_is, number_is, NumberOrNone, absent, present, no_digit_number, number_or_none}
+use Rattle.format_read.proofs.Laws.NumberWord.{numeral_end_is, number_is, NumberOrNone, absent, present, no_digit_number, number_or_none}
 use Rattle.text_why.specs.Output.{track_at}
 
 never : {n p a b : ℕ} → refused a b ≡ found n p → ⊥

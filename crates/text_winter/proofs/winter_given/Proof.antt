@@ -3,7 +3,7 @@ use mathlib.Core.Path.{ap}
 use Rattle.survey_core.specs.Survey.{survey_with}
 use Rattle.format_read.specs.Answer.{number_step}
 use Rattle.text_winter.specs.Given.{givens_at, strengths_from}
-use Rattle.text_winter.specs.Laws.Output.{printed_as, given_refused, given_read}
+use Rattle.text_winter.proofs.Laws.Output.{printed_as, given_refused, given_read}
 use borrow.Author.Rules.{rules}
 use Rattle.text_winter.proofs.winter_given.Statement.{statement}
 use Rattle.text_winter.proofs.winter_given.Tie as tie

@@ -5,7 +5,7 @@ use lib.ListN.{replicate}
 use Rattle.base_limits.specs.Limits.{max_edges, max_vertices, max_pairs}
 use Rattle.format_read.specs.Answer.{number_step}
 use Rattle.check_printed.specs.Laws.Verify.{lines_pairs}
-use Rattle.text_winter.specs.Laws.Output.{printed_as, lines_refused, lines_read}
+use Rattle.text_winter.proofs.Laws.Output.{printed_as, lines_refused, lines_read}
 use borrow.Author.Rules.{rules}
 use Rattle.text_winter.proofs.winter_lines.Statement.{statement}
 use Rattle.text_winter.proofs.winter_lines.Tie as tie

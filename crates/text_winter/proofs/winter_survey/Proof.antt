@@ -1,6 +1,6 @@
 -- `winter_survey` meets its contract: the refusal is printed (`refused_output`), or the copies (`copied_output`).
 use Rattle.survey_core.specs.Survey.{survey_with}
-use Rattle.text_winter.specs.Laws.Output.{printed_as, refused_output, copied_output}
+use Rattle.text_winter.proofs.Laws.Output.{printed_as, refused_output, copied_output}
 use borrow.Author.Rules.{rules}
 use Rattle.text_winter.proofs.winter_survey.Statement.{statement}
 use Rattle.text_winter.proofs.winter_survey.Tie as tie

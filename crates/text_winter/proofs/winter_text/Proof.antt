@@ -3,7 +3,7 @@ use mathlib.Core.Path.{ap}
 use Rattle.format_survey.specs.Line.{tests_for, vertices_test, edges_test}
 use Rattle.format_survey.specs.LinesAnswer.{counts_step}
 use Rattle.check_printed.specs.Laws.Verify.{counted_few}
-use Rattle.text_winter.specs.Laws.Output.{printed_as, uncounted_output, counted_output}
+use Rattle.text_winter.proofs.Laws.Output.{printed_as, uncounted_output, counted_output}
 use borrow.Author.Rules.{rules}
 use Rattle.text_winter.proofs.winter_text.Statement.{statement}
 use Rattle.text_winter.proofs.winter_text.Tie as tie

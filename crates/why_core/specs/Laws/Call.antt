@@ -10,13 +10,13 @@ use Rattle.base_limits.specs.Limits.{max_vertices}
 use Rattle.base_limits.specs.Laws.Verdict.{fine_left}
 use Rattle.survey_core.specs.Survey.{Survey, lists_of}
 use Rattle.survey_core.specs.Sound.{ByteGroups}
-use Rattle.survey_core.specs.Laws.Refusal.{fine_survey}
+use Rattle.survey_core.proofs.Laws.Refusal.{fine_survey}
 use Rattle.survey_lists.specs.Pouring.{poured, room_of}
-use Rattle.survey_lists.specs.Laws.Room.{part_poured}
+use Rattle.survey_lists.proofs.Laws.Room.{part_poured}
 use Rattle.why_rule.specs.Reason.{reason_of}
 use Rattle.why_rule.specs.Why.{why_refusal, WhyCounts, why_counts, route_in, reasoning, route_after}
 use Rattle.why_rule.specs.Promise.{WhyPromises}
-use Rattle.why_rule.specs.Laws.Promise.{fine_explainable, why_promises}
+use Rattle.why_rule.proofs.Laws.Promise.{fine_explainable, why_promises}
 use Rattle.why_core.specs.Asked.{Asked}
 
 -- ---- what explaining asks

@@ -17,17 +17,17 @@ use Rattle.base_limits.specs.declared.Verdict.{Verdict}
 use Rattle.base_limits.specs.declared.Verdict.TheVariants.{Fine, Refused}
 use Rattle.base_limits.specs.Laws.Verdict.{before_fine, before_refused, fine_left, fine_right, refuse_true, refuse_false, fine_refuse}
 use Rattle.theory_graph.specs.Path.{Leads, forth, back, Linked, here, step, Forest, crosses}
-use Rattle.theory_graph.specs.Laws.Linked.{side_kept, crosses_elim}
+use Rattle.theory_graph.proofs.Laws.Linked.{side_kept, crosses_elim}
 use Rattle.theory_steiner.specs.Problem.{Bounded}
 use Rattle.survey_core.specs.Survey.{Survey, vertex_count, edge_count, problem_of}
 use Rattle.survey_core.specs.Sound.{SurveySound}
-use Rattle.survey_core.specs.Laws.Refusal.{fine_survey}
+use Rattle.survey_core.proofs.Laws.Refusal.{fine_survey}
 use Rattle.survey_components.specs.Labels.{picked_in}
 use Rattle.survey_components.specs.Forest.{forest_refusal}
 use Rattle.survey_components.specs.Laws.Picked.{picked_below}
 use Rattle.survey_components.specs.Laws.Forest.{fine_forest}
 use Rattle.theory_route.specs.Route.{Route, route_of}
-use Rattle.theory_route.specs.Laws.Route.{route_is, route_none, route_here}
+use Rattle.theory_route.proofs.Laws.Route.{route_is, route_none, route_here}
 use Rattle.why_core.specs.Visit.{end_in}
 use Rattle.why_core.specs.Walk.{unvisited, stored_at, Walkable, Explored, WalkEnds, arrives, fails, route_refusal}
 use Rattle.why_core.specs.declared.route.Walked.{Walked}

@@ -10,7 +10,7 @@ use Rattle.std.proofs.Math.ListN.{length, get_or, length-replicate, get_or-eq_de
 use Rattle.base_finite.specs.Below.{counted}
 use Rattle.base_finite.specs.Laws.Below.{lt_or_ge, length_tabulate, get_d_tabulate, counted_true}
 use Rattle.base_finite.specs.Laws.Test.{not_true_false, and_left}
-use Rattle.base_buffer.specs.Laws.Store.{length_remade, remade_passed}
+use Rattle.base_buffer.proofs.Laws.Store.{length_remade, remade_passed}
 use Rattle.base_limits.specs.Limits.{max_vertices, max_edges}
 use Rattle.base_limits.specs.Verdict.{answer, written}
 use Rattle.base_limits.specs.declared.Verdict.TheVariants.{Fine}
@@ -20,19 +20,19 @@ use Rattle.theory_graph.specs.Path.{without}
 use Rattle.theory_steiner.specs.Problem.{Sound, Bounded, Joins, joined}
 use Rattle.theory_steiner.specs.Growth.{State, state_at, grown}
 use Rattle.theory_steiner.specs.Pruning.{needed, picked, kept, mark_of, mark}
-use Rattle.theory_steiner.specs.Laws.Rounds.{rounds_lt, grown_reached}
-use Rattle.theory_steiner.specs.Laws.Finish.{picked_joins, picked_acyclic}
+use Rattle.theory_steiner.proofs.Laws.Rounds.{rounds_lt, grown_reached}
+use Rattle.theory_steiner.proofs.Laws.Finish.{picked_joins, picked_acyclic}
 use Rattle.survey_core.specs.Survey.{Survey, survey_from, lists_of, vertex_count, edge_count, problem_of}
 use Rattle.survey_core.specs.Sound.{SurveySound}
 use Rattle.survey_core.specs.Refusal.{survey_refusal}
-use Rattle.survey_core.specs.Laws.Refusal.{survey_fine, survey_sound}
-use Rattle.survey_core.specs.Laws.Group.{joins_fine}
+use Rattle.survey_core.proofs.Laws.Refusal.{survey_fine, survey_sound}
+use Rattle.survey_core.proofs.Laws.Group.{joins_fine}
 use Rattle.survey_components.specs.Labels.{picked_in}
 use Rattle.survey_components.specs.Forest.{forest_refusal}
 use Rattle.survey_components.specs.Laws.Forest.{forest_fine}
 use Rattle.survey_lists.specs.Pouring.{poured_survey}
-use Rattle.survey_lists.specs.Laws.Pouring.{length_poured}
-use Rattle.survey_lists.specs.Laws.Plan.{poured_sound, poured_states, poured_kept, poured_joins}
+use Rattle.survey_lists.proofs.Laws.Pouring.{length_poured}
+use Rattle.survey_lists.proofs.Laws.Plan.{poured_sound, poured_states, poured_kept, poured_joins}
 use Rattle.plan_rounds.specs.Grown.{Growth, GrownAfter}
 use Rattle.plan_rounds.specs.Represents.{pick_at}
 use Rattle.plan_drop.specs.Judge.{pruned_marks, marks_pruned}
@@ -40,7 +40,7 @@ use Rattle.why_rule.specs.Reason.{reason_of, round_of, spared, passed}
 use Rattle.why_rule.specs.Why.{why_counts, route_in}
 use Rattle.why_rule.specs.Answer.{why_outcome}
 use Rattle.why_rule.specs.declared.Why.TheVariants.{Dropped, Passed}
-use Rattle.why_rule.specs.Laws.Reason.{picked_bounded}
+use Rattle.why_rule.proofs.Laws.Reason.{picked_bounded}
 use Rattle.why_core.specs.Replay.{round_in}
 use Rattle.why_core.specs.Asked.{Asked, KeptAsked}
 use Rattle.why_core.specs.Laws.Round.{round_is, round_same}

@@ -4,7 +4,7 @@ use Rattle.std.proofs.Common.{arith, ap, sym, ◌∙◌, ⊎_elim, lt-ltb, le-lt
 use Rattle.std.proofs.lemmas.List.{length-replicate}
 use Rattle.base_finite.specs.Laws.Below.{lt_or_ge}
 use Rattle.base_limits.specs.Limits.{max_edges}
-use Rattle.base_buffer.specs.Laws.Store.{length_remade}
+use Rattle.base_buffer.proofs.Laws.Store.{length_remade}
 use Rattle.why_core.specs.Kept.{held_marks, marks_but}
 
 pub held_many : (m : ℕ) → max_edges < m → max_edges ≡ held_marks m

@@ -15,24 +15,24 @@ use Rattle.base_limits.specs.Laws.Verdict.{before_fine, refuse_false}
 use Rattle.theory_graph.specs.Path.{without}
 use Rattle.theory_steiner.specs.Problem.{Problem, Joins, all_usable, joined}
 use Rattle.theory_steiner.specs.Pruning.{needed, picked, kept, mark_of, mark}
-use Rattle.theory_steiner.specs.Laws.Finish.{kept_joins}
+use Rattle.theory_steiner.proofs.Laws.Finish.{kept_joins}
 use Rattle.theory_route.specs.First.{first_below}
-use Rattle.theory_route.specs.Laws.First.{first_cong}
+use Rattle.theory_route.proofs.Laws.First.{first_cong}
 use Rattle.theory_route.specs.Route.{route_of}
-use Rattle.theory_route.specs.Laws.Route.{route_is}
+use Rattle.theory_route.proofs.Laws.Route.{route_is}
 use Rattle.survey_core.specs.Survey.{Survey, survey_from, lists_of, vertex_count, edge_count, member, problem_of, group_joined, components_of}
 use Rattle.survey_core.specs.Lists.{in_list}
 use Rattle.survey_core.specs.Sound.{SurveySound}
 use Rattle.survey_core.specs.Refusal.{group_refusal}
-use Rattle.survey_core.specs.Laws.Refusal.{survey_fine, survey_sound, fine_plain}
+use Rattle.survey_core.proofs.Laws.Refusal.{survey_fine, survey_sound, fine_plain}
 use Rattle.survey_components.specs.Laws.Buffer.{components_stored}
 use Rattle.survey_components.specs.Labels.{chosen, picked_in, labels_of}
 use Rattle.survey_components.specs.declared.Chosen.TheVariants.{Kept}
 use Rattle.survey_components.specs.Forest.{forest_refusal}
 use Rattle.why_rule.specs.Reason.{others, place_of, parted_list, low_member, high_member, kept_reason, reason_of}
 use Rattle.why_rule.specs.Why.{WhyCounts, why_counts, route_in}
-use Rattle.why_rule.specs.Laws.Pair.{low_is, high_is}
-use Rattle.why_rule.specs.Laws.Reason.{picked_bounded, list_apart, kept_bounded, forest, ends_below, low_vertex, needs_holds}
+use Rattle.why_rule.proofs.Laws.Pair.{low_is, high_is}
+use Rattle.why_rule.proofs.Laws.Reason.{picked_bounded, list_apart, kept_bounded, forest, ends_below, low_vertex, needs_holds}
 use Rattle.why_core.specs.Walk.{route_refusal}
 use Rattle.why_core.specs.declared.parted.Pair.{Pair}
 use Rattle.why_core.specs.Parted.{marked_but, label_in, PairOf}

@@ -13,7 +13,7 @@ use Rattle.base_finite.specs.Below.{counted}
 use Rattle.base_finite.specs.Laws.Below.{lt_or_ge, counted_false}
 use Rattle.base_finite.specs.Laws.Test.{not_true_false, true_not_false, and_right}
 use Rattle.base_buffer.specs.Store.{remade}
-use Rattle.base_buffer.specs.Laws.Store.{length_remade, remade_passed, remade_ahead}
+use Rattle.base_buffer.proofs.Laws.Store.{length_remade, remade_passed, remade_ahead}
 use Rattle.base_limits.specs.Limits.{max_vertices, max_edges}
 use Rattle.base_limits.specs.Verdict.{◌before◌, written}
 use Rattle.base_limits.specs.declared.Verdict.{Verdict}

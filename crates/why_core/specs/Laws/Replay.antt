@@ -7,13 +7,13 @@ use Rattle.base_finite.specs.Below.{tabulate}
 use Rattle.base_finite.specs.Laws.Below.{get_d_tabulate, lt_or_ge}
 use Rattle.base_limits.specs.Limits.{max_vertices}
 use Rattle.base_buffer.specs.Store.{remade}
-use Rattle.base_buffer.specs.Laws.Store.{remade_table}
-use Rattle.theory_route.specs.Laws.First.{Unmet, unmet_start, unmet_turn}
+use Rattle.base_buffer.proofs.Laws.Store.{remade_table}
+use Rattle.theory_route.proofs.Laws.First.{Unmet, unmet_start, unmet_turn}
 use Rattle.survey_core.specs.Survey.{Survey}
 use Rattle.survey_core.specs.Sound.{SurveySound}
 use Rattle.survey_components.specs.Buffer.{ends_joined}
 use Rattle.survey_components.specs.Laws.Buffer.{components_more, components_none}
-use Rattle.why_rule.specs.Laws.First.{zero_first, zero_none}
+use Rattle.why_rule.proofs.Laws.First.{zero_first, zero_none}
 use Rattle.why_core.specs.Replay.{labels_after, linked_after, round_in, PicksFit}
 
 -- Two labels as the code reads them.

@@ -12,18 +12,18 @@ use Rattle.base_finite.specs.Laws.Below.{below_suc}
 use Rattle.base_limits.specs.Limits.{max_vertices}
 use Rattle.theory_graph.specs.Path.{Leads, forth, back, Linked, here, step}
 use Rattle.theory_graph.specs.Component.{components}
-use Rattle.theory_graph.specs.Laws.Component.{below, components_iff}
+use Rattle.theory_graph.proofs.Laws.Component.{below, components_iff}
 use Rattle.theory_steiner.specs.Problem.{Problem, Sound}
 use Rattle.theory_steiner.specs.Growth.{State, start, Winner, nobody, edge, winner, pick, state_at, grown}
-use Rattle.theory_steiner.specs.Laws.Partition.{label_iff_linked}
-use Rattle.theory_steiner.specs.Laws.Round.{pick_more, pick_new, pick_only}
-use Rattle.theory_steiner.specs.Laws.Rounds.{state_at_pick, takes_rounds}
+use Rattle.theory_steiner.proofs.Laws.Partition.{label_iff_linked}
+use Rattle.theory_steiner.proofs.Laws.Round.{pick_more, pick_new, pick_only}
+use Rattle.theory_steiner.proofs.Laws.Rounds.{state_at_pick, takes_rounds}
 use Rattle.survey_core.specs.Survey.{Survey, vertex_count, edge_count, problem_of}
 use Rattle.survey_core.specs.Sound.{SurveySound}
-use Rattle.survey_core.specs.Laws.Refusal.{survey_sound}
+use Rattle.survey_core.proofs.Laws.Refusal.{survey_sound}
 use Rattle.plan_rounds.specs.Represents.{pick_at, winner_edge}
 use Rattle.why_rule.specs.Reason.{joined_after, first_or_zero, round_of}
-use Rattle.why_rule.specs.Laws.First.{zero_cong}
+use Rattle.why_rule.proofs.Laws.First.{zero_cong}
 use Rattle.why_core.specs.Replay.{labels_after, linked_after, round_in}
 
 -- The pick of which round f is.

@@ -11,7 +11,7 @@ use Rattle.survey_core.specs.Survey.{Survey, vertex_count, edge_count, problem_o
 use Rattle.survey_core.specs.Refusal.{survey_refusal, group_refusal}
 use Rattle.survey_components.specs.Labels.{chosen}
 use Rattle.survey_components.specs.declared.Chosen.TheVariants.{All}
-use Rattle.plan_rule.specs.Laws.Ready.{groups_of_all}
+use Rattle.plan_rule.proofs.Laws.Ready.{groups_of_all}
 use Rattle.why_rule.specs.Why.{why_refusal}
 
 module _ (s : Survey) (route_length e : ℕ) {v : Verdict} (v_is : v ≡ survey_refusal s) where

@@ -3,9 +3,9 @@ use Prim.Native.Nat.{ℕ}
 use mathlib.Core.Path.{refl, ap, sym, ◌∙◌}
 use lib.ListN.{length, replicate}
 use Rattle.base_limits.specs.Limits.{max_edges}
-use Rattle.base_buffer.specs.Laws.Store.{length_remade}
+use Rattle.base_buffer.proofs.Laws.Store.{length_remade}
 use Rattle.survey_core.specs.Survey.{survey_with, edge_count}
-use Rattle.winter_core.specs.Laws.Copies.{marks_long, bit_cost, times_few, bit_price_law, copies_fit, copies_more}
+use Rattle.winter_core.proofs.Laws.Copies.{marks_long, bit_cost, times_few, bit_price_law, copies_fit, copies_more}
 use borrow.Author.Rules.{rules}
 use Rattle.winter_core.proofs.add_bit.Goals as goal
 

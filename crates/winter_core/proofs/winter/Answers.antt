@@ -4,8 +4,8 @@ use mathlib.Core.Path.{sym, ◌∙◌}
 use lib.ListN.{length}
 use Rattle.survey_core.specs.Survey.{survey_with}
 use Rattle.survey_core.specs.Sound.{ByteGroups}
-use Rattle.winter_rule.specs.Laws.Refusal.{fine_ready}
-use Rattle.winter_core.specs.Laws.Call.{winter_stops, winter_goes}
+use Rattle.winter_rule.proofs.Laws.Refusal.{fine_ready}
+use Rattle.winter_core.proofs.Laws.Call.{winter_stops, winter_goes}
 use borrow.Author.Rules.{rules}
 use Rattle.winter_core.proofs.winter.Goals as goal
 

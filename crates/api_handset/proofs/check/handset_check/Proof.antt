@@ -2,7 +2,7 @@
 use mathlib.Core.Path.{sym, ◌∙◌}
 use borrow.Author.Rules.{rules}
 use Rattle.api_handset.specs.Slices.{Slices}
-use Rattle.api_handset.specs.Laws.Call.{check_odd_code, check_odd_kept}
+use Rattle.api_handset.proofs.Laws.Call.{check_odd_code, check_odd_kept}
 use Rattle.api_handset.proofs.check.handset_check.Statement.{statement}
 use Rattle.api_handset.proofs.check.handset_check.Tie as tie
 

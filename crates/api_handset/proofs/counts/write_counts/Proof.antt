@@ -3,7 +3,7 @@ use Prim.Native.Nat.{◌-◌}
 use native.Mathlib.Omega.{arith}
 use lib.ListN.{length}
 use borrow.Author.Rules.{rules}
-use Rattle.api_handset.specs.Laws.Words.{Writing, writing_start, writing_turn, writing_end, unwritten}
+use Rattle.api_handset.proofs.Laws.Words.{Writing, writing_start, writing_turn, writing_end, unwritten}
 use Rattle.api_handset.proofs.counts.write_counts.Statement.{statement}
 use Rattle.api_handset.proofs.counts.write_counts.Tie as tie
 

@@ -1,7 +1,7 @@
 -- `write_figure` meets its contract: eight bytes of the result are lent on.
 use native.Mathlib.Omega.{arith}
 use borrow.Author.Rules.{rules}
-use Rattle.api_handset.specs.Laws.Words.{figure_written}
+use Rattle.api_handset.proofs.Laws.Words.{figure_written}
 use Rattle.api_handset.proofs.counts.write_figure.Statement.{statement}
 use Rattle.api_handset.proofs.counts.write_figure.Tie as tie
 

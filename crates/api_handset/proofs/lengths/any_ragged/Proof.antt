@@ -1,7 +1,7 @@
 -- `any_ragged` meets its contract: one slice after the other.
 use mathlib.Core.Path.{sym, ◌∙◌}
 use borrow.Author.Rules.{rules}
-use Rattle.api_handset.specs.Laws.Lengths.{ragged_firsts, ragged_seconds, ragged_weights, ragged_owners}
+use Rattle.api_handset.proofs.Laws.Lengths.{ragged_firsts, ragged_seconds, ragged_weights, ragged_owners}
 use Rattle.api_handset.proofs.lengths.any_ragged.Statement.{statement}
 use Rattle.api_handset.proofs.lengths.any_ragged.Tie as tie
 

@@ -1,5 +1,5 @@
 -- `are_uneven` meets its contract: one test after the other.
-use Rattle.api_handset.specs.Laws.Lengths.{uneven_seconds, uneven_weights, uneven_pairs}
+use Rattle.api_handset.proofs.Laws.Lengths.{uneven_seconds, uneven_weights, uneven_pairs}
 use Rattle.api_handset.proofs.lengths.are_uneven.Statement.{statement}
 use Rattle.api_handset.proofs.lengths.are_uneven.Tie as tie
 

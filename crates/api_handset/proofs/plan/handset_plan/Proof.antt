@@ -2,7 +2,7 @@
 use mathlib.Core.Path.{sym, ◌∙◌}
 use borrow.Author.Rules.{rules}
 use Rattle.api_handset.specs.Slices.{Slices}
-use Rattle.api_handset.specs.Laws.Call.{plan_odd_code, plan_odd_marks, plan_odd_records, plan_odd_result}
+use Rattle.api_handset.proofs.Laws.Call.{plan_odd_code, plan_odd_marks, plan_odd_records, plan_odd_result}
 use Rattle.api_handset.proofs.plan.handset_plan.Statement.{statement}
 use Rattle.api_handset.proofs.plan.handset_plan.Tie as tie
 

@@ -6,9 +6,9 @@ use Rattle.base_limits.specs.Limits.{max_edges}
 use borrow.Author.Rules.{rules}
 use Rattle.base_limits.specs.declared.Verdict.TheVariants.{Fine}
 use Rattle.api_handset.specs.Slices.{Slices}
-use Rattle.api_handset.specs.Laws.Lengths.{slices_refusal, lengths_even}
-use Rattle.api_handset.specs.Laws.Pairs.{seen_few, seen_fits, seen_words}
-use Rattle.api_handset.specs.Laws.Call.{plan_even_code, plan_even_marks, plan_even_records, plan_even_result}
+use Rattle.api_handset.proofs.Laws.Lengths.{slices_refusal, lengths_even}
+use Rattle.api_handset.proofs.Laws.Pairs.{seen_few, seen_fits, seen_words}
+use Rattle.api_handset.proofs.Laws.Call.{plan_even_code, plan_even_marks, plan_even_records, plan_even_result}
 use Rattle.api_handset.proofs.plan.plan_bytes.Statement.{statement}
 use Rattle.api_handset.proofs.plan.plan_bytes.Tie as tie
 

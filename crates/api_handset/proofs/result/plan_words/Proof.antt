@@ -6,7 +6,7 @@ use Prim.Native.Nat.{ℕ, ◌-◌, ◌<◌, ◌≤◌}
 use native.Mathlib.Omega.{arith}
 use borrow.Author.Rules.{rules}
 use Rattle.api_code.specs.Laws.Lending.{lent_le}
-use Rattle.api_handset.specs.Laws.Call.{plan_words_code, plan_words_marks, plan_words_records, plan_words_kept, plan_words_stored}
+use Rattle.api_handset.proofs.Laws.Call.{plan_words_code, plan_words_marks, plan_words_records, plan_words_kept, plan_words_stored}
 use Rattle.api_handset.proofs.result.plan_words.Statement.{statement}
 use Rattle.api_handset.proofs.result.plan_words.Tie as tie
 

@@ -6,7 +6,7 @@ use Prim.Native.Nat.{ℕ, ◌-◌, ◌<◌, ◌≤◌}
 use native.Mathlib.Omega.{arith}
 use borrow.Author.Rules.{rules}
 use Rattle.api_code.specs.Laws.Lending.{lent_le}
-use Rattle.api_handset.specs.Laws.Call.{check_words_code, check_words_kept, check_words_stored}
+use Rattle.api_handset.proofs.Laws.Call.{check_words_code, check_words_kept, check_words_stored}
 use Rattle.api_handset.proofs.result_check.check_words.Statement.{statement}
 use Rattle.api_handset.proofs.result_check.check_words.Tie as tie
 

@@ -3,7 +3,7 @@ use Prim.Native.Nat.{◌-◌}
 use native.Mathlib.Omega.{arith}
 use lib.ListN.{length}
 use borrow.Author.Rules.{rules}
-use Rattle.api_handset.specs.Laws.Words.{Spelling, spelling_start, spelling_turn, spelling_end}
+use Rattle.api_handset.proofs.Laws.Words.{Spelling, spelling_start, spelling_turn, spelling_end}
 use Rattle.api_handset.proofs.words.spell.Statement.{statement}
 use Rattle.api_handset.proofs.words.spell.Tie as tie
 

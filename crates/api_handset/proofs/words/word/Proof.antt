@@ -1,6 +1,6 @@
 -- `word` meets its contract: four bytes, from the highest down.
 use borrow.Author.Rules.{rules}
-use Rattle.api_handset.specs.Laws.Words.{word_read}
+use Rattle.api_handset.proofs.Laws.Words.{word_read}
 use Rattle.api_handset.proofs.words.word.Statement.{statement}
 use Rattle.api_handset.proofs.words.word.Tie as tie
 

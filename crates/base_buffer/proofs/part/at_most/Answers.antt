@@ -1,5 +1,5 @@
 -- `at_most` meets its contract.
-use Rattle.base_buffer.specs.Laws.Part.{most_room, most_wanted}
+use Rattle.base_buffer.proofs.Laws.Part.{most_room, most_wanted}
 use Rattle.base_buffer.proofs.part.at_most.Goals as goal
 
 pub returns-then-room-wanted : goal.returns-then-room-wanted

@@ -7,7 +7,7 @@ use borrow.Author.Rules.{rules}
 use Rattle.base_finite.specs.Below.{counted}
 use Rattle.base_limits.specs.Limits.{max_vertices}
 use Rattle.format_record.specs.Record.{member_in}
-use Rattle.base_buffer.specs.Laws.Store.{remade_more, stored_table}
+use Rattle.base_buffer.proofs.Laws.Store.{remade_more, stored_table}
 use Rattle.base_buffer.specs.Store.{remade}
 use Rattle.check_core.proofs.cuts.sides.Goals as goal
 

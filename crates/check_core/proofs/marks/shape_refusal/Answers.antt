@@ -1,7 +1,7 @@
 -- `shape_refusal` meets its contract: each return by the law of its case.
 use native.Mathlib.Omega.{arith}
 use mathlib.Core.Path.{sym}
-use Rattle.check_rule.specs.Laws.Refusal.{shape_marks, shape_uneven, shape_many, shape_fine}
+use Rattle.check_rule.proofs.Laws.Refusal.{shape_marks, shape_uneven, shape_many, shape_fine}
 use Rattle.check_core.proofs.marks.shape_refusal.Goals as goal
 
 -- 9: the marks

@@ -2,7 +2,7 @@
 use native.Mathlib.Omega.{arith}
 use mathlib.Core.Path.{sym}
 use borrow.Author.Rules.{rules}
-use Rattle.check_rule.specs.Laws.Refusal.{rule_none, rule_cost, rule_exceeded, rule_met}
+use Rattle.check_rule.proofs.Laws.Refusal.{rule_none, rule_cost, rule_exceeded, rule_met}
 use Rattle.check_core.specs.Laws.Counts.{product_fits}
 use Rattle.check_core.proofs.rule.rule_refusal.Goals as goal
 

@@ -2,7 +2,7 @@
 use native.Mathlib.Omega.{arith}
 use mathlib.Core.Path.{sym, ◌∙◌}
 use borrow.Author.Rules.{rules}
-use Rattle.check_rule.specs.Laws.Refusal.{dual_zero, dual_large, dual_stray, dual_fine}
+use Rattle.check_rule.proofs.Laws.Refusal.{dual_zero, dual_large, dual_stray, dual_fine}
 use Rattle.check_core.proofs.values.dual_refusal.Goals as goal
 
 -- 11: value 0

@@ -2,7 +2,7 @@
 use native.Mathlib.Omega.{arith}
 use mathlib.Core.Path.{sym}
 use Rattle.base_limits.specs.Limits.{max_vertices, max_edges}
-use Rattle.survey_core.specs.Laws.Group.{plain_bytes}
+use Rattle.survey_core.proofs.Laws.Group.{plain_bytes}
 use Rattle.closed_rule.specs.Closed.{closed_outcome}
 use Rattle.closed_core.specs.Laws.AloneSurvey.{count_few, listed_room, alone_picks, alone_parted, alone_joined}
 use borrow.Author.Rules.{rules}

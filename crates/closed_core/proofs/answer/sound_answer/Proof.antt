@@ -1,6 +1,6 @@
 -- `sound_answer` meets its contract: the poured groups can be joined exactly if the lists can, and have their plan (`answer_finished`).
 use mathlib.Core.Path.{ap, sym, ◌∙◌}
-use Rattle.survey_lists.specs.Laws.Room.{part_poured}
+use Rattle.survey_lists.proofs.Laws.Room.{part_poured}
 use Rattle.closed_rule.specs.Closed.{closed_outcome}
 use Rattle.plan_core.specs.Laws.Planned.{into_sound}
 use Rattle.closed_core.specs.Laws.Answer.{answer_parted, answer_finished}

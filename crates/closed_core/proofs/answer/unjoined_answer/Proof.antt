@@ -2,7 +2,7 @@
 use mathlib.Core.Path.{ap, sym, ◌∙◌}
 use mathlib.Core.List.{[]}
 use native.Mathlib.Omega.{arith}
-use Rattle.plan_rule.specs.Laws.Ready.{groups_of_all}
+use Rattle.plan_rule.proofs.Laws.Ready.{groups_of_all}
 use Rattle.plan_core.specs.Laws.Planned.{unjoined_comes}
 use Rattle.plan_core.specs.Laws.Figures.{figures_refused, unjoined_eight}
 use Rattle.closed_rule.specs.Closed.{closed_outcome}

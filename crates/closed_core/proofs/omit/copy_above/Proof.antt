@@ -5,7 +5,7 @@ use mathlib.Core.Path.{◌≡◌, refl, sym, ◌∙◌}
 use lib.ListN.{get_or, replicate}
 use Rattle.base_limits.specs.Limits.{max_edges}
 use Rattle.base_buffer.specs.Store.{remade}
-use Rattle.base_buffer.specs.Laws.Store.{remade_more, remade_end}
+use Rattle.base_buffer.proofs.Laws.Store.{remade_more, remade_end}
 use Rattle.theory_steiner.specs.Closed.{skipping}
 use Rattle.closed_core.specs.Laws.LeftOut.{read_above}
 use borrow.Author.Rules.{rules}

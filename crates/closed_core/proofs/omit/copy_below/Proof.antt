@@ -4,7 +4,7 @@ use native.Mathlib.Omega.{arith}
 use mathlib.Core.Path.{◌≡◌, refl, sym, ◌∙◌}
 use lib.ListN.{get_or}
 use Rattle.base_buffer.specs.Store.{remade}
-use Rattle.base_buffer.specs.Laws.Store.{remade_more, remade_end}
+use Rattle.base_buffer.proofs.Laws.Store.{remade_more, remade_end}
 use Rattle.theory_steiner.specs.Closed.{skipping}
 use Rattle.closed_core.specs.Laws.LeftOut.{read_below}
 use borrow.Author.Rules.{rules}

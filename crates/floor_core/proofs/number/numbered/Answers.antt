@@ -4,7 +4,7 @@ use native.Mathlib.Omega.{arith}
 use mathlib.Core.Path.{◌≡◌, refl, ap, sym, ◌∙◌}
 use lib.ListN.{length, get_or, replicate, length-replicate}
 use Rattle.base_buffer.specs.Store.{remade}
-use Rattle.base_buffer.specs.Laws.Store.{length_remade, remade_more}
+use Rattle.base_buffer.proofs.Laws.Store.{length_remade, remade_more}
 use Rattle.base_limits.specs.Limits.{max_vertices, group_numbers}
 use Rattle.floor_rule.specs.Number.{number_of}
 use Rattle.floor_core.specs.Laws.Number.{number_is, at_end}

@@ -5,7 +5,7 @@ use mathlib.Core.Path.{◌≡◌, refl, ap, sym, ◌∙◌}
 use lib.ListN.{length, replicate, length-replicate}
 use Rattle.base_finite.specs.Below.{counted}
 use Rattle.base_buffer.specs.Store.{remade}
-use Rattle.base_buffer.specs.Laws.Store.{length_remade, remade_more}
+use Rattle.base_buffer.proofs.Laws.Store.{length_remade, remade_more}
 use Rattle.base_limits.specs.Limits.{group_numbers}
 use Rattle.floor_rule.specs.Ascent.{max_cost, in_company}
 use Rattle.floor_core.specs.Laws.Shares.{first_shares_end}

@@ -6,7 +6,7 @@ use mathlib.Core.Bool.{cond}
 use lib.ListN.{length, get_or}
 use lib.Dec.{ltb}
 use Rattle.base_buffer.specs.Store.{remade}
-use Rattle.base_buffer.specs.Laws.Store.{length_remade, remade_more}
+use Rattle.base_buffer.proofs.Laws.Store.{length_remade, remade_more}
 use Rattle.base_limits.specs.Limits.{group_numbers}
 use Rattle.floor_rule.specs.Ascent.{lesser}
 use Rattle.floor_core.specs.Laws.Shares.{share_kept, lowered_end}

@@ -4,7 +4,7 @@ use mathlib.Core.Path.{sym, ◌∙◌}
 use Rattle.format_read.specs.Number.{stop_of}
 use Rattle.format_also.specs.Pair.{pair_at}
 use Rattle.format_also.specs.Answer.{pair_step}
-use Rattle.format_read.specs.Laws.NumberStep.{stopped_stays, value_goes}
+use Rattle.format_read.proofs.Laws.NumberStep.{stopped_stays, value_goes}
 use Rattle.format_also.proofs.pair.pair_at.Goals as goal
 
 pub returns-in_default : goal.returns-in_default

@@ -7,7 +7,7 @@ use mathlib.Core.List.{◌++◌}
 use lib.ListN.{length}
 use Rattle.base_finite.specs.Below.{tabulate}
 use Rattle.format_write.specs.Wrote.{farthest, Wrote}
-use Rattle.format_write.specs.Laws.Wrote.{wrote_none, wrote_length, wrote_then, wrote_as}
+use Rattle.format_write.proofs.Laws.Wrote.{wrote_none, wrote_length, wrote_then, wrote_as}
 use Rattle.format_also.specs.Pair.{pair_of}
 use Rattle.format_also.specs.Render.{pair_text, pairs_text, pair_in, pairs_from}
 use Rattle.format_also.specs.Laws.Render.{table_none, table_more}

@@ -2,7 +2,7 @@
 use borrow.Author.Rules.{rules}
 use mathlib.Core.Path.{sym, ◌∙◌}
 use Rattle.format_write.specs.Key.{terminals_key, cost_key, bound_key, rounds_key}
-use Rattle.format_read.specs.Laws.NumberStep.{stopped_stays, value_goes}
+use Rattle.format_read.proofs.Laws.NumberStep.{stopped_stays, value_goes}
 use Rattle.format_plan.specs.Plan.{claims_at}
 use Rattle.format_plan.specs.Answer.{claims_step}
 use Rattle.format_plan.proofs.claim_lines.claim_lines.Goals as goal

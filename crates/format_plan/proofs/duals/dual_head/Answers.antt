@@ -3,8 +3,8 @@ use borrow.Author.Rules.{rules}
 use mathlib.Core.Path.{sym, ◌∙◌}
 use Rattle.format_write.specs.Key.{dual_key}
 use Rattle.format_read.specs.Answer.{number_step}
-use Rattle.format_read.specs.Laws.Byte.{colon_step}
-use Rattle.format_read.specs.Laws.NumberStep.{refusal_stays, value_goes}
+use Rattle.format_read.proofs.Laws.Byte.{colon_step}
+use Rattle.format_read.proofs.Laws.NumberStep.{refusal_stays, value_goes}
 use Rattle.format_plan.specs.Lines.{dual_head}
 use Rattle.format_plan.proofs.duals.dual_head.Goals as goal
 

@@ -4,10 +4,10 @@ use borrow.Author.Rules.{rules}
 use mathlib.Core.Path.{refl, ap, sym, ◌∙◌}
 use Rattle.format_read.specs.Answer.{number_step}
 use Rattle.format_plan.specs.Lines.{put_member, put_dual, listed_dual}
-use Rattle.format_plan.specs.Laws.Tests.{dual_falls, dual_many, dual_line_fine}
-use Rattle.format_plan.specs.Laws.Puts.{member_length}
-use Rattle.format_read.specs.Laws.Items.{empty_pass}
-use Rattle.format_plan.specs.Laws.Lines.{listed_below, members_end, dual_stops, dual_unlisted, dual_refused, dual_read}
+use Rattle.format_plan.proofs.Laws.Tests.{dual_falls, dual_many, dual_line_fine}
+use Rattle.format_plan.proofs.Laws.Puts.{member_length}
+use Rattle.format_read.proofs.Laws.Items.{empty_pass}
+use Rattle.format_plan.proofs.Laws.Lines.{listed_below, members_end, dual_stops, dual_unlisted, dual_refused, dual_read}
 use Rattle.format_plan.proofs.duals.dual_line.Goals as goal
 
 -- the head is refused

@@ -4,7 +4,7 @@ use mathlib.Core.Path.{ap, sym, ◌∙◌}
 use lib.ListN.{length}
 use Rattle.format_read.specs.Items.{puts}
 use Rattle.format_plan.specs.Lines.{put_member, members_at}
-use Rattle.format_plan.specs.Laws.Lines.{record_filled, length_dual_record}
+use Rattle.format_plan.proofs.Laws.Lines.{record_filled, length_dual_record}
 use Rattle.format_plan.proofs.duals.fill_record.Goals as goal
 
 pub returns : goal.returns

@@ -4,7 +4,7 @@ use borrow.Author.Rules.{rules}
 use mathlib.Core.Path.{sym}
 use lib.ListN.{length-take, length-drop}
 use Rattle.format_plan.specs.Lines.{listed_dual}
-use Rattle.format_plan.specs.Laws.Lines.{dual_put_part, dual_left}
+use Rattle.format_plan.proofs.Laws.Lines.{dual_put_part, dual_left}
 use Rattle.format_plan.proofs.duals.store_dual.Goals as goal
 
 pub fill_record-requires : goal.fill_record-requires

@@ -2,9 +2,9 @@
 use borrow.Author.Rules.{rules}
 use Rattle.format_write.specs.Key.{kept_key}
 use Rattle.format_read.specs.Answer.{number_step}
-use Rattle.format_read.specs.Laws.NumberStep.{refusal_stays, check_refused, check_fine}
+use Rattle.format_read.proofs.Laws.NumberStep.{refusal_stays, check_refused, check_fine}
 use Rattle.format_plan.specs.Lines.{keep_line, kept_test}
-use Rattle.format_plan.specs.Laws.Tests.{kept_low, kept_high, kept_fine}
+use Rattle.format_plan.proofs.Laws.Tests.{kept_low, kept_high, kept_fine}
 use Rattle.format_plan.proofs.keep.keep_line.Goals as goal
 
 pub returns-in_default : goal.returns-in_default

@@ -6,11 +6,11 @@ use mathlib.Core.Path.{ap, sym, ◌∙◌}
 use mathlib.Core.Bool.{not}
 use lib.ListN.{length}
 use Rattle.format_read.specs.Answer.{number_step}
-use Rattle.format_read.specs.Laws.Byte.{is_keep}
+use Rattle.format_read.proofs.Laws.Byte.{is_keep}
 use Rattle.format_plan.specs.Lines.{keep_reader, kept_at, put_mark}
-use Rattle.format_read.specs.Laws.Items.{ItemsLeft, left_start, left_more, left_stop, left_refused, left_out_law, left_length}
-use Rattle.format_plan.specs.Laws.Puts.{mark_length}
-use Rattle.format_plan.specs.Laws.Lines.{keep_passed}
+use Rattle.format_read.proofs.Laws.Items.{ItemsLeft, left_start, left_more, left_stop, left_refused, left_out_law, left_length}
+use Rattle.format_plan.proofs.Laws.Puts.{mark_length}
+use Rattle.format_plan.proofs.Laws.Lines.{keep_passed}
 use Rattle.format_plan.proofs.keep.keep_lines.Given as goal
 
 abbrev pub invariant-loop-i : goal.invariant-loop-i

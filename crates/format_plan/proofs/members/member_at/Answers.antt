@@ -3,10 +3,10 @@ use borrow.Author.Rules.{rules}
 use mathlib.Core.Path.{sym, ◌∙◌}
 use Rattle.format_read.specs.Step.{◌then◌}
 use Rattle.format_read.specs.Bytes.{fixed_at}
-use Rattle.format_read.specs.Laws.Byte.{comma_step}
-use Rattle.format_read.specs.Laws.NumberStep.{refusal_stays, value_goes}
+use Rattle.format_read.proofs.Laws.Byte.{comma_step}
+use Rattle.format_read.proofs.Laws.NumberStep.{refusal_stays, value_goes}
 use Rattle.format_plan.specs.Lines.{member_step}
-use Rattle.format_plan.specs.Laws.Tests.{separator_first, separator_later}
+use Rattle.format_plan.proofs.Laws.Tests.{separator_first, separator_later}
 use Rattle.format_plan.proofs.members.member_at.Goals as goal
 
 pub returns-then-i-eq0 : goal.returns-then-i-eq0

@@ -3,9 +3,9 @@ use borrow.Author.Rules.{rules}
 use mathlib.Core.Path.{sym, ◌∙◌}
 use Rattle.format_write.specs.Key.{terminals_key, cost_key, bound_key}
 use Rattle.format_read.specs.Answer.{number_step}
-use Rattle.format_read.specs.Laws.NumberStep.{refusal_stays, value_goes}
+use Rattle.format_read.proofs.Laws.NumberStep.{refusal_stays, value_goes}
 use Rattle.format_plan.specs.Remark.{figures_at}
-use Rattle.format_plan.specs.Laws.Remark.{found_as}
+use Rattle.format_plan.proofs.Laws.Remark.{found_as}
 use Rattle.format_plan.proofs.remark.figure_lines.Goals as goal
 
 pub returns-in_default : goal.returns-in_default

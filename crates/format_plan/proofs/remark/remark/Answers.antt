@@ -1,7 +1,7 @@
 -- `remark`: figures that cannot be read, that do not show it, and that do.
 use native.Mathlib.Omega.{arith}
 use borrow.Author.Rules.{rules}
-use Rattle.format_plan.specs.Laws.Remark.{unread_remark, none_remark, whole_remark}
+use Rattle.format_plan.proofs.Laws.Remark.{unread_remark, none_remark, whole_remark}
 use Rattle.format_plan.proofs.remark.remark.Goals as goal
 
 -- no figures

@@ -1,5 +1,5 @@
 -- `shown`: half the bound is compared.
-use Rattle.format_plan.specs.Laws.Remark.{half_shows, half_hides}
+use Rattle.format_plan.proofs.Laws.Remark.{half_shows, half_hides}
 use Rattle.format_plan.proofs.remark.shown.Goals as goal
 
 pub returns-then-cost-bound : goal.returns-then-cost-bound

@@ -1,6 +1,6 @@
 -- `put_line_of`: the numbers are read, and the row is written.
 use mathlib.Core.Path.{◌∙◌}
-use Rattle.format_write.specs.Laws.Wrote.{wrote_as}
+use Rattle.format_write.proofs.Laws.Wrote.{wrote_as}
 use Rattle.format_print.specs.Laws.Row.{row_read}
 use borrow.Author.Rules.{rules}
 use Rattle.format_print.proofs.closed.put_line_of.Goals as goal

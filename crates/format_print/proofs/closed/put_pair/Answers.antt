@@ -3,7 +3,7 @@ use Prim.Native.Nat.{◌≤◌}
 use native.Mathlib.Omega.{arith}
 use lib.ListN.{length}
 use Rattle.format_write.specs.Wrote.{farthest}
-use Rattle.format_write.specs.Laws.Wrote.{wrote_then}
+use Rattle.format_write.proofs.Laws.Wrote.{wrote_then}
 use Rattle.format_print.specs.RowText.{pair_text}
 use borrow.Author.Rules.{rules}
 use Rattle.format_print.proofs.closed.put_pair.Goals as goal

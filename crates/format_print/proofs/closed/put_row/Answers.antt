@@ -3,7 +3,7 @@ use Prim.Native.Nat.{◌≤◌}
 use native.Mathlib.Omega.{arith}
 use lib.ListN.{length}
 use Rattle.format_write.specs.Wrote.{farthest}
-use Rattle.format_write.specs.Laws.Wrote.{wrote_then, wrote_as}
+use Rattle.format_write.proofs.Laws.Wrote.{wrote_then, wrote_as}
 use Rattle.format_print.specs.RowText.{closed_key, refused_word}
 use Rattle.format_print.specs.Laws.Row.{row_planned, row_refused}
 use native.Mathlib.Nat.{le_antisymm}

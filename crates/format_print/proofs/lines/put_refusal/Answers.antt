@@ -4,7 +4,7 @@ use native.Mathlib.Omega.{arith}
 use mathlib.Core.Path.{ap}
 use lib.ListN.{length}
 use Rattle.format_write.specs.Wrote.{farthest}
-use Rattle.format_write.specs.Laws.Wrote.{wrote_then, wrote_as}
+use Rattle.format_write.proofs.Laws.Wrote.{wrote_then, wrote_as}
 use Rattle.format_write.specs.Key.{refused_key, place_key}
 use Rattle.format_write.specs.Text.{line_of, refusal_text}
 use borrow.Author.Rules.{rules}

@@ -3,7 +3,7 @@ use Prim.Native.Nat.{◌%◌}
 use native.Mathlib.Omega.{arith}
 use mathlib.Core.Path.{◌≡◌}
 use borrow.Author.Rules.{rules}
-use Rattle.format_write.specs.Laws.Members.{inside_no_zero, begins_by_byte}
+use Rattle.format_write.proofs.Laws.Members.{inside_no_zero, begins_by_byte}
 use Rattle.format_print.proofs.put_dual.begins_zero.Goals as goal
 
 pub returns-then-v-gt0 : goal.returns-then-v-gt0

@@ -4,7 +4,7 @@ use native.Mathlib.Omega.{arith}
 use mathlib.Core.Path.{ap}
 use lib.ListN.{length}
 use Rattle.format_write.specs.Wrote.{farthest}
-use Rattle.format_write.specs.Laws.Wrote.{wrote_then, wrote_as}
+use Rattle.format_write.proofs.Laws.Wrote.{wrote_then, wrote_as}
 use mathlib.Core.List.{◌++◌}
 use Rattle.format_write.specs.Key.{dual_key}
 use Rattle.format_write.specs.Decimal.{decimal}

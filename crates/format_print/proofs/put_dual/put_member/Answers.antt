@@ -1,10 +1,10 @@
 -- `put_member`: nothing where v is no member.
 use mathlib.Core.Path.{◌≡◌, sym, ◌∙◌}
-use Rattle.format_write.specs.Laws.Wrote.{wrote_none, wrote_as}
+use Rattle.format_write.proofs.Laws.Wrote.{wrote_none, wrote_as}
 use mathlib.Core.Bool.{true, false}
 use borrow.Author.Tests.{not-true, not-false}
 use Rattle.format_record.specs.Record.{member_in}
-use Rattle.format_write.specs.Laws.Text.{member_here, member_not, and_not_true, and_not_false}
+use Rattle.format_write.proofs.Laws.Text.{member_here, member_not, and_not_true, and_not_false}
 use borrow.Author.Rules.{rules}
 use Rattle.format_print.proofs.put_dual.put_member.Goals as goal
 

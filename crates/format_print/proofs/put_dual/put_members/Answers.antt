@@ -8,9 +8,9 @@ use Rattle.base_limits.specs.Limits.{member_bytes}
 use Rattle.format_record.specs.Record.{member_in}
 use Rattle.format_write.specs.Text.{listed, members_of}
 use Rattle.format_write.specs.Wrote.{farthest, Wrote, is_none}
-use Rattle.format_write.specs.Laws.Members.{begins_zero_none, those_past}
-use Rattle.format_write.specs.Laws.Text.{members_none, none_none, members_next, none_next}
-use Rattle.format_write.specs.Laws.Wrote.{wrote_none, wrote_length, wrote_then, wrote_as}
+use Rattle.format_write.proofs.Laws.Members.{begins_zero_none, those_past}
+use Rattle.format_write.proofs.Laws.Text.{members_none, none_none, members_next, none_next}
+use Rattle.format_write.proofs.Laws.Wrote.{wrote_none, wrote_length, wrote_then, wrote_as}
 use borrow.Author.Rules.{rules}
 use Rattle.format_print.proofs.put_dual.put_members.Goals as goal
 

@@ -1,7 +1,7 @@
 -- `format_read::classes::class_of` meets its contract: at each arm the law of its class.
 use mathlib.Core.Path.{sym}
 use native.Mathlib.Omega.{arith}
-use Rattle.format_read.specs.Laws.Byte.{class_zero, class_digit, class_line_end, class_comma, class_colon, class_keep, class_also, class_low, class_high}
+use Rattle.format_read.proofs.Laws.Byte.{class_zero, class_digit, class_line_end, class_comma, class_colon, class_keep, class_also, class_low, class_high}
 use Rattle.format_read.proofs.classes.class_of.Goals as goal
 
 pub returns-in-48 : goal.returns-in-48

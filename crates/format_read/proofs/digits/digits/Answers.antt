@@ -5,7 +5,7 @@ use Prim.Native.Nat.{ℕ, ◌-◌}
 use mathlib.Core.Path.{sym, ap}
 use lib.ListN.{take, drop}
 use Rattle.format_read.specs.Number.{numeral_at}
-use Rattle.format_read.specs.Laws.Number.{numeral_range, numeral_past}
+use Rattle.format_read.proofs.Laws.Number.{numeral_range, numeral_past}
 use Rattle.format_read.proofs.digits.digits.Goals as goal
 
 pub returns-then-text-end : goal.returns-then-text-end

@@ -6,8 +6,8 @@ use native.Mathlib.Nat.{sub-zero}
 use mathlib.Core.Path.{◌≡◌, ◌∙◌, sym, ap}
 use mathlib.Core.Bool.{not, not-not}
 use Rattle.format_read.specs.Number.{digits_end, class_of, is_digit}
-use Rattle.format_read.specs.Laws.Byte.{digit_inside}
-use Rattle.format_read.specs.Laws.Number.{digits_more, digits_stop, digits_end_zero}
+use Rattle.format_read.proofs.Laws.Byte.{digit_inside}
+use Rattle.format_read.proofs.Laws.Number.{digits_more, digits_stop, digits_end_zero}
 use Rattle.format_read.proofs.digits.digits_end.Goals as goal
 
 pub loop-taken-init : goal.loop-taken-init

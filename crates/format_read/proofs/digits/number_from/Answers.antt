@@ -8,7 +8,7 @@ use lib.ListN.{length}
 use Rattle.base_limits.specs.Limits.{max_digits}
 use Rattle.format_read.specs.Number.{numeral_at, number_at}
 use Rattle.format_read.specs.Answer.{number_step}
-use Rattle.format_read.specs.Laws.Number.{numeral_width}
+use Rattle.format_read.proofs.Laws.Number.{numeral_width}
 use Rattle.format_read.proofs.digits.number_from.Goals as goal
 
 pub returns-then-width-eq0 : goal.returns-then-width-eq0

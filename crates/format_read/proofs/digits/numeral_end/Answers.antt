@@ -3,7 +3,7 @@ use native.Mathlib.Omega.{arith}
 use borrow.Author.Rules.{rules}
 use mathlib.Core.Path.{sym, ◌∙◌}
 use Rattle.format_read.specs.Number.{numeral_end}
-use Rattle.format_read.specs.Laws.Byte.{is_zero, class_inside}
+use Rattle.format_read.proofs.Laws.Byte.{is_zero, class_inside}
 use Rattle.format_read.proofs.digits.numeral_end.Goals as goal
 
 pub overflow_add-result : goal.overflow_add-result

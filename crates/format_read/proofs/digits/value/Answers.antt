@@ -6,7 +6,7 @@ use mathlib.Core.Path.{◌≡◌, ◌∙◌, sym, ap, refl}
 use mathlib.Core.List.{List}
 use lib.ListN.{length, get_or, drop, drop_of_length-le}
 use Rattle.format_write.specs.Decimal.{spelled_after}
-use Rattle.format_read.specs.Laws.Number.{value_step, spelled_fits, spelled_more}
+use Rattle.format_read.proofs.Laws.Number.{value_step, spelled_fits, spelled_more}
 use Rattle.format_read.proofs.digits.value.Goals as goal
 
 pub loop-i-init : goal.loop-i-init

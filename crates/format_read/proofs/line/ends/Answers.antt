@@ -2,7 +2,7 @@
 use borrow.Author.Rules.{rules}
 use mathlib.Core.Path.{◌∙◌}
 use Rattle.format_read.specs.Number.{stop_of}
-use Rattle.format_read.specs.Laws.Byte.{is_line_end, is_comma_law}
+use Rattle.format_read.proofs.Laws.Byte.{is_line_end, is_comma_law}
 use Rattle.format_read.proofs.line.ends.Goals as goal
 
 pub returns-then-comma : goal.returns-then-comma

@@ -2,7 +2,7 @@
 use borrow.Author.Rules.{rules}
 use mathlib.Core.Path.{sym, ◌∙◌}
 use Rattle.format_read.specs.Number.{stop_of, number_line}
-use Rattle.format_read.specs.Laws.NumberStep.{refusal_stays, value_goes}
+use Rattle.format_read.proofs.Laws.NumberStep.{refusal_stays, value_goes}
 use Rattle.format_read.proofs.line.number_line.Goals as goal
 
 pub returns-in_default : goal.returns-in_default

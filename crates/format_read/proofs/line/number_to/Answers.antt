@@ -3,9 +3,9 @@ use native.Mathlib.Omega.{arith}
 use borrow.Author.Rules.{rules}
 use mathlib.Core.Path.{sym, ◌∙◌}
 use Rattle.format_read.specs.Number.{number_to, stop_of}
-use Rattle.format_read.specs.Laws.Bytes.{byte_inside, stop_found, stop_refused}
+use Rattle.format_read.proofs.Laws.Bytes.{byte_inside, stop_found, stop_refused}
 use Rattle.format_read.specs.Answer.{number_step}
-use Rattle.format_read.specs.Laws.NumberStep.{refusal_stays, value_goes}
+use Rattle.format_read.proofs.Laws.NumberStep.{refusal_stays, value_goes}
 use Rattle.format_read.proofs.line.number_to.Goals as goal
 
 pub returns-in_default : goal.returns-in_default

@@ -2,7 +2,7 @@
 use borrow.Author.Rules.{rules}
 use mathlib.Core.Path.{◌≡◌, ◌∙◌, sym, refl}
 use Rattle.format_stp.specs.StpNumber.{leads_to}
-use Rattle.format_stp.specs.Laws.Turn.{leads_there, leads_on_law, leads_last}
+use Rattle.format_stp.proofs.Laws.Turn.{leads_there, leads_on_law, leads_last}
 use Rattle.format_stp.proofs.free.leads_to.Given as goal
 
 abbrev pub invariant-loop-left : goal.invariant-loop-left

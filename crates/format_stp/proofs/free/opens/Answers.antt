@@ -6,8 +6,8 @@ use mathlib.Core.Bool.{false}
 use mathlib.Core.Path.{◌≡◌, ◌∙◌, sym, refl}
 use Rattle.base_finite.specs.Below.{any_below}
 use Rattle.base_finite.specs.Laws.Count.{any_more, any_end}
-use Rattle.format_stp.specs.Laws.RuleLines.{free_elim}
-use Rattle.format_stp.specs.Laws.Number.{opens_itself, opens_zero, opens_later, opens_none}
+use Rattle.format_stp.proofs.Laws.RuleLines.{free_elim}
+use Rattle.format_stp.proofs.Laws.Number.{opens_itself, opens_zero, opens_later, opens_none}
 use Rattle.format_stp.specs.StpNumber.{is_free, reaches}
 use Rattle.format_stp.proofs.free.opens.Goals as goal
 

@@ -2,7 +2,7 @@
 use borrow.Author.Rules.{rules}
 use mathlib.Core.Path.{◌∙◌, sym}
 use Rattle.format_stp.specs.StpNumber.{is_free}
-use Rattle.format_stp.specs.Laws.Turn.{reach_free, reach_none}
+use Rattle.format_stp.proofs.Laws.Turn.{reach_free, reach_none}
 use Rattle.format_stp.proofs.free.reaches.Goals as goal
 
 pub returns-then-is_free : goal.returns-then-is_free

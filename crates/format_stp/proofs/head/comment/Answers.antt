@@ -5,7 +5,7 @@ use mathlib.Core.Path.{◌≡◌, ◌∙◌, sym, refl}
 use lib.ListN.{drop, length}
 use Rattle.format_read.specs.Answer.{number_step}
 use Rattle.format_stp.specs.StpWord.{comment_from, comment_at}
-use Rattle.format_stp.specs.Laws.HeadTurn.{comment_ends, comment_on, comment_over}
+use Rattle.format_stp.proofs.Laws.HeadTurn.{comment_ends, comment_on, comment_over}
 use Rattle.format_stp.proofs.head.comment.Goals as goal
 
 pub loop-at-init : goal.loop-at-init

@@ -4,7 +4,7 @@ use Prim.Native.Nat.{◌+◌, ◌-◌}
 use mathlib.Core.Path.{◌≡◌, ◌∙◌, refl}
 use lib.ListN.{drop, length}
 use Rattle.format_stp.specs.StpWord.{empty_lines}
-use Rattle.format_stp.specs.Laws.HeadTurn.{skip_on, skip_stop, skip_end}
+use Rattle.format_stp.proofs.Laws.HeadTurn.{skip_on, skip_stop, skip_end}
 use Rattle.format_stp.proofs.head.skip.Goals as goal
 
 pub loop-at-init : goal.loop-at-init

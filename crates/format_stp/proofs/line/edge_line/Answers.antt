@@ -1,7 +1,7 @@
 -- `format_stp::line::edge_line` meets its contract: a refusal of any part stays, and a value goes on to the next part.
 use borrow.Author.Rules.{rules}
 use mathlib.Core.Path.{sym, ◌∙◌}
-use Rattle.format_read.specs.Laws.NumberStep.{stopped_stays, value_goes}
+use Rattle.format_read.proofs.Laws.NumberStep.{stopped_stays, value_goes}
 use Rattle.format_read.specs.Number.{stop_of}
 use Rattle.format_survey.specs.LinesAnswer.{edge_step}
 use Rattle.format_stp.specs.StpReading.{stp_edge}

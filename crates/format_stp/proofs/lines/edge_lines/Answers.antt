@@ -7,10 +7,10 @@ use Rattle.format_read.specs.Step.{Step, stopped}
 use Rattle.format_survey.specs.Line.{Edge, firsts_of, seconds_of, weights_of}
 use Rattle.format_read.specs.Answer.{number_step}
 use Rattle.format_survey.specs.LinesAnswer.{edge_step}
-use Rattle.format_read.specs.Laws.Lines.{LinesLeft, Stored, stored_length, left_start, stored_start, left_more, left_stop, left_done, stored_more, stored_stop, stored_done}
+use Rattle.format_read.proofs.Laws.Lines.{LinesLeft, Stored, stored_length, left_start, stored_start, left_more, left_stop, left_done, stored_more, stored_stop, stored_done}
 use Rattle.format_stp.specs.StpReading.{stp_edge, stp_edges}
 use Rattle.format_stp.specs.StpWord.{after_empty}
-use Rattle.format_stp.specs.Laws.EdgeBound.{edge_words}
+use Rattle.format_stp.proofs.Laws.EdgeBound.{edge_words}
 use Rattle.format_stp.proofs.lines.edge_lines.Goals as goal
 
 -- The reader of line e.

@@ -9,7 +9,7 @@ use mathlib.Core.Path.{◌≡◌, ◌∙◌, sym, ap, refl}
 use lib.ListN.{get_or}
 use Rattle.base_limits.specs.Limits.{max_digits}
 use Rattle.format_stp.specs.StpNumber.{is_free, stop_byte, digits_after}
-use Rattle.format_stp.specs.Laws.NumberTurn.{digits_on, digits_stay, goes_facts, goes_inside, digit_fits, digit_left}
+use Rattle.format_stp.proofs.Laws.NumberTurn.{digits_on, digits_stay, goes_facts, goes_inside, digit_fits, digit_left}
 use Rattle.format_stp.proofs.number.digits_after.Given as goal
 
 pub record Inv (text : List ℕ) (free : ℕ → Bool) (high stop most first from at x more : ℕ) : Type 0 where

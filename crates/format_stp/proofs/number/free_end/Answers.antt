@@ -3,10 +3,10 @@ use borrow.Author.Rules.{rules}
 use native.Mathlib.Omega.{arith}
 use mathlib.Core.Path.{◌≡◌, ◌∙◌, sym}
 use lib.ListN.{get_or}
-use Rattle.format_read.specs.Laws.Bytes.{read_inside}
+use Rattle.format_read.proofs.Laws.Bytes.{read_inside}
 use Rattle.format_read.specs.Answer.{number_step}
 use Rattle.format_stp.specs.StpNumber.{is_free, stop_byte}
-use Rattle.format_stp.specs.Laws.NumberTurn.{stop_some, end_free, end_taken, end_other}
+use Rattle.format_stp.proofs.Laws.NumberTurn.{stop_some, end_free, end_taken, end_other}
 use Rattle.format_stp.proofs.number.free_end.Goals as goal
 
 pub overflow_add-result : goal.overflow_add-result

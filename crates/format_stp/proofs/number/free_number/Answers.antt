@@ -8,7 +8,7 @@ use lib.ListN.{get_or}
 use Rattle.base_limits.specs.Limits.{max_digits}
 use Rattle.format_read.specs.Answer.{number_step}
 use Rattle.format_stp.specs.StpNumber.{is_free, stop_byte, with_digit, goes_on, more_after, digits_after}
-use Rattle.format_stp.specs.Laws.NumberTurn.{goes_facts, goes_inside, first_fits, number_on, number_none}
+use Rattle.format_stp.proofs.Laws.NumberTurn.{goes_facts, goes_inside, first_fits, number_on, number_none}
 use Rattle.format_stp.proofs.number.free_number.Goals as goal
 
 pub overflow_add-at : goal.overflow_add-at

@@ -4,7 +4,7 @@ use Prim.Native.Nat.{ℕ}
 use mathlib.Core.Path.{◌∙◌, sym, ap}
 use lib.ListN.{get_or}
 use Rattle.format_stp.specs.StpNumber.{is_free, opens, with_digit}
-use Rattle.format_stp.specs.Laws.NumberTurn.{goes_digit, goes_none}
+use Rattle.format_stp.proofs.Laws.NumberTurn.{goes_digit, goes_none}
 use Rattle.format_stp.proofs.number.goes_on.Goals as goal
 
 pub with_digit-requires : goal.with_digit-requires

@@ -1,7 +1,7 @@
 -- `format_stp::number::is_digit` meets its contract: the digits are two classes of bytes.
 use borrow.Author.Rules.{rules}
 use mathlib.Core.Path.{◌∙◌, sym}
-use Rattle.format_stp.specs.Laws.NumberTurn.{digit_zero, digit_other}
+use Rattle.format_stp.proofs.Laws.NumberTurn.{digit_zero, digit_other}
 use Rattle.format_stp.proofs.number.is_digit.Goals as goal
 
 pub returns-then-is_class : goal.returns-then-is_class

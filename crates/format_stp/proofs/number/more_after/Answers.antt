@@ -4,7 +4,7 @@ use native.Mathlib.Omega.{arith}
 use Prim.Native.Nat.{◌-◌, min}
 use mathlib.Core.Path.{◌≡◌, ◌∙◌, sym}
 use Rattle.base_limits.specs.Limits.{max_digits}
-use Rattle.format_stp.specs.Laws.NumberTurn.{more_none, more_some}
+use Rattle.format_stp.proofs.Laws.NumberTurn.{more_none, more_some}
 use Rattle.format_stp.proofs.number.more_after.Goals as goal
 
 pub returns-then-b-eq48 : goal.returns-then-b-eq48

@@ -3,7 +3,7 @@ use borrow.Author.Rules.{rules}
 use Prim.Native.Nat.{ℕ}
 use mathlib.Core.Path.{ap, sym, ◌∙◌}
 use Rattle.format_read.specs.Bytes.{end_at}
-use Rattle.format_read.specs.Laws.Bytes.{end_here, end_later}
+use Rattle.format_read.proofs.Laws.Bytes.{end_here, end_later}
 use Rattle.format_read.specs.Answer.{number_step}
 use Rattle.format_stp.specs.StpWord.{after_empty}
 use Rattle.format_stp.proofs.sections.ended.Goals as goal

@@ -7,7 +7,7 @@ use lib.ListN.{length, length-set}
 use Rattle.format_read.specs.Answer.{number_step}
 use Rattle.format_stp.specs.StpReading.{terminal_lines}
 use Rattle.format_stp.specs.TerminalsAnswer.{groups_step}
-use Rattle.format_stp.specs.Laws.TerminalTurn.{terminals_on, terminals_stop, terminals_done}
+use Rattle.format_stp.proofs.Laws.TerminalTurn.{terminals_on, terminals_stop, terminals_done}
 use Rattle.format_stp.proofs.terminals.terminal_lines.Goals as goal
 
 pub loop-left-init : goal.loop-left-init

@@ -4,7 +4,7 @@ use mathlib.Core.Path.{ap, sym, ◌∙◌}
 use lib.Seq.{sets}
 use Rattle.format_read.specs.Answer.{number_step}
 use Rattle.format_stp.specs.TerminalsAnswer.{groups_step}
-use Rattle.format_stp.specs.Laws.TerminalTurn.{end_over, end_lent, after_found, after_refused, lent_end, held_part}
+use Rattle.format_stp.proofs.Laws.TerminalTurn.{end_over, end_lent, after_found, after_refused, lent_end, held_part}
 use Rattle.format_stp.proofs.terminals.terminals.Goals as goal
 
 -- 1: more vertices than the limit

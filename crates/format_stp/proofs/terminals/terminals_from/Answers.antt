@@ -1,12 +1,12 @@
 -- `format_stp::terminals::terminals_from` meets its contract: a refusal of any part stays, and the groups of the lines are handed on.
 use borrow.Author.Rules.{rules}
 use mathlib.Core.Path.{ap, sym, ◌∙◌}
-use Rattle.format_read.specs.Laws.Step.{then_found, then_refused}
+use Rattle.format_read.proofs.Laws.Step.{then_found, then_refused}
 use Rattle.format_read.specs.Answer.{number_step}
-use Rattle.format_read.specs.Laws.NumberStep.{value_goes}
+use Rattle.format_read.proofs.Laws.NumberStep.{value_goes}
 use Rattle.format_stp.specs.TerminalsAnswer.{groups_step}
 use Rattle.format_stp.specs.Terminals.{terminals_from}
-use Rattle.format_stp.specs.Laws.TerminalTurn.{closes}
+use Rattle.format_stp.proofs.Laws.TerminalTurn.{closes}
 use Rattle.format_stp.proofs.terminals.terminals_from.Goals as goal
 
 pub returns-in_default : goal.returns-in_default

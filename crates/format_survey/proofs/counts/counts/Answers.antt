@@ -3,7 +3,7 @@ use borrow.Author.Rules.{rules}
 use mathlib.Core.Path.{sym, ◌∙◌}
 use Rattle.format_survey.specs.Line.{counts_at}
 use Rattle.format_survey.specs.LinesAnswer.{counts_step}
-use Rattle.format_read.specs.Laws.NumberStep.{stopped_stays, value_goes}
+use Rattle.format_read.proofs.Laws.NumberStep.{stopped_stays, value_goes}
 use Rattle.format_survey.proofs.counts.counts.Goals as goal
 
 pub returns-in_default : goal.returns-in_default

@@ -2,8 +2,8 @@
 use borrow.Author.Rules.{rules}
 use Rattle.format_survey.specs.Line.{count_line, edges_test}
 use Rattle.format_read.specs.Answer.{number_step}
-use Rattle.format_read.specs.Laws.NumberStep.{refusal_stays, check_refused, check_fine}
-use Rattle.format_survey.specs.Laws.Tests.{edges_many, edges_first, edges_second, edges_weight, edges_fine}
+use Rattle.format_read.proofs.Laws.NumberStep.{refusal_stays, check_refused, check_fine}
+use Rattle.format_survey.proofs.Laws.Tests.{edges_many, edges_first, edges_second, edges_weight, edges_fine}
 use Rattle.format_survey.proofs.counts.edges_line.Goals as goal
 
 pub returns-in_default : goal.returns-in_default

@@ -2,8 +2,8 @@
 use borrow.Author.Rules.{rules}
 use Rattle.format_survey.specs.Line.{count_line, vertices_test}
 use Rattle.format_read.specs.Answer.{number_step}
-use Rattle.format_read.specs.Laws.NumberStep.{refusal_stays, check_refused, check_fine}
-use Rattle.format_survey.specs.Laws.Tests.{vertices_none, vertices_many, vertices_short, vertices_fine}
+use Rattle.format_read.proofs.Laws.NumberStep.{refusal_stays, check_refused, check_fine}
+use Rattle.format_survey.proofs.Laws.Tests.{vertices_none, vertices_many, vertices_short, vertices_fine}
 use Rattle.format_survey.proofs.counts.vertices_line.Goals as goal
 
 pub returns-in_default : goal.returns-in_default

@@ -4,7 +4,7 @@ use mathlib.Core.Path.{sym, ◌∙◌}
 use Rattle.format_read.specs.Number.{stop_of}
 use Rattle.format_survey.specs.Line.{edge_line}
 use Rattle.format_survey.specs.LinesAnswer.{edge_step}
-use Rattle.format_read.specs.Laws.NumberStep.{stopped_stays, value_goes}
+use Rattle.format_read.proofs.Laws.NumberStep.{stopped_stays, value_goes}
 use Rattle.format_survey.proofs.edge.edge_line.Goals as goal
 
 pub returns-in_default : goal.returns-in_default

@@ -2,8 +2,8 @@
 use borrow.Author.Rules.{rules}
 use Rattle.format_survey.specs.Line.{group_line, group_test}
 use Rattle.format_read.specs.Answer.{number_step}
-use Rattle.format_read.specs.Laws.NumberStep.{refusal_stays, check_refused, check_fine}
-use Rattle.format_survey.specs.Laws.Tests.{group_high, group_line_fine}
+use Rattle.format_read.proofs.Laws.NumberStep.{refusal_stays, check_refused, check_fine}
+use Rattle.format_survey.proofs.Laws.Tests.{group_high, group_line_fine}
 use Rattle.format_survey.proofs.groups.group_line.Goals as goal
 
 pub returns-in_default : goal.returns-in_default

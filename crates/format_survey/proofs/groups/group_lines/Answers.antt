@@ -6,8 +6,8 @@ use lib.Seq.{sets}
 use Rattle.format_read.specs.Step.{found}
 use Rattle.format_survey.specs.Line.{group_line, group_lines, group_test}
 use Rattle.format_read.specs.Answer.{number_step}
-use Rattle.format_survey.specs.Laws.Tests.{group_below}
-use Rattle.format_read.specs.Laws.Lines.{LinesLeft, Stored, stored_length, left_start, stored_start, left_more, left_stop, left_done, stored_more, stored_stop, stored_done, map_same}
+use Rattle.format_survey.proofs.Laws.Tests.{group_below}
+use Rattle.format_read.proofs.Laws.Lines.{LinesLeft, Stored, stored_length, left_start, stored_start, left_more, left_stop, left_done, stored_more, stored_stop, stored_done, map_same}
 use Rattle.format_survey.proofs.groups.group_lines.Goals as goal
 
 pub loop-vertex-init : goal.loop-vertex-init

@@ -5,7 +5,7 @@ use lib.Seq.{sets}
 use Rattle.format_read.specs.Answer.{number_step}
 use Rattle.format_also.specs.Pair.{owners_of, others_of}
 use Rattle.format_survey.specs.Line.{firsts_of, seconds_of, weights_of}
-use Rattle.format_survey.specs.Laws.LinesBody.{with_short, lines_refused, lines_found}
+use Rattle.format_survey.proofs.Laws.LinesBody.{with_short, lines_refused, lines_found}
 use Rattle.format_survey.proofs.tail.survey_lines.Goals as goal
 
 -- 7: the group buffer is short

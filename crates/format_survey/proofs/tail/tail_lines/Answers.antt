@@ -2,10 +2,10 @@
 use borrow.Author.Rules.{rules}
 use mathlib.Core.Path.{ap, sym, ◌∙◌}
 use lib.Seq.{sets}
-use Rattle.format_read.specs.Laws.Step.{then_found, then_refused}
+use Rattle.format_read.proofs.Laws.Step.{then_found, then_refused}
 use Rattle.format_read.specs.Answer.{number_step}
 use Rattle.format_survey.specs.Line.{firsts_of, seconds_of, weights_of, tail_at}
-use Rattle.format_survey.specs.Laws.LinesBody.{tail_refused, tail_found}
+use Rattle.format_survey.proofs.Laws.LinesBody.{tail_refused, tail_found}
 use Rattle.format_survey.proofs.tail.tail_lines.Goals as goal
 
 -- an also line is refused

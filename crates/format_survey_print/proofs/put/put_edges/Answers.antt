@@ -6,7 +6,7 @@ use mathlib.Core.List.{◌++◌}
 use lib.ListN.{length}
 use Rattle.base_finite.specs.Below.{tabulate}
 use Rattle.format_write.specs.Wrote.{farthest, Wrote}
-use Rattle.format_write.specs.Laws.Wrote.{wrote_none, wrote_length, wrote_then, wrote_as}
+use Rattle.format_write.proofs.Laws.Wrote.{wrote_none, wrote_length, wrote_then, wrote_as}
 use Rattle.format_survey.specs.LinesRender.{edge_text}
 use Rattle.format_read.specs.Lines.{text_of}
 use Rattle.format_survey_print.specs.Print.{edge_with, edge_at, edges_from}

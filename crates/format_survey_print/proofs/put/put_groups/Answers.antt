@@ -7,7 +7,7 @@ use lib.Seq.{take_all}
 use Rattle.format_write.specs.Key.{node_key}
 use Rattle.format_write.specs.Text.{line_of}
 use Rattle.format_write.specs.Wrote.{farthest, Wrote}
-use Rattle.format_write.specs.Laws.Wrote.{wrote_none, wrote_length, wrote_then, wrote_as}
+use Rattle.format_write.proofs.Laws.Wrote.{wrote_none, wrote_length, wrote_then, wrote_as}
 use Rattle.format_read.specs.Lines.{text_of}
 use Rattle.format_survey_print.specs.Laws.Print.{no_text, text_take}
 use borrow.Author.Rules.{rules}

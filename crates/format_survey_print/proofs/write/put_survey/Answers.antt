@@ -6,7 +6,7 @@ use lib.ListN.{length}
 use Rattle.format_write.specs.Key.{nodes_key, links_key}
 use Rattle.format_write.specs.Text.{line_of}
 use Rattle.format_write.specs.Wrote.{farthest}
-use Rattle.format_write.specs.Laws.Wrote.{wrote_then, wrote_as}
+use Rattle.format_write.proofs.Laws.Wrote.{wrote_then, wrote_as}
 use Rattle.format_survey.specs.Render.{render}
 use Rattle.format_survey_print.specs.Print.{survey_text}
 use Rattle.format_survey_print.specs.Laws.Print.{edges_count}

@@ -4,11 +4,11 @@ use mathlib.Core.Path.{ap, ◌∙◌}
 use mathlib.Core.List.{[], ◌∷◌, ◌++◌}
 use lib.ListN.{length}
 use Rattle.format_write.specs.Wrote.{farthest}
-use Rattle.format_write.specs.Laws.Wrote.{wrote_then, wrote_as}
+use Rattle.format_write.proofs.Laws.Wrote.{wrote_then, wrote_as}
 use Prim.Native.Nat.{◌≤◌}
 use Rattle.format_write.specs.Key.{comma}
 use Rattle.format_write.specs.Decimal.{decimal}
-use Rattle.format_write.specs.Laws.Text.{item_first, item_later}
+use Rattle.format_write.proofs.Laws.Text.{item_first, item_later}
 use borrow.Author.Rules.{rules}
 use Rattle.format_write.proofs.put_list.put_item.Goals as goal
 

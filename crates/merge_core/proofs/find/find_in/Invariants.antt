@@ -4,7 +4,7 @@ use mathlib.Core.Path.{refl, sym, ◌∙◌}
 use lib.ListN.{get_or}
 use lib.Dec.{eqb}
 use borrow.Author.Tests.{eq-eqb, ne_eqb}
-use Rattle.theory_route.specs.Laws.First.{Unmet, unmet_start, unmet_turn, unmet_found, unmet_end}
+use Rattle.theory_route.proofs.Laws.First.{Unmet, unmet_start, unmet_turn, unmet_found, unmet_end}
 use borrow.Author.Rules.{rules}
 use Rattle.merge_core.proofs.find.find_in.Given as goal
 

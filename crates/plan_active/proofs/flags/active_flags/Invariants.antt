@@ -8,7 +8,7 @@ use Rattle.base_finite.specs.Laws.Below.{length_tabulate}
 use Rattle.base_limits.specs.Limits.{max_duals, group_numbers}
 use Rattle.survey_core.specs.Survey.{groups_alone, vertex_count}
 use Rattle.survey_groups.specs.Laws.Spread.{split_read}
-use Rattle.base_buffer.specs.Laws.Store.{replicate_table}
+use Rattle.base_buffer.proofs.Laws.Store.{replicate_table}
 use Rattle.plan_active.specs.Flags.{active_flags}
 use Rattle.plan_active.specs.Laws.Flags.{active_below, flags_none, flags_step, flags_end, flags_active}
 use native.Mathlib.Omega.{arith}

@@ -1,6 +1,6 @@
 -- `figures` meets its contract: a refusal stops it with nothing written (`figures_refused`), and otherwise the survey is sound.
 use mathlib.Core.Path.{sym, ◌∙◌}
-use Rattle.survey_core.specs.Laws.Refusal.{fine_survey}
+use Rattle.survey_core.proofs.Laws.Refusal.{fine_survey}
 use Rattle.plan_rule.specs.Figures.{figured_outcome}
 use Rattle.plan_core.specs.Laws.Figures.{survey_refuses, figures_refused}
 use borrow.Author.Rules.{rules}

@@ -4,7 +4,7 @@ use native.Mathlib.Omega.{arith}
 use borrow.Author.Tests.{not-true, not-false}
 use Rattle.check_core.specs.Cost.{kept_cost_all}
 use Rattle.plan_rule.specs.Figures.{figured_outcome}
-use Rattle.plan_rule.specs.Laws.Same.{plan_terminals}
+use Rattle.plan_rule.proofs.Laws.Same.{plan_terminals}
 use Rattle.plan_core.specs.Laws.Figures.{figures_parted, figures_joined_law}
 use borrow.Author.Rules.{rules}
 use Rattle.plan_core.proofs.figures.poured_figures.Goals as goal

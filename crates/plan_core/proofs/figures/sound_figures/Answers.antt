@@ -1,7 +1,7 @@
 -- `sound_figures` meets its contract: the poured groups can be joined exactly if the lists can, and have their plan (`figures_finished`).
 use mathlib.Core.Path.{ap, sym, ◌∙◌}
 use native.Mathlib.Omega.{arith}
-use Rattle.survey_lists.specs.Laws.Room.{part_poured}
+use Rattle.survey_lists.proofs.Laws.Room.{part_poured}
 use Rattle.plan_rule.specs.Figures.{figured_outcome}
 use Rattle.plan_core.specs.Laws.Planned.{into_sound}
 use Rattle.plan_core.specs.Laws.Figures.{lists_parted, parted_marks, figures_finished}

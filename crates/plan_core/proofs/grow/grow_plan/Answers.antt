@@ -2,9 +2,9 @@
 -- finished (`growing_finished`).
 use mathlib.Core.Path.{sym, ◌∙◌}
 use native.Mathlib.Omega.{arith}
-use Rattle.survey_lists.specs.Laws.Room.{part_poured}
+use Rattle.survey_lists.proofs.Laws.Room.{part_poured}
 use Rattle.plan_rule.specs.Answer.{planned_outcome}
-use Rattle.plan_rule.specs.Laws.Ready.{fine_ready}
+use Rattle.plan_rule.proofs.Laws.Ready.{fine_ready}
 use Rattle.plan_core.specs.Laws.Planned.{into_sound}
 use Rattle.plan_core.specs.Laws.Call.{few_by, growing_refused, growing_finished}
 use borrow.Author.Rules.{rules}

@@ -6,7 +6,7 @@ use lib.ListN.{length, replicate, length-replicate}
 use Rattle.base_finite.specs.Below.{counted}
 use Rattle.base_limits.specs.Limits.{max_edges}
 use Rattle.base_buffer.specs.Store.{remade}
-use Rattle.base_buffer.specs.Laws.Store.{length_remade, remade_more, remade_end}
+use Rattle.base_buffer.proofs.Laws.Store.{length_remade, remade_more, remade_end}
 use Rattle.survey_components.specs.Labels.{picked_in}
 use borrow.Author.Rules.{rules}
 use Rattle.plan_core.proofs.marks.kept_picks.Given as goal

@@ -1,6 +1,6 @@
 -- `copy_picks` meets its contract: it stores at rising places.
 use Rattle.base_buffer.specs.Store.{remade}
-use Rattle.base_buffer.specs.Laws.Store.{length_remade, remade_more, remade_end}
+use Rattle.base_buffer.proofs.Laws.Store.{length_remade, remade_more, remade_end}
 use lib.ListN.{length, get_or}
 use mathlib.Core.Path.{◌≡◌, refl, ap, ◌∙◌}
 use Prim.Native.Nat.{◌≤◌, ◌-◌}

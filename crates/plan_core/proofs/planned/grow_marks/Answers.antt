@@ -4,7 +4,7 @@ use native.Mathlib.Omega.{arith}
 use lib.ListN.{length}
 use Rattle.base_finite.specs.Laws.Below.{length_tabulate}
 use Rattle.base_limits.specs.Limits.{max_edges}
-use Rattle.survey_core.specs.Laws.Group.{plain_bytes}
+use Rattle.survey_core.proofs.Laws.Group.{plain_bytes}
 use Rattle.plan_core.specs.Laws.Planned.{picks_pruned, picks_join, picks_part, marks_joined_law, marks_parted}
 use borrow.Author.Rules.{rules}
 use Rattle.plan_core.proofs.planned.grow_marks.Goals as goal

@@ -1,7 +1,7 @@
 -- `prune_marked` meets its contract: what is found of the poured groups is said of the lists (`judged_verdict`), and the marks are the same (`judged_marks`).
 use mathlib.Core.Path.{sym, ◌∙◌}
 use native.Mathlib.Omega.{arith}
-use Rattle.survey_lists.specs.Laws.Room.{part_poured}
+use Rattle.survey_lists.proofs.Laws.Room.{part_poured}
 use Rattle.check_core.specs.Cost.{kept_cost_all}
 use Rattle.plan_core.specs.Laws.Picks.{picks_taken, judged_verdict, judged_marks, refused_answer, finished_answer}
 use borrow.Author.Rules.{rules}

@@ -2,7 +2,7 @@
 use mathlib.Core.Path.{sym}
 use native.Mathlib.Omega.{arith}
 use borrow.Author.Rules.{rules}
-use Rattle.plan_rule.specs.Laws.Ready.{marks_short, records_short, buffers_fit}
+use Rattle.plan_rule.proofs.Laws.Ready.{marks_short, records_short, buffers_fit}
 use Rattle.plan_core.proofs.refusal.room_refusal.Goals as goal
 
 -- 7: the buffer for marks is short

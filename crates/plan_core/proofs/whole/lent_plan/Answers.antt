@@ -1,7 +1,7 @@
 -- `lent_plan` meets its contract: the poured groups can be joined exactly if the lists can, and have their plan (`joined_call`); 8 is said of the lists (`apart_call`).
 use mathlib.Core.Path.{ap}
 use native.Mathlib.Omega.{arith}
-use Rattle.survey_lists.specs.Laws.Room.{part_poured}
+use Rattle.survey_lists.proofs.Laws.Room.{part_poured}
 use Rattle.plan_rule.specs.Answer.{planned_outcome}
 use Rattle.plan_core.specs.Laws.Whole.{into_fits, plan_apart, apart_call, joined_call}
 use borrow.Author.Rules.{rules}

@@ -7,7 +7,7 @@ use Rattle.base_limits.specs.Limits.{max_vertices, max_duals}
 use Rattle.survey_core.specs.Survey.{edge_count}
 use Rattle.check_core.specs.Cost.{kept_cost_all}
 use Rattle.plan_rule.specs.Answer.{planned_outcome}
-use Rattle.plan_rule.specs.Laws.Same.{plan_terminals}
+use Rattle.plan_rule.proofs.Laws.Same.{plan_terminals}
 use Rattle.plan_core.specs.Laws.Whole.{plan_parted, plan_joined}
 use borrow.Author.Rules.{rules}
 use Rattle.plan_core.proofs.whole.poured_plan.Goals as goal

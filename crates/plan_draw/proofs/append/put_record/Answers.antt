@@ -1,7 +1,7 @@
 -- `put_record` meets its contract: a record in its part of the buffer.
 use mathlib.Core.Path.{ap, ◌∙◌}
 use Rattle.format_record.specs.Record.{with_value}
-use Rattle.plan_draw.specs.Laws.Members.{copied_whole, place_long, put_whole}
+use Rattle.plan_draw.proofs.Laws.Members.{copied_whole, place_long, put_whole}
 use borrow.Author.Rules.{rules}
 use Rattle.plan_draw.proofs.append.put_record.Goals as goal
 

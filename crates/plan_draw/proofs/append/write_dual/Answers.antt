@@ -1,7 +1,7 @@
 -- `write_dual` meets its contract: no record for value 0 or without room, else one more.
 use mathlib.Core.Path.{refl}
 use Rattle.plan_draw.specs.Drawing.{dual_put, count_put}
-use Rattle.plan_draw.specs.Laws.Members.{put_none, put_no_room, put_one}
+use Rattle.plan_draw.proofs.Laws.Members.{put_none, put_no_room, put_one}
 use native.Mathlib.Omega.{arith}
 use borrow.Author.Rules.{rules}
 use Rattle.plan_draw.proofs.append.write_dual.Goals as goal

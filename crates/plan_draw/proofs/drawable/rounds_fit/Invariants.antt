@@ -6,7 +6,7 @@ use native.Mathlib.Omega.{arith}
 use borrow.Author.Tests.{not-true, not-false}
 use Rattle.base_finite.specs.Below.{all_below}
 use Rattle.plan_draw.specs.Trace.{end_of, ends_fit}
-use Rattle.plan_draw.specs.Laws.Drawable.{all_none, all_more, all_fails, all_end}
+use Rattle.plan_draw.proofs.Laws.Drawable.{all_none, all_more, all_fails, all_end}
 use borrow.Author.Rules.{rules}
 use Rattle.plan_draw.proofs.drawable.rounds_fit.Given as goal
 

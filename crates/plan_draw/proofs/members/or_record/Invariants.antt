@@ -5,7 +5,7 @@ use lib.Bits.{bit_or}
 use lib.ListN.{get_or}
 use Rattle.base_limits.specs.Limits.{record_bytes}
 use Rattle.base_buffer.specs.Store.{remade}
-use Rattle.base_buffer.specs.Laws.Store.{remade_more, remade_end}
+use Rattle.base_buffer.proofs.Laws.Store.{remade_more, remade_end}
 use Rattle.plan_draw.specs.Members.{ored}
 use native.Mathlib.Omega.{arith}
 use borrow.Author.Rules.{rules}

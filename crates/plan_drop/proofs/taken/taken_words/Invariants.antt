@@ -4,7 +4,7 @@ use lib.ListN.{length-replicate}
 use Rattle.base_finite.specs.Below.{count_below}
 use Rattle.base_finite.specs.Laws.Below.{count_le}
 use Rattle.base_limits.specs.Limits.{max_vertices}
-use Rattle.base_buffer.specs.Laws.Store.{remade_table, replicate_table}
+use Rattle.base_buffer.proofs.Laws.Store.{remade_table, replicate_table}
 use Rattle.survey_components.specs.Labels.{picked_in}
 use Rattle.plan_drop.specs.Taken.{taken_below}
 use Rattle.plan_drop.specs.Laws.Word.{count_start, next_index}

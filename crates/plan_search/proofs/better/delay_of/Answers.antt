@@ -3,7 +3,7 @@ use mathlib.Core.Path.{sym}
 use borrow.Author.Rules.{rules}
 use Rattle.theory_steiner.specs.Growth.{delay_for}
 use Rattle.plan_search.specs.Between.{ends_in, delay_in}
-use Rattle.plan_search.specs.Laws.Between.{delay_case}
+use Rattle.plan_search.proofs.Laws.Between.{delay_case}
 use Rattle.plan_search.proofs.better.delay_of.Goals as goal
 
 -- neither end active

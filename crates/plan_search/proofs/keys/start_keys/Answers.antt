@@ -3,9 +3,9 @@ use Prim.Native.Nat.{◌≤◌, ◌-◌}
 use mathlib.Core.Path.{◌≡◌, refl, ap, ◌∙◌}
 use lib.ListN.{length}
 use Rattle.base_buffer.specs.Store.{remade}
-use Rattle.base_buffer.specs.Laws.Store.{length_remade, remade_more, remade_end}
+use Rattle.base_buffer.proofs.Laws.Store.{length_remade, remade_more, remade_end}
 use Rattle.plan_search.specs.Keys.{start_key_of}
-use Rattle.plan_search.specs.Laws.Keys.{key_read}
+use Rattle.plan_search.proofs.Laws.Keys.{key_read}
 use native.Mathlib.Omega.{arith}
 use borrow.Author.Rules.{rules}
 use Rattle.plan_search.proofs.keys.start_keys.Goals as goal

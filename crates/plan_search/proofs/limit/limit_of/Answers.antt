@@ -1,7 +1,7 @@
 -- `limit_of` meets its contract: each return by the variants and the test that led there.
 use borrow.Author.Tests.{lt-ltb, le-ltb}
 use Rattle.plan_search.specs.Scan.{limit_of}
-use Rattle.plan_search.specs.Laws.Scan.{capped_small}
+use Rattle.plan_search.proofs.Laws.Scan.{capped_small}
 use Rattle.plan_search.specs.Between.{winner_in}
 use native.Mathlib.Omega.{arith}
 use borrow.Author.Rules.{rules}

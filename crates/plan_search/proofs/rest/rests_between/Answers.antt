@@ -1,5 +1,5 @@
 -- `rests_between` meets its contract: the one end, and then the other.
-use Rattle.plan_search.specs.Laws.Tables.{rests_second, rests_not}
+use Rattle.plan_search.proofs.Laws.Tables.{rests_second, rests_not}
 use borrow.Author.Rules.{rules}
 use Rattle.plan_search.proofs.rest.rests_between.Goals as goal
 

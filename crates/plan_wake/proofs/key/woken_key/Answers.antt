@@ -1,5 +1,5 @@
 -- `woken_key` meets its contract: the sum fits.
-use Rattle.plan_search.specs.Laws.Scan.{capped_small}
+use Rattle.plan_search.proofs.Laws.Scan.{capped_small}
 use Rattle.plan_wake.specs.Wake.{woken_key}
 use borrow.Author.Rules.{rules}
 use Rattle.plan_wake.proofs.key.woken_key.Goals as goal

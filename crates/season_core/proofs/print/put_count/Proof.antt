@@ -1,6 +1,6 @@
 -- `put_count`: a line, or nothing.
 use Rattle.format_write.specs.Key.{refused_key}
-use Rattle.format_write.specs.Laws.Wrote.{wrote_none, wrote_as}
+use Rattle.format_write.proofs.Laws.Wrote.{wrote_none, wrote_as}
 use Rattle.season_core.specs.Laws.Lines.{met_line, no_line_law}
 use borrow.Author.Rules.{rules}
 use Rattle.season_core.proofs.print.put_count.Statement.{statement}

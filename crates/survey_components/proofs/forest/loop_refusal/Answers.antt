@@ -3,7 +3,7 @@ use Prim.Native.Nat.{◌-◌}
 use mathlib.Core.Path.{refl, sym, ◌∙◌}
 use lib.ListN.{length}
 use Rattle.base_limits.specs.Limits.{max_vertices}
-use Rattle.base_buffer.specs.Laws.Store.{remade_table}
+use Rattle.base_buffer.proofs.Laws.Store.{remade_table}
 use Rattle.survey_components.specs.Laws.Forest.{Joining, joining_start, joining_found, joining_turn, joining_long, joining_end}
 use native.Mathlib.Omega.{arith}
 use borrow.Author.Rules.{rules}

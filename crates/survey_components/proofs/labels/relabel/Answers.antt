@@ -5,7 +5,7 @@ use lib.ListN.{length}
 use Rattle.theory_graph.specs.Component.{merged}
 use Rattle.base_buffer.specs.Store.{remade}
 use Rattle.survey_components.specs.Buffer.{relabelled}
-use Rattle.base_buffer.specs.Laws.Store.{length_remade, remade_more, remade_end}
+use Rattle.base_buffer.proofs.Laws.Store.{length_remade, remade_more, remade_end}
 use native.Mathlib.Omega.{arith}
 use borrow.Author.Rules.{rules}
 use Rattle.survey_components.proofs.labels.relabel.Goals as goal

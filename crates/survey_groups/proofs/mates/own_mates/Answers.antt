@@ -6,7 +6,7 @@ use native.Mathlib.Omega.{arith}
 use borrow.Author.Rules.{rules}
 use Rattle.base_limits.specs.Limits.{max_vertices}
 use Rattle.base_buffer.specs.Store.{remade}
-use Rattle.base_buffer.specs.Laws.Store.{remade_more, stored_table}
+use Rattle.base_buffer.proofs.Laws.Store.{remade_more, stored_table}
 use Rattle.survey_groups.proofs.mates.own_mates.Goals as goal
 
 pub loop-v-init : goal.loop-v-init

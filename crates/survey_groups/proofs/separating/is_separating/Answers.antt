@@ -3,7 +3,7 @@ use native.Mathlib.Omega.{arith}
 use mathlib.Core.Path.{sym, ◌∙◌}
 use borrow.Author.Rules.{rules}
 use Rattle.survey_core.specs.Survey.{groups_alone}
-use Rattle.survey_core.specs.Laws.Group.{plain_bytes}
+use Rattle.survey_core.proofs.Laws.Group.{plain_bytes}
 use Rattle.survey_groups.specs.Laws.Cut.{whole_separates_none, parted_separates}
 use Rattle.survey_groups.proofs.separating.is_separating.Goals as goal
 

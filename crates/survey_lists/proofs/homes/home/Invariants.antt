@@ -5,7 +5,7 @@ use mathlib.Core.Path.{sym, ◌∙◌}
 use lib.ListN.{length}
 use borrow.Author.Rules.{rules}
 use Rattle.survey_core.specs.Lists.{lists_from}
-use Rattle.survey_lists.specs.Laws.Home.{home_own, Homeless, homeless_start, homeless_turn, homeless_found, homeless_end}
+use Rattle.survey_lists.proofs.Laws.Home.{home_own, Homeless, homeless_start, homeless_turn, homeless_found, homeless_end}
 use Rattle.survey_lists.proofs.homes.home.Given as goal
 
 abbrev pub invariant-loop-i : goal.invariant-loop-i

@@ -7,7 +7,7 @@ use Rattle.base_finite.specs.Laws.Below.{length_tabulate}
 use Rattle.base_limits.specs.Limits.{max_vertices}
 use borrow.Author.Rules.{rules}
 use Rattle.survey_core.specs.Lists.{lists_from}
-use Rattle.survey_lists.specs.Laws.Room.{Housed, housed_start, housed_turn, housed_end}
+use Rattle.survey_lists.proofs.Laws.Room.{Housed, housed_start, housed_turn, housed_end}
 use Rattle.survey_lists.proofs.homes.homes.Goals as goal
 
 pub loop-i-init : goal.loop-i-init

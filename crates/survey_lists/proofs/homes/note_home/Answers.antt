@@ -2,7 +2,7 @@
 use native.Mathlib.Omega.{arith}
 use mathlib.Core.Path.{sym, ◌∙◌}
 use borrow.Author.Rules.{rules}
-use Rattle.survey_lists.specs.Laws.Room.{home_past, home_kept, home_noted}
+use Rattle.survey_lists.proofs.Laws.Room.{home_past, home_kept, home_noted}
 use Rattle.survey_lists.proofs.homes.note_home.Goals as goal
 
 -- past the table

@@ -4,7 +4,7 @@ use native.Mathlib.Omega.{arith}
 use mathlib.Core.Path.{ap, sym, ◌∙◌}
 use lib.ListN.{length, get_or}
 use borrow.Author.Rules.{rules}
-use Rattle.survey_lists.specs.Laws.Room.{length_room, Filled, filled_start, filled_turn, filled_end}
+use Rattle.survey_lists.proofs.Laws.Room.{length_room, Filled, filled_start, filled_turn, filled_end}
 use Rattle.survey_lists.proofs.homes.own_groups.Given as goal
 
 abbrev pub invariant-loop-v : goal.invariant-loop-v

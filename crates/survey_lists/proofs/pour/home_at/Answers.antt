@@ -1,6 +1,6 @@
 -- `home_at` meets its contract: from the table, or by the search.
 use borrow.Author.Rules.{rules}
-use Rattle.survey_lists.specs.Laws.Room.{home_read}
+use Rattle.survey_lists.proofs.Laws.Room.{home_read}
 use Rattle.survey_lists.proofs.pour.home_at.Goals as goal
 
 pub returns-then-v-lt-MAX_VERTICES : goal.returns-then-v-lt-MAX_VERTICES

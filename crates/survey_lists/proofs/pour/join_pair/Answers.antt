@@ -3,8 +3,8 @@ use mathlib.Core.Path.{ap, ◌∙◌}
 use borrow.Author.Rules.{rules}
 use Rattle.survey_core.specs.Lists.{lists_from}
 use Rattle.survey_lists.specs.Pouring.{home}
-use Rattle.survey_core.specs.Laws.Pairs.{own_read}
-use Rattle.survey_lists.specs.Laws.Room.{joined_by_merge}
+use Rattle.survey_core.proofs.Laws.Pairs.{own_read}
+use Rattle.survey_lists.proofs.Laws.Room.{joined_by_merge}
 use Rattle.survey_lists.proofs.pour.join_pair.Goals as goal
 
 pub home_at-first-requires : goal.home_at-first-requires

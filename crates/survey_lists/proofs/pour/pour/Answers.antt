@@ -1,7 +1,7 @@
 -- `pour` meets its contract: without pairs nothing is poured.
 use borrow.Author.Rules.{rules}
 use Rattle.survey_core.specs.Lists.{lists_from}
-use Rattle.survey_lists.specs.Laws.Room.{unpaired_room}
+use Rattle.survey_lists.proofs.Laws.Room.{unpaired_room}
 use Rattle.survey_lists.proofs.pour.pour.Goals as goal
 
 pub returns-then-owners-eq0 : goal.returns-then-owners-eq0

@@ -4,9 +4,9 @@ use mathlib.Core.Path.{◌≡◌, ◌∙◌}
 use borrow.Author.Rules.{rules}
 use Rattle.survey_core.specs.Lists.{lists_from}
 use Rattle.survey_lists.specs.Pouring.{poured}
-use Rattle.survey_core.specs.Laws.Pairs.{own_read}
-use Rattle.survey_lists.specs.Laws.Pouring.{poured_below}
-use Rattle.survey_lists.specs.Laws.Room.{label_read}
+use Rattle.survey_core.proofs.Laws.Pairs.{own_read}
+use Rattle.survey_lists.proofs.Laws.Pouring.{poured_below}
+use Rattle.survey_lists.proofs.Laws.Room.{label_read}
 use Rattle.survey_lists.proofs.pour.poured_group.Goals as goal
 
 -- The label that was read.

@@ -8,7 +8,7 @@ use Rattle.base_limits.specs.Limits.{max_vertices, group_numbers}
 use borrow.Author.Rules.{rules}
 use Rattle.survey_core.specs.Lists.{lists_from}
 use Rattle.survey_lists.specs.Pouring.{poured}
-use Rattle.survey_lists.specs.Laws.Room.{length_room, Filled, filled_start, filled_turn, filled_end}
+use Rattle.survey_lists.proofs.Laws.Room.{length_room, Filled, filled_start, filled_turn, filled_end}
 use Rattle.survey_lists.proofs.pour.poured_groups.Goals as goal
 
 pub slice_bounds-label_lists-end : goal.slice_bounds-label_lists-end

@@ -1,7 +1,7 @@
 -- `group_refusal` meets its contract: a survey that is not refused is sound, and its lists decide.
 use mathlib.Core.Path.{sym, ◌∙◌}
 use Rattle.base_limits.specs.Laws.Verdict.{passed_on, goes_on_law}
-use Rattle.survey_core.specs.Laws.Refusal.{fine_survey}
+use Rattle.survey_core.proofs.Laws.Refusal.{fine_survey}
 use borrow.Author.Rules.{rules}
 use Rattle.survey_lists.proofs.split.group_refusal.Goals as goal
 

@@ -7,7 +7,7 @@ use Rattle.base_finite.specs.Laws.Below.{length_tabulate}
 use Rattle.base_limits.specs.Limits.{group_numbers}
 use borrow.Author.Rules.{rules}
 use Rattle.survey_core.specs.Lists.{lists_from}
-use Rattle.survey_lists.specs.Laws.Split.{Noted, noted_start, noted_turn, noted_end}
+use Rattle.survey_lists.proofs.Laws.Split.{Noted, noted_start, noted_turn, noted_end}
 use Rattle.survey_lists.proofs.split.list_spreads.Given as goal
 
 abbrev pub invariant-loop-i : goal.invariant-loop-i

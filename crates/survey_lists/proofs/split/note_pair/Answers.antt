@@ -2,8 +2,8 @@
 use native.Mathlib.Omega.{arith}
 use mathlib.Core.Path.{◌∙◌}
 use borrow.Author.Rules.{rules}
-use Rattle.survey_core.specs.Laws.Pairs.{own_read}
-use Rattle.survey_lists.specs.Laws.Split.{noted_by}
+use Rattle.survey_core.proofs.Laws.Pairs.{own_read}
+use Rattle.survey_lists.proofs.Laws.Split.{noted_by}
 use Rattle.survey_lists.proofs.split.note_pair.Goals as goal
 
 pub returns : goal.returns

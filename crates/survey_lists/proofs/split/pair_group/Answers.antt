@@ -3,7 +3,7 @@ use native.Mathlib.Omega.{arith}
 use mathlib.Core.Path.{sym, ◌∙◌}
 use borrow.Author.Rules.{rules}
 use Rattle.survey_core.specs.Lists.{lists_from}
-use Rattle.survey_lists.specs.Laws.Split.{pair_group_law, pair_none}
+use Rattle.survey_lists.proofs.Laws.Split.{pair_group_law, pair_none}
 use Rattle.survey_lists.proofs.split.pair_group.Goals as goal
 
 pub returns-then-index32-groups : goal.returns-then-index32-groups

@@ -5,7 +5,7 @@ use Rattle.base_finite.specs.Laws.Below.{length_tabulate}
 use Rattle.base_limits.specs.Limits.{group_numbers}
 use borrow.Author.Rules.{rules}
 use Rattle.survey_core.specs.Lists.{lists_from}
-use Rattle.survey_lists.specs.Laws.Split.{split_list_found}
+use Rattle.survey_lists.proofs.Laws.Split.{split_list_found}
 use Rattle.survey_lists.proofs.split.split_list.Goals as goal
 
 pub slice_bounds-first_split-end : goal.slice_bounds-first_split-end

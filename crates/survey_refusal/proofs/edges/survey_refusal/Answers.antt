@@ -1,6 +1,6 @@
 -- `survey_refusal::edges` meets its contract: each return by the law of its case.
 use mathlib.Core.Path.{refl, sym, ◌∙◌}
-use Rattle.survey_core.specs.Laws.Refusal.{survey_empty, survey_large, survey_uneven, survey_many, tracks_decide}
+use Rattle.survey_core.proofs.Laws.Refusal.{survey_empty, survey_large, survey_uneven, survey_many, tracks_decide}
 use native.Mathlib.Omega.{arith}
 use borrow.Author.Rules.{rules}
 use Rattle.survey_refusal.proofs.edges.survey_refusal.Goals as goal

@@ -2,7 +2,7 @@
 use native.Mathlib.Omega.{arith}
 use mathlib.Core.Path.{sym}
 use borrow.Author.Rules.{rules}
-use Rattle.survey_core.specs.Laws.Refusal.{edge_first_out, edge_second_out, edge_loop, edge_heavy, edge_fine}
+use Rattle.survey_core.proofs.Laws.Refusal.{edge_first_out, edge_second_out, edge_loop, edge_heavy, edge_fine}
 use Rattle.survey_refusal.proofs.track.edge_refusal.Goals as goal
 
 -- 4: the first end

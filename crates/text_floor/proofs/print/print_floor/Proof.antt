@@ -8,7 +8,7 @@ use Rattle.format_write.specs.Key.{cost_key}
 use Rattle.format_write.specs.Text.{line_of}
 use Rattle.format_print.specs.Laws.Print.{short_prints, fit_prints}
 use Rattle.text_floor.specs.Output.{floor_key, gap_key}
-use Rattle.text_floor.specs.Laws.Output.{printed_as, gap_lines}
+use Rattle.text_floor.proofs.Laws.Output.{printed_as, gap_lines}
 use borrow.Author.Rules.{rules}
 use Rattle.text_floor.proofs.print.print_floor.Statement.{statement}
 use Rattle.text_floor.proofs.print.print_floor.Tie as tie

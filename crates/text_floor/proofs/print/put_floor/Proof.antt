@@ -2,7 +2,7 @@
 use native.Mathlib.Omega.{arith}
 use lib.ListN.{length}
 use Rattle.format_write.specs.Wrote.{farthest}
-use Rattle.format_write.specs.Laws.Wrote.{wrote_then}
+use Rattle.format_write.proofs.Laws.Wrote.{wrote_then}
 use Prim.Native.Nat.{◌≤◌}
 use Rattle.format_write.specs.Key.{cost_key}
 use Rattle.text_floor.specs.Output.{floor_key, gap_key}

@@ -1,7 +1,7 @@
 -- `floor_survey` meets its contract: the refusal is printed (`stopped_lines`), or the three lines (`floored_lines`).
 use Rattle.survey_core.specs.Survey.{survey_with}
-use Rattle.text_floor.specs.Laws.Gap.{floor_le_cost, answered_small}
-use Rattle.text_floor.specs.Laws.Output.{printed_as, told_refused, told_finished, stopped_lines, floored_lines}
+use Rattle.text_floor.proofs.Laws.Gap.{floor_le_cost, answered_small}
+use Rattle.text_floor.proofs.Laws.Output.{printed_as, told_refused, told_finished, stopped_lines, floored_lines}
 use borrow.Author.Rules.{rules}
 use Rattle.text_floor.proofs.survey.floor_survey.Statement.{statement}
 use Rattle.text_floor.proofs.survey.floor_survey.Tie as tie

@@ -1,6 +1,6 @@
 -- `print_merged` meets its contract: an arm for each answer.
 use mathlib.Core.Path.{ap}
-use Rattle.base_buffer.specs.Laws.Part.{most_le, most_part}
+use Rattle.base_buffer.proofs.Laws.Part.{most_le, most_part}
 use Rattle.survey_core.specs.Survey.{survey_with}
 use Rattle.merge_rule.specs.Refusal.{merged_outcome}
 use Rattle.text_merge.specs.Laws.Output.{refused_printed, survey_printed_law}

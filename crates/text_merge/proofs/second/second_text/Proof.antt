@@ -1,5 +1,5 @@
 -- `second_text` meets its contract: the refusal of the second survey is printed, or the ties behind it are read.
-use Rattle.base_buffer.specs.Laws.Part.{most_le}
+use Rattle.base_buffer.proofs.Laws.Part.{most_le}
 use Rattle.survey_core.specs.Survey.{survey_with}
 use Rattle.text_merge.specs.Laws.Front.{front_said, front_unread}
 use Rattle.text_merge.specs.Laws.Output.{printed_as, rest_is, second_refused, second_read}

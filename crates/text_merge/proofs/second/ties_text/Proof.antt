@@ -1,6 +1,6 @@
 -- `ties_text` meets its contract: the refusal of a tie line is printed, or what is merged.
 use mathlib.Core.Path.{ap}
-use Rattle.base_buffer.specs.Laws.Part.{most_le}
+use Rattle.base_buffer.proofs.Laws.Part.{most_le}
 use Rattle.format_read.specs.Answer.{number_step}
 use Rattle.survey_core.specs.Survey.{survey_with}
 use Rattle.text_merge.specs.Laws.Output.{printed_as, rest_is, ties_refused, count_few, ties_printed}

@@ -1,7 +1,7 @@
 -- `tie_at` meets its contract: a refusal of any part stays, and a value goes on to the next part.
 use mathlib.Core.Path.{sym, ◌∙◌}
 use Rattle.format_read.specs.Number.{stop_of}
-use Rattle.format_read.specs.Laws.NumberStep.{stopped_stays, value_goes}
+use Rattle.format_read.proofs.Laws.NumberStep.{stopped_stays, value_goes}
 use Rattle.format_also.specs.Answer.{pair_step}
 use Rattle.text_merge.specs.Ties.{tie_at}
 use borrow.Author.Rules.{rules}

@@ -3,7 +3,7 @@ use native.Mathlib.Omega.{arith}
 use mathlib.Core.Path.{ap}
 use borrow.Author.Rules.{rules}
 use Rattle.plan_rule.specs.Answer.{planned_outcome}
-use Rattle.base_buffer.specs.Laws.Part.{most_le}
+use Rattle.base_buffer.proofs.Laws.Part.{most_le}
 use Rattle.text_plan.specs.Laws.Planned.{held_le, refused_printed, finished_printed}
 use Rattle.text_plan.proofs.print.print_planned.Statement.{statement}
 use Rattle.text_plan.proofs.print.print_planned.Tie as tie

@@ -3,7 +3,7 @@ use native.Mathlib.Omega.{arith}
 use mathlib.Core.Path.{ap}
 use borrow.Author.Rules.{rules}
 use Rattle.format_stp.specs.Answer.{stp_answer}
-use Rattle.base_buffer.specs.Laws.Part.{most_le, most_part}
+use Rattle.base_buffer.proofs.Laws.Part.{most_le, most_part}
 use Rattle.text_stp.specs.Laws.Stored.{unread_printed, stored_printed_law}
 use Rattle.text_stp.proofs.print.print_read.Statement.{statement}
 use Rattle.text_stp.proofs.print.print_read.Tie as tie

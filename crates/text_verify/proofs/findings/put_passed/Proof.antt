@@ -3,7 +3,7 @@ use Prim.Native.Nat.{◌≤◌}
 use native.Mathlib.Omega.{arith}
 use lib.ListN.{length}
 use Rattle.format_write.specs.Wrote.{farthest}
-use Rattle.format_write.specs.Laws.Wrote.{wrote_then}
+use Rattle.format_write.proofs.Laws.Wrote.{wrote_then}
 use Rattle.format_write.specs.Key.{terminals_key, cost_key, bound_key}
 use Rattle.text_verify.specs.Output.{passed_line, passed_text}
 use borrow.Author.Rules.{rules}

@@ -3,7 +3,7 @@ use native.Mathlib.Omega.{arith}
 use mathlib.Core.Path.{refl, ap}
 use borrow.Author.Rules.{rules}
 use Rattle.why_rule.specs.Answer.{why_outcome}
-use Rattle.base_buffer.specs.Laws.Part.{most_le, most_part}
+use Rattle.base_buffer.proofs.Laws.Part.{most_le, most_part}
 use Rattle.text_why.specs.Laws.WhyAnswer.{unasked_printed, reason_printed}
 use Rattle.text_why.proofs.print.print_why.Statement.{statement}
 use Rattle.text_why.proofs.print.print_why.Tie as tie

@@ -3,9 +3,9 @@ use borrow.Author.Rules.{rules}
 use native.Mathlib.Omega.{arith}
 use Rattle.format_read.specs.Step.{found, refused, ◌then◌}
 use Rattle.format_read.specs.Bytes.{end_at}
-use Rattle.format_read.specs.Laws.Step.{then_found, then_refused}
-use Rattle.format_read.specs.Laws.Bytes.{end_here, end_later}
-use Rattle.format_read.specs.Laws.NumberStep.{value_goes, refusal_stays}
+use Rattle.format_read.proofs.Laws.Step.{then_found, then_refused}
+use Rattle.format_read.proofs.Laws.Bytes.{end_here, end_later}
+use Rattle.format_read.proofs.Laws.NumberStep.{value_goes, refusal_stays}
 use Rattle.format_read.specs.Answer.{number_step}
 use mathlib.Core.Path.{sym, ◌∙◌}
 use Rattle.text_why.specs.Output.{track_at}

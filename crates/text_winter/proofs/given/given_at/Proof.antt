@@ -1,7 +1,7 @@
 -- `given_at` meets its contract: a refusal of any part stays, and a value goes on to the next part.
 use mathlib.Core.Path.{sym, ◌∙◌}
 use Rattle.format_read.specs.Number.{stop_of}
-use Rattle.format_read.specs.Laws.NumberStep.{stopped_stays, value_goes}
+use Rattle.format_read.proofs.Laws.NumberStep.{stopped_stays, value_goes}
 use Rattle.text_winter.specs.Given.{strength_key, given_at, given_step}
 use borrow.Author.Rules.{rules}
 use Rattle.text_winter.proofs.given.given_at.Statement.{statement}

@@ -1,7 +1,7 @@
 -- `given_line` meets its contract: read, then tested.
 use mathlib.Core.Path.{ap, sym, ◌∙◌}
 use Rattle.text_winter.specs.Given.{given_step}
-use Rattle.text_winter.specs.Laws.Given.{line_malformed, line_refused, line_fine}
+use Rattle.text_winter.proofs.Laws.Given.{line_malformed, line_refused, line_fine}
 use borrow.Author.Rules.{rules}
 use Rattle.text_winter.proofs.given.given_line.Statement.{statement}
 use Rattle.text_winter.proofs.given.given_line.Tie as tie

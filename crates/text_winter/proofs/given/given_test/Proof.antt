@@ -3,7 +3,7 @@ use native.Mathlib.Omega.{arith}
 use mathlib.Core.Path.{sym}
 use mathlib.Core.Logic.{inl, inr}
 use Rattle.text_winter.specs.Given.{given_of}
-use Rattle.text_winter.specs.Laws.Given.{given_falls, given_high, given_unfit, given_fine}
+use Rattle.text_winter.proofs.Laws.Given.{given_falls, given_high, given_unfit, given_fine}
 use Rattle.text_winter.proofs.given.given_test.Statement.{statement}
 use Rattle.text_winter.proofs.given.given_test.Tie as tie
 

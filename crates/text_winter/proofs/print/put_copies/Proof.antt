@@ -3,9 +3,9 @@ use Prim.Native.Nat.{◌≤◌}
 use native.Mathlib.Omega.{arith}
 use lib.ListN.{length}
 use Rattle.format_write.specs.Wrote.{farthest}
-use Rattle.format_write.specs.Laws.Wrote.{wrote_none, wrote_then, wrote_as}
+use Rattle.format_write.proofs.Laws.Wrote.{wrote_none, wrote_then, wrote_as}
 use Rattle.text_winter.specs.Output.{copies_key}
-use Rattle.text_winter.specs.Laws.Lines.{copied_line, uncopied_line}
+use Rattle.text_winter.proofs.Laws.Lines.{copied_line, uncopied_line}
 use borrow.Author.Rules.{rules}
 use Rattle.text_winter.proofs.print.put_copies.Statement.{statement}
 use Rattle.text_winter.proofs.print.put_copies.Tie as tie

@@ -5,10 +5,10 @@ use mathlib.Core.Path.{◌≡◌, ap, sym}
 use lib.ListN.{length, get_or}
 use Rattle.format_write.specs.Text.{text_below}
 use Rattle.format_write.specs.Wrote.{farthest, Wrote}
-use Rattle.format_write.specs.Laws.Wrote.{wrote_none, wrote_length, wrote_then, wrote_as}
-use Rattle.format_write.specs.Laws.Text.{text_none, text_next}
+use Rattle.format_write.proofs.Laws.Wrote.{wrote_none, wrote_length, wrote_then, wrote_as}
+use Rattle.format_write.proofs.Laws.Text.{text_none, text_next}
 use Rattle.text_winter.specs.Output.{copies_line, copies_lines}
-use Rattle.text_winter.specs.Laws.Lines.{line_read}
+use Rattle.text_winter.proofs.Laws.Lines.{line_read}
 use borrow.Author.Rules.{rules}
 use Rattle.text_winter.proofs.print.put_lines.Statement.{statement}
 use Rattle.text_winter.proofs.print.put_lines.Tie as tie

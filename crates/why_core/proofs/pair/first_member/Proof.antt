@@ -4,7 +4,7 @@ use mathlib.Core.Bool.{◌&&◌, not}
 use lib.ListN.{length, get_or}
 use lib.Dec.{eqb}
 use Rattle.survey_core.specs.Lists.{lists_from, in_list}
-use Rattle.theory_route.specs.Laws.First.{Unmet, unmet_start, unmet_turn, unmet_found, unmet_end}
+use Rattle.theory_route.proofs.Laws.First.{Unmet, unmet_start, unmet_turn, unmet_found, unmet_end}
 use borrow.Author.Rules.{rules}
 use Rattle.why_core.proofs.pair.first_member.Statement.{statement}
 use Rattle.why_core.proofs.pair.first_member.Tie as tie

@@ -1,6 +1,6 @@
 -- `why_core::refusal` meets its contract: the stages, one after the other, come to the definition.
 use mathlib.Core.Path.{sym, ◌∙◌}
-use Rattle.survey_core.specs.Laws.Refusal.{fine_survey}
+use Rattle.survey_core.proofs.Laws.Refusal.{fine_survey}
 use borrow.Author.Rules.{rules}
 use Rattle.why_core.specs.Laws.Stages.{survey_stops, route_stops, lists_decide}
 use Rattle.why_core.proofs.refusal.why_refusal.Statement.{statement}

@@ -1,7 +1,7 @@
 -- `join_round` meets its contract: a refused survey has no round.
 use mathlib.Core.Path.{sym, ◌∙◌}
 use Rattle.base_limits.specs.Laws.Verdict.{written_refused, written_fine}
-use Rattle.survey_core.specs.Laws.Refusal.{fine_survey}
+use Rattle.survey_core.proofs.Laws.Refusal.{fine_survey}
 use Rattle.why_core.specs.Laws.Replay.{picks_fit}
 use borrow.Author.Rules.{rules}
 use Rattle.why_core.proofs.round.join_round.Statement.{statement}

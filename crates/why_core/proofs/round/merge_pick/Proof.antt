@@ -1,8 +1,8 @@
 -- `merge_pick` meets its contract: the first end's label takes the place of both.
 use mathlib.Core.Path.{ap, ◌∙◌}
 use lib.ListN.{get_or}
-use Rattle.survey_core.specs.Laws.Pairs.{own_read}
-use Rattle.survey_lists.specs.Laws.Room.{joined_by_merge}
+use Rattle.survey_core.proofs.Laws.Pairs.{own_read}
+use Rattle.survey_lists.proofs.Laws.Room.{joined_by_merge}
 use borrow.Author.Rules.{rules}
 use Rattle.why_core.proofs.round.merge_pick.Statement.{statement}
 use Rattle.why_core.proofs.round.merge_pick.Tie as tie

@@ -5,9 +5,9 @@ use mathlib.Core.Path.{◌≡◌, refl, ap, sym, ◌∙◌}
 use lib.ListN.{length, get_or, replicate, length-replicate}
 use Rattle.base_limits.specs.Limits.{max_vertices}
 use Rattle.base_buffer.specs.Store.{remade}
-use Rattle.base_buffer.specs.Laws.Store.{length_remade, remade_more, remade_end}
+use Rattle.base_buffer.proofs.Laws.Store.{length_remade, remade_more, remade_end}
 use Rattle.winter_core.specs.Bit.{bit_group}
-use Rattle.winter_core.specs.Laws.Call.{group_at}
+use Rattle.winter_core.proofs.Laws.Call.{group_at}
 use borrow.Author.Rules.{rules}
 use Rattle.winter_core.proofs.bit.bit_groups.Goals as goal
 

@@ -6,8 +6,8 @@ use lib.ListN.{length}
 use Rattle.base_finite.specs.Below.{count_below, sum_below}
 use Rattle.base_finite.specs.Laws.Below.{count_le}
 use Rattle.winter_core.specs.Bit.{pair_carries, passed}
-use Rattle.winter_core.specs.Laws.Passing.{passed_start, length_passed, passed_more, passed_end}
-use Rattle.winter_core.specs.Laws.Call.{carries_at, count_on, count_end}
+use Rattle.winter_core.proofs.Laws.Passing.{passed_start, length_passed, passed_more, passed_end}
+use Rattle.winter_core.proofs.Laws.Call.{carries_at, count_on, count_end}
 use borrow.Author.Rules.{rules}
 use Rattle.winter_core.proofs.bit.bit_pairs.Goals as goal
 

@@ -1,5 +1,5 @@
 -- `carries` meets its contract: the bit of the group's strength.
-use Rattle.winter_core.specs.Laws.Call.{carries_read}
+use Rattle.winter_core.proofs.Laws.Call.{carries_read}
 use borrow.Author.Rules.{rules}
 use Rattle.winter_core.proofs.bit.carries.Goals as goal
 

@@ -1,5 +1,5 @@
 -- `has_bit` meets its contract: the strength divided by the bit's power is odd, or not.
-use Rattle.winter_core.specs.Laws.Call.{power_some, bit_set, bit_clear}
+use Rattle.winter_core.proofs.Laws.Call.{power_some, bit_set, bit_clear}
 use borrow.Author.Rules.{rules}
 use Rattle.winter_core.proofs.bit.has_bit.Goals as goal
 

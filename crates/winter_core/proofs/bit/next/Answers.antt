@@ -1,5 +1,5 @@
 -- `next` meets its contract: one more, or as many.
-use Rattle.winter_core.specs.Laws.Call.{more_when, same_when}
+use Rattle.winter_core.proofs.Laws.Call.{more_when, same_when}
 use borrow.Author.Rules.{rules}
 use Rattle.winter_core.proofs.bit.next.Goals as goal
 

@@ -1,6 +1,6 @@
 -- `power` meets its contract: 1, 2, 4, 8.
 use native.Mathlib.Omega.{arith}
-use Rattle.winter_core.specs.Laws.Call.{power_at}
+use Rattle.winter_core.proofs.Laws.Call.{power_at}
 use Rattle.winter_core.proofs.bit.power.Goals as goal
 
 pub returns-then-bit-lt1 : goal.returns-then-bit-lt1

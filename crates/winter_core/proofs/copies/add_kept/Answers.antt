@@ -6,8 +6,8 @@ use lib.ListN.{length, get_or}
 use lib.Dec.{eqb}
 use Rattle.base_finite.specs.Below.{counted}
 use Rattle.base_buffer.specs.Store.{remade}
-use Rattle.base_buffer.specs.Laws.Store.{length_remade, remade_more, remade_end}
-use Rattle.winter_core.specs.Laws.Call.{room_ahead, more_read}
+use Rattle.base_buffer.proofs.Laws.Store.{length_remade, remade_more, remade_end}
+use Rattle.winter_core.proofs.Laws.Call.{room_ahead, more_read}
 use borrow.Author.Rules.{rules}
 use Rattle.winter_core.proofs.copies.add_kept.Goals as goal
 

@@ -4,7 +4,7 @@ use native.Mathlib.Omega.{arith}
 use mathlib.Core.Path.{◌≡◌, refl, ap, ◌∙◌}
 use lib.ListN.{length}
 use Rattle.base_buffer.specs.Store.{remade}
-use Rattle.base_buffer.specs.Laws.Store.{length_remade, remade_more, remade_end}
+use Rattle.base_buffer.proofs.Laws.Store.{length_remade, remade_more, remade_end}
 use borrow.Author.Rules.{rules}
 use Rattle.winter_core.proofs.copies.clear.Goals as goal
 

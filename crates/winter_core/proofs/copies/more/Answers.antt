@@ -1,6 +1,6 @@
 -- `more` meets its contract: a kept track is copied more often.
 use borrow.Author.Tests.{eq-eqb, ne_eqb}
-use Rattle.winter_core.specs.Laws.Call.{more_when, same_when}
+use Rattle.winter_core.proofs.Laws.Call.{more_when, same_when}
 use borrow.Author.Rules.{rules}
 use Rattle.winter_core.proofs.copies.more.Goals as goal
 

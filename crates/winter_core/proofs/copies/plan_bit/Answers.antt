@@ -6,8 +6,8 @@ use Rattle.base_finite.specs.Laws.Below.{count_le}
 use Rattle.base_limits.specs.Limits.{max_pairs}
 use Rattle.survey_core.specs.Survey.{survey_with}
 use Rattle.winter_core.specs.Bit.{pair_carries}
-use Rattle.winter_core.specs.Laws.Pairs.{pairs_few}
-use Rattle.winter_core.specs.Laws.Call.{figures_lent, marks_lent}
+use Rattle.winter_core.proofs.Laws.Pairs.{pairs_few}
+use Rattle.winter_core.proofs.Laws.Call.{figures_lent, marks_lent}
 use borrow.Author.Rules.{rules}
 use Rattle.winter_core.proofs.copies.plan_bit.Goals as goal
 

@@ -2,7 +2,7 @@
 use native.Mathlib.Omega.{arith}
 use mathlib.Core.Path.{sym}
 use mathlib.Core.Logic.{inl, inr}
-use Rattle.winter_rule.specs.Laws.Refusal.{strength_fine, strength_unfit}
+use Rattle.winter_rule.proofs.Laws.Refusal.{strength_fine, strength_unfit}
 use Rattle.winter_core.proofs.refusal.strength_refusal.Goals as goal
 
 pub returns-then-strength-lt1 : goal.returns-then-strength-lt1

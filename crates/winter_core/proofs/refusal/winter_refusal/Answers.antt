@@ -1,7 +1,7 @@
 -- `winter_refusal` meets its contract: the stages, one after the other, come to the definition.
 use mathlib.Core.List.{[]}
 use Rattle.survey_core.specs.Survey.{survey_with}
-use Rattle.winter_core.specs.Laws.Call.{given_stops, short_stops, groups_decide}
+use Rattle.winter_core.proofs.Laws.Call.{given_stops, short_stops, groups_decide}
 use borrow.Author.Rules.{rules}
 use Rattle.winter_core.proofs.refusal.winter_refusal.Goals as goal
 

@@ -1,0 +1,11 @@
+pub mod Sound
+pub mod Longest
+pub mod Passes
+pub mod Finished
+pub mod Calls
+pub mod Handset
+pub mod Prints
+pub mod Verify
+pub mod Texts
+pub mod Lines
+pub mod Remark
