@@ -8,7 +8,7 @@ pub returns-then-index8-l : goal.returns-then-index8-l
 returns-then-index8-l c =  record { got_value = member_passed _ _ _ _ _ _ _ _ (c.index8.ensures ∙ c.at8.ensures) c.if-index8-l.true; more_value = λ h. (h, refl); done_2 = c.requires.done }
 
 pub visit-requires : goal.visit-requires
-visit-requires c = record { ends = c.requires.0; chained = c.requires.1.0; v_lt_n = c.requires.1.1.0; done = c.requires.1.1.1 }
+visit-requires c =  record { ends = c.requires.ends; chained = c.requires.chained; v_lt_n = c.requires.v_in_bounds; done = c.requires.done }
 
 pub returns : goal.returns
-returns c = let whole = (member_visited _ _ _ _ _ _ _ _ (c.index8.ensures ∙ c.at8.ensures) c.if-index8-l.false c.visit.ensures.got_value, c.visit.ensures.1) in record { got_value = whole.0; more_value = whole.1.0; done_2 = whole.1.1 }
+returns c =  record { got_value = member_visited _ _ _ _ _ _ _ _ (c.index8.ensures ∙ c.at8.ensures) c.if-index8-l.false c.visit.ensures.got_value; more_value = c.visit.ensures.more_value; done_2 = c.visit.ensures.done_2 }

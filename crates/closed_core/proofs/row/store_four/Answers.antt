@@ -1,0 +1,9 @@
+-- `store_four` meets its contract: four stores, one after the other.
+use Rattle.closed_core.specs.Laws.Call.{stored_four}
+use borrow.Author.Rules.{rules}
+use Rattle.closed_core.proofs.row.store_four.Goals as goal
+
+pub returns : goal.returns
+returns c =
+    let a = c.args in
+    stored_four a.res.now a.at a.one a.two a.three a.four c.put64.ensures c.put64-2.ensures c.put64-3.ensures c.put64-4.ensures
