@@ -4,12 +4,13 @@
 // nothing is printed.
 #![tactic(auto)]
 
-ghost use Rattle.std.specs.Prelude.{◌≡◌, ◌≤◌, IfSome, length};
+ghost use Rattle.std.specs.Prelude.{◌≡◌, ◌≤◌, IfSome, OnOk, length};
 ghost use Rattle.base_limits.specs.Limits.{survey_room};
+ghost use Rattle.text_closed.specs.Output.{closed_output};
+ghost use Rattle.program_io.specs.Prints.{PrintsWithin};
 
 use base_limits::{COUNT_DIGITS, SURVEY_ROOM};
 use closed_rule::MAX_CLOSED;
-use format_print::Printed;
 use format_read::Number;
 use std::io;
 use std::io::{Read, Write};
@@ -30,18 +31,14 @@ fn room() -> [u8; SURVEY_ROOM]
 }
 
 // Reads the survey and prints the lines of these tracks.
-fn answer<R: Read, W: Write>(input: &mut R, output: &mut W, tracks: &[u32]) -> io::Result<()> {
+fn answer<R: Read, W: Write>(input: &mut R, output: &mut W, tracks: &[u32]) -> io::Result<()>
+    ensures { OnOk result (PrintsWithin survey_room (λ t. closed_output t tracks.now) 20480 (R.remaining input.old) (W.contents output.old) (W.contents output.new)) }
+{
     let mut bytes = room();
     let got = program_io::read_full(input, &mut bytes)?;
     let mut out = [0u8; LINES_ROOM];
     let told = text_closed::closed_text(&bytes[..got], tracks, &mut out);
-    let Printed::Length(printed) = told else {
-        return Ok(());
-    };
-    if printed <= LINES_ROOM {
-        output.write_all(&out[..printed])?;
-    }
-    Ok(())
+    program_io::write_printed(told, &out, output)
 }
 
 // The track number that an argument says; one that is longer than a track number can be says none.

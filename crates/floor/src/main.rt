@@ -3,11 +3,12 @@
 // between reading and writing is `text_floor::floor_text`.
 #![tactic(auto)]
 
-ghost use Rattle.std.specs.Prelude.{◌≡◌, length};
+ghost use Rattle.std.specs.Prelude.{◌≡◌, OnOk, length};
 ghost use Rattle.base_limits.specs.Limits.{survey_room};
+ghost use Rattle.text_floor.specs.Output.{floor_output};
+ghost use Rattle.program_io.specs.Prints.{PrintsWithin};
 
 use base_limits::SURVEY_ROOM;
-use format_print::Printed;
 use std::io;
 use std::io::{Read, Write};
 
@@ -22,18 +23,14 @@ fn room() -> [u8; SURVEY_ROOM]
 }
 
 // What the program does, from its input to its output.
-fn run<R: Read, W: Write>(input: &mut R, output: &mut W) -> io::Result<()> {
+fn run<R: Read, W: Write>(input: &mut R, output: &mut W) -> io::Result<()>
+    ensures { OnOk result (PrintsWithin survey_room floor_output 128 (R.remaining input.old) (W.contents output.old) (W.contents output.new)) }
+{
     let mut bytes = room();
     let got = program_io::read_full(input, &mut bytes)?;
     let mut out = [0u8; LINES_ROOM];
     let told = text_floor::floor_text(&bytes[..got], &mut out);
-    let Printed::Length(printed) = told else {
-        return Ok(());
-    };
-    if printed <= LINES_ROOM {
-        output.write_all(&out[..printed])?;
-    }
-    Ok(())
+    program_io::write_printed(told, &out, output)
 }
 
 fn main(rt: HostRuntime) -> io::Result<()> {

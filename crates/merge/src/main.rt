@@ -3,11 +3,12 @@
 // `text_merge::merge_text`. More bytes than two surveys and their ties can have are not read.
 #![tactic(auto)]
 
-ghost use Rattle.std.specs.Prelude.{◌≡◌, ◌*◌, length};
+ghost use Rattle.std.specs.Prelude.{◌≡◌, ◌*◌, OnOk, length};
 ghost use Rattle.base_limits.specs.Limits.{survey_room};
+ghost use Rattle.text_merge.specs.Output.{merge_output};
+ghost use Rattle.program_io.specs.Prints.{PrintsWithin};
 
 use base_limits::SURVEY_ROOM;
-use format_print::Printed;
 use std::io;
 use std::io::{Read, Write};
 
@@ -28,18 +29,14 @@ fn survey_buffer() -> [u8; SURVEY_ROOM]
 }
 
 // What the program does, from its input to its output.
-fn run<R: Read, W: Write>(input: &mut R, output: &mut W) -> io::Result<()> {
+fn run<R: Read, W: Write>(input: &mut R, output: &mut W) -> io::Result<()>
+    ensures { OnOk result (PrintsWithin (3 * survey_room) merge_output survey_room (R.remaining input.old) (W.contents output.old) (W.contents output.new)) }
+{
     let mut bytes = room();
     let got = program_io::read_full(input, &mut bytes)?;
     let mut out = survey_buffer();
     let told = text_merge::merge_text(&bytes[..got], &mut out);
-    let Printed::Length(printed) = told else {
-        return Ok(());
-    };
-    if printed <= SURVEY_ROOM {
-        output.write_all(&out[..printed])?;
-    }
-    Ok(())
+    program_io::write_printed(told, &out, output)
 }
 
 fn main(rt: HostRuntime) -> io::Result<()> {

@@ -4,8 +4,11 @@
 // that no cheaper plan exists (`format_plan::remark`).
 #![tactic(auto)]
 
-ghost use Rattle.std.specs.Prelude.{◌≡◌, length};
+ghost use Rattle.std.specs.Prelude.{◌≡◌, OnOk, length};
 ghost use Rattle.base_limits.specs.Limits.{survey_room};
+ghost use Rattle.text_plan.specs.Output.{plan_output};
+ghost use Rattle.format_plan.specs.Remark.{remark_on};
+ghost use Rattle.program_io.specs.Prints.{Prints};
 
 use base_limits::SURVEY_ROOM;
 use std::io;
@@ -19,11 +22,10 @@ fn room() -> [u8; SURVEY_ROOM]
 }
 
 // What the program does, from its input to its outputs.
-fn run<R: Read, W: Write, E: Write>(
-    input: &mut R,
-    output: &mut W,
-    errors: &mut E,
-) -> io::Result<()> {
+fn run<R: Read, W: Write, E: Write>(input: &mut R, output: &mut W, errors: &mut E) -> io::Result<()>
+    ensures output { OnOk result (Prints survey_room plan_output (R.remaining input.old) (W.contents output.old) (W.contents output.new)) }
+    ensures errors { OnOk result (Prints survey_room (λ t. remark_on (plan_output t) 0) (R.remaining input.old) (E.contents errors.old) (E.contents errors.new)) }
+{
     let mut bytes = room();
     let got = program_io::read_full(input, &mut bytes)?;
     let mut out = format_print::plan_buffer();

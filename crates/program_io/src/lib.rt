@@ -2,13 +2,15 @@
 // its arguments. No heap is used.
 #![tactic(auto)]
 
-ghost use Rattle.std.specs.Prelude.{◌<◌, ◌≤◌, IfOk, length, take};
+ghost use Rattle.std.specs.Prelude.{◌≡◌, ◌<◌, ◌≤◌, IfOk, IfSome, OnOk, length, take};
 ghost use Rattle.std.specs.Io.{ReadsAtMost};
 ghost use Rattle.std.specs.Io.KnownBytes.{Consumes, IsAtEnd};
+ghost use Rattle.program_io.specs.Prints.{WritesPrinted};
 
+use format_print::Printed;
 use std::env::FillError;
 use std::io;
-use std::io::Read;
+use std::io::{Read, Write};
 use std::rt::Env;
 
 // Reads until the buffer is full or the input ends, and says how many bytes were put at its start. Of a reader whose
@@ -17,6 +19,7 @@ pub fn read_full<R: Read>(reader: &mut R, buf: &mut [u8]) -> io::Result<usize>
     ensures bound { ReadsAtMost result buf.new }
     ensures bytes { IfOk result (λ n. Consumes (R.remaining reader.old) (R.remaining reader.new) (take n buf.new)) }
     ensures end { IfOk result (λ n. n < length buf.new → IsAtEnd (R.remaining reader.new)) }
+    ensures first { IfOk result (λ n. IfSome (R.remaining reader.old) (λ xs. take n buf.new ≡ take (length buf.old) xs)) }
 {
     let mut done = 0;
     while done < buf.len() {
@@ -27,6 +30,19 @@ pub fn read_full<R: Read>(reader: &mut R, buf: &mut [u8]) -> io::Result<usize>
         done += n;
     }
     Ok(done)
+}
+
+// Writes the text that a print call put at the start of a buffer; nothing where the call refused.
+pub fn write_printed<W: Write>(told: Printed, out: &[u8], output: &mut W) -> io::Result<()>
+    ensures { OnOk result (WritesPrinted told out.now (W.contents output.old) (W.contents output.new)) }
+{
+    let Printed::Length(n) = told else {
+        return Ok(());
+    };
+    if out.len() < n {
+        return Ok(());
+    }
+    output.write_all(&out[..n])
 }
 
 // Puts an argument of the program at the start of the buffer and says its length; 0 where there is no such argument or

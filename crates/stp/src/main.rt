@@ -3,9 +3,10 @@
 // a longer text is refused and not cut (`stp_first_bytes`).
 #![tactic(auto)]
 
-ghost use Rattle.std.specs.Prelude.{◌≡◌, ◌+◌, length};
+ghost use Rattle.std.specs.Prelude.{◌≡◌, ◌+◌, OnOk, length};
 ghost use Rattle.base_limits.specs.Limits.{survey_room};
-ghost use Rattle.text_stp.specs.StpOutput.{stp_room};
+ghost use Rattle.text_stp.specs.StpOutput.{stp_room, stp_output};
+ghost use Rattle.program_io.specs.Prints.{Prints};
 
 use base_limits::SURVEY_ROOM;
 use std::io;
@@ -27,7 +28,9 @@ fn survey_buffer() -> [u8; SURVEY_ROOM]
 }
 
 // What the program does, from its input to its output.
-fn run<R: Read, W: Write>(input: &mut R, output: &mut W) -> io::Result<()> {
+fn run<R: Read, W: Write>(input: &mut R, output: &mut W) -> io::Result<()>
+    ensures { OnOk result (Prints (stp_room + 1) stp_output (R.remaining input.old) (W.contents output.old) (W.contents output.new)) }
+{
     let mut bytes = room();
     let got = program_io::read_full(input, &mut bytes)?;
     let mut out = survey_buffer();

@@ -4,8 +4,11 @@
 // and could be written, it says on standard error that no cheaper plan exists (`format_plan::remark`).
 #![tactic(auto)]
 
-ghost use Rattle.std.specs.Prelude.{◌≡◌, length};
+ghost use Rattle.std.specs.Prelude.{◌≡◌, OnOk, length};
 ghost use Rattle.base_limits.specs.Limits.{verify_room};
+ghost use Rattle.text_verify.specs.Output.{verify_output};
+ghost use Rattle.format_plan.specs.Remark.{remark_on};
+ghost use Rattle.program_io.specs.Prints.{Prints};
 
 use base_limits::VERIFY_ROOM;
 use std::io;
@@ -19,11 +22,10 @@ fn room() -> [u8; VERIFY_ROOM]
 }
 
 // What the program does, from its input to its outputs.
-fn run<R: Read, W: Write, E: Write>(
-    input: &mut R,
-    output: &mut W,
-    errors: &mut E,
-) -> io::Result<()> {
+fn run<R: Read, W: Write, E: Write>(input: &mut R, output: &mut W, errors: &mut E) -> io::Result<()>
+    ensures output { OnOk result (Prints verify_room verify_output (R.remaining input.old) (W.contents output.old) (W.contents output.new)) }
+    ensures errors { OnOk result (Prints verify_room (λ t. remark_on (verify_output t) 7) (R.remaining input.old) (E.contents errors.old) (E.contents errors.new)) }
+{
     let mut bytes = room();
     let got = program_io::read_full(input, &mut bytes)?;
     let mut out = text_verify::findings_buffer();

@@ -3,8 +3,10 @@
 // `text_why::why_whole`; a longer text has the output of its first bytes (`why_first_bytes`).
 #![tactic(auto)]
 
-ghost use Rattle.std.specs.Prelude.{◌≡◌, length};
+ghost use Rattle.std.specs.Prelude.{◌≡◌, OnOk, length};
 ghost use Rattle.base_limits.specs.Limits.{survey_room};
+ghost use Rattle.text_why.specs.Output.{why_output};
+ghost use Rattle.program_io.specs.Prints.{Prints};
 
 use base_limits::{COUNT_DIGITS, SURVEY_ROOM};
 use format_read::Number;
@@ -23,7 +25,9 @@ fn room() -> [u8; SURVEY_ROOM]
 }
 
 // Reads the survey and prints why this track has its mark.
-fn answer<R: Read, W: Write>(input: &mut R, output: &mut W, track: usize) -> io::Result<()> {
+fn answer<R: Read, W: Write>(input: &mut R, output: &mut W, track: usize) -> io::Result<()>
+    ensures { OnOk result (Prints survey_room (λ t. why_output t track) (R.remaining input.old) (W.contents output.old) (W.contents output.new)) }
+{
     let mut bytes = room();
     let got = program_io::read_full(input, &mut bytes)?;
     let mut out = format_why::why_buffer();

@@ -1,0 +1,13 @@
+-- `run` prints what the program says of what was read, where that fits.
+use Rattle.std.proofs.Common.{ℕ}
+use lib.ListN.{length-replicate}
+use Rattle.text_floor.specs.Output.{floor_output}
+use Rattle.std.proofs.lemmas.Result.{on_ok_weaker}
+use Rattle.program_io.proofs.Prints.{prints_within}
+use Rattle.floor.proofs.run.Goals as goal
+
+pub returns : goal.returns
+returns g c =
+    on_ok_weaker _
+    (prints_within _ _ _ floor_output _ _ _ _ _ _ _ c.room-bytes.ensures (length-replicate {A = ℕ} 128 0) c.in_ok-got.ensures.first c.floor_text-told.ensures.value c.floor_text-told.ensures.out_value)
+    c.write_printed.ensures

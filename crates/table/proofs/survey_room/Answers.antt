@@ -1,0 +1,8 @@
+-- `survey_room`: so many zeros.
+use Rattle.std.proofs.Common.{ℕ}
+use lib.ListN.{length-replicate}
+use Rattle.base_limits.specs.Limits.{survey_room}
+use Rattle.table.proofs.survey_room.Goals as goal
+
+pub returns : goal.returns
+returns c = length-replicate {A = ℕ} survey_room 0
