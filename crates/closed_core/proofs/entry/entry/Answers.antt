@@ -21,7 +21,7 @@ pub returns-in-Finished : goal.returns-in-Finished
 unfolding closed_outcome figured_outcome
 returns-in-Finished c =
     entry_unpicked _ _ c.if-firsts-c.false (record { own_byte = λ v. omega (arith, c.shared_slice_known-1.given v); other_byte = λ i. omega (arith, c.shared_slice_known-6-1.given i) }) c.requires.survey_sound c.index32-c.ensures (replicate max_edges 0) c.requires.whole_value
-    (ap figured_outcome c.in-Finished.is) c.requires.marks_value (sym c.is_picked.ensures ∙ not-true _ c.if-not-is_picked.true)
+    (ap figured_outcome c.in-Finished.is) c.requires.marks_value (sym c.is_picked.ensures ∙ c.if-not-is_picked.true)
 
 pub answer_without-requires : goal.answer_without-requires
 answer_without-requires c =  record { survey_sound = c.requires.survey_sound; c_in_bounds = c.if-firsts-c.false }

@@ -22,8 +22,5 @@ walk-walked-requires c = walk_begins c.args.firsts.now c.args.seconds.now c.args
 pub returns-then-walked : goal.returns-then-walked
 returns-then-walked c = cut_inside c.args.firsts.now c.args.seconds.now c.args.tops.now c.args.links.now c.args.n c.args.root c.args.v c.args.cap c.requires.ends c.requires.chained c.requires.v_lt_n c.args.rests.now c.put8.ensures c.put32.ensures c.walk-walked.ensures c.if-walked.true _
 
-pub load-requires : goal.load-requires
-load-requires c = ?
-
 pub returns : goal.returns
 returns c = cut_outside c.args.firsts.now c.args.seconds.now c.args.tops.now c.args.links.now c.args.n c.args.root c.args.v c.args.cap c.requires.ends c.requires.chained c.requires.v_lt_n c.args.rests.now c.put8.ensures c.put32.ensures c.walk-walked.ensures c.if-walked.false c.narrow-found.ensures c.load.ensures

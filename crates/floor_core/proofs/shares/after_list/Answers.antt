@@ -7,7 +7,7 @@ pub returns-then-at64-eq0 : goal.returns-then-at64-eq0
 returns-then-at64-eq0 c = list_none _ _ _ _ _ _ c.at64.ensures c.if-at64-eq0.true
 
 pub ascend-got-requires : goal.ascend-got-requires
-ascend-got-requires c = record { ends = c.requires.0; chained = c.requires.1 }
+ascend-got-requires c = record { ends = c.requires.ends; chained = c.requires.chained }
 
 pub returns : goal.returns
 returns c = list_some _ _ _ _ _ _ c.at64.ensures c.if-at64-eq0.false c.ascend-got.ensures c.lower.ensures

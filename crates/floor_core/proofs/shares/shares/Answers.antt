@@ -16,7 +16,7 @@ pub slice_bounds-after_list-end : goal.slice_bounds-after_list-end
 slice_bounds-after_list-end c = shares_long _ _ _ _ _ c.loop-j.invariant.1
 
 pub after_list-requires : goal.after_list-requires
-after_list-requires c = record { ends = c.requires.0; chained = c.requires.1 }
+after_list-requires c = record { ends = c.requires.ends; chained = c.requires.chained }
 
 pub loop-j-smaller : goal.loop-j-smaller
 loop-j-smaller c = omega arith

@@ -6,7 +6,7 @@ use Rattle.why_core.specs.Laws.Member.{labels_apart}
 use Rattle.why_core.proofs.pair.is_apart.Goals as goal
 
 pub returns-then-not-is_member : goal.returns-then-not-is_member
-returns-then-not-is_member c = rw (sym c.is_member.ensures ∙ not-true _ c.if-not-is_member.true)
+returns-then-not-is_member c = rw (sym c.is_member.ensures ∙ c.if-not-is_member.true)
 
 pub returns : goal.returns
 returns c =

@@ -23,7 +23,7 @@ pub slice_bounds-merge_pick-end : goal.slice_bounds-merge_pick-end
 slice_bounds-merge_pick-end c = sym (ap length c.loop-r.invariant.labels_are ∙ length_tabulate max_vertices _)
 
 pub slice_bounds-are_joined-end-in-loop-r : goal.slice_bounds-are_joined-end-in-loop-r
-slice_bounds-are_joined-end-in-loop-r c = sym (c.merge_pick.auto.1.1.1.0 ∙ ap length c.loop-r.invariant.labels_are ∙ length_tabulate max_vertices _)
+slice_bounds-are_joined-end-in-loop-r c = sym (c.merge_pick.auto.labels ∙ ap length c.loop-r.invariant.labels_are ∙ length_tabulate max_vertices _)
 
 -- linked by this pick
 pub returns-then-are_joined-2 : goal.returns-then-are_joined-2

@@ -13,14 +13,14 @@ returns-then-not-is_picked c = not_of_forest _ _ _ c.is_picked.ensures c.if-not-
 -- at its first end
 pub returns-then-index32-v : goal.returns-then-index32-v
 unfolding is_end
-returns-then-index32-v c = rw (sym c.is_picked.ensures ∙ not-false _ c.if-not-is_picked.false, eq-eqb _ _ (sym (c.index32.ensures ∙ c.at32.ensures) ∙ c.if-index32-v.true))
+returns-then-index32-v c = rw (sym c.is_picked.ensures ∙ c.if-not-is_picked.false, eq-eqb _ _ (sym (c.index32.ensures ∙ c.at32.ensures) ∙ c.if-index32-v.true))
 
 -- or at its second
 pub returns : goal.returns
 unfolding is_end
 returns c =
     rw (
-      sym c.is_picked.ensures ∙ not-false _ c.if-not-is_picked.false,
+      sym c.is_picked.ensures ∙ c.if-not-is_picked.false,
       ne_eqb _ _ (λ same. c.if-index32-v.false (c.index32.ensures ∙ c.at32.ensures ∙ same)),
       ← c.index32-2.ensures ∙ c.at32-2.ensures,
     )
