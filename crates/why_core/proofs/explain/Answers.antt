@@ -3,6 +3,7 @@ use mathlib.Core.Path.{sym, ◌∙◌}
 use Rattle.why_core.specs.Laws.Grown.{into_sound, picked_long, order_long, rounds_few, marks_long, kept_asked, no_other_mark, dropped_answer, passed_answer}
 use Rattle.why_core.specs.Laws.Kept.{kept_answered}
 use borrow.Author.Rules.{rules}
+use Rattle.std.proofs.Common.{arith}
 use Rattle.why_core.proofs.explain.Goals as goal
 
 pub slice_bounds-plan_marks-end : goal.slice_bounds-plan_marks-end
@@ -47,5 +48,5 @@ returns-in-2 c =
 pub returns-in_default : goal.returns-in_default
 returns-in_default c =
     absurd
-    (no_other_mark _ c.requires c.grow-grown.ensures c.plan_marks-marks.ensures (λ z. c.in_default.rest.0.0.1 (c.at8.ensures ∙ z)) (λ z. c.in_default.rest.0.1 (c.at8.ensures ∙ z))
-    (λ z. c.in_default.rest.1 (c.at8.ensures ∙ z)))
+    (no_other_mark _ c.requires c.grow-grown.ensures c.plan_marks-marks.ensures (λ z. omega (arith, c.at8.ensures)) (λ z. omega (arith, c.at8.ensures))
+    (λ z. omega (arith, c.at8.ensures)))

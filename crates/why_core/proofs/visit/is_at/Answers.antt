@@ -4,11 +4,12 @@ use borrow.Author.Rules.{rules}
 use borrow.Author.Tests.{eq-eqb, ne_eqb, not-false}
 use Rattle.theory_route.specs.Route.{is_end}
 use Rattle.why_core.specs.Laws.Visit.{not_of_forest}
+use Rattle.std.proofs.Common.{not, ap}
 use Rattle.why_core.proofs.visit.is_at.Goals as goal
 
 -- not of the forest
 pub returns-then-not-is_picked : goal.returns-then-not-is_picked
-returns-then-not-is_picked c = not_of_forest _ _ _ c.is_picked.ensures c.if-not-is_picked.true
+returns-then-not-is_picked c = not_of_forest _ _ _ c.is_picked.ensures (ap not c.if-not-is_picked.true)
 
 -- at its first end
 pub returns-then-index32-v : goal.returns-then-index32-v

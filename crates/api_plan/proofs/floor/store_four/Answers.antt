@@ -1,0 +1,9 @@
+-- `store_four` meets its contract: four stores, one after the other.
+use Rattle.api_plan.specs.Laws.FloorCall.{stored_four}
+use borrow.Author.Rules.{rules}
+use Rattle.api_plan.proofs.floor.store_four.Goals as goal
+
+pub returns : goal.returns
+returns c =
+    let a = c.args in
+    stored_four a.counts.now a.floor a.terminals a.cost a.bound c.put64.ensures c.put64-2.ensures c.put64-3.ensures c.put64-4.ensures

@@ -1,0 +1,25 @@
+-- `print_passed`: refused by the measured text, or printed.
+use Prim.Native.Nat.{◌<◌}
+use native.Mathlib.Omega.{arith}
+use lib.ListN.{length}
+use Rattle.format_write.specs.Wrote.{farthest}
+use Rattle.format_print.specs.Laws.Print.{short_prints, fit_prints}
+use Rattle.text_verify.specs.Output.{passed_text}
+use borrow.Author.Rules.{rules}
+use Rattle.text_verify.proofs.findings.print_passed.Goals as goal
+
+-- 7: the buffer is short
+pub returns-then-out-need : goal.returns-then-out-need
+returns-then-out-need c =
+    let a = c.args in
+    let small : length a.out.now < farthest = omega arith in
+    let p = short_prints (passed_text a.terminals a.cost a.bound) a.out.now small c.put_passed-need.ensures c.if-out-need.true in
+    record { value = p.answers; out_value = p.leaves }
+
+-- printed
+pub returns : goal.returns
+returns c =
+    let a = c.args in
+    let small : length a.out.now < farthest = omega arith in
+    let p = fit_prints (passed_text a.terminals a.cost a.bound) a.out.now small c.put_passed-need.ensures c.if-out-need.false c.put_passed.ensures in
+    record { value = p.answers; out_value = p.leaves }
