@@ -1,0 +1,16 @@
+-- `stopped_tie` meets its contract: by the case that the step is.
+use mathlib.Core.Path.{sym, ap}
+use Rattle.format_read.specs.Step.{stopped}
+use Rattle.format_read.specs.Answer.{number_step}
+use Rattle.format_also.specs.Pair.{Pair}
+use Rattle.format_also.specs.Answer.{pair_step}
+use borrow.Author.Rules.{rules}
+use Rattle.text_merge.proofs.ties.stopped_tie.Goals as goal
+
+pub returns-in-Refused : goal.returns-in-Refused
+unfolding pair_step number_step stopped
+returns-in-Refused c = sym (ap (λ x. stopped {B = Pair} (number_step x)) c.in-Refused.is)
+
+pub returns-in-Value : goal.returns-in-Value
+unfolding pair_step number_step stopped
+returns-in-Value c = sym (ap (λ x. stopped {B = Pair} (number_step x)) c.in-Value.is)

@@ -1,0 +1,24 @@
+-- `tie_at` meets its contract: a refusal of any part stays, and a value goes on to the next part.
+use mathlib.Core.Path.{sym, ◌∙◌}
+use Rattle.format_read.specs.Number.{stop_of}
+use Rattle.format_read.proofs.Laws.NumberStep.{stopped_stays, value_goes}
+use Rattle.format_also.specs.Answer.{pair_step}
+use Rattle.text_merge.specs.Ties.{tie_at}
+use borrow.Author.Rules.{rules}
+use Rattle.text_merge.proofs.ties.tie_at.Goals as goal
+
+pub returns-in_default : goal.returns-in_default
+unfolding tie_at stop_of
+returns-in_default c = c.stopped_tie.ensures ∙ stopped_stays _ c.fixed-key.ensures c.in_default.is
+
+pub returns-in_default-one : goal.returns-in_default-one
+unfolding tie_at stop_of
+returns-in_default-one c = c.stopped_tie-in_default-one.ensures ∙ stopped_stays _ c.number_to-one.ensures c.in_default-one.is ∙ sym (value_goes _ c.fixed-key.ensures c.in-Value.is)
+
+pub returns-in_default-two : goal.returns-in_default-two
+unfolding tie_at stop_of
+returns-in_default-two c = c.stopped_tie-in_default-two.ensures ∙ stopped_stays _ c.number_to-two.ensures c.in_default-two.is ∙ sym (value_goes _ c.number_to-one.ensures c.in-Value-one.is) ∙ sym (value_goes _ c.fixed-key.ensures c.in-Value.is)
+
+pub returns : goal.returns
+unfolding tie_at stop_of pair_step
+returns c = sym (value_goes _ c.number_to-two.ensures c.in-Value-two.is) ∙ sym (value_goes _ c.number_to-one.ensures c.in-Value-one.is) ∙ sym (value_goes _ c.fixed-key.ensures c.in-Value.is)

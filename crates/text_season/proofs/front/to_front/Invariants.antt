@@ -1,0 +1,13 @@
+-- `to_front` meets its contract: it stores at rising places, and reads ahead of them.
+use Prim.Native.Nat.{◌-◌}
+use native.Mathlib.Omega.{arith}
+use mathlib.Core.Path.{refl}
+use borrow.Author.Rules.{rules}
+use Rattle.text_season.specs.Laws.Front.{Moved, moved_start, moved_turn, moved_end, moved_none}
+use Rattle.text_season.proofs.front.to_front.Given as goal
+
+abbrev pub invariant-loop-i : goal.invariant-loop-i
+invariant-loop-i l = Moved l.from l.initial.bytes l.i l.bytes
+
+abbrev pub decreases-loop-i : goal.decreases-loop-i
+decreases-loop-i l = l.rest - l.i

@@ -1,0 +1,8 @@
+-- `track_byte` meets its contract: the track of a byte, and its place there.
+use borrow.Author.Rules.{rules}
+use Rattle.text_table.specs.TrackTable.{track_byte}
+use Rattle.text_table.proofs.row.track_byte.Goals as goal
+
+pub returns : goal.returns
+unfolding track_byte
+returns c = rw (← c.at32.ensures, ← c.at32-2.ensures, ← c.at32-3.ensures) c.row_byte.ensures
