@@ -68,20 +68,20 @@ pub record Turn (g : Ground) (rests : List ℕ) (i v x : ℕ) (flags found rim :
   pub rim_late : (j : ℕ) → j < arcs → head_in g (get_or rim j 0) ≡ v → x ≤ get_or rim j 0
   pub distinct : (j k : ℕ) → j < arcs → k < arcs → get_or rim j 0 ≡ get_or rim k 0 → j ≡ k
 
--- A walk has begun, on some ground.
+-- A walk has begun, on some graph.
 pub record Begun (tops links rests flags found rim : List ℕ) : Type 0 where
-  pub ground : Ground
-  pub chained : ChainedIn ground tops links
-  pub turn : Turn ground rests 0 0 0 flags found rim 1 0
+  pub graph : Ground
+  pub chained : ChainedIn graph tops links
+  pub turn : Turn graph rests 0 0 0 flags found rim 1 0
 
 -- And v is the next vertex of the queue.
 pub record Next (tops links rests flags found rim : List ℕ) (v vertices arcs : ℕ) : Type 0 where
-  pub ground : Ground
+  pub graph : Ground
   pub i : ℕ
-  pub chained : ChainedIn ground tops links
+  pub chained : ChainedIn graph tops links
   pub more : i < vertices
   pub is : v ≡ get_or found i 0
-  pub turn : Turn ground rests i 0 0 flags found rim vertices arcs
+  pub turn : Turn graph rests i 0 0 flags found rim vertices arcs
 
 -- The cut round t: flagged is what leads to it, and every arc that enters is at the rim, once.
 pub record Cut (g : Ground) (rests flags rim : List ℕ) (arcs : ℕ) : Type 0 where

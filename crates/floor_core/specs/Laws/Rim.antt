@@ -365,21 +365,21 @@ module _ (rim : List ℕ) (arcs : ℕ) (rests : List ℕ) (d : ℕ) where
 -- ---- the cut raised
 
 module _ (firsts seconds tops links : List ℕ) (n root v cap : ℕ) (ends : Ends n firsts seconds) (chained : Chained firsts seconds (arc_count firsts) tops links) (low : v < n) (rests : List ℕ) where
-  ground : Ground
-  ground = record { firsts = firsts; seconds = seconds; n = n; t = v; ends = ends; inside = low }
+  graph : Ground
+  graph = record { firsts = firsts; seconds = seconds; n = n; t = v; ends = ends; inside = low }
 
   pub walk_begins : {flags found : List ℕ} (rim : List ℕ) → flags ≡ set (replicate max_vertices 0) v 1 → found ≡ set (replicate max_vertices 0) 0 v → Begun tops links rests flags found rim
-  unfolding ground
-  walk_begins {flags} {found} rim flags_are found_are = record { ground = ground; chained = chained; turn = turn_start ground rests flags found rim flags_are found_are }
+  unfolding graph
+  walk_begins {flags} {found} rim flags_are found_are = record { graph = graph; chained = chained; turn = turn_start graph rests flags found rim flags_are found_are }
 
   module _ {flags found rim flags_after rim_after : List ℕ} {inside : Bool} {arcs : ℕ} (flags_are : flags ≡ set (replicate max_vertices 0) v 1) (found_are : found ≡ set (replicate max_vertices 0) 0 v)
       (walked : (g : Ground) → ChainedIn g tops links → Turn g rests 0 0 0 flags found rim 1 0 → CutFound g rests flags_after rim_after root inside arcs) where
-    what : CutFound ground rests flags_after rim_after root inside arcs
-    unfolding ground
-    what = walked ground chained (turn_start ground rests flags found rim flags_are found_are)
+    what : CutFound graph rests flags_after rim_after root inside arcs
+    unfolding graph
+    what = walked graph chained (turn_start graph rests flags found rim flags_are found_are)
 
     pub cut_inside : inside ≡ true → (by : ℕ) → CutRaised firsts seconds n root v cap rests rests true by
-    unfolding ground what
+    unfolding graph what
     cut_inside on by = record {
       root_inside = λ h. ((reaching_iff firsts seconds rests n ends.few ends.tails_below v low root).1 (what.led on), refl);
       root_outside = λ h. absurd (true≢false h);
@@ -389,16 +389,16 @@ module _ (firsts seconds tops links : List ℕ) (n root v cap : ℕ) (ends : End
         → ((g : Ground) → LinkedIn g links → Cut g rests flags_after rim_after arcs → (by ≡ least_rest g.firsts g.seconds rests flags_after cap (arcs_in g)) × Narrow g rests flags_after narrowed kept)
         → ((g : Ground) (flags : List ℕ) → Narrow g rests flags narrowed kept → after ≡ loaded g.firsts g.seconds flags by rests)
         → CutRaised firsts seconds n root v cap rests after false by
-    unfolding ground what
+    unfolding graph what
     cut_outside off {by} narrow load =
         let k = what.cut off in
-        let found = narrow ground chained.links_are k in
+        let found = narrow graph chained.links_are k in
         record {
           root_inside = λ h. absurd (false≢true h);
           root_outside = λ h. (
-            sym (same_flag ground rests flags_after rim_after arcs k root) ∙ what.outside off,
-            found.0 ∙ least_cut ground rests flags_after rim_after arcs k cap (arc_count firsts),
-            load ground flags_after found.1 ∙ loaded_cut ground rests flags_after rim_after arcs k by,
+            sym (same_flag graph rests flags_after rim_after arcs k root) ∙ what.outside off,
+            found.0 ∙ least_cut graph rests flags_after rim_after arcs k cap (arc_count firsts),
+            load graph flags_after found.1 ∙ loaded_cut graph rests flags_after rim_after arcs k by,
           );
         }
 

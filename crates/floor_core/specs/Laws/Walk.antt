@@ -670,9 +670,9 @@ module _ (tops links rests flags found rim : List ℕ) (v vertices arcs : ℕ) w
   pub next_ready : Next tops links rests flags found rim v vertices arcs → {last : ℕ} → last ≡ get_or tops v 0
       → ((vertices ≤ max_vertices) × (arcs ≤ max_arcs) × (last ≤ max_arcs)) × ((a : ℕ) → a < last → get_or links a 0 / 512 ≤ a)
   next_ready n last_is =
-      let low : v < max_vertices = next_below n.ground rests n.turn n.more n.is in (
-        (turn_few n.ground rests n.turn, turn_arcs n.ground rests n.turn, top_room n.ground tops links n.chained v low last_is),
-        links_fall n.ground tops links n.chained v low last_is,
+      let low : v < max_vertices = next_below n.graph rests n.turn n.more n.is in (
+        (turn_few n.graph rests n.turn, turn_arcs n.graph rests n.turn, top_room n.graph tops links n.chained v low last_is),
+        links_fall n.graph tops links n.chained v low last_is,
       )
 
   pub look_again : {x : ℕ} → x ≡ get_or flags v 0 → x ≡ 2 → (g : Ground) (i : ℕ) → ChainedIn g tops links → i < vertices → v ≡ get_or found i 0
@@ -702,10 +702,10 @@ module _ (tops links rests flags₀ found₀ rim₀ : List ℕ) where
 
   module _ {i : ℕ} {flags found rim : List ℕ} {vertices arcs : ℕ} (h : Walks i flags found rim vertices arcs) where
     pub walks_next : Begun tops links rests flags₀ found₀ rim₀ → i < vertices → {x v : ℕ} → x ≡ get_or found i 0 → v ≡ x → Next tops links rests flags found rim v vertices arcs
-    walks_next b more x_is v_is = record { ground = b.ground; i = i; chained = b.chained; more = more; is = v_is ∙ x_is; turn = h b.ground b.chained b.turn }
+    walks_next b more x_is v_is = record { graph = b.graph; i = i; chained = b.chained; more = more; is = v_is ∙ x_is; turn = h b.graph b.chained b.turn }
 
     pub walks_few : Begun tops links rests flags₀ found₀ rim₀ → vertices ≤ max_vertices
-    walks_few b = turn_few b.ground rests (h b.ground b.chained b.turn)
+    walks_few b = turn_few b.graph rests (h b.graph b.chained b.turn)
 
     pub walks_more : i < vertices → {x v : ℕ} → x ≡ get_or found i 0 → v ≡ x → {flags_after found_after rim_after : List ℕ} {vertices_after arcs_after : ℕ}
         → ((g : Ground) (j : ℕ) → ChainedIn g tops links → j < vertices → v ≡ get_or found j 0 → Turn g rests j 0 0 flags found rim vertices arcs

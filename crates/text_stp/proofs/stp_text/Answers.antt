@@ -19,4 +19,4 @@ returns c =
     let read = rw first at c.read_stp-read.ensures in
     let edges = replicate {A = ℕ} max_edges 0 in
     let whole = read_printed a.text.now (replicate max_vertices 0) edges edges edges
-    read.1.0 read.1.1.0 read.1.1.1.0 read.1.1.1.1.0 a.out.now read.0 c.judge-said.ensures (c.print_read.ensures.value, (c.print_read.ensures.out_value, c.print_read.ensures.words)) in record { value = whole.0; out_value = whole.1.0; fits = whole.1.1 }
+    read.groups_value read.firsts_value read.seconds_value read.weights_value a.out.now read.result_value c.judge-said.ensures (c.print_read.ensures.value, (c.print_read.ensures.out_value, c.print_read.ensures.words)) in record { value = whole.0; out_value = whole.1.0; fits = whole.1.1 }

@@ -10,6 +10,15 @@ use Rattle.text_stp.proofs.print.print_read.Goals as goal
 pub slice_bounds-print_survey-end : goal.slice_bounds-print_survey-end
 slice_bounds-print_survey-end c = let few = most_le _ _ c.at_most-n.ensures in search (rules, few)
 
+pub slice_bounds-print_survey-end-in-Survey : goal.slice_bounds-print_survey-end-in-Survey
+slice_bounds-print_survey-end-in-Survey c = let few = most_le _ _ c.at_most-f.ensures in search (rules, few)
+
+pub slice_bounds-print_survey-end-in-Survey-2 : goal.slice_bounds-print_survey-end-in-Survey-2
+slice_bounds-print_survey-end-in-Survey-2 c = let few = most_le _ _ c.at_most-s.ensures in search (rules, few)
+
+pub slice_bounds-print_survey-end-in-Survey-3 : goal.slice_bounds-print_survey-end-in-Survey-3
+slice_bounds-print_survey-end-in-Survey-3 c = let few = most_le _ _ c.at_most-w.ensures in search (rules, few)
+
 -- the refusal
 pub returns-in-Refused : goal.returns-in-Refused
 unfolding stp_answer
