@@ -3,7 +3,6 @@
 // answer 0, or number + 256 * place.
 #![tactic(auto)]
 
-
 mod check;
 mod counts;
 mod lengths;

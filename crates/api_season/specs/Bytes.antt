@@ -1,6 +1,6 @@
 -- The report as a lent slice of bytes (document 02, No. 11): numbers of eight bytes, lowest first. All bytes 0 are the
 -- empty report, and any bytes are a report.
-use Rattle.std.specs.Prelude.{ℕ, ◌+◌, ◌*◌, ◌<◌, cond, List, [], ◌∷◌, ◌++◌, length, take, drop, ltb}
+use Rattle.std.specs.Prelude.{ℕ, ◌+◌, ◌*◌, ◌<◌, cond, List, [], ◌∷◌, ◌++◌, take, drop, ltb}
 use Rattle.base_finite.specs.Below.{tabulate}
 use Rattle.format_record.specs.Bits.{number_of}
 use Rattle.season_rule.specs.declared.Farthest.{Farthest}

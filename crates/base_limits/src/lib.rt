@@ -2,7 +2,6 @@
 // Definitions in specs/Limits, under the same names, and specs/Verdict; specs/Laws/Limits says the papers' figures.
 #![tactic(auto)]
 
-
 // Vertices, edges, an edge's weight, a dual's value in half units: at most.
 pub const MAX_VERTICES: usize = 448;
 

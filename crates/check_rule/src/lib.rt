@@ -2,4 +2,3 @@
 // words of the survey (specs/Passing), and that whatever passes is accurate (specs/Laws/Accuracy). It holds no
 // function.
 #![tactic(auto)]
-

@@ -2,7 +2,6 @@
 // and laws in specs/, no functions.
 #![tactic(auto)]
 
-
 // Tracks of one call, and numbers of a row, at most.
 pub const MAX_CLOSED: usize = 256;
 

@@ -1,6 +1,6 @@
 -- Marks altered by hand (document 02, No. 7), worked by hand: one list, and one claim about it, proved by computation. Each survey is grown, its marks are replaced, dropping judges those, and the checker
 -- looks at what dropping leaves with the moat records of growing.
-use Rattle.std.specs.Prelude.{ℕ, ◌+◌, ◌*◌, ◌-◌, ◌/◌, ◌%◌, ◌^◌, ◌≡◌, refl, List, [], ◌∷◌, map}
+use Rattle.std.specs.Prelude.{ℕ, ◌≡◌, refl, List, [], ◌∷◌, map}
 use Rattle.base_finite.specs.Below.{counted, sum_below, count_below, any_below, all_below, those_below, tabulate, lookup, memo}
 use Rattle.theory_graph.specs.Path.{without, crosses}
 use Rattle.theory_graph.specs.Component.{merged, components}

@@ -1,6 +1,6 @@
 -- Where near best is best (document 02, No. 14), by computation: the order of tracks by price, then number, and what
 -- is taken of it.
-use Rattle.std.specs.Prelude.{ℕ, ◌≡◌, refl, [], List, ◌∷◌}
+use Rattle.std.specs.Prelude.{◌≡◌, refl, [], ◌∷◌}
 use Rattle.base_finite.specs.Below.{those_below, tabulate, lookup, memo}
 use Rattle.theory_graph.specs.Component.{merged, components}
 use Rattle.theory_steiner.specs.Spanning.{comes_before, placed, in_order_law, joins_parts, with_edge, taken_from, taken}

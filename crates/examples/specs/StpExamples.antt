@@ -20,28 +20,7 @@ use Rattle.format_stp.proofs.Laws.Accepted.{in_accepted}
 use Rattle.format_stp.specs.StpKey.{header_line, end_word, end_line}
 use Rattle.format_stp.specs.Subset.{StpEdgeIn, stp_edge_text, terminal_text}
 use Rattle.format_stp.specs.StpNumber.{is_free, leads_to, reaches, opens, with_digit, goes_on, ends_free, digits_after, more_after, free_to}
-use Rattle.format_stp.specs.StpReading.{
-  StpContent,
-  stp_line,
-  comment_section,
-  graph_section,
-  stp_end,
-  stp_edge,
-  stp_edges,
-  terminal_count,
-  terminal_line,
-  terminal_lines,
-  terminal_section,
-  stp_body,
-  stp_head,
-  count_then,
-  stp_content,
-  stp_whole,
-  stp_tests,
-  stp_number,
-  stp_outcome,
-  stp_reading,
-}
+use Rattle.format_stp.specs.StpReading.{StpContent, stp_line, comment_section, graph_section, stp_end, stp_edge, stp_edges, terminal_count, terminal_line, terminal_lines, terminal_section, stp_body, stp_head, count_then, stp_content, stp_whole, stp_tests, stp_number, stp_outcome, stp_reading}
 use Rattle.format_stp.specs.StpWord.{none, one, OneLine, end, byte, CommentLines, last, line}
 use Rattle.format_stp.specs.StpWord.{empty_lines, after_empty, by_byte, guarded, shown, comment_from, comment_at}
 

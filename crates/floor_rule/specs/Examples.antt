@@ -1,5 +1,5 @@
 -- Floors of the ascent by computation. Each is the cost of the cheapest set of tracks.
-use Rattle.std.specs.Prelude.{ℕ, ◌≡◌, refl, [], ◌∷◌}
+use Rattle.std.specs.Prelude.{◌≡◌, refl, [], ◌∷◌}
 use Rattle.base_finite.specs.Below.{counted, sum_below, count_below, tabulate, lookup, memo}
 use Rattle.base_buffer.specs.Store.{remade}
 use Rattle.theory_graph.specs.Component.{merged, components}

@@ -4,7 +4,6 @@ use Rattle.base_limits.specs.Verdict.{Outcome, answer}
 use Rattle.theory_steiner.specs.Problem.{EdgeSet, Joins, all_usable, cost}
 use Rattle.survey_core.specs.Survey.{Survey, problem_of}
 use Rattle.survey_core.specs.Sound.{SurveySound}
-use Rattle.plan_rule.specs.Plan.{plan_of}
 use Rattle.floor_rule.specs.Floor.{FloorCounts, floor_counts_of}
 
 -- What an answered floor is worth.

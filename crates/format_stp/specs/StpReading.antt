@@ -1,5 +1,5 @@
 -- Reading an STP file (document 02, No. 5), line by line. Refusals of its form are 16 here, as in our own text, and 20 in the answer.
-use Rattle.std.specs.Prelude.{ℕ, zero, suc, ◌+◌, ◌-◌, Bool, ◌||◌, cond, List, [], eqb, length, set, drop, replicate}
+use Rattle.std.specs.Prelude.{ℕ, zero, suc, ◌-◌, ◌||◌, cond, List, [], eqb, length, set, replicate}
 use Rattle.base_limits.specs.Limits.{count_digits, endpoint_digits, weight_digits}
 use Rattle.base_limits.specs.Verdict.{Outcome, refusal, answer}
 use Rattle.base_limits.specs.declared.Verdict.{Verdict}
@@ -9,26 +9,9 @@ use Rattle.format_read.specs.Lines.{Lines, lines_from, whole}
 use Rattle.format_read.specs.Step.{Step, found, refused, ◌then◌}
 use Rattle.format_read.specs.Number.{number_to, number_line}
 use Rattle.format_survey.specs.Line.{Edge, vertices_test, edges_test}
-use Rattle.format_stp.specs.StpKey.{
-  header_line,
-  section_word,
-  graph_line,
-  comment_letter,
-  graph_letter,
-  comment_rest,
-  graph_rest,
-  nodes_word,
-  edges_word,
-  edge_word,
-  end_line,
-  terminals_line,
-  terminals_word,
-  terminal_word,
-  eof_line,
-  space,
-}
+use Rattle.format_stp.specs.StpKey.{header_line, section_word, graph_line, comment_letter, graph_letter, comment_rest, graph_rest, nodes_word, edges_word, edge_word, end_line, terminals_line, terminals_word, terminal_word, eof_line, space}
 use Rattle.format_stp.specs.StpNumber.{is_free, free_to}
-use Rattle.format_stp.specs.StpWord.{after_empty, by_byte, guarded, comment_at, empty_lines}
+use Rattle.format_stp.specs.StpWord.{after_empty, by_byte, guarded, comment_at}
 
 -- What a file says: a group for each junction, 1 for a terminal and otherwise 0, and the tracks, whose ends count from 0.
 pub record StpContent : Type 0 where

@@ -7,24 +7,7 @@ use Rattle.format_read.specs.Language.{Seq, Empty, Fixed, Text}
 use Rattle.format_read.specs.Number.{OfDigits, number_text}
 use Rattle.format_write.specs.Text.{line_of}
 use Rattle.format_survey.specs.Line.{Edge}
-use Rattle.format_stp.specs.StpKey.{
-  header_line,
-  section_word,
-  graph_line,
-  comment_letter,
-  graph_letter,
-  comment_rest,
-  graph_rest,
-  nodes_word,
-  edges_word,
-  edge_word,
-  end_line,
-  terminals_line,
-  terminals_word,
-  terminal_word,
-  eof_line,
-  space,
-}
+use Rattle.format_stp.specs.StpKey.{header_line, section_word, graph_line, comment_letter, graph_letter, comment_rest, graph_rest, nodes_word, edges_word, edge_word, end_line, terminals_line, terminals_word, terminal_word, eof_line, space}
 use Rattle.format_stp.specs.StpReading.{StpContent}
 use Rattle.format_stp.specs.StpWord.{AfterEmpty, CommentWord, Repeated}
 

@@ -3,19 +3,7 @@ use Rattle.std.specs.Prelude.{ℕ, zero, suc, ◌*◌, ◌/◌, cond, List, [], 
 use Rattle.base_finite.specs.Below.{those_below}
 use Rattle.base_limits.specs.Limits.{member_bytes, record_bytes}
 use Rattle.format_record.specs.Record.{value_in, member_in, record_at}
-use Rattle.format_write.specs.Key.{
-  terminals_key,
-  cost_key,
-  bound_key,
-  rounds_key,
-  kept_key,
-  dual_key,
-  refused_key,
-  place_key,
-  colon,
-  comma,
-  newline,
-}
+use Rattle.format_write.specs.Key.{terminals_key, cost_key, bound_key, rounds_key, kept_key, dual_key, refused_key, place_key, colon, comma, newline}
 use Rattle.format_write.specs.Decimal.{decimal}
 
 -- A line key=number.

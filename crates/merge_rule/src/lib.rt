@@ -2,7 +2,6 @@
 // of it again. Definitions and laws in specs/, no functions.
 #![tactic(auto)]
 
-
 // Numbers of a merged survey that are answered: junctions, tracks, pairs.
 pub const MERGE_FIGURES: usize = 3;
 

@@ -1,5 +1,5 @@
 -- What judging a batch of edges, as many as a word has bits, makes of their marks.
-use Rattle.std.specs.Prelude.{◌≡◌, ℕ, ◌+◌, ◌-◌, Bool, cond, ◌&&◌, List, set, slice_index, slice_set}
+use Rattle.std.specs.Prelude.{◌≡◌, ℕ, ◌+◌, ◌-◌, Bool, cond, ◌&&◌, List, slice_index, slice_set}
 use Rattle.base_finite.specs.Below.{counted, count_below}
 use Rattle.format_record.specs.Bits.{bit_at}
 use Rattle.plan_drop.specs.Word.{in_batch}

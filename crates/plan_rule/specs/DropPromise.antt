@@ -1,5 +1,5 @@
 -- What dropping promises beside its answer and its buffer, for any marks 0 and 1 (document 02, No. 7). Laws/Dropping proves it of every call.
-use Rattle.std.specs.Prelude.{ℕ, ◌≤◌, ◌<◌, ◌≡◌, ◌⊎◌, ◌↔◌, Bool, true, ◌&&◌, List, length, get_or, ltb}
+use Rattle.std.specs.Prelude.{ℕ, ◌≤◌, ◌<◌, ◌≡◌, ◌⊎◌, ◌↔◌, true, ◌&&◌, List, length, get_or, ltb}
 use Rattle.base_limits.specs.Verdict.{Outcome, refusal, answer}
 use Rattle.theory_graph.specs.Path.{Linked, without, Forest}
 use Rattle.theory_steiner.specs.Problem.{Joins, terminals, cost}

@@ -2,7 +2,6 @@
 // (specs/Promise, DropPromise, Stages, Poured). It holds the types of the answers, and no function.
 #![tactic(auto)]
 
-
 // What planning answers, and growing with cost 0: k, cost, bound, rounds and the number of moats; or a refusal's
 // number and place.
 #[derive(Drop)]

@@ -3,7 +3,6 @@
 // apart, of a survey that was judged, `group_refusal` of any.
 #![tactic(auto)]
 
-
 mod homes;
 pub mod pour;
 mod split;

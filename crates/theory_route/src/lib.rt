@@ -1,3 +1,2 @@
 // Routes between two vertices of a forest (specs/Route): linked vertices have one, and only one. It holds no function.
 #![tactic(auto)]
-

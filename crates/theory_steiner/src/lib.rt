@@ -2,4 +2,3 @@
 // specs/: Problem, Growth, Dual, Pruning, Rounds, Minima, Requirement; the theorems in specs/Laws. It holds no
 // function.
 #![tactic(auto)]
-

@@ -1,5 +1,5 @@
 -- The picks merged in their order (document 02, No. 3: the round after which the ends were first in one component).
-use Rattle.std.specs.Prelude.{ℕ, suc, ◌<◌, ◌≡◌, Bool, true, List, length, get_or, eqb}
+use Rattle.std.specs.Prelude.{ℕ, suc, ◌<◌, Bool, true, List, length, get_or, eqb}
 use Rattle.base_limits.specs.Limits.{max_vertices}
 use Rattle.theory_graph.specs.Component.{components}
 use Rattle.why_rule.specs.Reason.{first_or_zero}

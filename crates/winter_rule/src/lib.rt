@@ -2,7 +2,6 @@
 // promises. Definitions and laws in specs/, no functions.
 #![tactic(auto)]
 
-
 // Strengths of one call, that of group 1 first; the highest; and its bits.
 pub const STRENGTHS: usize = 255;
 

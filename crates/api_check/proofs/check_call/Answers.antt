@@ -1,5 +1,4 @@
 -- `check_call` meets its contract: counts that fit get what `check` finds, others are 7 after the survey's refusals.
-use borrow.Author.Rules.{rules}
 use Rattle.api_check.specs.Laws.Call.{check_short_code, check_short_counts, check_passed, check_stored, check_call_refused, check_kept}
 use Rattle.api_check.proofs.check_call.Goals as goal
 

@@ -6,7 +6,6 @@ use Rattle.std.proofs.lemmas.List.Edits.{sets}
 use Rattle.base_finite.specs.Laws.Test.{or_false_right}
 use Rattle.base_limits.specs.Limits.{max_duals, record_bytes}
 use Rattle.base_limits.specs.Verdict.{◌before◌}
-use Rattle.base_limits.specs.declared.Verdict.{Verdict}
 use Rattle.base_limits.specs.declared.Verdict.TheVariants.{Fine, Refused}
 use Rattle.base_limits.specs.Laws.Verdict.{fine_refuse}
 use Rattle.survey_core.specs.Survey.{Survey, edge_count}

@@ -1,5 +1,4 @@
 -- `short_counts` meets its contract: what the survey's check found, else 7.
-use borrow.Author.Rules.{rules}
 use Rattle.api_code.specs.Laws.Ends.{short_counts_refused, short_seven}
 use Rattle.api_code.proofs.short_counts.Goals as goal
 

@@ -1,17 +1,5 @@
 -- `plan_call` meets its contract: counts that fit get what `plan` answers, others are 7 after the survey's refusals.
-use borrow.Author.Rules.{rules}
-use Rattle.api_plan.specs.Laws.Call.{
-  plan_short_code,
-  plan_short_marks,
-  plan_short_records,
-  plan_short_counts,
-  plan_marks_law,
-  plan_records_law,
-  plan_finished,
-  plan_stored,
-  plan_call_refused,
-  plan_kept,
-}
+use Rattle.api_plan.specs.Laws.Call.{plan_short_code, plan_short_marks, plan_short_records, plan_short_counts, plan_marks_law, plan_records_law, plan_finished, plan_stored, plan_call_refused, plan_kept}
 use Rattle.api_plan.proofs.plan_call.Goals as goal
 
 -- 1 to 6, 18, or 7

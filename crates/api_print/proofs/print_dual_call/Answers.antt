@@ -1,5 +1,4 @@
 -- `print_dual_call` meets its contract: what `print_dual` answers where so much of the buffer is lent on.
-use borrow.Author.Rules.{rules}
 use Rattle.api_code.specs.Laws.Lending.{lent_le}
 use Rattle.api_print.specs.Laws.Call.{dual_into}
 use Rattle.api_print.proofs.print_dual_call.Goals as goal

@@ -1,5 +1,4 @@
 -- `printed_code` meets its contract: the length is stored, or the refusal is answered.
-use borrow.Author.Rules.{rules}
 use Rattle.api_print.specs.Laws.Call.{refused_answers, length_answers}
 use Rattle.api_print.proofs.printed_code.Goals as goal
 

@@ -1,5 +1,5 @@
 -- Refusals of reading are told by one number of 64 bits: each is 16, whose place is at most 65,536 since no later byte changes the answer, or one of the tests' own, whose place is a junction, a number of three digits, a pair or 0.
-use Rattle.std.specs.Prelude.{ℕ, zero, suc, ◌+◌, ◌<◌, ◌≤◌, ◌^◌, ◌≡◌, refl, Bool, true, false, not, cond, List, [], ◌∷◌, length, take, leb, eqb}
+use Rattle.std.specs.Prelude.{ℕ, zero, suc, ◌+◌, ◌<◌, ◌≤◌, ◌^◌, ◌≡◌, Bool, true, false, not, cond, List, [], ◌∷◌, length, take, leb, eqb}
 use native.Mathlib.Omega.{arith}
 use Rattle.std.proofs.Math.Nat.{min-le_left}
 use Rattle.std.proofs.Common.{ap, sym, ◌∙◌, subst, ⊎_elim, length-take, lit<}

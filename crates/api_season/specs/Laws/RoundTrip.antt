@@ -1,8 +1,8 @@
 -- A report is read back as it was written, and all bytes 0 are the empty report.
-use Rattle.std.specs.Prelude.{ℕ, zero, suc, ◌+◌, ◌*◌, ◌<◌, ◌≤◌, ◌^◌, ◌≡◌, get_or, take, replicate}
+use Rattle.std.specs.Prelude.{ℕ, zero, suc, ◌+◌, ◌*◌, ◌<◌, ◌≤◌, ◌≡◌, get_or, take, replicate}
 use native.Mathlib.Omega.{arith}
 use Rattle.std.proofs.Math.Path.{refl, ap}
-use Rattle.std.proofs.Common.{sym, ◌∙◌, inl, inr, ⊎_elim, take-append-drop, take_at, ext_get_or, lt-ltb}
+use Rattle.std.proofs.Common.{sym, ◌∙◌, ⊎_elim, take-append-drop, take_at, ext_get_or, lt-ltb}
 use mathlib.Core.List.{List, [], ◌∷◌, ◌++◌, append_assoc}
 use Rattle.std.proofs.Math.ListN.{length, drop, length-append, get_or-eq_default}
 use Rattle.std.proofs.Math.Seq.{drop-append-add, get_or-append-add}
@@ -17,21 +17,7 @@ use Rattle.season_rule.specs.Report.{refusal_numbers, word_limit, empty_report}
 use Rattle.season_rule.specs.Text.{Words, FarWords, nothing, numbers}
 use Rattle.api_handset.specs.Words.{figure_bytes, spelled_counts}
 use Rattle.api_handset.proofs.Laws.Words.{length_spelled}
-use Rattle.api_season.specs.Bytes.{
-  head_figures,
-  report_figures,
-  report_bytes,
-  figure_at,
-  far_in,
-  report_in,
-  far_numbers,
-  report_numbers,
-  with_report,
-  FarSome,
-  nothing as none_some,
-  some,
-  Storable,
-}
+use Rattle.api_season.specs.Bytes.{head_figures, report_figures, report_bytes, figure_at, far_in, report_in, far_numbers, report_numbers, with_report, FarSome, nothing as none_some, some, Storable}
 
 -- ---- numbers that are read back
 

@@ -1,7 +1,7 @@
 -- The calls are the season: from all bytes 0, the slice after any list of surveys is that of the season's report, and
 -- each call answers as the season does.
 use Prim.Native.Nat.{ℕ, ◌+◌, ◌*◌, ◌<◌, ◌≤◌}
-use Rattle.std.proofs.Common.{arith, sym, ◌∙◌, subst, get_or-set_other, ltb-true}
+use Rattle.std.proofs.Common.{arith, sym, ◌∙◌, get_or-set_other, ltb-true}
 use Rattle.std.proofs.Math.Decide.{ℕ_discrete}
 use Rattle.std.specs.Prelude.{◌≡◌, Bool, true, false, ◌&&◌, cond, length, set, take, replicate}
 use Rattle.std.proofs.Math.Path.{refl, ap}
@@ -19,7 +19,7 @@ use Rattle.season_rule.specs.declared.Farthest.TheVariants.{Nothing, At}
 use Rattle.season_rule.specs.declared.Report.{Report}
 use Rattle.season_rule.specs.Figures.{Figures, figures, cost_of, bound_of}
 use Rattle.season_rule.specs.Report.{max_surveys, refusal_numbers, word_limit, most_cost, most_bound, empty_report, farther, add_plan, add_refusal, add_outcome, season_refusal, added, add_survey, add_surveys, season_of}
-use Rattle.season_rule.specs.Text.{Words, FarWords, nothing, numbers}
+use Rattle.season_rule.specs.Text.{FarWords, nothing, numbers}
 use Rattle.season_rule.proofs.Laws.Figures.{Limited, limited}
 use Rattle.season_rule.proofs.Laws.Report.{refused_unchanged, fine_added}
 use Rattle.season_rule.proofs.Laws.Season.{season_goes_on, season_full}

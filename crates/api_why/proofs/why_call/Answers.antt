@@ -1,6 +1,5 @@
 -- `why_call` meets its contract: counts that fit get what `why` answers, others are 7 after the survey's refusals.
 use native.Mathlib.Omega.{arith}
-use borrow.Author.Rules.{rules}
 use Rattle.survey_core.specs.Survey.{survey_with}
 use Rattle.api_why.specs.Laws.Call.{why_short_code, why_short_route, why_short_counts, why_route_law, why_coded, why_counted}
 use Rattle.api_why.proofs.why_call.Goals as goal
@@ -18,4 +17,4 @@ returns c =
     let a = c.args in
     let s = survey_with a.groups.now a.firsts.now a.seconds.now a.weights.now a.owners.now a.others.now in
     let long = c.if-counts-lt-WHY_FIGURES.false in
-    let asked = rw c.index32-asked.ensures at c.why-answer.ensures in record { code = why_coded s a.track a.route.now a.counts.now long _ asked.0 (omega (arith, entry.well_formed.1.1.1.1.1.1.0)) c.store_answer.ensures.value; route = why_route_law s a.track a.route.now a.counts.now long asked.1.0; counts = why_counted s a.track a.route.now a.counts.now long _ asked.0 c.store_answer.ensures.counts_value }
+    let asked = rw c.index32-asked.ensures at c.why-answer.ensures in record { code = why_coded s a.track a.route.now a.counts.now long _ asked.0 (omega arith) c.store_answer.ensures.value; route = why_route_law s a.track a.route.now a.counts.now long asked.1.0; counts = why_counted s a.track a.route.now a.counts.now long _ asked.0 c.store_answer.ensures.counts_value }

@@ -5,12 +5,11 @@ use Rattle.std.proofs.Common.{ap, ◌∙◌, lit<}
 use Rattle.std.proofs.Math.ListN.{drop}
 use Rattle.std.proofs.lemmas.List.Edits.{sets}
 use Rattle.base_limits.specs.Verdict.{◌before◌, Outcome, refusal, answer, written}
-use Rattle.base_limits.specs.declared.Verdict.{Verdict}
 use Rattle.base_limits.specs.declared.Verdict.TheVariants.{Refused}
 use Rattle.survey_core.specs.Survey.{Survey}
 use Rattle.survey_core.specs.Refusal.{survey_refusal}
 use Rattle.why_rule.specs.Reason.{reason_of}
-use Rattle.why_rule.specs.Why.{WhyCounts, why_counts, route_in, why_refusal, reasoning, route_after}
+use Rattle.why_rule.specs.Why.{WhyCounts, route_in, why_refusal, reasoning, route_after}
 use Rattle.api_code.specs.Code.{place_unit, code_of, capped, counts_after}
 use Rattle.api_code.specs.Laws.Encodable.{Encodable, encodable_before, encodable_refuse, at_zero, at_place, survey_encodable, group_encodable}
 use Rattle.api_code.specs.Laws.Ends.{counts_long, counts_short, counts_encodable}

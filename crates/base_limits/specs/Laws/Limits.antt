@@ -1,6 +1,6 @@
 -- The limits are the papers' (document 01; document 02, No. 2, No. 6 and No. 8), and the digit limits follow from them: a price and an amount at the limit, and the largest
 -- cost and bound that a plan can have, are written with just so many digits.
-use Rattle.std.specs.Prelude.{ℕ, ◌+◌, ◌*◌, ◌^◌, ◌<◌, ◌≤◌, ◌≡◌, refl}
+use Rattle.std.specs.Prelude.{◌*◌, ◌≤◌, ◌≡◌, refl}
 use Rattle.std.proofs.Common.{arith}
 use Rattle.base_limits.specs.Limits.{max_vertices, max_edges, max_weight, max_value, group_numbers, max_pairs, value_bytes, member_bytes, record_bytes, max_duals, count_digits, group_digits, endpoint_digits, weight_digits, also_digits, figure_digits, value_digits, longest_dual, dual_room, survey_room, HasDigits}
 

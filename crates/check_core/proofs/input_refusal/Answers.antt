@@ -1,5 +1,4 @@
 -- `input_refusal` meets its contract: the first finding stands.
-use borrow.Author.Rules.{rules}
 use Rattle.base_limits.specs.Laws.Verdict.{passed_on, goes_on_law}
 use Rattle.survey_core.specs.Survey.{edge_count}
 use Rattle.check_rule.specs.Check.{shape_refusal}

@@ -1,6 +1,5 @@
 -- `judge` meets its contract: the three counts are the definition's, and 15 decides.
 use mathlib.Core.List.{[]}
-use borrow.Author.Rules.{rules}
 use Rattle.theory_steiner.specs.Problem.{terminal, terminals, cost}
 use Rattle.survey_core.specs.Survey.{survey_from, vertex_count, edge_count, member, same_group, problem_of}
 use Rattle.check_core.specs.Stage.{checked_outcome}

@@ -1,11 +1,11 @@
 -- The stages of the checker, one after the other, come to the definition, and each leaves what the next requires.
 use Rattle.std.specs.Prelude.{ℕ, ◌*◌, ◌/◌, ◌≤◌, ◌≡◌, ◌&&◌, ◌||◌, not, List, [], get_or, eqb}
-use Rattle.std.proofs.Common.{arith, ◌∙◌, subst}
+use Rattle.std.proofs.Common.{◌∙◌, subst}
 use Rattle.std.proofs.Math.Path.{ap, sym}
 use Rattle.std.proofs.Math.ListN.{length}
 use Rattle.std.proofs.Math.Dec.{ltb, leb}
 use Rattle.base_finite.specs.Below.{any_below}
-use Rattle.base_limits.specs.Limits.{max_vertices, member_bytes, record_bytes, max_duals, max_value}
+use Rattle.base_limits.specs.Limits.{member_bytes, record_bytes, max_duals, max_value}
 use Rattle.base_limits.specs.Verdict.{refuse_if, ◌before◌, lowest_below, refusal, answer, outcome}
 use Rattle.base_limits.specs.declared.Verdict.{Verdict}
 use Rattle.base_limits.specs.declared.Verdict.TheVariants.{Fine, Refused}

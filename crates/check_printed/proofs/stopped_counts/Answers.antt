@@ -1,5 +1,4 @@
 -- `check_printed::stopped_counts` meets its contract, by the case that the step is.
-use borrow.Author.Rules.{rules}
 use mathlib.Core.Path.{sym, ap}
 use Rattle.check_rule.specs.Check.{Checked}
 use Rattle.format_read.specs.Step.{stopped}

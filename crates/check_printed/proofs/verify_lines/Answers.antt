@@ -16,7 +16,6 @@ pub returns-in_default : goal.returns-in_default
 unfolding number_step stopped step_outcome
 returns-in_default c =
     let a = c.args in
-    
     let told = c.in_default.is in
     c.stopped_lines.ensures ∙ ap (λ x. step_outcome (stopped {B = Checked} (number_step x))) told
     ∙ survey_lines_refused a.text.now a.vertices a.edges a.cursor.at max_vertices c.requires.0 c.survey_lines-step.ensures.0 (ap number_step told)
@@ -44,8 +43,6 @@ pub returns : goal.returns
 unfolding number_step
 returns c =
     let a = c.args in
-    
-    
     let none = replicate {A = ℕ} max_edges 0 in
     c.verify_plan.ensures
     ∙ lines_verified a.text.now a.vertices a.edges a.cursor.at (replicate max_vertices 0) none none none (replicate max_pairs 0) (replicate max_pairs 0)

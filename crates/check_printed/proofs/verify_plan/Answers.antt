@@ -43,5 +43,4 @@ unfolding plan_outcome plan_reading plan_from edge_count
 returns c =
     let a = c.args in
     let s = survey_with a.groups.now a.firsts.now a.seconds.now a.weights.now a.owners.now a.others.now in
-    
     c.judge.ensures ∙ plan_judged s (plan_from a.text.now s a.at) (replicate max_edges 0) (replicate records_room 0) c.read_plan-plan.ensures.0 c.read_plan-plan.ensures.1 c.read_plan-plan.ensures.2 (ap plan_outcome c.in-Plan.is)

@@ -4,7 +4,7 @@ use Rattle.std.proofs.Common.{arith, add-one, ap, sym, ◌∙◌, ⊎_elim, leng
 use Rattle.format_read.proofs.Laws.NumberWord.{digits_most}
 use Rattle.base_finite.specs.Below.{sum_below}
 use Rattle.base_finite.specs.Laws.Below.{lt_or_ge}
-use Rattle.base_limits.specs.Limits.{record_bytes, max_vertices, max_edges, max_duals, value_digits, longest_members, longest_dual, kept_room, plan_room}
+use Rattle.base_limits.specs.Limits.{record_bytes, max_edges, max_duals, value_digits, longest_members, longest_dual, kept_room, plan_room}
 use Rattle.base_limits.specs.Verdict.{answer}
 use Rattle.format_write.specs.Key.{kept_key, comma}
 use Rattle.format_write.specs.Decimal.{decimal}

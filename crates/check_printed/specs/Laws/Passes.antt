@@ -2,7 +2,7 @@
 use Rattle.std.specs.Prelude.{ℕ, ◌+◌, ◌^◌, ◌≤◌, ◌<◌, ◌≡◌, List, ◌++◌, length}
 use Rattle.std.proofs.Common.{arith, sym, ◌∙◌, length-append}
 use Rattle.std.proofs.Math.Path.{refl, ap, subst}
-use Rattle.base_limits.specs.Limits.{max_edges, figure_digits, plan_room}
+use Rattle.base_limits.specs.Limits.{figure_digits, plan_room}
 use Rattle.base_limits.specs.Verdict.{answer}
 use Rattle.format_record.specs.Bits.{Bytes}
 use Rattle.format_write.specs.Text.{plan_text}

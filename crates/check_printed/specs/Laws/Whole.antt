@@ -1,5 +1,5 @@
 -- A text passes exactly if it is a survey's text with a plan's text behind it, the checker passes the plan for that survey, and the plan claims the counts that the checker finds.
-use Rattle.std.specs.Prelude.{ℕ, ◌+◌, ◌*◌, ◌≡◌, ◌↔◌, List, ◌++◌, length, take}
+use Rattle.std.specs.Prelude.{ℕ, ◌+◌, ◌*◌, ◌≡◌, ◌↔◌, List, ◌++◌, length}
 use Rattle.std.proofs.Common.{arith, ap, sym, ◌∙◌, subst, length-append}
 use Rattle.std.proofs.lemmas.List.{length-map}
 use Rattle.base_limits.specs.Limits.{record_bytes, max_edges, max_duals}

@@ -1,16 +1,15 @@
 -- What figures that pass the checker show (document 02, No. 14): no set of tracks that joins every group costs less
 -- than half the bound, so that a bound of twice the cost leaves no room for a cheaper one; and with k = 2 the accuracy
 -- rule's premise is just that.
-use Rattle.std.specs.Prelude.{ℕ, ◌*◌, ◌-◌, ◌/◌, ◌≤◌, ◌≡◌, refl, Bool, true, List, length, leb}
-use Rattle.std.proofs.Common.{arith, ap, sym, ◌∙◌, subst, leb-true, le-leb}
-use Rattle.base_limits.specs.Limits.{record_bytes}
+use Rattle.std.specs.Prelude.{ℕ, ◌*◌, ◌-◌, ◌≤◌, ◌≡◌, refl, true, List}
+use Rattle.std.proofs.Common.{arith, subst, leb-true, le-leb}
 use Rattle.base_limits.specs.Verdict.{answer}
 use Rattle.base_limits.specs.Laws.Verdict.{answer_fine}
-use Rattle.theory_steiner.specs.Problem.{EdgeSet, Joins, terminals, cost}
+use Rattle.theory_steiner.specs.Problem.{EdgeSet, terminals, cost}
 use Rattle.theory_steiner.specs.Dual.{total}
-use Rattle.survey_core.specs.Survey.{Survey, edge_count, problem_of}
+use Rattle.survey_core.specs.Survey.{Survey, problem_of}
 use Rattle.survey_core.specs.Sound.{ByteGroups}
-use Rattle.check_rule.specs.Check.{Checked, dual_at, duals_in, kept_by, checked_of, check_refusal, checking}
+use Rattle.check_rule.specs.Check.{Checked, duals_in, kept_by, checked_of, check_refusal, checking}
 use Rattle.check_rule.specs.Passing.{Passing}
 use Rattle.check_rule.specs.Exact.{shows_cheapest, Certified}
 use Rattle.check_rule.proofs.Laws.Meaning.{check_passing, kept_bounded}

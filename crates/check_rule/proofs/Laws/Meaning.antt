@@ -21,17 +21,7 @@ use Rattle.survey_core.proofs.Laws.Refusal.{survey_fine, fine_survey}
 use Rattle.survey_core.proofs.Laws.Group.{group_fine, joins_fine}
 use Rattle.check_rule.specs.Passing.{DualSound, Passing}
 use Rattle.check_rule.proofs.Laws.Refusal.{shape_fine, dual_fine}
-use Rattle.check_rule.specs.Check.{
-  Checked,
-  dual_at,
-  duals_in,
-  kept_by,
-  shape_refusal,
-  dual_refusal,
-  rule_refusal,
-  checked_of,
-  check_refusal,
-}
+use Rattle.check_rule.specs.Check.{Checked, dual_at, duals_in, kept_by, shape_refusal, dual_refusal, rule_refusal, checked_of, check_refusal}
 
 -- ---- each refusal
 

@@ -3,7 +3,6 @@ use native.Mathlib.Omega.{arith}
 use mathlib.Core.Path.{sym, ◌∙◌}
 use Rattle.closed_rule.proofs.Laws.Promise.{fine_ready}
 use Rattle.closed_core.specs.Laws.Call.{closed_stops, closed_goes}
-use borrow.Author.Rules.{rules}
 use Rattle.closed_core.proofs.closed.Goals as goal
 
 -- 1 to 6, 18, 7

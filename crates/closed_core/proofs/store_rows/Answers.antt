@@ -1,12 +1,10 @@
 -- `store_rows` meets its contract: one more row in each turn (`rows_more`).
-use Prim.Native.Nat.{◌≤◌, ◌-◌}
+use Prim.Native.Nat.{◌-◌}
 use native.Mathlib.Omega.{arith}
-use mathlib.Core.Path.{◌≡◌, ap, sym, ◌∙◌}
+use mathlib.Core.Path.{ap, sym, ◌∙◌}
 use lib.ListN.{length}
-use Rattle.survey_core.specs.Survey.{survey_with}
-use Rattle.closed_core.specs.LeftOut.{rows_over}
 use Rattle.closed_core.specs.Laws.Entry.{figured_long}
-use Rattle.closed_core.specs.Laws.Rows.{rows_none, length_over, row_asked, rows_more, rows_all}
+use Rattle.closed_core.specs.Laws.Rows.{rows_none, row_asked, rows_more, rows_all}
 use borrow.Author.Rules.{rules}
 use Rattle.closed_core.proofs.store_rows.Goals as goal
 
@@ -20,7 +18,7 @@ pub slice_bounds-entry-end : goal.slice_bounds-entry-end
 slice_bounds-entry-end c = sym (ap length c.sound_figures-whole.ensures.marks_value ∙ figured_long _ c.requires.survey_sound)
 
 pub entry-row-requires : goal.entry-row-requires
-entry-row-requires c =  record { survey_sound = c.requires.survey_sound; whole_value = c.sound_figures-whole.ensures.result_value; marks_value = c.sound_figures-whole.ensures.marks_value }
+entry-row-requires c = record { survey_sound = c.requires.survey_sound; whole_value = c.sound_figures-whole.ensures.result_value; marks_value = c.sound_figures-whole.ensures.marks_value }
 
 pub overflow_mul-i : goal.overflow_mul-i
 overflow_mul-i c = let few = c.requires.tracks_len_bound in let below = c.loop-i-test.true in search (rules, few, below)

@@ -1,13 +1,9 @@
 -- `store_rows` meets its contract: one more row in each turn (`rows_more`).
 use Prim.Native.Nat.{◌≤◌, ◌-◌}
-use native.Mathlib.Omega.{arith}
-use mathlib.Core.Path.{◌≡◌, ap, sym, ◌∙◌}
+use mathlib.Core.Path.{◌≡◌}
 use lib.ListN.{length}
 use Rattle.survey_core.specs.Survey.{survey_with}
 use Rattle.closed_core.specs.LeftOut.{rows_over}
-use Rattle.closed_core.specs.Laws.Entry.{figured_long}
-use Rattle.closed_core.specs.Laws.Rows.{rows_none, length_over, row_asked, rows_more, rows_all}
-use borrow.Author.Rules.{rules}
 use Rattle.closed_core.proofs.store_rows.Given as goal
 
 abbrev pub invariant-loop-i : goal.invariant-loop-i

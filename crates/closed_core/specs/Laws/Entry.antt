@@ -26,7 +26,7 @@ use Rattle.survey_components.specs.Labels.{picked_in}
 use Rattle.plan_rule.specs.Plan.{plan_of}
 use Rattle.plan_rule.specs.Figures.{FigureCounts, figures_refusal, figure_counts_of, figuring, marks_figured}
 use Rattle.plan_rule.proofs.Laws.Ready.{all_bounded}
-use Rattle.closed_rule.specs.Closed.{ClosedCounts, closed_counts_of, closed_entry}
+use Rattle.closed_rule.specs.Closed.{closed_counts_of, closed_entry}
 use Rattle.closed_rule.proofs.Laws.Entry.{unknown_entry, unpicked_entry}
 
 -- 19

@@ -1,6 +1,6 @@
 -- A track left out of a survey is an edge left out of its problem, which is an edge closed: the same groups can be joined, and the plans cost the same and
 -- have the same bound. `figures_without` and `entry` cite it.
-use Rattle.std.specs.Prelude.{ℕ, ◌+◌, ◌-◌, ◌≤◌, ◌<◌, ◌≡◌, ◌↔◌, Bool, true, List, ◌++◌, get_or, take, drop, replicate}
+use Rattle.std.specs.Prelude.{ℕ, ◌+◌, ◌-◌, ◌≤◌, ◌<◌, ◌≡◌, ◌↔◌, true, List, get_or, take, drop, replicate}
 use Rattle.std.proofs.Math.Nat.{sub-zero}
 use Rattle.std.proofs.Common.{add-one, arith, ◌∙◌, ⊎_elim, take_at}
 use Rattle.std.proofs.Math.Path.{refl, ap, sym, subst}
@@ -11,7 +11,7 @@ use Rattle.base_finite.specs.Laws.Below.{lt_or_ge, length_tabulate, get_d_tabula
 use Rattle.base_buffer.specs.Store.{remade}
 use Rattle.base_buffer.proofs.Laws.Store.{length_remade}
 use Rattle.base_limits.specs.Limits.{max_edges, max_weight}
-use Rattle.base_limits.specs.Verdict.{◌before◌, Outcome, refusal, answer, outcome}
+use Rattle.base_limits.specs.Verdict.{◌before◌, Outcome, answer, outcome}
 use Rattle.base_limits.specs.declared.Verdict.{Verdict}
 use Rattle.base_limits.specs.declared.Verdict.TheVariants.{Fine, Refused}
 use Rattle.base_limits.specs.Laws.Verdict.{before_fine}
@@ -20,11 +20,10 @@ use Rattle.theory_steiner.specs.Problem.{Problem, Bounded, all_usable}
 use Rattle.theory_steiner.specs.Closed.{closing, skipping, omitting}
 use Rattle.theory_steiner.proofs.Laws.Finish.{all_usable_edges}
 use Rattle.theory_steiner.proofs.Laws.Omitted.{skipping_low, skipping_high, skipping_below, omitted_linked, omitted_plan}
-use Rattle.survey_core.specs.Survey.{Survey, survey_with, lists_of, vertex_count, edge_count, member, same_group, problem_of, JoinsGroup}
+use Rattle.survey_core.specs.Survey.{Survey, survey_with, vertex_count, edge_count, member, same_group, problem_of, JoinsGroup}
 use Rattle.survey_core.specs.Sound.{EdgeSound, SurveySound}
-use Rattle.survey_core.specs.Refusal.{survey_refusal, group_refusal}
 use Rattle.survey_core.proofs.Laws.Refusal.{survey_fine}
-use Rattle.plan_rule.specs.Plan.{Plan, plan_of}
+use Rattle.plan_rule.specs.Plan.{plan_of}
 use Rattle.plan_rule.specs.Figures.{FigureCounts, figures_refusal, figure_counts_of, figuring}
 use Rattle.plan_core.specs.Laws.Finish.{remade_front}
 use Rattle.closed_rule.specs.Closed.{ClosedCounts, closed_counts_of, entry_refusal, closed_entry}

@@ -1,5 +1,5 @@
 -- A result that is filled row by row. `store_rows` cites it.
-use Prim.Native.Nat.{ℕ, suc, ◌+◌, ◌*◌, ◌≤◌, ◌<◌}
+use Prim.Native.Nat.{ℕ, ◌+◌, ◌*◌, ◌≤◌, ◌<◌}
 use Rattle.std.proofs.Common.{add-one, ◌∙◌, take_at, take-suc, length-take-le, drop-drop}
 use native.Mathlib.Omega.{arith}
 use Rattle.std.specs.Prelude.{◌≡◌, get_or, take}

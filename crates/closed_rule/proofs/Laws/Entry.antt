@@ -8,17 +8,17 @@ use Rattle.std.proofs.Math.Bool.{true}
 use native.Mathlib.Omega.{arith}
 use Rattle.std.proofs.lemmas.Bool.{lt-leb}
 use Rattle.base_finite.specs.Laws.Below.{lt_or_ge}
-use Rattle.base_limits.specs.Verdict.{refuse_if, ◌before◌, Outcome, answer, outcome}
+use Rattle.base_limits.specs.Verdict.{refuse_if, ◌before◌, answer, outcome}
 use Rattle.base_limits.specs.declared.Verdict.TheVariants.{Fine, Refused}
 use Rattle.base_limits.specs.Laws.Verdict.{before_fine, before_refused, no_refusal, refuse_true, refuse_false, refused_refuse, answer_fine, refusal_found}
 use Rattle.theory_graph.proofs.Laws.Linked.{linked_mono}
-use Rattle.theory_steiner.specs.Problem.{Problem, Sound, Bounded, EdgeSet, Joins, all_usable, cost, terminals}
+use Rattle.theory_steiner.specs.Problem.{Problem, Sound, Bounded, Joins, all_usable, cost, terminals}
 use Rattle.theory_steiner.specs.Pruning.{kept, picked}
 use Rattle.theory_steiner.specs.Closed.{closing}
 use Rattle.theory_steiner.proofs.Laws.Finish.{all_usable_all, all_usable_edges}
 use Rattle.theory_steiner.proofs.Laws.Accuracy.{no_terminal_free}
 use Rattle.theory_steiner.proofs.Laws.Closed.{closing_sound, closing_edges, closed_within_factor, cost_closing, terminals_closing, unpicked_plan, unpicked_joins}
-use Rattle.survey_core.specs.Survey.{Survey, vertex_count, edge_count, problem_of, JoinsGroup}
+use Rattle.survey_core.specs.Survey.{Survey, vertex_count, edge_count, problem_of}
 use Rattle.survey_core.specs.Sound.{ByteGroups, SurveySound}
 use Rattle.survey_core.specs.Refusal.{group_refusal, LowestUnjoined}
 use Rattle.survey_core.proofs.Laws.Refusal.{survey_sound}

@@ -1,10 +1,10 @@
 -- What every call promises (document 02, No. 12): refused or not, what stands in each row, that it is what asking for the track alone writes, and what is
 -- left of the buffer.
-use Rattle.std.specs.Prelude.{ℕ, ◌*◌, ◌≤◌, ◌<◌, ◌≡◌, refl, ◌||◌, List, [], ◌∷◌, ◌++◌, length, get_or, take, drop, ltb}
-use Rattle.std.proofs.Common.{ap, sym, ◌∙◌, subst, arith, drop_at, lit≤}
+use Rattle.std.specs.Prelude.{ℕ, ◌*◌, ◌≤◌, ◌<◌, ◌≡◌, refl, List, [], ◌∷◌, ◌++◌, length, get_or, drop, ltb}
+use Rattle.std.proofs.Common.{ap, sym, ◌∙◌, arith, drop_at, lit≤}
 use borrow.Author.Tests.{ltb-false, le-ltb}
 use Rattle.base_finite.specs.Laws.Test.{or_false_left, or_false_right}
-use Rattle.base_limits.specs.Verdict.{refuse_if, written}
+use Rattle.base_limits.specs.Verdict.{written}
 use Rattle.base_limits.specs.declared.Verdict.{Verdict}
 use Rattle.base_limits.specs.declared.Verdict.TheVariants.{Fine, Refused}
 use Rattle.base_limits.specs.Laws.Verdict.{before_fine, fine_left, fine_right, refuse_false, fine_refuse}

@@ -1,7 +1,6 @@
 -- `greater_half` meets its contract: the greater of the two.
 use mathlib.Core.Path.{refl}
 use Rattle.floor_core.specs.Laws.Floor.{greater_half, greater_ascent}
-use borrow.Author.Rules.{rules}
 use Rattle.floor_core.proofs.greater_half.Goals as goal
 
 pub returns-then-ascent-half : goal.returns-then-ascent-half

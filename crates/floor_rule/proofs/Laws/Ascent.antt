@@ -1,29 +1,28 @@
 -- The floor of the ascent is one: behind every state of a list stand cuts that are rooted, load no arc above its weight and give each group what it has got, and
 -- every share is covered by each list that counts for it. So directed duality applies.
-use Prim.Native.Nat.{ℕ, zero, suc, ◌+◌, ◌*◌, ◌-◌, ◌≤◌, ◌<◌}
+use Prim.Native.Nat.{ℕ, zero, suc, ◌+◌, ◌-◌, ◌≤◌, ◌<◌}
 use native.Mathlib.Omega.{arith}
 use Rattle.std.proofs.Math.Decide.{ℕ_discrete}
-use Rattle.std.specs.Prelude.{◌≡◌, refl, ◌⊎◌, Bool, ◌&&◌, ◌||◌, not, replicate}
+use Rattle.std.specs.Prelude.{◌≡◌, refl, ◌⊎◌, Bool, ◌&&◌, ◌||◌, replicate}
 use Rattle.std.proofs.Math.Path.{ap, sym, subst}
-use Rattle.std.proofs.Common.{◌∙◌, inl, inr, ⊎_elim, length-set}
+use Rattle.std.proofs.Common.{◌∙◌, inl, inr, length-set}
 use Rattle.std.proofs.Math.Bool.{true, false, cond}
 use mathlib.Core.List.{[], List, ◌∷◌}
 use Rattle.std.proofs.Math.ListN.{length, get_or, set, length-replicate, get_or-replicate, get_or-eq_default}
 use Rattle.std.proofs.Math.Seq.{get_or-set_same, get_or-set_other}
 use Rattle.std.proofs.Math.Dec.{eqb, ltb}
-use borrow.Author.Tests.{eqb-true, eqb-false, eq-eqb, ne_eqb, lt-ltb, le-ltb, ltb-true, ltb-false}
-use Rattle.base_finite.specs.Below.{counted, sum_below, any_below}
+use borrow.Author.Tests.{eqb-true, eqb-false, eq-eqb, ne_eqb, lt-ltb, le-ltb}
+use Rattle.base_finite.specs.Below.{counted}
 use Rattle.base_finite.specs.Laws.Test.{either, and_left, and_right, and_both, or_false_right, true_not_false}
-use Rattle.base_finite.specs.Laws.Below.{below_suc, lt_or_ge, counted_true, counted_false, any_intro, any_elim, Found}
-use Rattle.base_buffer.specs.Store.{remade}
-use Rattle.base_buffer.proofs.Laws.Store.{length_remade, remade_passed, remade_ahead}
+use Rattle.base_finite.specs.Laws.Below.{lt_or_ge, counted_true, counted_false, any_intro, any_elim, Found}
+use Rattle.base_buffer.proofs.Laws.Store.{length_remade, remade_passed}
 use Rattle.base_limits.specs.Limits.{max_vertices, max_edges, group_numbers}
 use Rattle.theory_steiner.specs.Problem.{Problem, EdgeSet, Joins, cost}
-use Rattle.theory_directed.specs.Directed.{Groups, peopled, Grouped, Cut, EachCut, none, more, amount, enters, arc_load, Fits, Rooted, Certified}
+use Rattle.theory_directed.specs.Directed.{Groups, peopled, Grouped, Cut, EachCut, none, more, amount, arc_load, Fits, Rooted, Certified}
 use Rattle.theory_directed.proofs.Laws.Directed.{directed_duality}
 use Rattle.survey_core.specs.Survey.{Survey, vertex_count, edge_count, problem_of}
-use Rattle.floor_rule.specs.Ascent.{max_arcs, max_cost, lesser, arc_count, edge_of, tail_of, head_of, flagged, enters_at, reaching, least_rest, loaded, State, state_with, missing, raised, raised_by, visit, visit_member, visit_members, visit_group, visit_groups, passes, pass_count, prices, at_first, root_of, ascended, lowered, after_list, in_company, first_shares, shares_after, ascent_floor}
-use Rattle.floor_rule.proofs.Laws.Root.{lowest_le, lowest_member, lowest_below_law, company_some, company_member}
+use Rattle.floor_rule.specs.Ascent.{max_arcs, max_cost, lesser, arc_count, edge_of, tail_of, head_of, flagged, enters_at, reaching, least_rest, loaded, State, missing, raised, raised_by, visit, visit_member, visit_members, visit_group, visit_groups, passes, pass_count, prices, at_first, root_of, ascended, lowered, after_list, in_company, first_shares, shares_after, ascent_floor}
+use Rattle.floor_rule.proofs.Laws.Root.{lowest_member, lowest_below_law, company_some, company_member}
 use Rattle.floor_rule.proofs.Laws.Cut.{lesser_left, lesser_right, reaching_self, least_le, loaded_at, length_loaded, arc_forth, arc_back}
 
 -- The groups with two members or more, by number.

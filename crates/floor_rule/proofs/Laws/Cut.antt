@@ -1,20 +1,18 @@
 -- What a visit's cut holds and how much the arcs bear of it.
 use Prim.Native.Nat.{ℕ, zero, suc, ◌+◌, ◌-◌, ◌≤◌, ◌<◌}
 use native.Mathlib.Omega.{arith}
-use Rattle.std.proofs.Math.Decide.{ℕ_discrete}
 use Rattle.std.specs.Prelude.{◌≡◌, refl, ◌⊎◌, Bool, true, ◌&&◌, cond, List, get_or, set, replicate, eqb}
-use Rattle.std.proofs.Common.{ap, sym, ◌∙◌, subst, inl, inr, ⊎_elim, get_or-set_same, get_or-set_other}
+use Rattle.std.proofs.Common.{ap, sym, ◌∙◌, subst, inl, inr, get_or-set_same, get_or-set_other}
 use Rattle.std.proofs.Math.Bool.{false, not}
 use Rattle.std.proofs.lemmas.Bool.{false≢true}
 use Rattle.std.proofs.Math.ListN.{length}
 use Rattle.std.proofs.lemmas.List.{length-replicate}
 use Rattle.std.proofs.Math.Dec.{ltb}
-use borrow.Author.Tests.{eqb-true, eq-eqb, ltb-true, lt-ltb, le-ltb, not-true}
+use borrow.Author.Tests.{ltb-true, lt-ltb, le-ltb, not-true}
 use Rattle.base_finite.specs.Below.{counted}
 use Rattle.base_finite.specs.Laws.Test.{either, and_left, and_right, true_not_false}
 use Rattle.base_finite.specs.Laws.Below.{below_suc, lt_or_ge}
-use Rattle.base_buffer.specs.Store.{remade}
-use Rattle.base_buffer.proofs.Laws.Store.{length_remade, remade_passed, remade_ahead}
+use Rattle.base_buffer.proofs.Laws.Store.{length_remade, remade_passed}
 use Rattle.base_limits.specs.Limits.{max_vertices}
 use Rattle.theory_directed.specs.Directed.{enters}
 use Rattle.floor_rule.specs.Ascent.{lesser, arc_count, edge_of, tail_of, head_of, flagged, enters_at, flag_at, sweep, sweeps, reaching, least_rest, loaded}

@@ -1,5 +1,5 @@
 -- With two sites the floor is the plan's cost (document 02, No. 14: 'Where near best is best'): the bound is then twice the cost.
-use Rattle.std.specs.Prelude.{ℕ, ◌*◌, ◌≤◌, ◌<◌, ◌≡◌}
+use Rattle.std.specs.Prelude.{◌*◌, ◌≤◌, ◌<◌, ◌≡◌}
 use Rattle.std.proofs.Common.{arith}
 use Rattle.theory_steiner.specs.Problem.{Joins, all_usable, cost, terminals}
 use Rattle.theory_steiner.specs.Growth.{grown}

@@ -1,14 +1,12 @@
 -- Two junctions of one group of the ascent are in one poured group: a group's number is that of one of its lists, and a list lies in one group.
 use Prim.Native.Nat.{ℕ, zero, suc, ◌≤◌, ◌<◌}
-use Rattle.std.proofs.Common.{arith, ap, sym, ◌∙◌, subst, inl, inr, ⊎_elim, eqb-true}
-use Rattle.std.specs.Prelude.{◌≡◌, refl, ◌⊎◌, Bool, true, false, ◌||◌, cond, List, length, get_or, eqb, ltb}
+use Rattle.std.proofs.Common.{arith, sym, ◌∙◌, subst, inl, inr, ⊎_elim, eqb-true}
+use Rattle.std.specs.Prelude.{◌≡◌, refl, ◌⊎◌, Bool, true, false, ◌||◌, cond, length, get_or, eqb, ltb}
 use Rattle.std.proofs.Math.ListN.{get_or-eq_default}
-use Rattle.std.proofs.lemmas.Bool.{eqb-false}
-use Rattle.base_finite.specs.Below.{counted, tabulate}
+use Rattle.base_finite.specs.Below.{counted}
 use Rattle.base_finite.specs.Laws.Test.{either}
-use Rattle.base_finite.specs.Laws.Below.{lt_or_ge, counted_true, counted_false, length_tabulate, get_d_tabulate}
-use Rattle.base_limits.specs.Limits.{group_numbers}
-use Rattle.survey_core.specs.Lists.{Lists, own, owner, other, in_list}
+use Rattle.base_finite.specs.Laws.Below.{lt_or_ge, length_tabulate, get_d_tabulate}
+use Rattle.survey_core.specs.Lists.{Lists, owner, in_list}
 use Rattle.survey_core.specs.Pairs.{PairsSound}
 use Rattle.survey_core.specs.Survey.{Survey, lists_of, same_group}
 use Rattle.survey_core.proofs.Laws.Lists.{by_own, by_pair, in_list_intro}

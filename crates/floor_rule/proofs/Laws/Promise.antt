@@ -1,12 +1,11 @@
 -- The floor is one, for every survey: no set of tracks that joins every group costs less. Where the plan costs no more it is a cheapest one.
-use Rattle.std.specs.Prelude.{ℕ, zero, suc, ◌+◌, ◌*◌, ◌-◌, ◌/◌, ◌≤◌, ◌<◌, ◌≡◌, refl, ◌⊎◌, Bool, true, false, cond, length, ltb}
+use Rattle.std.specs.Prelude.{ℕ, zero, suc, ◌*◌, ◌-◌, ◌≤◌, ◌<◌, ◌≡◌, refl, Bool, true, false, cond, length, ltb}
 use native.Mathlib.Omega.{arith}
-use Rattle.std.proofs.Common.{mul-zero, sym, ◌∙◌, inl, inr, ⊎_elim, ltb-true, ltb-false}
+use Rattle.std.proofs.Common.{mul-zero, sym, ◌∙◌, ltb-true, ltb-false}
 use Rattle.std.proofs.Math.Decide.{ℕ_discrete}
 use Rattle.std.proofs.Math.Path.{ap, subst}
-use Rattle.base_finite.specs.Laws.Test.{either}
 use Rattle.base_limits.specs.Limits.{max_vertices}
-use Rattle.base_limits.specs.Verdict.{◌before◌, Outcome, answer, outcome}
+use Rattle.base_limits.specs.Verdict.{◌before◌, outcome}
 use Rattle.base_limits.specs.declared.Verdict.TheVariants.{Fine}
 use Rattle.base_limits.specs.Laws.Verdict.{fine_left, fine_right, before_fine, answer_fine}
 use Rattle.theory_steiner.specs.Problem.{Problem, Sound, EdgeSet, Joins, all_usable, cost, terminals}
@@ -26,7 +25,7 @@ use Rattle.survey_lists.proofs.Laws.Plan.{poured_joins}
 use Rattle.plan_rule.specs.Plan.{plan_of}
 use Rattle.plan_rule.specs.Figures.{figures_refusal}
 use Rattle.plan_rule.proofs.Laws.Ready.{all_bounded}
-use Rattle.floor_rule.specs.Floor.{greater, ascent_of, half_up, floor_of, FloorCounts, floor_counts_of, flooring}
+use Rattle.floor_rule.specs.Floor.{greater, ascent_of, half_up, floor_of, floor_counts_of, flooring}
 use Rattle.floor_rule.specs.Number.{numbered_groups}
 use Rattle.floor_rule.specs.Promise.{FloorHolds, Floorable, FloorPromises}
 use Rattle.floor_rule.proofs.Laws.Ascent.{ascent_below}

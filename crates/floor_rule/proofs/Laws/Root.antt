@@ -1,15 +1,15 @@
 -- The root of a group is its lowest member, and a group in company has one.
 use Prim.Native.Nat.{ℕ, zero, suc, ◌≤◌, ◌<◌}
 use native.Mathlib.Omega.{arith}
-use Rattle.std.specs.Prelude.{◌≡◌, refl, ◌⊎◌, Bool, true, ◌&&◌, not, List, length, ltb}
-use Rattle.std.proofs.Common.{sym, ◌∙◌, subst, inl, inr}
+use Rattle.std.specs.Prelude.{◌≡◌, ◌⊎◌, Bool, true, ◌&&◌, not, List, length, ltb}
+use Rattle.std.proofs.Common.{subst, inl, inr}
 use Rattle.std.proofs.Math.Logic.{⊎_elim}
 use Rattle.std.proofs.Math.Bool.{false}
 use Rattle.std.proofs.Math.ListN.{get_or}
 use Rattle.std.proofs.Math.Dec.{eqb}
-use borrow.Author.Tests.{eqb-true, eqb-false, eq-eqb, ltb-true, not-true, not-false}
+use borrow.Author.Tests.{eqb-true, eqb-false, ltb-true, not-true, not-false}
 use Rattle.base_finite.specs.Below.{count_below}
-use Rattle.base_finite.specs.Laws.Test.{either, and_left, and_right, and_false_cases, true_not_false}
+use Rattle.base_finite.specs.Laws.Test.{either, and_left, and_right, and_false_cases}
 use Rattle.base_finite.specs.Laws.Below.{below_suc, lt_or_ge, count_elim, Found}
 use Rattle.floor_rule.specs.Ascent.{lowest_in, in_company}
 

@@ -1,16 +1,15 @@
 -- `format_also::pair_lines` meets its contract: what is left to read, to store and to count is what the whole reads, stores and counts.
 use native.Mathlib.Omega.{arith}
-use borrow.Author.Rules.{rules}
 use Prim.Native.Nat.{◌-◌}
 use mathlib.Core.Path.{ap, sym, ◌∙◌}
 use mathlib.Core.Bool.{not}
 use Rattle.format_read.specs.Step.{stopped}
 use Rattle.format_read.specs.Answer.{number_step}
 use Rattle.format_read.proofs.Laws.Byte.{is_also}
-use Rattle.format_also.specs.Pair.{also_reader, also_turns, also_at}
+use Rattle.format_also.specs.Pair.{also_reader, also_at}
 use Rattle.format_also.specs.Answer.{pair_step}
 use Rattle.format_also.specs.Laws.Tests.{line_passed}
-use Rattle.format_also.specs.Laws.Turn.{PairsLeft, pairs_start, pairs_more, pairs_stop, pairs_refused, pairs_out, pairs_ended, owners_length, others_length}
+use Rattle.format_also.specs.Laws.Turn.{pairs_start, pairs_more, pairs_stop, pairs_refused, pairs_out, pairs_ended}
 use Rattle.format_also.proofs.pair_lines.Goals as goal
 
 pub loop-i-init : goal.loop-i-init
@@ -41,7 +40,6 @@ pub overflow_cast-owner : goal.overflow_cast-owner
 unfolding pair_step
 overflow_cast-owner c =
     let a = c.args in
-    
     let p = line_passed a.text.now a.groups.now a.room c.loop-i.low c.loop-i.i c.loop-i.next.at (sym c.also_line-line.ensures ∙ ap pair_step c.in-Pair.is) in
     let k = p.digits.owner in
     omega arith
@@ -50,7 +48,6 @@ pub overflow_cast-other : goal.overflow_cast-other
 unfolding pair_step
 overflow_cast-other c =
     let a = c.args in
-    
     let p = line_passed a.text.now a.groups.now a.room c.loop-i.low c.loop-i.i c.loop-i.next.at (sym c.also_line-line.ensures ∙ ap pair_step c.in-Pair.is) in
     let k = p.passes.group in
     omega arith
@@ -59,7 +56,6 @@ pub overflow_cast-owner-in-loop-i : goal.overflow_cast-owner-in-loop-i
 unfolding pair_step
 overflow_cast-owner-in-loop-i c =
     let a = c.args in
-    
     let p = line_passed a.text.now a.groups.now a.room c.loop-i.low c.loop-i.i c.loop-i.next.at (sym c.also_line-line.ensures ∙ ap pair_step c.in-Pair.is) in
     let k = p.digits.owner in
     omega arith
@@ -68,7 +64,6 @@ pub overflow_cast-other-in-loop-i : goal.overflow_cast-other-in-loop-i
 unfolding pair_step
 overflow_cast-other-in-loop-i c =
     let a = c.args in
-    
     let p = line_passed a.text.now a.groups.now a.room c.loop-i.low c.loop-i.i c.loop-i.next.at (sym c.also_line-line.ensures ∙ ap pair_step c.in-Pair.is) in
     let k = p.digits.other in
     omega arith

@@ -1,17 +1,17 @@
 -- Also lines that are refused otherwise than with 16: pairs that pass, and behind them a whole line, whose pair fails its tests; and the other way round.
-use Prim.Native.Nat.{ℕ, zero, suc, ◌+◌, ◌≤◌, ◌<◌}
+use Prim.Native.Nat.{ℕ, suc, ◌+◌, ◌≤◌, ◌<◌}
 use native.Mathlib.Omega.{arith}
 use Rattle.std.proofs.Math.Nat.{add-zero}
 use Rattle.std.specs.Prelude.{◌≡◌, List, [], ◌∷◌, ◌++◌}
 use Rattle.std.proofs.Math.Path.{refl, sym, subst}
-use Rattle.std.proofs.Common.{ap, ◌∙◌, append_assoc}
+use Rattle.std.proofs.Common.{ap, append_assoc}
 use Rattle.std.proofs.Math.Bool.{not}
 use Rattle.std.proofs.Math.ListN.{length}
 use Rattle.base_limits.specs.Limits.{max_pairs, also_digits}
 use Rattle.base_limits.specs.declared.Verdict.{Verdict}
 use Rattle.base_limits.specs.declared.Verdict.TheVariants.{Fine, Refused}
 use Rattle.format_write.specs.Key.{also_key, comma, newline}
-use Rattle.format_read.specs.Step.{Step, found, refused, ◌then◌, checked}
+use Rattle.format_read.specs.Step.{refused, ◌then◌, checked}
 use Rattle.format_read.specs.Lines.{text_of, whole}
 use Rattle.format_read.specs.Items.{Broken, here, later}
 use Rattle.format_read.specs.Stands.{Stands}
@@ -24,7 +24,6 @@ use Rattle.format_also.specs.Render.{pair_text, pairs_text}
 use Rattle.format_also.specs.WellFormed.{PairsPass, no_pair, next_pair, last_rank}
 use Rattle.format_also.specs.Laws.Tests.{line_fine, line_passed, line_refused, passed_fine}
 use Rattle.format_also.specs.Laws.Word.{reads_pair, LineStops, past, other, line_stops}
-use Rattle.format_also.specs.Laws.Passing.{pairs_few}
 use Rattle.format_also.specs.Laws.Reading.{begins_also, also_stops, broken_refused}
 
 -- A line by itself is refused with 16 alone.

@@ -3,7 +3,7 @@ use Prim.Native.Nat.{ℕ, zero, suc, ◌+◌, ◌*◌, ◌-◌, ◌≤◌, ◌<�
 use native.Mathlib.Omega.{arith}
 use Rattle.std.proofs.Math.Path.{◌≡◌, refl, sym}
 use Rattle.std.proofs.Common.{ap, ◌∙◌}
-use Rattle.std.specs.Prelude.{Bool, not, length, take}
+use Rattle.std.specs.Prelude.{Bool, not}
 use Rattle.std.proofs.Math.Bool.{true, false, cond}
 use mathlib.Core.List.{List, [], ◌∷◌}
 use Rattle.std.proofs.Math.Dec.{leb}
@@ -12,7 +12,7 @@ use Rattle.base_limits.specs.Limits.{max_pairs, also_digits}
 use Rattle.format_write.specs.Key.{also_key, comma, newline}
 use Rattle.format_read.specs.Step.{Step, found, refused, ◌then◌}
 use Rattle.format_read.specs.Bytes.{byte_is}
-use Rattle.format_read.specs.Lines.{Lines, following, whole}
+use Rattle.format_read.specs.Lines.{following, whole}
 use Rattle.format_read.specs.Items.{items_from}
 use Rattle.format_read.specs.Language.{LooksWithin, Any}
 use Rattle.format_read.proofs.Laws.Bytes.{byte_alike}

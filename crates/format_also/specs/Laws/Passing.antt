@@ -1,5 +1,5 @@
 -- Pairs that also lines say before the first refusal pass their tests: they are few, and they have room (document 02, No. 2).
-use Rattle.std.specs.Prelude.{ℕ, zero, suc, ◌+◌, ◌≤◌, ◌≡◌, refl, Bool, true, false, cond, List, [], ◌∷◌, length}
+use Rattle.std.specs.Prelude.{ℕ, zero, suc, ◌+◌, ◌≤◌, ◌≡◌, refl, Bool, true, false, cond, List, [], length}
 use Rattle.std.proofs.Common.{arith}
 use Rattle.base_limits.specs.Limits.{max_pairs}
 use Rattle.format_read.specs.Step.{Step, found, refused}

@@ -9,14 +9,14 @@ use Rattle.std.proofs.Math.Bool.{not}
 use mathlib.Core.List.{List, [], ◌∷◌, ◌++◌, append_assoc, append-nil}
 use Rattle.std.proofs.Math.ListN.{length, length-append}
 use Rattle.base_limits.specs.Limits.{max_pairs}
-use Rattle.format_read.specs.Step.{Step, found, refused, checked}
+use Rattle.format_read.specs.Step.{Step, found, refused}
 use Rattle.format_read.specs.Bytes.{byte_is}
 use Rattle.format_read.specs.Lines.{Lines, following, text_of, whole}
 use Rattle.format_read.specs.Items.{items_from, Standing, stop, item, Broken, here, later}
 use Rattle.format_read.specs.Language.{ReadsBefore, Word, Extends, Text, Each, none, more, NotMalformed, read, otherwise}
 use Rattle.format_read.specs.Stands.{Stands}
 use Rattle.format_read.proofs.Laws.Bytes.{byte_is_law}
-use Rattle.format_read.proofs.Laws.Items.{items_reads_back, items_stop}
+use Rattle.format_read.proofs.Laws.Items.{items_reads_back}
 use Rattle.format_read.proofs.Laws.Language.{bound}
 use Rattle.format_read.proofs.Laws.Listing.{items_standing, standing_words, standing_same, broken_place, broken_same, broken_items, text_from_law, ItemsMet, all_read, one_refused, Tested, met_lines}
 use Rattle.format_read.proofs.Laws.Stands.{stands_first, stands_second, stands_head}

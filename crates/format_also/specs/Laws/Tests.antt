@@ -1,5 +1,5 @@
 -- The tests of an also line, case by case, and what a line that passes them is.
-use Rattle.std.specs.Prelude.{ℕ, ◌+◌, ◌≤◌, ◌<◌, ◌≡◌, refl, Bool, true, false, cond, List, length, get_or, eqb, leb}
+use Rattle.std.specs.Prelude.{ℕ, ◌≤◌, ◌<◌, ◌≡◌, refl, Bool, true, false, List, length, get_or, eqb, leb}
 use Rattle.std.proofs.Common.{arith, sym, ◌∙◌, subst, inl, inr}
 use Rattle.std.proofs.Math.Path.{ap}
 use borrow.Author.Tests.{eq-eqb, ne_eqb, le-leb, lt-leb, eqb-true, eqb-false, leb-true, leb-false}
@@ -9,7 +9,7 @@ use Rattle.base_limits.specs.declared.Verdict.{Verdict}
 use Rattle.base_limits.specs.declared.Verdict.TheVariants.{Fine, Refused}
 use Rattle.base_limits.specs.Laws.Verdict.{fine_left, fine_right, fine_refuse, no_refusal}
 use Rattle.format_write.specs.Key.{also_key, comma, newline}
-use Rattle.format_read.specs.Step.{Step, found, refused, ◌then◌, checked}
+use Rattle.format_read.specs.Step.{found, refused, ◌then◌, checked}
 use Rattle.format_read.specs.Bytes.{fixed_at}
 use Rattle.format_read.proofs.Laws.Step.{then_found, then_refused, then_value, checked_fine, checked_value, checked_next}
 use Rattle.format_read.specs.Number.{number_to}

@@ -1,6 +1,6 @@
 -- One turn of the loop over also lines: what is left to read, to store and to count is what the whole reads, stores and counts.
 use Rattle.std.specs.Prelude.{ℕ, ◌+◌, ◌-◌, ◌≤◌, ◌<◌, ◌≡◌, refl, true, false, List, [], ◌∷◌, map, set}
-use Rattle.std.proofs.Common.{zero-add, add-one, ap, ◌∙◌, subst, length-set}
+use Rattle.std.proofs.Common.{zero-add, add-one, ap, ◌∙◌, length-set}
 use native.Mathlib.Omega.{arith}
 use Rattle.std.proofs.Math.Path.{sym}
 use Rattle.std.proofs.Math.ListN.{length}

@@ -14,14 +14,14 @@ use Rattle.format_write.specs.Key.{kept_key, dual_key, colon, newline}
 use Rattle.format_write.specs.Decimal.{decimal}
 use Rattle.format_write.specs.Text.{line_of, listed}
 use Rattle.format_read.specs.Step.{Step, found, refused, ◌then◌, checked}
-use Rattle.format_read.specs.Lines.{Lines, text_of}
+use Rattle.format_read.specs.Lines.{Lines}
 use Rattle.format_read.specs.Number.{is_digit, class_of, number_at, number_to, OfDigits}
-use Rattle.format_read.specs.Bytes.{byte_is, fixed_at}
+use Rattle.format_read.specs.Bytes.{fixed_at}
 use Rattle.format_read.proofs.Laws.Bytes.{byte_inside, read_same, byte_alike, reads_fixed}
 use Rattle.format_read.proofs.Laws.Decimal.{decimal_numeral}
 use Rattle.format_read.proofs.Laws.Step.{then_found, then_refused, then_value, Stops, early, late, then_stops, checked_fine, checked_value, checked_next}
 use Rattle.format_read.specs.Stands.{Stands}
-use Rattle.format_read.proofs.Laws.Stands.{stands_append, stands_byte, stands_same, take_less, as_long}
+use Rattle.format_read.proofs.Laws.Stands.{stands_append, stands_byte, stands_same, as_long}
 use Rattle.format_read.specs.Language.{Reads, Word, Extends, Fixed, Text, none}
 use Rattle.format_read.proofs.Laws.Language.{bound, read_again, text_stands}
 use Rattle.format_read.proofs.Laws.NumberWord.{NumberOrNone, absent, present, number_or_none, number_is, no_digit_number, numeral_same}
@@ -32,7 +32,7 @@ use Rattle.format_plan.specs.Lines.{kept_test, keep_line, keep_reader, separator
 use Rattle.format_read.proofs.Laws.Items.{items_stop}
 use Rattle.format_plan.specs.WellFormed.{DualDigits, dual_text}
 use Rattle.format_plan.proofs.Laws.RoundTrip.{dual_some, line_some, colon_ends, member_words, later_text, listed_text}
-use Rattle.format_read.proofs.Laws.Listing.{standing_words, standing_long, items_standing, items_broken, item_goes, broken_place, broken_extends, items_again, items_broken_again, text_from_law}
+use Rattle.format_read.proofs.Laws.Listing.{standing_words, standing_long, items_standing, items_broken, item_goes, broken_place, broken_extends, items_again, items_broken_again}
 
 -- ---- bytes and ends that texts have in common
 

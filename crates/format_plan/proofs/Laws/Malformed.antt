@@ -2,25 +2,23 @@
 use Prim.Native.Nat.{ℕ, ◌+◌, ◌≤◌, ◌<◌}
 use Prim.Native.Char.{code}
 use native.Mathlib.Omega.{arith}
-use Rattle.std.specs.Prelude.{◌≡◌, refl, true, false, not, List, [], ◌∷◌, ◌++◌, length, take}
+use Rattle.std.specs.Prelude.{◌≡◌, refl, false, not, List, [], ◌++◌, length, take}
 use Rattle.std.proofs.Common.{ap, sym, ◌∙◌, subst, append_assoc, append-nil, length-append, take_at, length-take-le, le-leb}
 use Rattle.std.proofs.lemmas.Bool.{lt-leb}
 use Rattle.base_limits.specs.Limits.{kept_digits}
 use Rattle.format_read.specs.Number.{OfDigits}
 use Rattle.base_limits.specs.Verdict.{refusal}
-use Rattle.base_limits.specs.declared.Verdict.{Verdict}
-use Rattle.base_limits.specs.declared.Verdict.TheVariants.{Fine, Refused}
 use Rattle.format_write.specs.Key.{kept_key}
 use Rattle.format_write.specs.Text.{line_of}
-use Rattle.format_read.specs.Step.{Step, found, refused, ◌then◌, checked}
+use Rattle.format_read.specs.Step.{Step, found, refused, ◌then◌}
 use Rattle.format_read.specs.Lines.{Lines, lines_after, text_of}
 use Rattle.format_read.specs.Bytes.{byte_is}
 use Rattle.format_read.proofs.Laws.Step.{then_found, then_refused}
 use Rattle.format_read.specs.Stands.{Stands}
 use Rattle.format_read.proofs.Laws.Stands.{stands_first, stands_second, stands_end}
-use Rattle.format_read.specs.Language.{NotMalformed, read, otherwise, Each, none, more}
+use Rattle.format_read.specs.Language.{NotMalformed, read, otherwise, Each, none}
 use Rattle.format_read.proofs.Laws.Language.{bound, read_again, text_stands}
-use Rattle.format_read.specs.Items.{ItemReader, Standing, stop, item, Broken, here, later}
+use Rattle.format_read.specs.Items.{Broken}
 use Rattle.format_plan.specs.Lines.{kept_test, keep_reader, kept_at, PrintedDual, dual_test, dual_reader, duals_at}
 use Rattle.format_plan.specs.Plan.{Claims, claims_at, PrintedPlan, plan_lines_at, plan_at, with_room, plan_reading}
 use Rattle.format_plan.proofs.Laws.Room.{room_refusal_law}

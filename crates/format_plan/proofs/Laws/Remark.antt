@@ -1,6 +1,6 @@
 -- Laws of what is said of printed figures: what the code answers, and what is said where sites, cost and bound are
 -- printed.
-use Rattle.std.specs.Prelude.{ℕ, ◌+◌, ◌*◌, ◌/◌, ◌≤◌, ◌<◌, ◌≡◌, refl, Bool, true, false, length, take, eqb, leb}
+use Rattle.std.specs.Prelude.{ℕ, ◌+◌, ◌*◌, ◌/◌, ◌≤◌, ◌<◌, ◌≡◌, refl, Bool, true, false, length, take, leb}
 use Rattle.std.proofs.Common.{arith, ◌∙◌, le-leb, eq-eqb, ne_eqb}
 use Rattle.std.proofs.Math.Path.{ap, sym}
 use Rattle.std.proofs.Math.Bool.{cond}
@@ -10,9 +10,9 @@ use Rattle.base_limits.specs.Limits.{figure_digits}
 use Rattle.format_write.specs.Key.{terminals_key, cost_key, bound_key}
 use Rattle.format_write.specs.Text.{line_of}
 use Rattle.format_read.specs.Answer.{number_step}
-use Rattle.format_read.specs.Number.{number_line, OfDigits}
+use Rattle.format_read.specs.Number.{OfDigits}
 use Rattle.format_read.specs.Stands.{Stands}
-use Rattle.format_read.specs.Step.{Step, found, refused, ◌then◌}
+use Rattle.format_read.specs.Step.{Step, found, ◌then◌}
 use Rattle.format_read.proofs.Laws.Step.{then_found}
 use Rattle.format_read.specs.declared.Cursor.{Cursor}
 use Rattle.format_read.specs.declared.Number.{Number}

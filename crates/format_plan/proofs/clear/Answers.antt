@@ -1,11 +1,11 @@
 -- `format_plan::clear` meets its contract: the marks before e are 0.
 use native.Mathlib.Omega.{arith}
 use borrow.Author.Rules.{rules}
-use Prim.Native.Nat.{◌-◌, ◌≤◌}
+use Prim.Native.Nat.{◌-◌}
 use mathlib.Core.Path.{◌≡◌, refl, ap, ◌∙◌}
-use lib.ListN.{length, set}
+use lib.ListN.{set}
 use Rattle.format_plan.specs.Plan.{cleared}
-use Rattle.format_plan.proofs.Laws.Fill.{cleared_length, cleared_next}
+use Rattle.format_plan.proofs.Laws.Fill.{cleared_next}
 use Rattle.format_plan.proofs.clear.Goals as goal
 
 pub loop-e-init : goal.loop-e-init

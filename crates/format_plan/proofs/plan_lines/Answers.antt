@@ -1,5 +1,4 @@
 -- `format_plan::plan_lines` meets its contract: the first pass stores nothing, and the second stores where nothing is refused.
-use borrow.Author.Rules.{rules}
 use mathlib.Core.Path.{ap, sym, ◌∙◌}
 use lib.ListN.{length}
 use Rattle.format_read.specs.Step.{stored_if}
@@ -17,7 +16,6 @@ unfolding number_step stored_if
 returns-in_default c =
     let a = c.args in
     let b = plan_lines_at a.text.now a.edges a.cursor.at in
-    
     let told = ap number_step c.in_default.is in
     let e = sym c.plan_body-found.ensures.0 ∙ told in
     rw c.in_default.is (
@@ -32,7 +30,6 @@ unfolding number_step stored_if
 returns-then-marks-edges c =
     let a = c.args in
     let b = plan_lines_at a.text.now a.edges a.cursor.at in
-    
     let e = sym c.plan_body-found.ensures.0 ∙ ap number_step c.in-Value.is in
     let m = empty_pass put_mark mark_length a.marks.now b.kept c.plan_body-found.ensures.1 in
     let r = empty_pass put_dual dual_length a.records.now b.duals c.plan_body-found.ensures.2 in
@@ -44,7 +41,6 @@ unfolding number_step stored_if
 returns-then-records-count c =
     let a = c.args in
     let b = plan_lines_at a.text.now a.edges a.cursor.at in
-    
     let e = sym c.plan_body-found.ensures.0 ∙ ap number_step c.in-Value.is in
     let m = empty_pass put_mark mark_length a.marks.now b.kept c.plan_body-found.ensures.1 in
     let r = empty_pass put_dual dual_length a.records.now b.duals c.plan_body-found.ensures.2 in
@@ -56,8 +52,6 @@ unfolding number_step
 returns c =
     let a = c.args in
     let b = plan_lines_at a.text.now a.edges a.cursor.at in
-    
-    
     let e = sym c.plan_body-found.ensures.0 ∙ ap number_step c.in-Value.is in
     let m = empty_pass put_mark mark_length a.marks.now b.kept c.plan_body-found.ensures.1 in
     let r = empty_pass put_dual dual_length a.records.now b.duals c.plan_body-found.ensures.2 in

@@ -1,5 +1,4 @@
 -- `format_plan::read_plan` meets its contract, by the cases of the counts and of the lines after them.
-use borrow.Author.Rules.{rules}
 use mathlib.Core.Path.{ap, sym, ◌∙◌}
 use Rattle.base_limits.specs.Verdict.{answer}
 use Rattle.format_read.specs.Step.{stopped}
@@ -28,7 +27,6 @@ pub returns-in_default-lines : goal.returns-in_default-lines
 unfolding plan_outcome claims_step number_step stopped step_outcome read_of marks_read records_read
 returns-in_default-lines c =
     let a = c.args in
-    
     let told = c.in_default-lines.is in
     let s = ap number_step told in
     let r = plan_outcome_refused a.text.now a.from a.edges a.marks.now a.records.now (sym c.claim_lines-claims.ensures ∙ ap claims_step c.in-Found.is) (sym c.plan_lines-lines.ensures.0 ∙ s) in (
@@ -42,8 +40,6 @@ pub returns : goal.returns
 unfolding plan_outcome claims_step number_step read_of marks_read records_read
 returns c =
     let a = c.args in
-    
-    
     let s = ap number_step c.in-Value.is in
     let o = outcome_found a.text.now a.from a.edges a.marks.now a.records.now (sym c.claim_lines-claims.ensures ∙ ap claims_step c.in-Found.is) (sym c.plan_lines-lines.ensures.0 ∙ s) in (
       ap (λ n. answer (record { claims = record { terminals = c.in-Found.terminals; cost = c.in-Found.cost; bound = c.in-Found.bound; rounds = c.in-Found.rounds }; duals = n })) o.1 ∙ sym (ap read_of o.0),

@@ -1,5 +1,4 @@
 -- `format_plan::stopped_counts` meets its contract, by the case that the step is.
-use borrow.Author.Rules.{rules}
 use mathlib.Core.Path.{sym, ap}
 use Rattle.format_read.specs.Step.{stopped}
 use Rattle.format_survey.specs.Reading.{step_outcome}

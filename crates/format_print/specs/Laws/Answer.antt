@@ -1,7 +1,7 @@
 -- What the contracts of print calls say of the answer, in this paper's numbers: `answer_of` a verdict is the answer whose outcome is the verdict's, and no other is.
 use Rattle.std.specs.Prelude.{ℕ, ◌≡◌, refl, List, length}
 use Rattle.std.proofs.Common.{arith, ap}
-use Rattle.base_limits.specs.Verdict.{Outcome, refusal, answer, outcome}
+use Rattle.base_limits.specs.Verdict.{outcome}
 use Rattle.base_limits.specs.declared.Verdict.{Verdict}
 use Rattle.base_limits.specs.declared.Verdict.TheVariants.{Fine, Refused}
 use Rattle.format_print.specs.declared.Printed.{Printed}

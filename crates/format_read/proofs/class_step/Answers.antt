@@ -1,6 +1,5 @@
 -- `format_read::class_step` meets its contract: a byte of the class is taken, and another is refused.
 use native.Mathlib.Omega.{arith}
-use borrow.Author.Rules.{rules}
 use mathlib.Core.Path.{sym, ◌∙◌}
 use Rattle.format_read.specs.Number.{class_step}
 use Rattle.format_read.specs.Answer.{number_step}

@@ -1,11 +1,8 @@
 -- `format_read::fixed_from` meets its contract: the bytes that are left are read where the loop stands.
-use borrow.Author.Rules.{rules}
 use Prim.Native.Nat.{◌≤◌, ◌-◌}
-use mathlib.Core.Path.{◌≡◌, refl, sym, ◌∙◌}
+use mathlib.Core.Path.{◌≡◌}
 use lib.ListN.{length, drop}
 use Rattle.format_read.specs.Bytes.{fixed_at}
-use Rattle.format_read.specs.Answer.{number_step}
-use Rattle.format_read.proofs.Laws.Bytes.{fixed_more, fixed_short, fixed_other, fixed_done}
 use Rattle.format_read.proofs.fixed_from.Given as goal
 
 abbrev pub invariant-loop-i : goal.invariant-loop-i

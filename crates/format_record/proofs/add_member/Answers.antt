@@ -3,7 +3,6 @@ use Prim.Native.Nat.{◌+◌, ◌/◌, ◌%◌}
 use mathlib.Core.Path.{ap, sym, ◌∙◌}
 use lib.ListN.{get_or, drop, set}
 use lib.Seq.{get_or-drop}
-use borrow.Author.Rules.{rules}
 use Rattle.format_record.specs.Bits.{with_bit, with_member}
 use Rattle.format_record.specs.Record.{with_member_in}
 use Rattle.format_record.proofs.Laws.Record.{set_past}

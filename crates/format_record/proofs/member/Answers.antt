@@ -2,7 +2,6 @@
 use Prim.Native.Nat.{◌/◌, ◌%◌}
 use mathlib.Core.Path.{ap, sym, ◌∙◌}
 use lib.Seq.{get_or-drop}
-use borrow.Author.Rules.{rules}
 use Rattle.format_record.specs.Bits.{bit_at, member_at}
 use Rattle.format_record.specs.Record.{member_in}
 use Rattle.format_record.proofs.member.Goals as goal

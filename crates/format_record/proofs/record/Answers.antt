@@ -1,5 +1,4 @@
 -- `record`: a part past the end, at the end, or whole.
-use borrow.Author.Rules.{rules}
 use Rattle.format_record.proofs.Laws.Record.{record_at_past, record_at_end, record_at_whole}
 use Rattle.format_record.proofs.record.Goals as goal
 

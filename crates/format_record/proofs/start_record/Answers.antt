@@ -2,7 +2,6 @@
 use mathlib.Core.Path.{ap, sym, ◌∙◌}
 use native.Mathlib.Omega.{arith}
 use Rattle.format_record.proofs.Laws.Record.{record_of_none}
-use borrow.Author.Rules.{rules}
 use Rattle.format_record.specs.Record.{overwritten, started_as}
 use Rattle.format_record.proofs.start_record.Goals as goal
 

@@ -2,7 +2,6 @@
 use Prim.Native.Nat.{◌+◌, ◌*◌, ◌%◌, ◌^◌, ◌<◌}
 use mathlib.Core.Path.{◌≡◌, ap, sym, ◌∙◌}
 use native.Mathlib.Omega.{arith}
-use borrow.Author.Rules.{rules}
 use Rattle.format_record.specs.Bits.{with_bit}
 use Rattle.format_record.proofs.Laws.Bits.{with_bit_set, with_bit_clear, with_bit_lt, power_byte}
 use Rattle.format_record.proofs.with_bit.Goals as goal

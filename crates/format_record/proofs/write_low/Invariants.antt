@@ -1,14 +1,9 @@
 -- `write_low`: what is left to store, on what is stored, makes the whole.
-use Prim.Native.Nat.{◌+◌, ◌-◌, ◌/◌}
-use native.Mathlib.Nat.{sub-zero}
-use native.Mathlib.Omega.{arith}
-use mathlib.Core.Path.{◌≡◌, refl, ap, sym, ◌∙◌}
+use Prim.Native.Nat.{◌-◌}
+use mathlib.Core.Path.{◌≡◌}
 use lib.ListN.{length}
 use lib.Seq.{sets}
-use borrow.Author.Rules.{rules}
 use Rattle.format_record.specs.Bits.{low_bytes}
-use Rattle.format_record.specs.Record.{overwritten}
-use Rattle.format_record.proofs.Laws.Bytes.{store_low}
 use Rattle.format_record.proofs.write_low.Given as goal
 
 abbrev pub invariant-loop-i : goal.invariant-loop-i

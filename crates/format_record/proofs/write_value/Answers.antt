@@ -1,5 +1,4 @@
 -- `write_value`: the lowest eight bytes.
-use borrow.Author.Rules.{rules}
 use Rattle.format_record.specs.Record.{with_value}
 use Rattle.format_record.proofs.write_value.Goals as goal
 

@@ -23,20 +23,7 @@ use Rattle.format_survey.proofs.Laws.Beginning.{begins_stands, stands_begins}
 use Rattle.format_survey.proofs.Laws.Cause.{VerticesCause, out_of_range, too_long_law, vertices_cause, EdgesCause, over_limit, too_many, edges_cause, short_refused}
 use Rattle.format_survey.proofs.Laws.Tests.{vertices_none, vertices_many, vertices_short, vertices_fine, vertices_passed, edges_many}
 use Rattle.format_survey.specs.Line.{Lengths}
-use Rattle.format_stp.specs.Beginning.{
-  stp_lent,
-  NodesLine,
-  EdgesLine,
-  StpVerticesOut,
-  StpEdgesOver,
-  StpGroupsShort,
-  StpEdgesShort,
-  StpShort,
-  StpRefusing,
-  vertices_out,
-  edges_over,
-  buffer_short,
-}
+use Rattle.format_stp.specs.Beginning.{stp_lent, NodesLine, EdgesLine, StpVerticesOut, StpEdgesOver, StpGroupsShort, StpEdgesShort, StpShort, StpRefusing, vertices_out, edges_over, buffer_short}
 use Rattle.format_stp.specs.Grammar.{blanks, StpOpening}
 use Rattle.format_stp.proofs.Laws.Accepted.{not_malformed_number, stp_numbers, stp_same}
 use Rattle.format_stp.proofs.Laws.EmptyLines.{reads_after_empty}

@@ -4,8 +4,7 @@ use Rattle.std.proofs.Common.{arith, append_assoc, ap, sym, ◌∙◌, subst, lt
 use Rattle.std.proofs.Math.Bool.{true, false, cond}
 use Rattle.std.proofs.Math.Path.{refl}
 use Rattle.format_read.specs.Language.{Reads, NotMalformed, read, otherwise, Word, Extends}
-use Rattle.format_read.proofs.Laws.Bytes.{no_bool, read_same}
-use Rattle.format_read.proofs.Laws.Language.{bound}
+use Rattle.format_read.proofs.Laws.Bytes.{read_same}
 use Rattle.format_read.proofs.Laws.Stands.{stands_byte, stands_append, stands_second, stands_head, as_long}
 use Rattle.format_read.specs.Stands.{Stands}
 use Rattle.format_read.specs.Step.{Step, found, refused}

@@ -1,6 +1,6 @@
 -- A comment is read line by line up to the first that is END, whatever else stands in it.
-use Rattle.std.specs.Prelude.{ℕ, suc, ◌+◌, ◌≤◌, ◌<◌, Bool, ◌&&◌, cond, List, [], ◌∷◌, ◌++◌, ◌≡◌, eqb, length, get_or, take, drop}
-use Rattle.std.proofs.Common.{add-one, add-zero, arith, append-nil, append_assoc, ap, sym, ◌∙◌, subst, length-drop, length-take, drop_of_length-le, drop-cons, take_all, take-add, drop_at, length-take-le}
+use Rattle.std.specs.Prelude.{ℕ, suc, ◌+◌, ◌≤◌, Bool, cond, List, [], ◌∷◌, ◌++◌, ◌≡◌, eqb, length, get_or, take, drop}
+use Rattle.std.proofs.Common.{add-one, add-zero, arith, append_assoc, ap, sym, ◌∙◌, subst, length-drop, length-take, drop-cons, take_all, take-add, length-take-le}
 use Rattle.std.proofs.Math.Bool.{true, false}
 use Rattle.std.proofs.Math.Path.{refl}
 use Rattle.std.proofs.Math.Seq.{take-length}

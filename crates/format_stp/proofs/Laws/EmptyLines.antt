@@ -1,16 +1,15 @@
 -- Empty lines before a word: they are passed over, and what is read behind them is read with them. The word must not begin with byte 10 itself.
 use Prim.Native.Nat.{ℕ, zero, suc, ◌+◌, ◌≤◌, ◌<◌}
-use Rattle.std.proofs.Common.{add-zero, add-one, sym, ◌∙◌, subst, drop_of_length-le, length-drop, drop-cons, get_or-drop, length-take-le, ltb-true, ltb-false, eqb-true, eq-eqb, ne_eqb}
+use Rattle.std.proofs.Common.{add-zero, add-one, sym, ◌∙◌, subst, drop_of_length-le, length-drop, drop-cons, get_or-drop, ltb-true, ltb-false, eqb-true, eq-eqb, ne_eqb}
 use native.Mathlib.Omega.{arith}
 use Rattle.std.specs.Prelude.{Bool, true, false, cond, ◌≡◌, eqb, ltb, drop}
 use mathlib.Core.List.{List, [], ◌∷◌, ◌++◌, append_assoc}
 use Rattle.std.proofs.Math.Path.{refl, ap}
-use Rattle.std.proofs.Math.ListN.{length, get_or, take, replicate, length-append, get_or-eq_default}
+use Rattle.std.proofs.Math.ListN.{length, get_or, take, replicate, length-append}
 use Rattle.std.proofs.lemmas.Bool.{eqb-false}
 use Rattle.format_write.specs.Key.{newline}
 use Rattle.format_read.specs.Language.{Reads, NotMalformed, read, otherwise, Word, Extends}
 use Rattle.format_read.proofs.Laws.Bytes.{read_same}
-use Rattle.format_read.proofs.Laws.Language.{bound}
 use Rattle.format_read.proofs.Laws.Stands.{stands_append, stands_first, stands_second, stands_head, stands_same, part_stands}
 use Rattle.format_read.specs.Stands.{Stands}
 use Rattle.format_read.specs.Step.{Step, found, refused}

@@ -1,8 +1,8 @@
 -- A whole file as a word, up to the line EOF: what is read is a file of the subset whose counts pass their tests, and what is refused for its form begins none.
-use Rattle.std.specs.Prelude.{ℕ, ◌≤◌, ◌<◌, Bool, true, false, ◌||◌, cond, ◌⊎◌, ◌≡◌, refl, eqb, length, get_or, replicate}
+use Rattle.std.specs.Prelude.{ℕ, ◌≤◌, ◌<◌, Bool, true, false, ◌||◌, cond, ◌⊎◌, ◌≡◌, refl, eqb, replicate}
 use native.Mathlib.Omega.{arith}
 use mathlib.Core.List.{List, [], ◌∷◌, ◌++◌}
-use Rattle.std.proofs.Common.{inl, inr, ap, sym, ◌∙◌, subst, eqb-true, eq-eqb}
+use Rattle.std.proofs.Common.{inl, inr, ap, sym, ◌∙◌, subst, eqb-true}
 use Rattle.std.proofs.lemmas.Bool.{eqb-false}
 use Rattle.base_finite.specs.Laws.Test.{or_cases}
 use Rattle.base_limits.specs.Limits.{max_vertices, count_digits}
@@ -10,53 +10,24 @@ use Rattle.base_limits.specs.declared.Verdict.{Verdict}
 use Rattle.base_limits.specs.declared.Verdict.TheVariants.{Fine, Refused}
 use Rattle.format_write.specs.Key.{newline}
 use Rattle.format_read.specs.Bytes.{fixed_at}
-use Rattle.format_read.specs.Language.{Reads, Seq, Empty, Fixed, Text}
+use Rattle.format_read.specs.Language.{Reads, Seq, Fixed, Text}
 use Rattle.format_read.proofs.Laws.Bytes.{reads_fixed, no_bool}
 use Rattle.format_read.proofs.Laws.Language.{reads_then, reads_as, reads_value}
-use Rattle.format_read.specs.Step.{Step, found, ◌then◌}
+use Rattle.format_read.specs.Step.{Step, ◌then◌}
 use Rattle.format_read.proofs.Laws.Keyed.{Passes, reads_line}
-use Rattle.format_read.specs.Number.{OfDigits, number_line}
+use Rattle.format_read.specs.Number.{OfDigits}
 use Rattle.format_write.specs.Text.{line_of}
-use Rattle.format_survey.specs.Line.{Edge}
 use Rattle.format_stp.proofs.Laws.ByByte.{reads_by_byte}
 use Rattle.format_stp.proofs.Laws.Comment.{reads_comment}
 use Rattle.format_stp.proofs.Laws.EmptyLines.{StartsOther, reads_after_empty}
 use Rattle.format_stp.proofs.Laws.Joined.{reads_repeated, Guarded, reads_guarded, reads_then_where}
 use Rattle.format_stp.proofs.Laws.RuleLines.{free_elim, free_plain, reads_stp_edge, reads_terminal_count, count_tells, free_count, all_free, reads_terminals}
-use Rattle.format_stp.specs.StpKey.{
-  header_line,
-  section_word,
-  graph_line,
-  comment_letter,
-  graph_letter,
-  comment_rest,
-  graph_rest,
-  nodes_word,
-  edges_word,
-  end_line,
-  terminals_line,
-  terminals_word,
-  eof_line,
-}
+use Rattle.format_stp.specs.StpKey.{header_line, comment_letter, graph_letter, comment_rest, graph_rest, edges_word, end_line, terminals_line, terminals_word, eof_line}
 use Rattle.format_stp.specs.StpNumber.{is_free}
-use Rattle.format_stp.specs.StpReading.{
-  StpContent,
-  stp_line,
-  comment_section,
-  graph_section,
-  stp_edge,
-  stp_edges,
-  terminal_lines,
-  terminal_section,
-  stp_body,
-  stp_head,
-  count_then,
-  StpTests,
-  stp_content,
-}
-use Rattle.format_stp.specs.StpWord.{after_empty, AfterEmpty, ByByte, guarded, Repeated}
+use Rattle.format_stp.specs.StpReading.{StpContent, stp_line, comment_section, graph_section, stp_edge, stp_edges, terminal_section, stp_body, stp_head, count_then, StpTests, stp_content}
+use Rattle.format_stp.specs.StpWord.{after_empty, AfterEmpty, ByByte}
 use Rattle.format_stp.specs.StpWord.{none}
-use Rattle.format_stp.specs.Subset.{StpLine, CommentSection, GraphSection, commented, plain, StpEdgeIn, stp_edge_text, TerminalsIn, TerminalLines, TerminalSection, StpBody, StpHead, CountThen, StpFile}
+use Rattle.format_stp.specs.Subset.{StpLine, CommentSection, GraphSection, commented, plain, TerminalsIn, TerminalSection, StpBody, StpHead, CountThen, StpFile}
 use Rattle.format_stp.specs.Subset.{none as no_terminals}
 
 -- ---- fixed lines

@@ -13,7 +13,7 @@ use Rattle.format_stp.proofs.Laws.Comment.{comment_stop, comment_line_law, comme
 use Rattle.format_stp.proofs.Laws.EmptyLines.{empty_more, empty_none}
 use Rattle.format_stp.specs.StpKey.{comment_letter, graph_letter, graph_rest}
 use Rattle.format_stp.specs.StpReading.{comment_section, graph_section}
-use Rattle.format_stp.specs.StpWord.{empty_lines, shown, comment_from, comment_at}
+use Rattle.format_stp.specs.StpWord.{empty_lines, shown, comment_from}
 
 -- ---- empty lines
 

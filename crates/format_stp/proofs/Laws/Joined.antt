@@ -1,11 +1,11 @@
 -- Words joined in the ways of the subset: as many as were announced, behind a test, and behind a value that only some words may follow.
-use Rattle.std.specs.Prelude.{ℕ, zero, suc, ◌+◌, ◌≤◌, Bool, true, false, List, [], ◌∷◌, ◌++◌, ◌⊎◌, ◌≡◌, length, take}
-use Rattle.std.proofs.Common.{arith, append-nil, inl, inr, sym, ◌∙◌, subst}
+use Rattle.std.specs.Prelude.{ℕ, zero, suc, ◌+◌, Bool, true, false, List, [], ◌∷◌, ◌++◌, ◌≡◌}
+use Rattle.std.proofs.Common.{arith, append-nil, sym, ◌∙◌, subst}
 use Rattle.std.proofs.Math.Bool.{cond}
 use Rattle.std.proofs.Math.Path.{refl, ap}
 use Rattle.base_limits.specs.declared.Verdict.{Verdict}
 use Rattle.base_limits.specs.declared.Verdict.TheVariants.{Fine, Refused}
-use Rattle.format_read.specs.Language.{Reads, NotMalformed, read, otherwise, Word, Extends, Seq, Empty, Text}
+use Rattle.format_read.specs.Language.{Reads, otherwise, Seq, Empty}
 use Rattle.format_read.proofs.Laws.Bytes.{no_bool}
 use Rattle.format_read.proofs.Laws.Language.{reads_then, reads_as, reads_value}
 use Rattle.format_read.proofs.Laws.Lines.{lines_unfold}

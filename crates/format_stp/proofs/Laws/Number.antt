@@ -1,7 +1,7 @@
 -- A number that must be one of some: the words that it reads are the digits of these, and what it refuses begins none of them.
 use Prim.Native.Nat.{ℕ, zero, suc, ◌+◌, ◌*◌, ◌-◌, ◌/◌, ◌%◌, ◌^◌, ◌≤◌, ◌<◌}
 use Rattle.std.proofs.Math.Nat.{pow-le-pow_right, one-le-pow}
-use Rattle.std.proofs.Common.{pow-suc, mul-le-mul_right, mul-le-mul_left, inl, inr, ⊎_elim, ◌∙◌, length-append, eqb-true, eq-eqb, ne_eqb}
+use Rattle.std.proofs.Common.{pow-suc, mul-le-mul_right, mul-le-mul_left, inl, inr, ◌∙◌, length-append, eqb-true, eq-eqb, ne_eqb}
 use native.Mathlib.Omega.{arith}
 use Rattle.std.specs.Prelude.{Bool, ◌&&◌, ◌||◌, ◌⊎◌, ◌≡◌, eqb, ltb}
 use Rattle.std.proofs.Math.Bool.{true, false, cond}

@@ -10,7 +10,6 @@ use Rattle.std.proofs.Math.Dec.{eqb}
 use Rattle.std.proofs.lemmas.Bool.{eqb-false}
 use Rattle.base_finite.specs.Laws.Test.{and_left, and_right, same_test_law}
 use Rattle.base_limits.specs.Limits.{max_digits}
-use Rattle.format_write.specs.Key.{newline}
 use Rattle.format_read.proofs.Laws.Bytes.{read_inside, no_bool}
 use Rattle.format_read.specs.Step.{found, refused}
 use Rattle.format_read.proofs.Laws.Byte.{class_zero, class_digit, is_zero, digit_inside, digit_facts}
@@ -18,7 +17,6 @@ use Rattle.format_read.specs.Number.{class_of, class_number, is_class, is_digit}
 use Rattle.format_read.specs.declared.Class.{Class}
 use Rattle.format_read.specs.declared.Class.TheVariants.{Zero, Digit, LineEnd, Comma, Colon, Keep, Also, Other}
 use Rattle.format_stp.proofs.Laws.ByByte.{byte_passes, byte_fails}
-use Rattle.format_stp.specs.StpKey.{space}
 use Rattle.format_stp.specs.StpNumber.{opens, with_digit, goes_on, ends_free, digits_after, more_after, free_to, stop_byte}
 
 -- ---- the bytes of a number

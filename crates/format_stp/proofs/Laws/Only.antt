@@ -17,24 +17,7 @@ use Rattle.format_read.proofs.Laws.OnlyMalformed.{OnlyMalformed, only_found, onl
 use Rattle.format_survey.specs.Line.{Edge, vertices_test, edges_test}
 use Rattle.format_stp.specs.StpKey.{header_line, section_word, graph_line, comment_rest, graph_rest, comment_letter, nodes_word, edges_word, edge_word, end_line, terminals_line, terminals_word, terminal_word, eof_line, space}
 use Rattle.format_stp.specs.StpNumber.{is_free, with_digit, digits_after, more_after, free_to}
-use Rattle.format_stp.specs.StpReading.{
-  stp_line,
-  comment_section,
-  graph_section,
-  stp_end,
-  stp_edge,
-  stp_edges,
-  terminal_count,
-  terminal_line,
-  terminal_lines,
-  terminal_section,
-  stp_body,
-  stp_head,
-  count_then,
-  stp_content,
-  stp_whole,
-  stp_tests,
-}
+use Rattle.format_stp.specs.StpReading.{stp_line, comment_section, graph_section, stp_end, stp_edge, stp_edges, terminal_count, terminal_line, terminal_lines, terminal_section, stp_body, stp_head, count_then, stp_content, stp_whole, stp_tests}
 use Rattle.format_stp.specs.StpWord.{after_empty, by_byte, guarded, shown, comment_from, comment_at}
 
 -- The numbers of refusals, before 16 is called 20; the others stand at 0.

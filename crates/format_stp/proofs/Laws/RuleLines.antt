@@ -1,16 +1,15 @@
 -- The words that the lines of the subset read: a track, the number of terminals, terminals one after another.
-use Prim.Native.Nat.{ℕ, zero, suc, ◌+◌, ◌-◌, ◌^◌, ◌≤◌, ◌<◌}
+use Prim.Native.Nat.{ℕ, zero, suc, ◌+◌, ◌-◌, ◌≤◌, ◌<◌}
 use native.Mathlib.Omega.{arith}
-use Rattle.std.specs.Prelude.{Bool, true, false, ◌&&◌, ◌≡◌, length, set, replicate}
-use mathlib.Core.List.{List, [], ◌∷◌, ◌++◌, append_assoc, append-nil}
+use Rattle.std.specs.Prelude.{Bool, true, false, ◌&&◌, ◌≡◌, set, replicate}
+use mathlib.Core.List.{List, [], ◌∷◌, ◌++◌, append-nil}
 use Rattle.std.proofs.Math.Path.{refl, ap, sym, subst}
-use Rattle.std.proofs.Common.{◌∙◌, get_or-set_same, get_or-set_other}
+use Rattle.std.proofs.Common.{◌∙◌, get_or-set_other}
 use Rattle.std.proofs.Math.Dec.{eqb, leb}
-use Rattle.std.proofs.Math.ListN.{get_or, get_or-eq_default}
-use Rattle.std.proofs.Math.Seq.{set_out}
-use borrow.Author.Tests.{eqb-true, eqb-false, eq-eqb, ne_eqb, le-leb, leb-true}
-use Rattle.base_finite.specs.Below.{count_below, sum_below, counted}
-use Rattle.base_finite.specs.Laws.Below.{count_elim, count_all, sum_at, counted_true, counted_le}
+use Rattle.std.proofs.Math.ListN.{get_or}
+use borrow.Author.Tests.{eqb-true, eqb-false, eq-eqb, le-leb, leb-true}
+use Rattle.base_finite.specs.Below.{count_below, counted}
+use Rattle.base_finite.specs.Laws.Below.{count_elim, count_all, sum_at, counted_le}
 use Rattle.base_finite.specs.Laws.Test.{and_left, and_right, and_both}
 use Rattle.base_limits.specs.Limits.{max_vertices, count_digits, endpoint_digits, weight_digits}
 use Rattle.format_write.specs.Key.{newline}
@@ -19,10 +18,10 @@ use Rattle.format_read.specs.Language.{Reads, Seq, Empty, Fixed, Text}
 use Rattle.format_read.proofs.Laws.Bytes.{reads_fixed}
 use Rattle.format_read.proofs.Laws.Language.{reads_then, reads_as, reads_value}
 use Rattle.format_read.proofs.Laws.Step.{then_value}
-use Rattle.format_read.specs.Step.{Step, found, refused, ◌then◌}
+use Rattle.format_read.specs.Step.{found, ◌then◌}
 use Rattle.format_read.proofs.Laws.Keyed.{newline_no_digit}
 use Rattle.format_read.proofs.Laws.NumberWord.{NumberWord, reads_number}
-use Rattle.format_read.specs.Number.{class_of, is_digit, OfDigits, number_text, number_to}
+use Rattle.format_read.specs.Number.{class_of, is_digit, OfDigits, number_text}
 use Rattle.format_write.specs.Text.{line_of}
 use Rattle.format_survey.specs.Line.{Edge}
 use Rattle.format_stp.proofs.Laws.EmptyLines.{StartsOther, reads_after_empty}
@@ -31,8 +30,8 @@ use Rattle.format_stp.proofs.Laws.Number.{FreeNumber, reads_free, free_tells}
 use Rattle.format_stp.specs.StpKey.{edge_word, terminals_word, terminal_word, space}
 use Rattle.format_stp.specs.StpNumber.{is_free, free_to}
 use Rattle.format_stp.specs.StpReading.{stp_end, stp_edge, terminal_count, terminal_line, terminal_lines}
-use Rattle.format_stp.specs.StpWord.{after_empty, AfterEmpty, empty_lines}
-use Rattle.format_stp.specs.Subset.{StpEdgeIn, stp_edge_text, TerminalsIn, TerminalIn, terminal_text, TerminalLines, none, one}
+use Rattle.format_stp.specs.StpWord.{after_empty, AfterEmpty}
+use Rattle.format_stp.specs.Subset.{StpEdgeIn, stp_edge_text, TerminalsIn, terminal_text, TerminalLines, none, one}
 
 -- ---- the numbers that are free
 

@@ -1,5 +1,4 @@
 -- `format_stp::counts` meets its contract: a refusal of any part stays, and a value goes on.
-use borrow.Author.Rules.{rules}
 use mathlib.Core.Path.{sym, ◌∙◌}
 use Rattle.format_survey.specs.LinesAnswer.{counts_step}
 use Rattle.format_read.proofs.Laws.NumberStep.{stopped_stays, value_goes}

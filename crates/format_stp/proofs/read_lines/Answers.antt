@@ -1,5 +1,4 @@
 -- `format_stp::read_lines` meets its contract: the first pass over the tracks stores nothing, and the second stores where all is read.
-use borrow.Author.Rules.{rules}
 use mathlib.Core.List.{List}
 use mathlib.Core.Path.{ap, sym, ◌∙◌}
 use Prim.Native.Nat.{ℕ}
@@ -16,7 +15,6 @@ pub returns-in_default : goal.returns-in_default
 unfolding number_step
 returns-in_default c =
     let a = c.args in
-    
     let told = ap number_step c.in_default.is in
     let es = stp_edges a.vertices a.text.now a.edges a.cursor.at in
     let l = lines_early a.vertices a.edges a.text.now a.cursor.at (sym c.edge_lines-tracks.ensures.0 ∙ told) in (
@@ -32,8 +30,6 @@ pub returns-in_default-last : goal.returns-in_default-last
 unfolding number_step
 returns-in_default-last c =
     let a = c.args in
-    
-    
     let told = ap number_step c.in_default-last.is in
     let es = stp_edges a.vertices a.text.now a.edges a.cursor.at in
     let r = said_refused (sym c.terminals-last.ensures.0 ∙ told) in
@@ -50,9 +46,6 @@ pub returns : goal.returns
 unfolding number_step
 returns c =
     let a = c.args in
-    
-    
-    
     let es = stp_edges a.vertices a.text.now a.edges a.cursor.at in
     let told = ap number_step c.in-Value-last.is in
     let r = said_found (sym c.terminals-last.ensures.0 ∙ told) in

@@ -1,5 +1,4 @@
 -- `format_stp::read_stp` meets its contract, by the cases of the counts and of the lines behind them.
-use borrow.Author.Rules.{rules}
 use mathlib.Core.Path.{ap, sym, ◌∙◌}
 use Rattle.base_limits.specs.Verdict.{answer}
 use Rattle.format_read.specs.Step.{stopped}
@@ -35,7 +34,6 @@ unfolding stp_answer stp_counts_of counts_step number_step stopped stp_outcome
 returns-in_default-lines c =
     let a = c.args in
     let told = c.in_default-lines.is in
-    
     let b = said_refused (sym c.read_lines-lines.ensures.0 ∙ ap number_step told) in
     let e = sym c.counts-head.ensures ∙ ap counts_step c.in-Counts.is in
     let r = stp_stopped a.text.now a.groups.now a.firsts.now a.seconds.now a.weights.now e b in
@@ -51,7 +49,6 @@ pub returns : goal.returns
 unfolding stp_answer stp_counts_of counts_step number_step
 returns c =
     let a = c.args in
-    
     let b = said_found (sym c.read_lines-lines.ensures.0 ∙ ap number_step c.in-Value.is) in
     let e = sym c.counts-head.ensures ∙ ap counts_step c.in-Counts.is in
     let r = stp_found a.text.now a.groups.now a.firsts.now a.seconds.now a.weights.now e b.is in

@@ -1,5 +1,4 @@
 -- `format_stp::stopped_counts` meets its contract, by the case that the step is.
-use borrow.Author.Rules.{rules}
 use mathlib.Core.Path.{sym, ap}
 use Rattle.format_survey.specs.LinesAnswer.{counts_step}
 use Rattle.format_survey.specs.Line.{SurveyCounts}

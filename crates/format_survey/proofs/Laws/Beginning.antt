@@ -1,5 +1,5 @@
 -- Reading gives 1, 3, 7, 17 and 18 exactly if the text begins so (specs/Beginning), and every other refusal is 16.
-use Rattle.std.specs.Prelude.{ℕ, ◌+◌, ◌≤◌, ◌<◌, min, ◌≡◌, Bool, ◌⊎◌, ◌↔◌, List, ◌++◌, drop, leb}
+use Rattle.std.specs.Prelude.{ℕ, ◌+◌, ◌≤◌, ◌<◌, ◌≡◌, Bool, ◌⊎◌, ◌↔◌, List, ◌++◌, drop, leb}
 use native.Mathlib.Omega.{arith}
 use Rattle.std.proofs.Math.Path.{refl, ap, subst}
 use Rattle.std.proofs.Common.{sym, ◌∙◌, inl, inr, ⊎_elim, append_assoc, length-append, take-append-drop, eqb-true, leb-true, leb-false}
@@ -7,7 +7,7 @@ use Rattle.std.proofs.Math.Bool.{true, false}
 use Rattle.std.proofs.Math.ListN.{length}
 use Rattle.std.proofs.Math.Dec.{eqb}
 use Rattle.std.proofs.lemmas.Bool.{eqb-false}
-use Rattle.base_limits.specs.Limits.{max_vertices, max_pairs, count_digits, group_digits}
+use Rattle.base_limits.specs.Limits.{max_vertices, count_digits, group_digits}
 use Rattle.base_limits.specs.Verdict.{refusal}
 use Rattle.base_limits.specs.declared.Verdict.{Verdict}
 use Rattle.base_limits.specs.declared.Verdict.TheVariants.{Refused}

@@ -1,5 +1,5 @@
 -- A whole text as a word: the lines that are read are the rendering of what they say.
-use Rattle.std.specs.Prelude.{ℕ, ◌+◌, ◌≡◌, get_or}
+use Rattle.std.specs.Prelude.{ℕ, ◌+◌, ◌≡◌}
 use Rattle.std.proofs.Common.{arith, add-zero, ◌∙◌}
 use Rattle.std.proofs.Math.Path.{refl, ap, sym, subst, fun_ext}
 use mathlib.Core.List.{List, [], ◌∷◌, ◌++◌, append-nil}

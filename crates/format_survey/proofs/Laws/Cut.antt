@@ -1,6 +1,6 @@
 -- How far reading looks: no farther than the longest text and the bytes that show that a number or a text does not end. So what stands
 -- beyond 65,536 bytes changes nothing (document 01, 'Survey text and printed plan').
-use Rattle.std.specs.Prelude.{ℕ, ◌+◌, ◌*◌, ◌≤◌, ◌≡◌, refl, List, length, take}
+use Rattle.std.specs.Prelude.{ℕ, ◌+◌, ◌*◌, ◌≤◌, ◌≡◌, refl, List, take}
 use Rattle.std.proofs.Common.{arith, ap, sym, ◌∙◌, take-take}
 use Rattle.format_read.specs.Number.{line_bytes}
 use Rattle.format_survey.specs.Render.{edge_bytes}

@@ -1,6 +1,6 @@
 -- How long a well-formed text within the counts can be (document 01, 'Survey text and printed plan'; with the also lines and ends of document 02, No. 2,
 -- the prices of No. 6 and the junctions of No. 8, 56,277 bytes), and that there is one so long.
-use Rattle.std.specs.Prelude.{ℕ, ◌+◌, ◌*◌, ◌≤◌, ◌<◌, ◌≡◌, refl, List, [], ◌∷◌, ◌++◌, length}
+use Rattle.std.specs.Prelude.{ℕ, ◌+◌, ◌*◌, ◌≤◌, ◌<◌, ◌≡◌, refl, List, [], ◌++◌, length}
 use Rattle.std.proofs.Common.{arith, ap, sym, subst, length-append}
 use Rattle.format_read.proofs.Laws.NumberWord.{line_most, number_most}
 use Rattle.base_limits.specs.Limits.{max_vertices, max_edges, survey_room, group_digits, endpoint_digits, weight_digits}

@@ -1,5 +1,4 @@
 -- `format_survey::read` meets its contract, by the cases of the counts and of the lines after them.
-use borrow.Author.Rules.{rules}
 use Prim.Native.Nat.{ℕ, ◌≤◌}
 use mathlib.Core.Path.{◌≡◌, ap, sym, ◌∙◌}
 use mathlib.Core.List.{List}
@@ -47,6 +46,5 @@ returns c =
     let a = c.args in
     let e = sym c.counts-head.ensures ∙ ap counts_step c.in-Counts.is in
     let few = (counts_read_fit a.text.now (lengths_of a.groups.now a.firsts.now a.seconds.now a.weights.now a.owners.now a.others.now) e).0 in
-    
     let s = read_found a.text.now a.groups.now a.firsts.now a.seconds.now a.weights.now a.owners.now a.others.now e c.pair_room-room.ensures (sym (c.decided-found.ensures ∙ decided_body _ a.text.now _ _ _ few) ∙ ap number_step c.in-Value.is) c.survey_lines.ensures.1 c.survey_lines.ensures.2 c.survey_lines.ensures.3 c.survey_lines.ensures.4 c.survey_lines.ensures.5 c.survey_lines.ensures.6 in
     record { result_value = s.counts; groups_value = s.groups; firsts_value = s.firsts; seconds_value = s.seconds; weights_value = s.weights; owners_value = s.owners; others_value = s.others }

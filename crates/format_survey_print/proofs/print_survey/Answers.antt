@@ -7,7 +7,6 @@ use Rattle.format_write.specs.Wrote.{farthest}
 use Rattle.format_print.specs.Laws.Print.{short_prints, fit_prints}
 use Rattle.format_survey_print.specs.Print.{survey_of_lists, survey_text}
 use Rattle.format_survey_print.specs.Laws.Print.{seconds_answer, seconds_out, weights_answer, weights_out, others_answer, others_out, whole_answer, whole_out}
-use borrow.Author.Rules.{rules}
 use Rattle.format_survey_print.proofs.print_survey.Goals as goal
 
 -- 2: the second ends

@@ -1,7 +1,6 @@
 -- `turn` meets its contract: one column more at a time.
 use Prim.Native.Nat.{◌-◌}
-use borrow.Author.Rules.{rules}
-use Rattle.format_table.proofs.Laws.Turning.{Storing, storing_start, storing_holds, storing_more, storing_end}
+use Rattle.format_table.proofs.Laws.Turning.{storing_start, storing_holds, storing_more, storing_end}
 use Rattle.format_table.proofs.turn.Goals as goal
 
 pub loop-j-init : goal.loop-j-init

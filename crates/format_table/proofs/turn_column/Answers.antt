@@ -2,7 +2,7 @@
 use Prim.Native.Nat.{◌-◌}
 use mathlib.Core.Path.{refl}
 use borrow.Author.Rules.{rules}
-use Rattle.format_table.proofs.Laws.Turning.{StoringColumn, column_start, column_more, column_end, places}
+use Rattle.format_table.proofs.Laws.Turning.{column_start, column_more, column_end, places}
 use Rattle.format_table.proofs.turn_column.Goals as goal
 
 pub loop-i-init : goal.loop-i-init

@@ -1,8 +1,6 @@
 -- `turn_column` meets its contract: one byte more at a time, within the table and the buffer (`places`).
 use Prim.Native.Nat.{◌-◌}
-use mathlib.Core.Path.{refl}
-use borrow.Author.Rules.{rules}
-use Rattle.format_table.proofs.Laws.Turning.{StoringColumn, column_start, column_more, column_end, places}
+use Rattle.format_table.proofs.Laws.Turning.{StoringColumn}
 use Rattle.format_table.proofs.turn_column.Given as goal
 
 abbrev pub invariant-loop-i : goal.invariant-loop-i

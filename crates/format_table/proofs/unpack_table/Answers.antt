@@ -1,7 +1,6 @@
 -- `unpack_table` meets its contract.
 use mathlib.Core.Path.{sym, ◌∙◌}
 use native.Mathlib.Omega.{arith}
-use borrow.Author.Rules.{rules}
 use Rattle.base_limits.specs.Laws.Verdict.{written_refused}
 use Rattle.format_table.specs.Table.{unpacked_out}
 use Rattle.format_table.proofs.Laws.Turning.{takes, turning_holds, unpacked_after}

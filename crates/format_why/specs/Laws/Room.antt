@@ -1,7 +1,7 @@
 -- Law of room: `why_room` bytes hold every reason within the limits.
-use Rattle.std.specs.Prelude.{ℕ, zero, suc, ◌+◌, ◌*◌, ◌^◌, ◌≤◌, ◌<◌, ◌≡◌, List, [], ◌∷◌, ◌++◌, get_or, eqb}
+use Rattle.std.specs.Prelude.{ℕ, suc, ◌+◌, ◌*◌, ◌≤◌, ◌<◌, ◌≡◌, List, [], ◌∷◌, ◌++◌, get_or, eqb}
 use native.Mathlib.Omega.{arith}
-use Rattle.std.proofs.Common.{le-ltb, ap}
+use Rattle.std.proofs.Common.{le-ltb}
 use Rattle.std.proofs.Math.Logic.{⊎_elim}
 use Rattle.std.proofs.Math.ListN.{length, length-append}
 use Rattle.base_finite.specs.Laws.Test.{either}

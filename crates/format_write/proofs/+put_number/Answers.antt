@@ -1,5 +1,5 @@
 -- `put_number`: the digits of the quotient, then the last.
-use Rattle.std.proofs.Common.{ℕ, ◌<◌, ◌≤◌, length, arith}
+use Rattle.std.proofs.Common.{◌≤◌, length, arith}
 use Rattle.format_write.specs.Wrote.{farthest}
 use Rattle.format_write.proofs.Laws.Decimal.{decimal_one, decimal_next}
 use Rattle.format_write.proofs.Laws.Wrote.{wrote_then, wrote_as}

@@ -1,6 +1,6 @@
 -- Laws of members that are passed over: a byte of 0 has none, and numbers that are none add nothing to the rising list.
-use Rattle.std.specs.Prelude.{ℕ, zero, suc, ◌+◌, ◌/◌, ◌%◌, ◌<◌, ◌≡◌, refl, Bool, true, false, ◌&&◌, cond, List, [], ◌∷◌, ◌++◌, get_or, drop, eqb}
-use Rattle.std.proofs.Common.{add-zero, add-suc, arith, eqb-true, eq-eqb, ne_eqb, ap, sym, ◌∙◌, append-nil, get_or-drop}
+use Rattle.std.specs.Prelude.{ℕ, zero, suc, ◌+◌, ◌/◌, ◌%◌, ◌<◌, ◌≡◌, Bool, true, false, cond, List, [], ◌∷◌, ◌++◌, get_or, drop, eqb}
+use Rattle.std.proofs.Common.{add-zero, add-suc, arith, eqb-true, eq-eqb, ne_eqb, ap, ◌∙◌, append-nil, get_or-drop}
 use Rattle.base_finite.specs.Below.{those_below}
 use Rattle.base_finite.specs.Laws.Test.{and_left, and_right}
 use Rattle.base_limits.specs.Limits.{value_bytes}

@@ -5,7 +5,6 @@ use Rattle.format_write.specs.Wrote.{farthest}
 use Rattle.format_write.proofs.Laws.Wrote.{wrote_then}
 use Prim.Native.Nat.{◌≤◌}
 use Rattle.format_write.specs.Text.{line_of}
-use borrow.Author.Rules.{rules}
 use Rattle.format_write.proofs.put_line.Goals as goal
 
 pub returns : goal.returns

@@ -1,6 +1,5 @@
 -- `run` prints what planning says of what was read, and the line that the printed figures show.
-use Rattle.std.proofs.Common.{◌≡◌, ◌∙◌, sym, ap, List, ℕ, length, take, ◌++◌, drop}
-use Rattle.base_limits.specs.Limits.{survey_room}
+use Rattle.std.proofs.Common.{◌∙◌, ap}
 use Rattle.text_plan.specs.Output.{plan_output}
 use Rattle.format_plan.specs.Remark.{remark_line, remark_on}
 use Rattle.program_io.proofs.Prints.{prints, text_in_front, on_ok}

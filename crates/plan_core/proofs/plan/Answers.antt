@@ -5,7 +5,6 @@ use Rattle.plan_rule.specs.Answer.{planned_outcome}
 use Rattle.plan_rule.proofs.Laws.Promise.{refused_call}
 use Rattle.plan_rule.proofs.Laws.Stages.{planned_call}
 use Rattle.plan_core.specs.Laws.Whole.{lent_fits, lent_stops}
-use borrow.Author.Rules.{rules}
 use Rattle.plan_core.proofs.plan.Goals as goal
 
 -- 1 to 6, 18, 7

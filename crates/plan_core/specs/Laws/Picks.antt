@@ -1,6 +1,6 @@
 -- From what pruning the poured groups leaves to what dropping answers for the lists. `prune_plan` cites it.
 use Prim.Native.Nat.{ℕ, ◌-◌, ◌≤◌, ◌<◌}
-use Rattle.std.proofs.Common.{arith, ◌∙◌, subst, get_or-take, length-take-le, eq-eqb}
+use Rattle.std.proofs.Common.{arith, ◌∙◌, subst, get_or-take, length-take-le}
 use Rattle.std.proofs.Math.Nat.{sub-zero}
 use Rattle.std.specs.Prelude.{◌≡◌, Bool, true, false, length, take, replicate, ltb}
 use Rattle.std.proofs.Math.Path.{refl, ap, sym, fun_ext}
@@ -19,7 +19,7 @@ use Rattle.base_limits.specs.Limits.{max_edges}
 use Rattle.base_limits.specs.Verdict.{refuse_if, ◌before◌, lowest_below, Outcome, outcome, written}
 use Rattle.base_limits.specs.declared.Verdict.{Verdict}
 use Rattle.base_limits.specs.declared.Verdict.TheVariants.{Fine, Refused}
-use Rattle.base_limits.specs.Laws.Verdict.{before_fine, before_refused, before_assoc, fine_left, fine_right, refuse_false, no_refusal}
+use Rattle.base_limits.specs.Laws.Verdict.{before_refused, before_assoc, fine_left, fine_right, no_refusal}
 use Rattle.theory_steiner.specs.Problem.{Bounded, terminals, cost}
 use Rattle.theory_steiner.specs.Pruning.{needed, mark_of}
 use Rattle.survey_core.specs.Survey.{Survey, survey_from, lists_of, groups_alone, vertex_count, edge_count, problem_of}

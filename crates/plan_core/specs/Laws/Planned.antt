@@ -2,7 +2,7 @@
 -- what is left then is the plan. `grow_marks` and the functions that call it cite it.
 use Prim.Native.Nat.{ℕ, ◌≤◌, ◌<◌}
 use Rattle.std.proofs.Common.{arith, ◌∙◌, subst, lt-ltb}
-use Rattle.std.specs.Prelude.{◌≡◌, refl, ◌↔◌, Bool, true, false, ◌&&◌, length}
+use Rattle.std.specs.Prelude.{◌≡◌, refl, ◌↔◌, Bool, true, false, length}
 use Rattle.std.proofs.Math.Path.{ap, sym, fun_ext}
 use Rattle.std.proofs.Math.Logic.{⊎_elim}
 use Rattle.std.proofs.Math.Bool.{not, cond}
@@ -19,7 +19,7 @@ use Rattle.base_limits.specs.declared.Verdict.{Verdict}
 use Rattle.base_limits.specs.declared.Verdict.TheVariants.{Fine, Refused}
 use Rattle.base_limits.specs.Laws.Verdict.{before_fine, fine_right, no_refusal}
 use Rattle.theory_graph.proofs.Laws.Linked.{linked_mono}
-use Rattle.theory_steiner.specs.Problem.{Problem, Sound, Joins, Bounded, joined, all_usable, cost}
+use Rattle.theory_steiner.specs.Problem.{Problem, Sound, Joins, Bounded, all_usable, cost}
 use Rattle.theory_steiner.specs.Growth.{grown}
 use Rattle.theory_steiner.specs.Pruning.{needed, picked, kept, mark_of, mark}
 use Rattle.theory_steiner.proofs.Laws.Joined.{joined_iff}

@@ -10,7 +10,7 @@ use Rattle.base_limits.specs.Limits.{record_bytes, duals_for}
 use Rattle.base_limits.specs.Verdict.{refuse_if, ◌before◌, Outcome, refusal, answer, outcome}
 use Rattle.base_limits.specs.declared.Verdict.{Verdict}
 use Rattle.base_limits.specs.declared.Verdict.TheVariants.{Fine, Refused}
-use Rattle.base_limits.specs.Laws.Verdict.{before_fine, before_refused, before_assoc, fine_left, fine_right, fine_refuse, refuse_false, passed_on, goes_on_law}
+use Rattle.base_limits.specs.Laws.Verdict.{before_fine, before_assoc, fine_left, fine_right, fine_refuse, refuse_false, passed_on, goes_on_law}
 use Rattle.theory_steiner.specs.Problem.{all_usable, cost}
 use Rattle.survey_core.specs.Survey.{Survey, survey_from, lists_of, vertex_count, edge_count, problem_of}
 use Rattle.survey_core.specs.Sound.{ByteGroups}

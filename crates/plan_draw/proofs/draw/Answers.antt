@@ -4,7 +4,6 @@ use lib.ListN.{length}
 use Rattle.plan_draw.specs.Drawing.{records_over}
 use Rattle.plan_draw.specs.Trace.{trace_from}
 use Rattle.plan_draw.proofs.Laws.Drawable.{test_drawable, drawn_all, drawn_none}
-use borrow.Author.Rules.{rules}
 use Rattle.plan_draw.proofs.draw.Goals as goal
 
 pub draw_trace-requires : goal.draw_trace-requires

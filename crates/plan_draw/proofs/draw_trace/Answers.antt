@@ -1,14 +1,12 @@
 -- `draw_trace` meets its contract: up to component number c, trees and members are the trace's and the duals stand in the buffer.
-use borrow.Author.Rules.{rules}
-use Prim.Native.Nat.{ℕ, ◌*◌, ◌≤◌, ◌-◌}
+use Prim.Native.Nat.{ℕ, ◌*◌, ◌-◌}
 use mathlib.Core.Path.{sym}
 use mathlib.Core.List.{List}
 use lib.ListN.{length-replicate}
 use Rattle.base_limits.specs.Limits.{max_vertices}
 use Rattle.plan_draw.specs.Members.{no_member}
 use Rattle.plan_draw.specs.Trace.{trace_from}
-use Rattle.plan_draw.proofs.Laws.Drawing.{written_length}
-use Rattle.plan_draw.proofs.Laws.Trace.{Replayed, replayed_none, replayed_more, replayed_end}
+use Rattle.plan_draw.proofs.Laws.Trace.{replayed_none, replayed_more, replayed_end}
 use native.Mathlib.Omega.{arith}
 use Rattle.plan_draw.proofs.draw_trace.Goals as goal
 
@@ -27,9 +25,7 @@ overflow_cast-c c = omega arith
 pub loop-c-preserved : goal.loop-c-preserved
 loop-c-preserved c =
     let a = c.args in
-    
-    let more = c.loop-c-test.true in
-    (
+    let more = c.loop-c-test.true in (
       omega (arith, more),
       replayed_more (trace_from a.n a.firsts.now a.seconds.now a.values.now a.order.now a.rounds) c.loop-c.c c.requires more c.loop-c.invariant.1
           c.arise-set.ensures.set

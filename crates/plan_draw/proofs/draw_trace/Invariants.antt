@@ -1,15 +1,7 @@
 -- `draw_trace` meets its contract: up to component number c, trees and members are the trace's and the duals stand in the buffer.
-use borrow.Author.Rules.{rules}
-use Prim.Native.Nat.{ℕ, ◌*◌, ◌≤◌, ◌-◌}
-use mathlib.Core.Path.{sym}
-use mathlib.Core.List.{List}
-use lib.ListN.{length-replicate}
-use Rattle.base_limits.specs.Limits.{max_vertices}
-use Rattle.plan_draw.specs.Members.{no_member}
+use Prim.Native.Nat.{◌≤◌, ◌-◌}
 use Rattle.plan_draw.specs.Trace.{trace_from}
-use Rattle.plan_draw.proofs.Laws.Drawing.{written_length}
-use Rattle.plan_draw.proofs.Laws.Trace.{Replayed, replayed_none, replayed_more, replayed_end}
-use native.Mathlib.Omega.{arith}
+use Rattle.plan_draw.proofs.Laws.Trace.{Replayed}
 use Rattle.plan_draw.proofs.draw_trace.Given as goal
 
 abbrev pub invariant-loop-c : goal.invariant-loop-c

@@ -1,5 +1,5 @@
 -- `prune` meets its contract: a refusal writes nothing, and where none comes the picked edges are what the batches ask for.
-use Rattle.std.proofs.Common.{sym, ◌∙◌, arith, rules}
+use Rattle.std.proofs.Common.{sym, ◌∙◌, arith}
 use Rattle.survey_core.specs.Survey.{survey_from}
 use Rattle.survey_core.proofs.Laws.Group.{plain_bytes}
 use Rattle.plan_drop.specs.Laws.Prunable.{fine_prunable, marks_kept, marks_written}

@@ -1,6 +1,5 @@
 -- `prune_batch` meets its contract: judging by the words is judging by need.
 use Rattle.plan_drop.specs.Laws.Judge.{batch_is}
-use Rattle.std.proofs.Common.{rules}
 use Rattle.plan_drop.proofs.prune_batch.Goals as goal
 
 pub returns : goal.returns

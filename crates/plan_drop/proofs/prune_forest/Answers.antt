@@ -1,10 +1,8 @@
 -- `prune_forest` meets its contract: after each batch the marks are those of the batches below base.
-use Rattle.plan_drop.specs.Laws.Dropped.{length_dropped}
-use Rattle.plan_drop.specs.Laws.Judge.{marks_below, length_below, below_start, below_more, below_end}
-use Rattle.plan_drop.specs.Prunable.{unweighted}
+use Rattle.plan_drop.specs.Laws.Judge.{below_start, below_more, below_end}
 use Rattle.survey_components.specs.Labels.{picked_in}
 use Rattle.base_finite.specs.Laws.Below.{count_le}
-use Rattle.std.proofs.Common.{◌≡◌, ◌-◌, length, ap, ◌∙◌, arith, rules}
+use Rattle.std.proofs.Common.{◌-◌, length, arith}
 use Rattle.plan_drop.proofs.prune_forest.Goals as goal
 
 pub loop-base-init : goal.loop-base-init

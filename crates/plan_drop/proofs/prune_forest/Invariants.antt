@@ -1,10 +1,8 @@
 -- `prune_forest` meets its contract: after each batch the marks are those of the batches below base.
-use Rattle.plan_drop.specs.Laws.Dropped.{length_dropped}
-use Rattle.plan_drop.specs.Laws.Judge.{marks_below, length_below, below_start, below_more, below_end}
+use Rattle.plan_drop.specs.Laws.Judge.{marks_below}
 use Rattle.plan_drop.specs.Prunable.{unweighted}
 use Rattle.survey_components.specs.Labels.{picked_in}
-use Rattle.base_finite.specs.Laws.Below.{count_le}
-use Rattle.std.proofs.Common.{◌≡◌, ◌-◌, length, ap, ◌∙◌, arith, rules}
+use Rattle.std.proofs.Common.{◌≡◌, ◌-◌, length}
 use Rattle.plan_drop.proofs.prune_forest.Given as goal
 
 abbrev pub invariant-loop-base : goal.invariant-loop-base

@@ -1,5 +1,5 @@
 -- `prune_picks` meets its contract: a refusal writes nothing, and where none comes the picked edges are what the batches ask for.
-use Rattle.std.proofs.Common.{[], sym, refl, ◌∙◌, arith, rules}
+use Rattle.std.proofs.Common.{[], sym, refl, ◌∙◌, arith}
 use Rattle.base_limits.specs.Verdict.{written}
 use Rattle.base_limits.specs.Laws.Verdict.{written_refused}
 use Rattle.survey_core.proofs.Laws.Group.{plain_bytes}
@@ -11,7 +11,7 @@ loop_refusal-found-requires c = picks_ends _ _ _ _ c.requires
 
 -- 21 or 14
 pub returns-in_default : goal.returns-in_default
-returns-in_default c =  record { result_value = c.loop_refusal-found.ensures; marks_value = written_refused _ _ refl c.in_default.is }
+returns-in_default c = record { result_value = c.loop_refusal-found.ensures; marks_value = written_refused _ _ refl c.in_default.is }
 
 pub prune_forest-requires : goal.prune_forest-requires
 prune_forest-requires c =

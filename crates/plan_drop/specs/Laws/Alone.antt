@@ -1,13 +1,12 @@
 -- Words of which each picked edge is alone in its bit: by the test, or by the definition for a forest. Pruning asks no more of them.
-use Rattle.std.specs.Prelude.{◌≡◌, ℕ, suc, ◌+◌, ◌-◌, ◌<◌, ◌≤◌, Bool, true, false, cond, not, ◌&&◌, ◌||◌, ◌⊎◌, List, ◌==◌, ◌≢◌, slice_index, slice_index_or, slice_set}
+use Rattle.std.specs.Prelude.{◌≡◌, ℕ, suc, ◌+◌, ◌-◌, ◌<◌, ◌≤◌, Bool, true, false, not, ◌||◌, ◌⊎◌, List, ◌==◌, ◌≢◌, slice_index, slice_index_or, slice_set}
 use native.Mathlib.Omega.{arith}
 use Rattle.std.proofs.Math.Decide.{ℕ_discrete}
-use Rattle.std.proofs.Common.{add-one, ◌∙◌, inl, inr, ⊎_elim}
+use Rattle.std.proofs.Common.{add-one, ◌∙◌, ⊎_elim}
 use Rattle.std.proofs.Math.Path.{refl, ap, sym}
-use Rattle.std.specs.Bool.{xor}
 use Rattle.std.specs.Int.Bits.{bit_xor}
 use borrow.Author.Tests.{eqb-true, eq-eqb, ne_eqb, not-true}
-use Rattle.base_finite.specs.Below.{count_below, all_below, tabulate}
+use Rattle.base_finite.specs.Below.{count_below, all_below}
 use Rattle.base_finite.specs.Laws.Below.{lt_or_ge, all_elim, get_d_tabulate}
 use Rattle.base_finite.specs.Laws.Test.{or_cases, true_not_false, not_true_false}
 use Rattle.theory_graph.specs.Path.{crosses, Forest}

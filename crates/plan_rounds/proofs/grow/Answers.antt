@@ -1,5 +1,5 @@
 -- `grow` meets its contract: a survey that is not refused is sound.
-use Rattle.std.proofs.Common.{sym, refl, ◌∙◌, rules}
+use Rattle.std.proofs.Common.{sym, refl, ◌∙◌}
 use Rattle.base_limits.specs.Verdict.{written}
 use Rattle.survey_core.proofs.Laws.Refusal.{fine_survey}
 use Rattle.plan_rounds.specs.Laws.Rounds.{grown_start}

@@ -1,8 +1,5 @@
 -- `grow_rounds` meets its contract: before each turn the arrays represent the state of the definition.
-use Rattle.std.proofs.Common.{◌-◌, refl, ⊎_elim, arith, rules}
-use Rattle.survey_core.specs.Survey.{survey_from}
-use Rattle.plan_active.specs.Flags.{MatesListed}
-use Rattle.plan_rounds.specs.Represents.{arrays_from, Represents}
+use Rattle.std.proofs.Common.{◌-◌, refl, arith}
 use Rattle.plan_rounds.specs.Laws.Round.{going, merged_small, won_edge, round_over, round_won}
 use Rattle.plan_rounds.specs.Laws.Rounds.{represents_start, all_merged, time_fits, settled_left, grown_still}
 use Rattle.plan_rounds.proofs.grow_rounds.Goals as goal
@@ -12,11 +9,10 @@ pub overflow_cast-n : goal.overflow_cast-n
 overflow_cast-n c = let few = c.requires.survey_sound.few in record { fits = omega arith }
 
 pub loop-r-init : goal.loop-r-init
-loop-r-init c =
-    (
-      represents_start c.requires.survey_sound refl c.requires.values_value c.own_labels.ensures c.active_flags-flags.ensures c.start_keys.ensures,
-      record { mates_are = c.mates-mates.ensures; members_are = c.list_members-count.ensures.members_value; count_is = c.list_members-count.ensures.value },
-    )
+loop-r-init c = (
+  represents_start c.requires.survey_sound refl c.requires.values_value c.own_labels.ensures c.active_flags-flags.ensures c.start_keys.ensures,
+  record { mates_are = c.mates-mates.ensures; members_are = c.list_members-count.ensures.members_value; count_is = c.list_members-count.ensures.value },
+)
 
 pub overflow_add-n : goal.overflow_add-n
 overflow_add-n c = record { fits = (merged_small c.loop-r.invariant.0).0 }
@@ -53,9 +49,9 @@ pub returns : goal.returns
 returns c =
     let inv = c.loop-r.invariant in
     elim c.loop-r-test.branch [
-      else-loop-r-test w ↦
-        grown_still inv.0 (settled_left inv.0 w.values-is w.flags-is c.settle_bound.ensures.values_value) refl refl (all_merged inv.0 (omega (arith, w.loop-r-test.false))) c.settle_bound.ensures.rounds_value
-    | then-loop-r-test+in_default w ↦
-        let over = round_over inv.0 _ inv.1 w.round-found.ensures.result_value w.round-found.ensures.flags_value w.in_default.is in
-        grown_still over.1 (settled_left over.1 w.values-is w.flags-is c.settle_bound.ensures.values_value) refl refl over.0 c.settle_bound.ensures.rounds_value
+      | else-loop-r-test w ↦
+          grown_still inv.0 (settled_left inv.0 w.values-is w.flags-is c.settle_bound.ensures.values_value) refl refl (all_merged inv.0 (omega (arith, w.loop-r-test.false))) c.settle_bound.ensures.rounds_value
+      | then-loop-r-test+in_default w ↦
+          let over = round_over inv.0 _ inv.1 w.round-found.ensures.result_value w.round-found.ensures.flags_value w.in_default.is in
+          grown_still over.1 (settled_left over.1 w.values-is w.flags-is c.settle_bound.ensures.values_value) refl refl over.0 c.settle_bound.ensures.rounds_value
     ]

@@ -1,10 +1,8 @@
 -- `grow_rounds` meets its contract: before each turn the arrays represent the state of the definition.
-use Rattle.std.proofs.Common.{◌-◌, refl, ⊎_elim, arith, rules}
+use Rattle.std.proofs.Common.{◌-◌}
 use Rattle.survey_core.specs.Survey.{survey_from}
 use Rattle.plan_active.specs.Flags.{MatesListed}
 use Rattle.plan_rounds.specs.Represents.{arrays_from, Represents}
-use Rattle.plan_rounds.specs.Laws.Round.{going, merged_small, won_edge, round_over, round_won}
-use Rattle.plan_rounds.specs.Laws.Rounds.{represents_start, all_merged, time_fits, settled_left, grown_still}
 use Rattle.plan_rounds.proofs.grow_rounds.Given as goal
 
 abbrev pub invariant-loop-r : goal.invariant-loop-r

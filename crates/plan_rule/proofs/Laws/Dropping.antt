@@ -1,39 +1,22 @@
 -- What dropping does to any marks that it accepts: when it finishes, which tracks it keeps, and when 21 and 14 come (document 02, No. 7; source 001, Lemma 22.6, for any forest that joins).
 use Prim.Native.Nat.{ℕ, zero, suc, ◌≤◌, ◌<◌}
 use Rattle.std.proofs.Common.{arith, ◌∙◌, eqb-true, eq-eqb, ltb-true, ltb-false, le-ltb}
-use Rattle.std.specs.Prelude.{◌≡◌, refl, ◌⊎◌, ◌↔◌, ◌&&◌, List, length, get_or, ltb}
+use Rattle.std.specs.Prelude.{◌≡◌, refl, ◌⊎◌, ◌↔◌, List, length, get_or, ltb}
 use Rattle.std.proofs.Math.Path.{ap, sym, subst}
 use Rattle.std.proofs.Math.Logic.{inl, inr, ⊎_elim}
 use Rattle.std.proofs.Math.Bool.{Bool, true, false, not}
 use Rattle.std.proofs.Math.ListN.{get_or-eq_default}
 use Rattle.std.proofs.Math.Dec.{eqb}
-use Rattle.std.proofs.lemmas.Bool.{not-true, not-false}
+use Rattle.std.proofs.lemmas.Bool.{not-false}
 use Rattle.base_finite.specs.Below.{counted, tabulate}
 use Rattle.base_finite.specs.Laws.Below.{sum_cong, lt_or_ge, length_tabulate, get_d_tabulate}
-use Rattle.base_finite.specs.Laws.Test.{either, and_left, and_right, and_both, not_true_false, true_not_false, not_of_false}
+use Rattle.base_finite.specs.Laws.Test.{and_left, and_right, and_both, not_true_false, true_not_false, not_of_false}
 use Rattle.base_limits.specs.Limits.{group_numbers}
 use Rattle.base_limits.specs.Verdict.{refuse_if, ◌before◌, lowest_below, Outcome, refusal, answer, outcome, written}
 use Rattle.base_limits.specs.declared.Verdict.{Verdict}
 use Rattle.base_limits.specs.declared.Verdict.TheVariants.{Fine, Refused}
-use Rattle.base_limits.specs.Laws.Verdict.{
-  before_fine,
-  before_refused,
-  fine_left,
-  fine_right,
-  refuse_true,
-  refuse_false,
-  fine_refuse,
-  lowest_none,
-  none_lowest,
-  lowest_found,
-  lowest_elim,
-  Lowest,
-  refused_refuse,
-  answer_fine,
-  refusal_found,
-  no_refusal,
-}
-use Rattle.theory_graph.specs.Path.{without, Forest}
+use Rattle.base_limits.specs.Laws.Verdict.{before_fine, before_refused, fine_left, fine_right, refuse_true, refuse_false, fine_refuse, lowest_none, none_lowest, lowest_found, lowest_elim, Lowest, refused_refuse, answer_fine, refusal_found}
+use Rattle.theory_graph.specs.Path.{without}
 use Rattle.theory_graph.specs.Component.{components}
 use Rattle.theory_graph.proofs.Laws.Linked.{linked_mono, without_intro, without_mono}
 use Rattle.theory_graph.proofs.Laws.Component.{components_iff}
@@ -43,30 +26,19 @@ use Rattle.theory_steiner.specs.Pruning.{needed, mark_of}
 use Rattle.theory_steiner.proofs.Laws.Joined.{joined_elim, needed_iff}
 use Rattle.survey_core.specs.Survey.{Survey, vertex_count, edge_count, problem_of, group_joined, components_of}
 use Rattle.survey_core.specs.Accuracy.{Accurate}
-use Rattle.survey_core.specs.Sound.{SurveySound, ByteGroups}
-use Rattle.survey_core.specs.Refusal.{survey_refusal, group_refusal, LowestUnjoined}
+use Rattle.survey_core.specs.Sound.{ByteGroups}
+use Rattle.survey_core.specs.Refusal.{survey_refusal, group_refusal}
 use Rattle.survey_core.proofs.Laws.Refusal.{survey_fine, fine_survey}
 use Rattle.survey_core.proofs.Laws.Group.{group_fine, joins_fine, group_refused, group_joined_intro, group_joined_elim}
 use Rattle.survey_components.specs.Labels.{picked_in}
 use Rattle.survey_components.specs.Forest.{closes_loop, loop_refusal}
 use Rattle.survey_components.specs.Laws.Picked.{picked_below}
 use Rattle.survey_components.specs.Laws.Forest.{forest_fine, fine_forest}
-use Rattle.check_rule.specs.Check.{Checked, kept_by, checking}
-use Rattle.check_rule.proofs.Laws.Meaning.{check_passing}
+use Rattle.check_rule.specs.Check.{kept_by}
 use Rattle.check_rule.proofs.Laws.Accuracy.{passing_accurate, checking_bound, checking_passing}
 use Rattle.plan_rule.specs.Dropping.{drop_refusal, DropCounts, drop_counts_of, dropping, needed_marks, marks_dropped}
-use Rattle.plan_rule.specs.DropPromise.{
-  Marked,
-  PicksForest,
-  LinkedBelow,
-  Droppable,
-  LowestLoop,
-  LowestApart,
-  DroppedMarks,
-  LoopFound,
-  DropPromises,
-}
-use Rattle.plan_rule.proofs.Laws.Number.{before_cases, Never, refuse_never, lowest_never, survey_never}
+use Rattle.plan_rule.specs.DropPromise.{Marked, PicksForest, LinkedBelow, Droppable, LowestLoop, LowestApart, DroppedMarks, LoopFound, DropPromises}
+use Rattle.plan_rule.proofs.Laws.Number.{before_cases, refuse_never, lowest_never, survey_never}
 
 -- A mark of 2 is that of a needed edge.
 pub mark_kept : (x y : Bool) → (y ≡ true → x ≡ true) → eqb (mark_of x y) 2 ≡ y

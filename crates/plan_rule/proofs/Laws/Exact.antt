@@ -1,37 +1,35 @@
 -- Where near best is best (document 02, No. 14), of every finished plan: `theory_steiner: two-bound, two-cheapest,
 -- picked-is-taken, kept-is-picked, spanning-cheapest` and `theory_route: two-cheapest-route` for the problem that a
 -- survey poses, said of the marks. And which surveys have exactly two sites.
-use Rattle.std.specs.Prelude.{ℕ, ◌+◌, ◌*◌, ◌≤◌, ◌<◌, ◌≡◌, ◌⊎◌, Bool, List, length, get_or, eqb}
-use Rattle.std.proofs.Common.{arith, ◌∙◌, subst, inl, inr}
-use Rattle.std.proofs.Math.Decide.{ℕ_discrete}
+use Rattle.std.specs.Prelude.{ℕ, ◌≤◌, ◌<◌, ◌≡◌, ◌⊎◌, Bool, List, eqb}
+use Rattle.std.proofs.Common.{arith, ◌∙◌, subst}
 use Rattle.std.proofs.Math.Path.{refl, ap, sym}
 use Rattle.std.proofs.Math.Logic.{⊎_elim}
 use Rattle.std.proofs.Math.Bool.{true, false, not}
 use Rattle.std.proofs.Math.ListN.{get_or-eq_default}
 use Rattle.base_finite.specs.Below.{counted, count_below, tabulate}
 use Rattle.base_finite.specs.Laws.Test.{not_true_false}
-use Rattle.base_finite.specs.Laws.Below.{lt_or_ge, length_tabulate, get_d_tabulate, count_two, sum_at_two, sum_zero, counted_true, counted_false}
-use Rattle.theory_steiner.specs.Problem.{Problem, Sound, Joins, Cheapest, cost, terminal, terminals, all_usable}
+use Rattle.base_finite.specs.Laws.Below.{lt_or_ge, length_tabulate, get_d_tabulate, sum_at_two, sum_zero, counted_true, counted_false}
+use Rattle.theory_steiner.specs.Problem.{Problem, Sound, Joins, terminal, terminals, all_usable}
 use Rattle.theory_steiner.specs.Pruning.{picked, kept, mark_of, mark}
 use Rattle.theory_steiner.specs.Spanning.{RequiresAll, taken}
 use Rattle.theory_steiner.proofs.Laws.Joined.{Partner, terminal_elim, terminal_intro}
-use Rattle.theory_steiner.proofs.Laws.Finish.{kept_picked, picked_edges}
+use Rattle.theory_steiner.proofs.Laws.Finish.{picked_edges}
 use Rattle.theory_steiner.proofs.Laws.Exact.{two_bound, two_cheapest}
 use Rattle.theory_steiner.proofs.Laws.Spanning.{kept_is_picked}
 use Rattle.theory_steiner.proofs.Laws.Cheapest.{spanning_cheapest}
 use Rattle.theory_steiner.proofs.Laws.Taken.{picked_is_taken}
-use Rattle.theory_route.specs.Cheapest.{route_cost, CheapestRoute, TwoTerminals}
+use Rattle.theory_route.specs.Cheapest.{CheapestRoute, TwoTerminals}
 use Rattle.theory_route.proofs.Laws.Cheapest.{two_terminals, two_cheapest_route}
-use Rattle.survey_core.specs.Survey.{Survey, vertex_count, member, same_group, problem_of}
+use Rattle.survey_core.specs.Survey.{Survey, vertex_count, same_group, problem_of}
 use Rattle.survey_core.specs.Sound.{SurveySound, ByteGroups}
 use Rattle.survey_core.proofs.Laws.Refusal.{survey_sound, same_group_symmetric}
 use Rattle.survey_core.proofs.Laws.Group.{members_same_group}
 use Rattle.survey_components.specs.Labels.{picked_in}
 use Rattle.check_rule.specs.Check.{kept_by}
-use Rattle.check_rule.specs.Exact.{NoneCheaper, shows_cheapest, Certified}
 use Rattle.check_rule.proofs.Laws.Exact.{checking_certified}
 use Rattle.plan_draw.specs.Drawing.{records_of}
-use Rattle.plan_rule.specs.Plan.{plan_of, PlanCounts, plan_counts_of}
+use Rattle.plan_rule.specs.Plan.{plan_of, plan_counts_of}
 use Rattle.plan_rule.specs.Exact.{RouteKept, HoldsAll, TakenKept, Exact}
 use Rattle.plan_rule.proofs.Laws.Passes.{marks_kept, marks_cost, finished_passes}
 

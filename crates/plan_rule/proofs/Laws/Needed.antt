@@ -1,5 +1,5 @@
 -- The marks of every finished plan keep just what is needed, by paths (demand 2): where the labels of the components do not join the groups, two members are named that no path links.
-use Rattle.std.specs.Prelude.{ℕ, ◌<◌, ◌≤◌, ◌≡◌, ◌↔◌, Bool, ◌||◌, get_or, eqb}
+use Rattle.std.specs.Prelude.{ℕ, ◌<◌, ◌≤◌, ◌≡◌, ◌↔◌, Bool, ◌||◌, eqb}
 use Rattle.std.proofs.Common.{arith, ◌∙◌, subst}
 use Rattle.std.proofs.Math.Path.{refl, ap, sym, fun_ext}
 use Rattle.std.proofs.Math.Logic.{⊎_elim}
@@ -8,21 +8,20 @@ use Rattle.std.proofs.Math.ListN.{get_or-eq_default}
 use Rattle.std.proofs.lemmas.Bool.{eqb-false, not-true, not-false}
 use Rattle.base_finite.specs.Below.{any_below, all_below, tabulate}
 use Rattle.base_finite.specs.Laws.Below.{any_elim, any_none, all_intro, Found, get_d_tabulate, length_tabulate, lt_or_ge}
-use Rattle.base_finite.specs.Laws.Test.{either, true_not_false, not_true_false, or_left, or_right, or_false_left, or_false_right, not_of_false}
-use Rattle.theory_graph.specs.Path.{Linked, without}
+use Rattle.base_finite.specs.Laws.Test.{true_not_false, not_true_false, or_false_left, or_false_right}
+use Rattle.theory_graph.specs.Path.{without}
 use Rattle.theory_graph.proofs.Laws.Linked.{without_elim}
-use Rattle.theory_steiner.specs.Problem.{Problem, Sound, Bounded, Joins, all_usable, joined}
+use Rattle.theory_steiner.specs.Problem.{Sound, Bounded, Joins, all_usable, joined}
 use Rattle.theory_steiner.specs.Pruning.{picked, kept, mark_of, mark}
 use Rattle.theory_steiner.proofs.Laws.Joined.{label_of, linked_label, joined_elim, needed_iff}
 use Rattle.theory_steiner.proofs.Laws.Rounds.{grown_reached}
 use Rattle.theory_steiner.proofs.Laws.Partition.{picked_usable}
-use Rattle.theory_steiner.proofs.Laws.Finish.{kept_joins, kept_picked, kept_edges, kept_spares_none}
+use Rattle.theory_steiner.proofs.Laws.Finish.{kept_joins, kept_edges, kept_spares_none}
 use Rattle.survey_core.specs.Survey.{Survey, vertex_count, problem_of}
 use Rattle.survey_core.specs.Sound.{SurveySound}
 use Rattle.survey_core.proofs.Laws.Refusal.{survey_sound}
 use Rattle.survey_core.proofs.Laws.Group.{Shared, same_group_shared, members_same_group, joins_groups}
 use Rattle.survey_components.specs.Labels.{picked_in}
-use Rattle.check_rule.specs.Check.{kept_by}
 use Rattle.plan_rule.specs.Plan.{plan_of}
 use Rattle.plan_rule.specs.Needed.{MembersApart, KeptByNeed}
 use Rattle.plan_rule.proofs.Laws.Passes.{marks_kept}

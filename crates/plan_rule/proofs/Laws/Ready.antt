@@ -1,23 +1,22 @@
 -- When planning finishes: exactly if none of 1 to 8 applies. Then the survey is sound, the buffers are long enough, and all tracks together join every group; 8 names the
 -- lowest group that no set of tracks joins (the buyer's demands 1 and 2).
 use Rattle.std.specs.Prelude.{ℕ, ◌*◌, ◌≤◌, ◌<◌, List, ◌≡◌, ◌↔◌, not, true, ◌||◌}
-use Rattle.std.proofs.Common.{ap, sym, ◌∙◌}
+use Rattle.std.proofs.Common.{ap, ◌∙◌}
 use Rattle.std.proofs.Math.Bool.{false}
 use Rattle.std.proofs.Math.Dec.{ltb}
 use borrow.Author.Tests.{lt-ltb, ltb-false, le-ltb}
 use Rattle.base_finite.specs.Laws.Test.{or_left, or_right, or_false_left, or_false_right}
 use Rattle.base_limits.specs.Limits.{record_bytes, duals_for, group_numbers}
 use Rattle.base_limits.specs.Verdict.{refuse_if, ◌before◌, lowest_below}
-use Rattle.base_limits.specs.declared.Verdict.{Verdict}
 use Rattle.base_limits.specs.declared.Verdict.TheVariants.{Fine, Refused}
-use Rattle.base_limits.specs.Laws.Verdict.{before_fine, before_refused, fine_left, fine_right, refuse_true, refuse_false, fine_refuse}
+use Rattle.base_limits.specs.Laws.Verdict.{before_fine, fine_left, fine_right, refuse_true, refuse_false, fine_refuse}
 use Rattle.theory_steiner.specs.Problem.{all_usable}
 use Rattle.theory_steiner.proofs.Laws.Finish.{all_usable_edges}
 use Rattle.theory_graph.proofs.Laws.Component.{components_cong}
 use Rattle.survey_core.specs.Survey.{Survey, vertex_count, edge_count, problem_of, group_joined, components_of}
 use Rattle.survey_components.specs.Labels.{chosen_mark, chosen}
 use Rattle.survey_components.specs.declared.Chosen.TheVariants.{All}
-use Rattle.survey_core.specs.Refusal.{survey_refusal, group_refusal}
+use Rattle.survey_core.specs.Refusal.{group_refusal}
 use Rattle.survey_core.proofs.Laws.Refusal.{survey_fine, fine_survey}
 use Rattle.survey_core.specs.Sound.{ByteGroups}
 use Rattle.survey_core.proofs.Laws.Group.{group_fine, joins_fine}

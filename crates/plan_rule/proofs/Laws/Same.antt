@@ -1,12 +1,11 @@
 -- Lists and the groups that they are poured into have one plan (document 02, No. 2), and where nothing stops the one nothing stops the other. Growing and dropping cite it.
-use Rattle.std.specs.Prelude.{ℕ, ◌*◌, ◌≤◌, ◌<◌, ◌≡◌, refl, Bool, true, false, not, List, ◌++◌, length, get_or, eqb}
+use Rattle.std.specs.Prelude.{ℕ, ◌≡◌, refl, Bool, true, false, not, List, ◌++◌, length, get_or, eqb}
 use Rattle.std.proofs.Math.Path.{ap, sym}
 use Rattle.std.proofs.Common.{◌∙◌, subst}
 use Rattle.base_finite.specs.Below.{counted, tabulate}
 use Rattle.base_finite.specs.Laws.Below.{get_d_tabulate}
 use Rattle.base_finite.specs.Laws.Test.{same_test_law}
 use Rattle.base_buffer.proofs.Laws.Store.{tabulate_cong}
-use Rattle.base_limits.specs.Limits.{record_bytes, duals_for}
 use Rattle.base_limits.specs.Verdict.{Outcome, answer}
 use Rattle.theory_graph.specs.Path.{without}
 use Rattle.theory_graph.proofs.Laws.Linked.{without_elim}
@@ -20,7 +19,7 @@ use Rattle.survey_lists.specs.Pouring.{poured_groups, poured_survey}
 use Rattle.survey_lists.proofs.Laws.Pouring.{length_poured}
 use Rattle.survey_lists.proofs.Laws.Plan.{poured_sound, poured_plan, poured_joins}
 use Rattle.plan_draw.specs.Drawing.{records_over}
-use Rattle.plan_rule.specs.Plan.{Plan, PlanCounts, plan_of, plan_counts_of}
+use Rattle.plan_rule.specs.Plan.{Plan, PlanCounts, plan_of}
 use Rattle.plan_rule.specs.Growing.{grown_counts_of, picked_marks}
 use Rattle.plan_rule.specs.Promise.{Ready}
 use Rattle.plan_rule.proofs.Laws.Ready.{all_bounded}

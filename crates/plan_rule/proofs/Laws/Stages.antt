@@ -10,10 +10,10 @@ use Rattle.std.proofs.Math.Seq.{take_at}
 use Rattle.base_finite.specs.Below.{counted, tabulate}
 use Rattle.base_finite.specs.Laws.Below.{lt_or_ge, length_tabulate, get_d_tabulate}
 use Rattle.base_finite.specs.Laws.Test.{not_true_false}
-use Rattle.base_limits.specs.Verdict.{Outcome, refusal, answer, outcome, written}
+use Rattle.base_limits.specs.Verdict.{Outcome, answer, outcome, written}
 use Rattle.base_limits.specs.declared.Verdict.{Verdict}
 use Rattle.base_limits.specs.declared.Verdict.TheVariants.{Fine, Refused}
-use Rattle.base_limits.specs.Laws.Verdict.{answer_fine, refusal_found, no_refusal}
+use Rattle.base_limits.specs.Laws.Verdict.{answer_fine, refusal_found}
 use Rattle.theory_graph.specs.Path.{Forest}
 use Rattle.theory_steiner.specs.Problem.{Problem, Sound, Joins, terminals, cost}
 use Rattle.theory_steiner.specs.Growth.{grown}
@@ -28,9 +28,9 @@ use Rattle.survey_components.specs.Labels.{picked_in}
 use Rattle.plan_draw.specs.Drawing.{records_over}
 use Rattle.plan_rule.specs.Plan.{plan_of, plan_refusal, PlanCounts, plan_counts_of, counting, marks_after, records_after}
 use Rattle.plan_rule.specs.Growing.{grown_counts_of, picked_marks, growing, marks_grown}
-use Rattle.plan_rule.specs.Dropping.{drop_refusal, DropCounts, drop_counts_of, dropping, needed_marks, marks_dropped}
+use Rattle.plan_rule.specs.Dropping.{drop_refusal, drop_counts_of, dropping, needed_marks, marks_dropped}
 use Rattle.plan_rule.specs.Promise.{Ready, Promises}
-use Rattle.plan_rule.specs.DropPromise.{Marked, Droppable}
+use Rattle.plan_rule.specs.DropPromise.{Droppable}
 use Rattle.plan_rule.specs.Stages.{then_dropping, grown_part, InStages}
 use Rattle.plan_rule.proofs.Laws.Ready.{fine_ready}
 use Rattle.plan_rule.proofs.Laws.Promise.{planning_promises}

@@ -1,7 +1,6 @@
 -- `block_size` meets its contract: whole, or what is left.
 use borrow.Author.Tests.{lt-ltb, le-ltb}
 use Rattle.plan_search.specs.Scan.{block_size}
-use borrow.Author.Rules.{rules}
 use Rattle.plan_search.proofs.block_size.Goals as goal
 
 -- the last block

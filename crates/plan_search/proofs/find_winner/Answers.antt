@@ -2,11 +2,9 @@
 use Prim.Native.Nat.{◌-◌}
 use mathlib.Core.Path.{refl}
 use Rattle.plan_search.specs.Scan.{blocks_of}
-use Rattle.plan_search.specs.Tables.{tables_from}
 use Rattle.plan_search.specs.Between.{winner_in}
 use Rattle.plan_search.proofs.Laws.Scan.{capped_is, capped_small}
-use Rattle.plan_search.proofs.Laws.Loops.{BeforeBlock, next_less, passing_next, passing_start, block_starts, passing_look, passing_keys, passing_floors, passing_end}
-use borrow.Author.Rules.{rules}
+use Rattle.plan_search.proofs.Laws.Loops.{next_less, passing_next, passing_start, block_starts, passing_look, passing_end}
 use Rattle.plan_search.proofs.find_winner.Goals as goal
 
 pub loop-b-init : goal.loop-b-init
@@ -14,7 +12,7 @@ unfolding winner_in
 loop-b-init c = passing_next c.next_block-b.ensures (passing_start _ _ _ _ _)
 
 pub pass_block-best-requires : goal.pass_block-best-requires
-pass_block-best-requires c =  record { time_lt_time_limit = capped_small _ c.capped_time-capped.ensures; b_in_bounds = block_starts _ _ c.loop-b-test.true }
+pass_block-best-requires c = record { time_lt_time_limit = capped_small _ c.capped_time-capped.ensures; b_in_bounds = block_starts _ _ c.loop-b-test.true }
 
 pub loop-b-smaller : goal.loop-b-smaller
 loop-b-smaller c = next_less _ _ _ _ _ c.loop-b-test.true c.next_block-b-in-loop-b.ensures

@@ -1,12 +1,8 @@
 -- `find_winner` meets its contract: before block b it has what the passes have.
 use Prim.Native.Nat.{◌-◌}
-use mathlib.Core.Path.{refl}
-use Rattle.plan_search.specs.Scan.{blocks_of}
 use Rattle.plan_search.specs.Tables.{tables_from}
 use Rattle.plan_search.specs.Between.{winner_in}
-use Rattle.plan_search.proofs.Laws.Scan.{capped_is, capped_small}
-use Rattle.plan_search.proofs.Laws.Loops.{BeforeBlock, next_less, passing_next, passing_start, block_starts, passing_look, passing_keys, passing_floors, passing_end}
-use borrow.Author.Rules.{rules}
+use Rattle.plan_search.proofs.Laws.Loops.{BeforeBlock}
 use Rattle.plan_search.proofs.find_winner.Given as goal
 
 abbrev pub invariant-loop-b : goal.invariant-loop-b

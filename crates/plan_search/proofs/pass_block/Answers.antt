@@ -4,7 +4,6 @@ use lib.ListN.{length, set}
 use Rattle.plan_search.specs.Tables.{on_by}
 use Rattle.plan_search.proofs.Laws.Blocks.{size_fits, size_is}
 use native.Mathlib.Omega.{arith}
-use borrow.Author.Rules.{rules}
 use Rattle.plan_search.proofs.pass_block.Goals as goal
 
 pub overflow_add-to : goal.overflow_add-to

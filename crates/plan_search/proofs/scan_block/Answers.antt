@@ -1,12 +1,9 @@
 -- `scan_block` meets its contract: before edge e it has what the scan has.
 use Prim.Native.Nat.{◌-◌}
 use mathlib.Core.Path.{ap, ◌∙◌}
-use mathlib.Core.Logic.{⊎_elim}
-use Rattle.plan_search.specs.Tables.{tables_from}
 use Rattle.plan_search.specs.Between.{winner_in}
 use Rattle.plan_search.proofs.Laws.Scan.{capped_is}
-use Rattle.plan_search.proofs.Laws.Loops.{Scanning, scanning_start, scanning_look, scanning_pass, scanning_long, scanning_low, scanning_end}
-use borrow.Author.Rules.{rules}
+use Rattle.plan_search.proofs.Laws.Loops.{scanning_start, scanning_look, scanning_pass, scanning_low, scanning_end}
 use native.Mathlib.Omega.{arith}
 use Rattle.plan_search.proofs.scan_block.Goals as goal
 use Rattle.plan_search.proofs.scan_block.Goals.{then-at64-limit, else-at64-limit}
@@ -27,8 +24,8 @@ loop-e-preserved c =
     let low = c.lower_of-low.ensures in
     let capped = capped_is _ c.loop-e.invariant.small in
     elim c.if-at64-limit.branch [
-      then-at64-limit w ↦ scanning_look c.loop-e.invariant taken read w.if-at64-limit.true w.look-winner.ensures.result_value w.look-winner.ensures.keys_value (ap winner_in w.winner-is) (w.limit-is ∙ rw capped at w.limit_of-limit-then-at64-limit.ensures) w.keys-is again low
-    | else-at64-limit w ↦ scanning_pass c.loop-e.invariant taken read w.if-at64-limit.false (ap winner_in w.winner-is) w.limit-is w.keys-is again low
+      | then-at64-limit w ↦ scanning_look c.loop-e.invariant taken read w.if-at64-limit.true w.look-winner.ensures.result_value w.look-winner.ensures.keys_value (ap winner_in w.winner-is) (w.limit-is ∙ rw capped at w.limit_of-limit-then-at64-limit.ensures) w.keys-is again low
+      | else-at64-limit w ↦ scanning_pass c.loop-e.invariant taken read w.if-at64-limit.false (ap winner_in w.winner-is) w.limit-is w.keys-is again low
     ]
 
 pub returns : goal.returns

@@ -1,13 +1,8 @@
 -- `scan_block` meets its contract: before edge e it has what the scan has.
 use Prim.Native.Nat.{◌-◌}
-use mathlib.Core.Path.{ap, ◌∙◌}
-use mathlib.Core.Logic.{⊎_elim}
 use Rattle.plan_search.specs.Tables.{tables_from}
 use Rattle.plan_search.specs.Between.{winner_in}
-use Rattle.plan_search.proofs.Laws.Scan.{capped_is}
-use Rattle.plan_search.proofs.Laws.Loops.{Scanning, scanning_start, scanning_look, scanning_pass, scanning_long, scanning_low, scanning_end}
-use borrow.Author.Rules.{rules}
-use native.Mathlib.Omega.{arith}
+use Rattle.plan_search.proofs.Laws.Loops.{Scanning}
 use Rattle.plan_search.proofs.scan_block.Given as goal
 
 abbrev pub invariant-loop-e : goal.invariant-loop-e

@@ -1,9 +1,7 @@
 -- `wake_joined` meets its contract: the one component after the other.
-use mathlib.Core.Path.{◌∙◌}
 use Rattle.plan_search.specs.Tables.{tables_from}
 use Rattle.plan_wake.specs.Wake.{notes_from}
 use Rattle.plan_wake.specs.Laws.Loops.{joined_woken}
-use borrow.Author.Rules.{rules}
 use Rattle.plan_wake.proofs.wake_joined.Goals as goal
 
 pub returns : goal.returns

@@ -1,7 +1,6 @@
 -- `wake_vertex` meets its contract: no edge is woken at a component that is active or no vertex.
 use Rattle.plan_wake.specs.Wake.{notes_from}
 use Rattle.plan_wake.specs.Laws.Loops.{vertex_past, vertex_active, vertex_idle}
-use borrow.Author.Rules.{rules}
 use Rattle.plan_wake.proofs.wake_vertex.Goals as goal
 
 -- no vertex's number

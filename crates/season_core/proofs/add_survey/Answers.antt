@@ -1,5 +1,4 @@
 -- `add_survey` meets its contract: what planning answered is added, and its figures are the survey's.
-use borrow.Author.Rules.{rules}
 use Rattle.season_core.specs.Laws.Survey.{survey_added_law}
 use Rattle.season_core.proofs.add_survey.Goals as goal
 

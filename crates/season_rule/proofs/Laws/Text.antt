@@ -16,21 +16,7 @@ use Rattle.season_rule.specs.declared.Report.{Report}
 use Rattle.season_rule.specs.Report.{max_surveys, refusal_numbers, word_limit, most_cost, most_bound, season_of}
 use Rattle.season_rule.specs.Figures.{Figures, is_planned, is_refused, cost_of, bound_of}
 use Rattle.season_rule.specs.Season.{outcome_at, Totals, IsFarthest, none, one}
-use Rattle.season_rule.specs.Text.{
-  planned_key,
-  far_key,
-  none_word,
-  list_line,
-  refused_line,
-  refused_lines,
-  far_line,
-  report_text,
-  report_room,
-  FarWords,
-  nothing,
-  numbers,
-  Words,
-}
+use Rattle.season_rule.specs.Text.{planned_key, far_key, none_word, list_line, refused_line, refused_lines, far_line, report_text, report_room, FarWords, nothing, numbers, Words}
 use Rattle.season_rule.proofs.Laws.Figures.{Limited}
 use Rattle.season_rule.proofs.Laws.Season.{limited_at, season_totals, season_farthest}
 

@@ -1,6 +1,5 @@
 -- `is_chosen` meets its contract: an arm for each set.
 use Rattle.survey_components.specs.Labels.{chosen_mark}
-use borrow.Author.Rules.{rules}
 use Rattle.survey_components.proofs.is_chosen.Goals as goal
 
 pub returns-in-All : goal.returns-in-All

@@ -2,7 +2,6 @@
 use native.Mathlib.Omega.{arith}
 use mathlib.Core.Path.{sym}
 use Rattle.survey_components.specs.Laws.Picked.{picked_not, picked_is}
-use borrow.Author.Rules.{rules}
 use Rattle.survey_components.proofs.is_picked.Goals as goal
 
 -- 0

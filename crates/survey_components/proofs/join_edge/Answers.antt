@@ -1,6 +1,5 @@
 -- `join_edge` meets its contract: a branch on whether the edge is in the set.
 use Rattle.survey_components.specs.Labels.{chosen}
-use borrow.Author.Rules.{rules}
 use Rattle.survey_components.proofs.join_edge.Goals as goal
 
 pub returns-then-is_chosen : goal.returns-then-is_chosen

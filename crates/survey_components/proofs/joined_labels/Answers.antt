@@ -6,7 +6,6 @@ use Rattle.base_limits.specs.Limits.{max_vertices}
 use Rattle.base_buffer.proofs.Laws.Store.{remade_table}
 use Rattle.survey_core.specs.Survey.{survey_from}
 use Rattle.survey_components.specs.Laws.Labels.{front_fits, front_labelled}
-use borrow.Author.Rules.{rules}
 use Rattle.survey_components.proofs.joined_labels.Goals as goal
 
 pub slice_bounds-labels-end : goal.slice_bounds-labels-end

@@ -1,14 +1,10 @@
 -- `label_components` meets its contract: after e edges there are the trees of the edges below e.
 use Prim.Native.Nat.{◌≤◌, ◌-◌}
-use mathlib.Core.Path.{◌∙◌}
 use lib.ListN.{length, get_or}
 use Rattle.theory_graph.specs.Component.{components}
 use Rattle.base_limits.specs.Limits.{max_vertices}
 use Rattle.survey_components.specs.Labels.{chosen}
-use Rattle.survey_components.specs.Laws.Roots.{Trees, trees_none, trees_labels}
-use Rattle.survey_components.specs.Laws.Met.{trees_met}
-use native.Mathlib.Omega.{arith}
-use borrow.Author.Rules.{rules}
+use Rattle.survey_components.specs.Laws.Roots.{Trees}
 use Rattle.survey_components.proofs.label_components.Given as goal
 
 abbrev pub invariant-loop-e : goal.invariant-loop-e

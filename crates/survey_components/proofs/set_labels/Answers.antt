@@ -4,7 +4,6 @@ use Rattle.base_limits.specs.Laws.Verdict.{written_refused, written_fine}
 use Rattle.survey_core.specs.Survey.{survey_from}
 use Rattle.survey_components.specs.Laws.Forest.{ends_below}
 use Rattle.survey_components.specs.Laws.Labels.{labels_plain}
-use borrow.Author.Rules.{rules}
 use Rattle.survey_components.proofs.set_labels.Goals as goal
 
 -- 1 to 6

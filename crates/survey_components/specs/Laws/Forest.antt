@@ -8,7 +8,7 @@ use Rattle.std.proofs.lemmas.Bool.{false≢true}
 use Rattle.std.proofs.Math.ListN.{drop, get_or-append}
 use Rattle.std.proofs.Math.Seq.{length_front}
 use Rattle.base_finite.specs.Below.{tabulate}
-use Rattle.base_finite.specs.Laws.Below.{below_suc, length_tabulate, get_d_tabulate, lt_or_ge}
+use Rattle.base_finite.specs.Laws.Below.{below_suc, length_tabulate, get_d_tabulate}
 use Rattle.base_finite.specs.Laws.Test.{either, and_left, and_right, and_both, not_true_false, true_not_false}
 use Rattle.theory_graph.specs.Path.{Linked, Forest}
 use Rattle.theory_graph.specs.Component.{components}
@@ -19,21 +19,7 @@ use Rattle.base_limits.specs.Limits.{max_vertices, group_numbers}
 use Rattle.base_limits.specs.Verdict.{refuse_if, ◌before◌, lowest_below}
 use Rattle.base_limits.specs.declared.Verdict.{Verdict}
 use Rattle.base_limits.specs.declared.Verdict.TheVariants.{Fine, Refused}
-use Rattle.base_limits.specs.Laws.Verdict.{
-  before_fine,
-  before_refused,
-  passed_on,
-  lowest_none,
-  none_lowest,
-  refuse_true,
-  refuse_false,
-  fine_refuse,
-  Scanned,
-  scan_start,
-  scan_turn,
-  scan_found,
-  scan_end,
-}
+use Rattle.base_limits.specs.Laws.Verdict.{before_fine, before_refused, passed_on, lowest_none, none_lowest, refuse_true, refuse_false, fine_refuse, Scanned, scan_start, scan_turn, scan_found, scan_end}
 use Rattle.theory_steiner.specs.Problem.{Bounded}
 use Rattle.survey_core.specs.Survey.{Survey, survey_from, groups_alone, vertex_count, edge_count, member, group_joined, components_of, problem_of}
 use Rattle.survey_core.specs.Refusal.{survey_refusal, group_refusal}

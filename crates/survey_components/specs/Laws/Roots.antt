@@ -12,7 +12,7 @@ use Rattle.std.proofs.Math.ListN.{get_or}
 use Rattle.std.proofs.lemmas.List.{set-get_or}
 use Rattle.std.proofs.lemmas.Bool.{eqb-false}
 use Rattle.base_finite.specs.Below.{tabulate}
-use Rattle.base_finite.specs.Laws.Below.{below_suc, length_tabulate, get_d_tabulate}
+use Rattle.base_finite.specs.Laws.Below.{length_tabulate, get_d_tabulate}
 use Rattle.base_finite.specs.Laws.Test.{either}
 use Rattle.theory_graph.specs.Component.{merged, components}
 use Rattle.theory_graph.proofs.Laws.Component.{merged_in, merged_out, merged_cong}

@@ -1,8 +1,8 @@
 -- Groups: what it is that a set of tracks joins a group, by paths; the lowest group that is not joined; and a group cannot be joined by all tracks
 -- exactly if no set of tracks joins it (document 01, 'The survey and the plan'; refusals 8 and 14).
-use Rattle.std.specs.Prelude.{ℕ, ◌<◌, ◌≡◌, refl, ◌↔◌, [], List, Bool, true, false, ◌&&◌, not, get_or, eqb}
+use Rattle.std.specs.Prelude.{ℕ, ◌<◌, ◌≡◌, refl, ◌↔◌, [], List, Bool, true, false, not, get_or}
 use Rattle.std.proofs.Math.Path.{sym, subst}
-use Rattle.std.proofs.Common.{arith, eqb-true, eq-eqb}
+use Rattle.std.proofs.Common.{arith}
 use Rattle.std.proofs.lemmas.Bool.{not-true, not-false}
 use Rattle.base_finite.specs.Laws.Test.{true_not_false, same_test_law}
 use Rattle.theory_graph.proofs.Laws.Linked.{linked_mono}

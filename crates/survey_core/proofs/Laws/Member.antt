@@ -1,10 +1,9 @@
 -- What it is that a vertex is a member of a group, and that labels join a group.
 use Rattle.std.specs.Prelude.{ℕ, ◌<◌, ◌≡◌, [], Bool, true, ◌&&◌, ◌||◌, not, length, get_or, eqb}
-use Rattle.std.proofs.Common.{arith, ap, ⊎_elim, eq-eqb, ne_eqb, eqb-true}
-use Rattle.std.proofs.lemmas.Bool.{eqb-false, not-true}
+use Rattle.std.proofs.Common.{arith, ap, ⊎_elim, eq-eqb, eqb-true}
 use Rattle.base_finite.specs.Below.{all_below}
 use Rattle.base_finite.specs.Laws.Below.{all_intro, all_elim}
-use Rattle.base_finite.specs.Laws.Test.{either, and_left, and_right, and_both, or_right, not_of_false}
+use Rattle.base_finite.specs.Laws.Test.{either, and_left, and_right, and_both, or_right}
 use Rattle.survey_core.specs.Survey.{Survey, lists_of, vertex_count, member, group_joined}
 use Rattle.survey_core.proofs.Laws.Lists.{Listed, by_own, by_pair, in_list_some, in_list_elim, in_list_intro}
 

@@ -1,11 +1,11 @@
 -- What 18 finds at a pair, case by case, and what pairs without it are (document 02, No. 2).
-use Rattle.std.specs.Prelude.{ℕ, ◌-◌, ◌<◌, ◌≤◌, ◌≡◌, Bool, true, false, ◌&&◌, ◌||◌, not, List, length, eqb, ltb, leb}
+use Rattle.std.specs.Prelude.{ℕ, ◌-◌, ◌<◌, ◌≤◌, ◌≡◌, true, false, List, length, ltb}
 use native.Mathlib.Omega.{arith}
 use Rattle.std.proofs.Common.{ap, ◌∙◌}
 use Rattle.std.proofs.Math.ListN.{get_or}
 use borrow.Author.Tests.{eq-eqb, ne_eqb, lt-ltb, le-ltb, le-leb, lt-leb, eqb-false, leb-false, not-false}
 use Rattle.base_limits.specs.Limits.{max_pairs}
-use Rattle.base_limits.specs.Verdict.{refuse_if, ◌before◌, lowest_below}
+use Rattle.base_limits.specs.Verdict.{refuse_if, ◌before◌}
 use Rattle.base_limits.specs.declared.Verdict.TheVariants.{Fine, Refused}
 use Rattle.base_limits.specs.Laws.Verdict.{fine_left, fine_right, fine_refuse, lowest_none, none_lowest}
 use Rattle.survey_core.specs.Lists.{Lists, own, owner, other}

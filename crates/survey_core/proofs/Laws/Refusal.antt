@@ -7,7 +7,7 @@ use Rattle.std.proofs.Math.Bool.{false}
 use Rattle.std.proofs.Math.ListN.{length, get_or}
 use Rattle.std.proofs.Math.Dec.{eqb, leb}
 use borrow.Author.Tests.{eq-eqb, ne_eqb, le-leb, lt-leb, le-ltb, lt-ltb, eqb-true, eqb-false, ltb-false, leb-false, not-false}
-use Rattle.base_finite.specs.Laws.Test.{and_left, and_right, and_both, or_false_left, or_false_right, not_of_false, not_true_false}
+use Rattle.base_finite.specs.Laws.Test.{and_left, and_right, or_false_left, or_false_right, not_of_false, not_true_false}
 use Rattle.base_limits.specs.Limits.{max_vertices, max_edges, max_weight}
 use Rattle.base_limits.specs.Verdict.{refuse_if, ◌before◌, lowest_below}
 use Rattle.base_limits.specs.declared.Verdict.{Verdict}

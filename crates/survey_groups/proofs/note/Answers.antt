@@ -1,7 +1,6 @@
 -- `note` meets its contract: no group, no change; else one store.
 use borrow.Author.Tests.{eq-eqb, ne_eqb}
 use Rattle.survey_groups.specs.Spread.{noted_in}
-use borrow.Author.Rules.{rules}
 use Rattle.survey_groups.proofs.note.Goals as goal
 
 pub returns-then-group-eq0 : goal.returns-then-group-eq0

@@ -1,5 +1,4 @@
 -- `note_label` meets its contract: `note` with the label as it is.
-use borrow.Author.Rules.{rules}
 use Rattle.survey_groups.proofs.note_label.Goals as goal
 
 pub returns : goal.returns

@@ -2,7 +2,6 @@
 use borrow.Author.Tests.{eq-eqb, ne_eqb}
 use Rattle.base_finite.specs.Laws.Test.{or_right}
 use Rattle.survey_groups.specs.Spread.{noted}
-use borrow.Author.Rules.{rules}
 use Rattle.survey_groups.proofs.noted_label.Goals as goal
 
 -- the first member

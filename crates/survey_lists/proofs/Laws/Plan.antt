@@ -8,7 +8,7 @@ use Rattle.std.proofs.Math.ListN.{length, get_or, get_or-eq_default}
 use Rattle.base_finite.specs.Laws.Below.{lt_or_ge}
 use Rattle.base_limits.specs.Limits.{group_numbers}
 use Rattle.survey_core.specs.Sound.{ByteGroups, SurveySound}
-use Rattle.theory_steiner.specs.Problem.{Problem, Bounded, Joins, separates}
+use Rattle.theory_steiner.specs.Problem.{Bounded, Joins, separates}
 use Rattle.theory_steiner.specs.Requirement.{requiring, Chain, one, more, SamePlan}
 use Rattle.theory_steiner.specs.Growth.{state_at}
 use Rattle.theory_steiner.specs.Pruning.{kept}

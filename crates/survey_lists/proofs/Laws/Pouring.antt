@@ -3,17 +3,16 @@
 use Rattle.std.specs.Prelude.{ℕ, ◌<◌, ◌≡◌, refl, ◌↔◌, true, [], List, length, get_or, ltb}
 use Rattle.std.proofs.Math.Path.{ap, sym}
 use Rattle.std.proofs.Common.{◌∙◌, subst, ext_get_or, lt-ltb, ltb-true}
-use Rattle.base_finite.specs.Below.{tabulate}
 use Rattle.base_finite.specs.Laws.Below.{length_tabulate, get_d_tabulate}
 use Rattle.base_finite.specs.Laws.Test.{and_left, and_both}
 use Rattle.base_limits.specs.Limits.{group_numbers}
-use Rattle.theory_graph.specs.Path.{Leads, forth, back, Linked, here, step}
+use Rattle.theory_graph.specs.Path.{forth, back, Linked, here, step}
 use Rattle.theory_graph.specs.Component.{components}
 use Rattle.theory_graph.proofs.Laws.Linked.{linked_trans, linked_sym, linked_refl, linked_edge}
 use Rattle.theory_graph.proofs.Laws.Component.{below, components_iff}
 use Rattle.theory_graph.proofs.Laws.Label.{label_below_law, untouched_label}
 use Rattle.survey_core.specs.Lists.{Lists, lists_from, own, owner, other, in_list}
-use Rattle.survey_core.specs.Pairs.{PairSound, PairsSound}
+use Rattle.survey_core.specs.Pairs.{PairsSound}
 use Rattle.survey_lists.specs.Pouring.{Chained, same, shared, ChainLinked, home_below, home, poured_label, poured, poured_groups}
 use Rattle.survey_core.proofs.Laws.Lists.{Listed, by_own, by_pair, in_list_some, in_list_elim, in_list_intro}
 use Rattle.survey_lists.proofs.Laws.Home.{home_own, in_list_home, home_in_list, home_below_law}

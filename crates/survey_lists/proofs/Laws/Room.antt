@@ -1,5 +1,5 @@
 -- What the loops of pouring leave in their buffers: the labels of the lists, and the poured groups in a buffer for every survey.
-use Rattle.std.specs.Prelude.{ℕ, suc, ◌+◌, ◌-◌, ◌<◌, ◌≤◌, ◌≡◌, refl, ◌⊎◌, true, ◌&&◌, cond, List, set, take, replicate, eqb, ltb}
+use Rattle.std.specs.Prelude.{ℕ, suc, ◌+◌, ◌-◌, ◌<◌, ◌≤◌, ◌≡◌, ◌⊎◌, true, ◌&&◌, cond, List, set, take, replicate, eqb, ltb}
 use native.Mathlib.Omega.{arith}
 use Rattle.std.proofs.Math.Nat.{sub-zero}
 use Rattle.std.proofs.Common.{add-one, ◌∙◌, subst, inl, inr, ext_get_or, length-take-le, get_or-take}

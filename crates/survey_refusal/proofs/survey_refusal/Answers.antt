@@ -3,7 +3,6 @@ use mathlib.Core.Path.{sym, ◌∙◌}
 use Rattle.base_limits.specs.Laws.Verdict.{passed_on, goes_on_law}
 use Rattle.survey_core.proofs.Laws.Refusal.{pairs_differ, pairs_decide}
 use native.Mathlib.Omega.{arith}
-use borrow.Author.Rules.{rules}
 use Rattle.survey_refusal.proofs.survey_refusal.Goals as goal
 
 -- the pair buffers differ in length

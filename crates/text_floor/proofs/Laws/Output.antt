@@ -7,7 +7,6 @@ use Rattle.format_write.specs.Key.{cost_key}
 use Rattle.format_write.specs.Text.{line_of, refusal_text}
 use Rattle.format_print.specs.declared.Printed.{Printed}
 use Rattle.format_print.specs.Print.{printed, printed_out}
-use Rattle.format_survey.specs.Reading.{SurveyText}
 use Rattle.survey_core.specs.Survey.{Survey}
 use Rattle.floor_rule.specs.Floor.{FloorCounts, flooring, floored_outcome}
 use Rattle.floor_rule.specs.declared.Floored.{Floored}

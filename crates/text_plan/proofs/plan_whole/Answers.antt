@@ -1,7 +1,6 @@
 -- `plan_whole` meets its contract: what is printed fits, so that no refusal comes.
 use Prim.Native.Nat.{◌≤◌}
 use native.Mathlib.Omega.{arith}
-use borrow.Author.Rules.{rules}
 use mathlib.Core.Path.{ap, ◌∙◌}
 use lib.ListN.{length, drop, length-append}
 use Rattle.text_plan.specs.Output.{plan_output}
@@ -12,7 +11,6 @@ use Rattle.text_plan.proofs.plan_whole.Goals as goal
 pub returns-in_default : goal.returns-in_default
 returns-in_default c =
     let a = c.args in
-    
     let fits : length (plan_output a.text.now) ≤ length a.out.now = omega (arith, c.plan_text-answer.ensures.fits) in
     absurd (fitting_never (plan_output a.text.now) a.out.now fits c.plan_text-answer.ensures.value c.in_default.is)
 
@@ -20,7 +18,6 @@ returns-in_default c =
 pub returns : goal.returns
 returns c =
     let a = c.args in
-    
     let fits : length (plan_output a.text.now) ≤ length a.out.now = omega (arith, c.plan_text-answer.ensures.fits) in
     let n = fitting_length (plan_output a.text.now) a.out.now fits c.plan_text-answer.ensures.value c.in-Length.is in
     let out = c.plan_text-answer.ensures.out_value ∙ fitting_out (plan_output a.text.now) a.out.now fits in

@@ -1,5 +1,5 @@
 -- Laws of what `plan` prints: the outcome of the whole by the outcomes of reading and of planning, and that `plan_room` bytes hold it.
-use Rattle.std.specs.Prelude.{ℕ, ◌*◌, ◌-◌, ◌^◌, ◌≤◌, ◌<◌, ◌≡◌, refl, replicate}
+use Rattle.std.specs.Prelude.{ℕ, ◌*◌, ◌-◌, ◌^◌, ◌≤◌, ◌<◌, ◌≡◌, replicate}
 use Rattle.std.proofs.Common.{arith, ◌∙◌}
 use Rattle.std.proofs.Math.Nat.{sub-zero}
 use Rattle.std.proofs.Math.Path.{ap, ap₂, sym, subst}
@@ -17,11 +17,11 @@ use Rattle.format_print.specs.Laws.Room.{plan_text_le, refusal_text_le}
 use Rattle.theory_steiner.proofs.Laws.Rounds.{grown_reached}
 use Rattle.theory_steiner.proofs.Laws.Dual.{duals_count}
 use Rattle.survey_core.specs.Survey.{Survey, vertex_count, edge_count, problem_of}
-use Rattle.survey_core.specs.Sound.{SurveySound, ByteGroups}
+use Rattle.survey_core.specs.Sound.{ByteGroups}
 use Rattle.survey_core.proofs.Laws.Refusal.{survey_sound}
 use Rattle.plan_draw.specs.Drawing.{records_of}
 use Rattle.plan_draw.proofs.Laws.Drawing.{bytes_records, length_records}
-use Rattle.plan_rule.specs.Plan.{Plan, plan_of, plan_refusal, planning, PlanCounts, plan_counts_of, counting, marks_after, records_after}
+use Rattle.plan_rule.specs.Plan.{plan_of, plan_refusal, planning, PlanCounts, plan_counts_of, counting, marks_after, records_after}
 use Rattle.plan_rule.specs.Promise.{Ready}
 use Rattle.plan_rule.proofs.Laws.Ready.{fine_ready}
 use Rattle.plan_rule.proofs.Laws.Promise.{cut_marks, cut_records}

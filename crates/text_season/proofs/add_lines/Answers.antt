@@ -17,7 +17,6 @@ pub returns-in_default : goal.returns-in_default
 unfolding number_step stopped added_from
 returns-in_default c =
     let a = c.args in
-    
     let told = c.in_default.is in
     c.stopped_lines.ensures ∙ ap (λ x. added_from a.report (stopped {B = SurveyText} (number_step x))) told
     ∙ lines_refused a.report a.text.now a.vertices a.edges a.cursor.at max_vertices c.requires.0 c.survey_lines-step.ensures.0 (ap number_step told)
@@ -42,8 +41,6 @@ pub returns : goal.returns
 unfolding number_step
 returns c =
     let a = c.args in
-    
-    
     let none = replicate {A = ℕ} max_edges 0 in
     c.add_read.ensures
     ∙ lines_added a.report a.text.now a.vertices a.edges a.cursor.at (replicate max_vertices 0) none none none (replicate max_pairs 0) (replicate max_pairs 0)

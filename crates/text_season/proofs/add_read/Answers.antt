@@ -1,5 +1,4 @@
 -- `text_season::add_read` meets its contract.
-use borrow.Author.Rules.{rules}
 use Rattle.text_season.specs.Laws.Added.{survey_added_law}
 use Rattle.text_season.proofs.add_read.Goals as goal
 

@@ -1,5 +1,4 @@
 -- `text_season::add_text` meets its contract, by the cases of the counts.
-use borrow.Author.Rules.{rules}
 use mathlib.Core.Path.{ap, ◌∙◌}
 use Rattle.format_read.specs.Step.{stopped}
 use Rattle.format_survey.specs.Line.{tests_for, vertices_test, edges_test}

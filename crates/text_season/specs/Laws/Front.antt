@@ -2,10 +2,10 @@
 use Rattle.std.specs.Prelude.{ℕ, ◌+◌, ◌-◌, ◌≤◌, ◌<◌, ◌≡◌, List, get_or, set}
 use native.Mathlib.Omega.{arith}
 use Rattle.std.proofs.Math.Path.{refl}
-use Rattle.std.proofs.Common.{ap, sym, ◌∙◌, length-set}
+use Rattle.std.proofs.Common.{ap, ◌∙◌, length-set}
 use Rattle.std.proofs.Math.ListN.{length}
 use Rattle.base_buffer.specs.Store.{remade}
-use Rattle.base_buffer.proofs.Laws.Store.{length_remade, remade_ahead, remade_more, remade_end}
+use Rattle.base_buffer.proofs.Laws.Store.{remade_ahead, remade_more, remade_end}
 
 -- The first i bytes have moved.
 pub record Moved (from : ℕ) (before : List ℕ) (i : ℕ) (after : List ℕ) : Type 0 where

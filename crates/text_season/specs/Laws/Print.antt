@@ -1,6 +1,6 @@
 -- What is printed, by the verdict, and how much of the buffer that is.
 use Rattle.std.specs.Prelude.{ℕ, ◌≤◌, ◌<◌, refl, ◌⊎◌, List}
-use Rattle.std.proofs.Common.{arith, ap, sym, ◌∙◌, inl, inr, lt-ltb, le-ltb}
+use Rattle.std.proofs.Common.{arith, ap, ◌∙◌, inl, inr, lt-ltb, le-ltb}
 use Rattle.std.proofs.Math.Path.{◌≡◌}
 use Rattle.std.proofs.Math.ListN.{length}
 use Rattle.base_finite.specs.Laws.Below.{lt_or_ge}

@@ -1,5 +1,5 @@
 -- The texts of at most 1,000 surveys, one after the other, print the report over these surveys.
-use Rattle.std.specs.Prelude.{ℕ, zero, suc, ◌+◌, ◌≤◌, ◌<◌, ◌≡◌, refl, List, [], ◌∷◌, ◌++◌, map, length, get_or, drop}
+use Rattle.std.specs.Prelude.{ℕ, zero, suc, ◌+◌, ◌≤◌, ◌<◌, ◌≡◌, refl, List, [], ◌∷◌, ◌++◌, map, length, drop}
 use Rattle.std.proofs.Common.{arith, ap, sym, ◌∙◌, length-append, drop_at}
 use Rattle.std.proofs.Math.ListN.{get_or-eq_default}
 use Rattle.base_limits.specs.Verdict.{written}

@@ -1,8 +1,7 @@
 -- `stp_text` meets its contract: what is printed of reading's answer, judged by the length, is what `stp` prints for the text (`read_printed`).
-use native.Mathlib.Omega.{arith}
 use borrow.Author.Rules.{rules}
 use Prim.Native.Nat.{ℕ}
-use lib.ListN.{replicate, length}
+use lib.ListN.{replicate}
 use Rattle.base_buffer.proofs.Laws.Part.{most_le, most_part}
 use Rattle.base_limits.specs.Limits.{max_vertices, max_edges}
 use Rattle.text_stp.specs.Laws.StpOutput.{read_printed}

@@ -2,7 +2,7 @@
 use Prim.Native.Nat.{◌-◌}
 use mathlib.Core.Path.{refl}
 use borrow.Author.Rules.{rules}
-use Rattle.text_table.specs.Laws.TrackTable.{StoringTable, storing_start, table_fits, storing_more, storing_end, table_short}
+use Rattle.text_table.specs.Laws.TrackTable.{storing_start, table_fits, storing_more, storing_end, table_short}
 use Rattle.text_table.proofs.put_table.Goals as goal
 
 -- 7

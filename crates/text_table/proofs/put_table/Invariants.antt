@@ -1,8 +1,6 @@
 -- `put_table` meets its contract: one byte more at a time, where there is room for all.
 use Prim.Native.Nat.{◌-◌}
-use mathlib.Core.Path.{refl}
-use borrow.Author.Rules.{rules}
-use Rattle.text_table.specs.Laws.TrackTable.{StoringTable, storing_start, table_fits, storing_more, storing_end, table_short}
+use Rattle.text_table.specs.Laws.TrackTable.{StoringTable}
 use Rattle.text_table.proofs.put_table.Given as goal
 
 abbrev pub invariant-loop-k : goal.invariant-loop-k

@@ -42,7 +42,6 @@ pub returns-in-Survey : goal.returns-in-Survey
 unfolding counts_outcome
 returns-in-Survey c =
     let a = c.args in
-    
     let told = ap counts_outcome c.in-Survey.is in
     let edges = replicate {A = ℕ} max_edges 0 in
     let pairs = replicate {A = ℕ} max_pairs 0 in

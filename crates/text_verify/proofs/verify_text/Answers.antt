@@ -1,5 +1,4 @@
 -- `verify_text` meets its contract: what the check finds is printed.
-use borrow.Author.Rules.{rules}
 use Rattle.text_verify.specs.Output.{verify_output}
 use Rattle.text_verify.proofs.verify_text.Goals as goal
 

@@ -66,12 +66,10 @@ pub returns-in-Survey : goal.returns-in-Survey
 unfolding counts_outcome
 returns-in-Survey c =
     let a = c.args in
-    
     let told = ap counts_outcome c.in-Survey.is in
     let edges = replicate {A = ℕ} max_edges 0 in
     let pairs = replicate {A = ℕ} max_pairs 0 in
     let said =
     survey_said a.text.now survey_buffers c.read.ensures.result_value told (replicate max_vertices 0) edges edges edges pairs pairs
     c.read.ensures.groups_value c.read.ensures.firsts_value c.read.ensures.seconds_value c.read.ensures.weights_value c.read.ensures.owners_value c.read.ensures.others_value in
-    
     let whole = prints_as why_room a.out.now (why_said_output a.track said) (c.why_survey.ensures.result_value, c.why_survey.ensures.out_value) c.why_survey.ensures.fits in record { value = whole.0; out_value = whole.1.0; fits = whole.1.1 }

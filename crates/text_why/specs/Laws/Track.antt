@@ -6,7 +6,6 @@ use Rattle.base_finite.specs.Laws.Below.{lt_or_ge}
 use Rattle.base_limits.specs.Limits.{count_digits}
 use Rattle.format_write.specs.Decimal.{decimal}
 use Rattle.format_read.specs.Step.{found, refused, ◌then◌}
-use Rattle.format_read.specs.Stands.{Stands}
 use Rattle.format_read.proofs.Laws.Step.{then_found, then_refused}
 use Rattle.format_read.proofs.Laws.Bytes.{end_here, end_later}
 use Rattle.format_read.proofs.Laws.Stands.{stands_whole}

@@ -33,8 +33,6 @@ pub returns-in-Value : goal.returns-in-Value
 unfolding number_step
 returns-in-Value c =
     let a = c.args in
-    
-    
     let none = replicate {A = ℕ} max_edges 0 in
     let whole = printed_as a.out.now
     (lines_read a.text.now a.vertices a.edges a.cursor.at (replicate max_vertices 0) none none none (replicate max_pairs 0) (replicate max_pairs 0)

@@ -4,7 +4,6 @@ use Rattle.format_survey.specs.Line.{tests_for, vertices_test, edges_test}
 use Rattle.format_survey.specs.LinesAnswer.{counts_step}
 use Rattle.check_printed.specs.Laws.Verify.{counted_few}
 use Rattle.text_winter.proofs.Laws.Output.{printed_as, uncounted_output, counted_output}
-use borrow.Author.Rules.{rules}
 use Rattle.text_winter.proofs.winter_text.Goals as goal
 
 pub winter_lines-requires : goal.winter_lines-requires

@@ -9,31 +9,7 @@ use Rattle.base_limits.specs.Limits.{max_edges, word_digits, dual_room}
 use Rattle.format_record.specs.Bits.{Bytes}
 use Rattle.format_record.specs.Record.{value_in, record_at}
 use Rattle.format_record.proofs.Laws.Record.{bytes_record_at}
-use Rattle.format_write.specs.Key.{
-  terminals_key,
-  cost_key,
-  bound_key,
-  rounds_key,
-  kept_key,
-  dual_key,
-  refused_key,
-  place_key,
-  nodes_key,
-  links_key,
-  node_key,
-  link_key,
-  also_key,
-  track_key,
-  mark_key,
-  group_key,
-  from_key,
-  to_key,
-  route_key,
-  round_key,
-  colon,
-  comma,
-  newline,
-}
+use Rattle.format_write.specs.Key.{terminals_key, cost_key, bound_key, rounds_key, kept_key, dual_key, refused_key, place_key, nodes_key, links_key, node_key, link_key, also_key, track_key, mark_key, group_key, from_key, to_key, route_key, round_key, colon, comma, newline}
 use Rattle.format_write.specs.Decimal.{decimal}
 use Rattle.format_write.specs.Text.{line_of, listed, members_of, dual_line, text_below, kept_line, kept_lines, dual_lines, count_lines, plan_text, refusal_text}
 use Rattle.format_write.proofs.Laws.Decimal.{length_decimal}

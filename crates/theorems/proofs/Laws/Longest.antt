@@ -1,17 +1,17 @@
 -- The longest text is reached: a well-formed text whose counts escape 1 and 3 has exactly so many bytes as no such text exceeds (`longest_text_law`).
-use Rattle.std.specs.Prelude.{ℕ, zero, suc, ◌+◌, ◌*◌, ◌≤◌, ◌<◌, ◌≡◌, refl, List, [], ◌∷◌, ◌++◌, length, replicate}
-use Rattle.std.proofs.Common.{arith, ap, sym, ◌∙◌, length-append}
+use Rattle.std.specs.Prelude.{ℕ, zero, suc, ◌+◌, ◌*◌, ◌≤◌, ◌<◌, ◌≡◌, refl, List, [], ◌++◌, length, replicate}
+use Rattle.std.proofs.Common.{arith, ap, ◌∙◌, length-append}
 use Rattle.std.proofs.lemmas.List.{length-replicate}
-use Rattle.base_limits.specs.Limits.{max_vertices, max_edges, max_pairs, group_digits, also_digits, endpoint_digits, weight_digits}
-use Rattle.format_write.specs.Key.{nodes_key, links_key, node_key, link_key, comma, newline}
+use Rattle.base_limits.specs.Limits.{max_vertices, max_edges, max_pairs, group_digits}
+use Rattle.format_write.specs.Key.{nodes_key, links_key, node_key}
 use Rattle.format_write.specs.Decimal.{decimal, digits_within}
 use Rattle.format_write.specs.Text.{line_of}
 use Rattle.format_read.specs.Lines.{text_of}
 use Rattle.format_read.specs.Language.{EachFrom, none_from, more_from, Each, none, more}
-use Rattle.format_read.specs.Number.{OfDigits, number_text, line_bytes}
-use Rattle.format_also.specs.Pair.{Pair, pair_of, PairDigits}
+use Rattle.format_read.specs.Number.{number_text, line_bytes}
+use Rattle.format_also.specs.Pair.{Pair, pair_of}
 use Rattle.format_also.specs.Render.{pair_text, pairs_text, pair_bytes}
-use Rattle.format_survey.specs.Line.{Edge, EdgeDigits}
+use Rattle.format_survey.specs.Line.{Edge}
 use Rattle.format_survey.specs.LinesRender.{edge_text}
 use Rattle.format_survey.specs.Render.{render, edge_bytes, longest_text}
 use Rattle.format_survey.specs.WellFormed.{WellFormed}

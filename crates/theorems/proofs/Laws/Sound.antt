@@ -2,17 +2,17 @@
 -- pairs are sound is read back from its text.
 use Prim.Native.Nat.{ℕ, zero, suc, ◌+◌, ◌-◌, ◌*◌, ◌^◌, ◌≤◌, ◌<◌}
 use native.Mathlib.Omega.{arith}
-use Rattle.std.specs.Prelude.{◌≡◌, Bool, true, false, List, [], ◌∷◌, map, length, ltb}
+use Rattle.std.specs.Prelude.{◌≡◌, Bool, true, false, List, [], ◌∷◌, length, ltb}
 use Rattle.std.proofs.Math.Path.{refl}
-use Rattle.std.proofs.Common.{ap, sym, ◌∙◌, subst, ltb-true, ltb-false}
+use Rattle.std.proofs.Common.{sym, ◌∙◌, subst, ltb-true, ltb-false}
 use Rattle.std.proofs.Math.ListN.{get_or}
 use Rattle.std.proofs.lemmas.List.{length-map}
 use Rattle.base_limits.specs.Limits.{max_vertices, max_edges, max_pairs, group_numbers, also_digits}
 use Rattle.base_limits.specs.Verdict.{answer}
 use Rattle.format_read.specs.Language.{EachFrom}
 use Rattle.format_read.proofs.Laws.Bytes.{no_bool}
-use Rattle.survey_core.specs.Lists.{Lists, lists_from}
-use Rattle.survey_core.specs.Pairs.{is_rising, PairSound, PairsSound}
+use Rattle.survey_core.specs.Lists.{lists_from}
+use Rattle.survey_core.specs.Pairs.{is_rising, PairsSound}
 use Rattle.survey_core.proofs.Laws.Pairs.{rising_first, rising_vertex, rising_group, falling_vertex, falling_group}
 use Rattle.format_also.specs.Pair.{Pair, pair_of, PairDigits, rank, owners_of, others_of}
 use Rattle.format_also.specs.Render.{pairs_from}

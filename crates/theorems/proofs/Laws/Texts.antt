@@ -2,7 +2,7 @@
 use Prim.Native.Nat.{ℕ, suc, ◌+◌, ◌*◌, ◌≤◌, ◌<◌}
 use native.Mathlib.Omega.{arith}
 use Rattle.std.proofs.Math.Decide.{ℕ_discrete}
-use Rattle.std.specs.Prelude.{◌≡◌, ◌⊎◌, Bool, true, ◌||◌, List, [], ◌∷◌, get_or, eqb, leb}
+use Rattle.std.specs.Prelude.{◌≡◌, ◌⊎◌, true, ◌||◌, List, [], ◌∷◌, get_or, eqb, leb}
 use Rattle.std.proofs.Math.Path.{refl, ap, sym, subst}
 use Rattle.std.proofs.Common.{◌∙◌, inl, inr, ⊎_elim}
 use Rattle.std.proofs.Math.ListN.{length, length-map}
@@ -34,21 +34,21 @@ use Rattle.format_survey_print.specs.Laws.Read.{printed_text, printed_read}
 use Rattle.theory_steiner.specs.Problem.{Joins, all_usable}
 use Rattle.survey_core.specs.Survey.{Survey, lists_of, vertex_count, edge_count, problem_of}
 use Rattle.survey_core.specs.Pairs.{pairs_refusal}
-use Rattle.survey_core.specs.Sound.{EdgeSound, SurveySound, ByteGroups}
-use Rattle.survey_core.specs.Refusal.{edge_refusal, survey_refusal, group_refusal, LowestUnjoined}
+use Rattle.survey_core.specs.Sound.{SurveySound, ByteGroups}
+use Rattle.survey_core.specs.Refusal.{edge_refusal, survey_refusal, group_refusal}
 use Rattle.survey_core.proofs.Laws.Pairs.{pairs_fine}
 use Rattle.survey_core.proofs.Laws.Refusal.{fine_edge, survey_shaped, fine_survey}
 use Rattle.survey_core.proofs.Laws.Group.{group_refused}
 use Rattle.check_printed.specs.Verify.{survey_in}
 use Rattle.check_printed.specs.Laws.Passes.{read_numbered}
-use Rattle.plan_rule.specs.Plan.{Plan, plan_of, plan_refusal, planning}
+use Rattle.plan_rule.specs.Plan.{plan_of, plan_refusal, planning}
 use Rattle.plan_rule.specs.Promise.{Ready}
 use Rattle.plan_rule.proofs.Laws.Number.{before_cases}
 use Rattle.plan_rule.proofs.Laws.Ready.{fine_ready, ready_fine, all_bounded, buffers_fit}
 use Rattle.text_plan.specs.Output.{survey_read, survey_plan, read_plan, text_plan, outcome_text, plan_output}
 use Rattle.text_plan.specs.Laws.Output.{refused_output}
 use Rattle.theorems.specs.Printed.{plan_for, printed_plan}
-use Rattle.theorems.specs.Texts.{MalformedAt, EdgeFault, end_out, ends_equal, price_over, LowestFault, TextPrints, planned, malformed, vertices_refused, edges_refused, group_over, pair_at_fault, faulty, unjoined, TextsPlanned}
+use Rattle.theorems.specs.Texts.{EdgeFault, end_out, ends_equal, price_over, LowestFault, TextPrints, planned, malformed, vertices_refused, edges_refused, group_over, pair_at_fault, faulty, unjoined, TextsPlanned}
 use Rattle.theorems.proofs.Laws.Sound.{read_sound, sound_within}
 
 -- ---- 4, 5 and 6

@@ -11,12 +11,12 @@ use native.Mathlib.Omega.{arith}
 use Rattle.std.proofs.Math.Dec.{eqb}
 use borrow.Author.Tests.{eqb-true, eq-eqb, ne_eqb, not-true, lt-ltb, ltb-true}
 use Rattle.base_finite.specs.Below.{counted, sum_below, any_below}
-use Rattle.base_finite.specs.Laws.Test.{either, and_left, and_right, and_both, or_cases, or_left, or_right, not_of_false, true_not_false, not_true_false}
+use Rattle.base_finite.specs.Laws.Test.{either, and_left, and_right, and_both, or_cases, or_left, or_right, not_of_false, true_not_false}
 use Rattle.base_finite.specs.Laws.Below.{below_suc, lt_or_ge, sum_cong, sum_le, sum_zero, sum_add, sum_swap, sum_member, sum_only, counted_true, counted_false, counted_mono, counted_zero, counted_add, any_intro, any_elim, any_none, Found}
 use Rattle.theory_graph.specs.Path.{Leads, forth, back, Linked, here, step}
 use Rattle.theory_graph.proofs.Laws.Linked.{linked_edge, linked_trans}
 use Rattle.theory_steiner.specs.Problem.{Problem, Bounded, EdgeSet, Joins, cost}
-use Rattle.theory_directed.specs.Directed.{lowest, Groups, peopled, Grouped, Cut, EachCut, none, more, amount, enters, arc_load, Fits, Rooted, Certified}
+use Rattle.theory_directed.specs.Directed.{lowest, Groups, peopled, Grouped, Cut, EachCut, none, more, amount, enters, arc_load, Rooted, Certified}
 use Rattle.theory_steiner.proofs.Laws.Joined.{label_of, label_linked, linked_label}
 
 -- ---- amounts

@@ -6,22 +6,7 @@ use Rattle.std.proofs.lemmas.Bool.{false≢true}
 use Rattle.std.proofs.Math.Decide.{ℕ_discrete}
 use Rattle.base_finite.specs.Laws.Test.{either, and_left, and_right, and_both, or_cases, or_left, or_right}
 use Rattle.theory_graph.specs.Path.{Linked, without, Forest}
-use Rattle.theory_graph.proofs.Laws.Linked.{
-  Through,
-  avoids,
-  forwards,
-  backwards,
-  one_more_law,
-  linked_trans,
-  linked_sym,
-  linked_mono,
-  linked_ends,
-  without_elim,
-  without_intro,
-  without_mono,
-  through_without,
-  linked_without,
-}
+use Rattle.theory_graph.proofs.Laws.Linked.{Through, avoids, forwards, backwards, one_more_law, linked_trans, linked_sym, linked_mono, linked_ends, without_elim, without_intro, without_mono, through_without, linked_without}
 
 -- One more edge, between two components.
 module _ (a b : ℕ → ℕ) (F G : ℕ → Bool) (e : ℕ) (forest : Forest a b F) (apart : Linked a b F (a e) (b e) → ⊥)

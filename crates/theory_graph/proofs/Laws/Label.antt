@@ -1,12 +1,11 @@
 -- Component labels as numbers: they are labels of vertices, so they stay below a bound of these, and a vertex that no edge touches keeps its own.
 use Prim.Native.Nat.{ℕ, zero, suc, ◌<◌}
-use Rattle.std.proofs.Common.{arith, ap, sym, ◌∙◌, subst, ⊎_elim, ltb-true}
-use Rattle.std.specs.Prelude.{◌≡◌, Bool, true, false, ◌&&◌, cond, ltb}
+use Rattle.std.proofs.Common.{arith, sym, ◌∙◌, ⊎_elim, ltb-true}
+use Rattle.std.specs.Prelude.{◌≡◌, Bool, true, false, ltb}
 use Rattle.std.proofs.Math.Path.{refl}
-use Rattle.base_finite.specs.Below.{memo}
 use Rattle.base_finite.specs.Laws.Below.{memo_is}
 use Rattle.base_finite.specs.Laws.Test.{and_left}
-use Rattle.theory_graph.specs.Path.{Leads, forth, back, Linked, here, step}
+use Rattle.theory_graph.specs.Path.{forth, back, Linked, here, step}
 use Rattle.theory_graph.specs.Component.{merged, components}
 use Rattle.theory_graph.proofs.Laws.Component.{below, components_iff, Merging, inside, outside, merging}
 

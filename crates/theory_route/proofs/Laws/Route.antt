@@ -1,23 +1,23 @@
 -- Routes in a forest: a route is a path and visits few vertices; linked vertices have one; the definition computes it, so there is no other; an edge
 -- without which its ends are not linked lies on it.
 use Prim.Native.Nat.{ℕ, zero, suc, ◌+◌, ◌<◌, ◌≤◌}
-use Rattle.std.proofs.Common.{arith, ap, ◌∙◌, subst}
+use Rattle.std.proofs.Common.{arith, ◌∙◌, subst}
 use Rattle.std.proofs.Math.Decide.{ℕ_discrete}
-use Rattle.std.specs.Prelude.{◌≡◌, ◌⊎◌, Bool, true, ◌&&◌, ◌||◌, not, List, [], ◌∷◌, length, eqb}
+use Rattle.std.specs.Prelude.{◌≡◌, ◌⊎◌, Bool, true, List, [], ◌∷◌, length, eqb}
 use Rattle.std.proofs.Math.Path.{refl, sym}
 use Rattle.std.proofs.Math.Logic.{inl, inr, ⊎_elim}
 use Rattle.std.proofs.Math.Bool.{false, cond}
 use borrow.Author.Tests.{eqb-true, eqb-false, eq-eqb, ne_eqb, not-true}
-use Rattle.base_finite.specs.Below.{counted, sum_below, count_below}
+use Rattle.base_finite.specs.Below.{counted, count_below}
 use Rattle.base_finite.specs.Laws.Test.{either, and_left, and_right, and_both, or_cases, or_left, or_right, or_false_left, or_false_right, true_not_false, not_true_false, not_of_false}
 use Rattle.base_finite.specs.Laws.Below.{sum_at, count_positive, count_le, counted_true, counted_false}
 use Rattle.theory_graph.specs.Path.{Leads, forth, back, Linked, here, step, without, Forest}
-use Rattle.theory_graph.proofs.Laws.Linked.{linked_trans, linked_sym, linked_edge, linked_mono, leads_sym, without_elim, without_intro, linked_without}
+use Rattle.theory_graph.proofs.Laws.Linked.{linked_trans, linked_sym, linked_mono, without_elim, without_intro}
 use Rattle.theory_steiner.specs.Problem.{Problem, Bounded}
 use Rattle.theory_steiner.proofs.Laws.Joined.{label_linked, linked_label}
 use Rattle.theory_route.specs.First.{first_below}
 use Rattle.theory_route.specs.Route.{occurs, Route, IsRoute, arrived, onward, are_linked, is_end, far_end, leads_on, steps_to, route_of}
-use Rattle.theory_route.proofs.Laws.First.{IsFirst, first_is}
+use Rattle.theory_route.proofs.Laws.First.{first_is}
 
 -- ---- what stands in a list
 

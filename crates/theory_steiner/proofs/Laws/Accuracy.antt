@@ -22,7 +22,7 @@ use Rattle.theory_steiner.proofs.Laws.Weighed.{component, dual_load_at, dual_loa
 use Rattle.theory_steiner.proofs.Laws.Feasible.{dual_load_start, picked_tight, not_overtight}
 use Rattle.theory_steiner.proofs.Laws.Rounds.{meets, meets_intro, state_at_pick, state_at_still, grown_reached, bound_by_rounds}
 use Rattle.theory_steiner.proofs.Laws.Finish.{kept_picked}
-use Rattle.theory_steiner.proofs.Laws.Dual.{each_dual, value_separates, total_duals, load_duals}
+use Rattle.theory_steiner.proofs.Laws.Dual.{each_dual, value_separates, load_duals}
 use Rattle.theory_steiner.proofs.Laws.WeakDuality.{weak_duality}
 use Rattle.theory_steiner.proofs.Laws.Degree.{degree, active_degree, degree_bound}
 

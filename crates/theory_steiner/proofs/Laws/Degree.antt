@@ -12,27 +12,7 @@ use Rattle.std.proofs.Math.Decide.{ℕ_discrete}
 use borrow.Author.Tests.{eqb-true, eq-eqb, ne_eqb, lt-ltb, ltb-true, not-true}
 use Rattle.base_finite.specs.Below.{counted, sum_below, count_below}
 use Rattle.base_finite.specs.Laws.Test.{either, same_test_law, and_left, and_right, and_both, or_left, or_right, not_true_false, true_not_false}
-use Rattle.base_finite.specs.Laws.Below.{
-  sum_le,
-  sum_cong,
-  sum_add,
-  sum_zero,
-  sum_swap,
-  sum_at,
-  sum_scale,
-  sum_only,
-  counted_true,
-  counted_false,
-  counted_le,
-  counted_mono,
-  counted_or_le,
-  count_positive,
-  count_elim,
-  count_two,
-  count_none,
-  Found,
-  lt_or_ge,
-}
+use Rattle.base_finite.specs.Laws.Below.{sum_le, sum_cong, sum_add, sum_zero, sum_swap, sum_at, sum_scale, sum_only, counted_true, counted_false, counted_le, counted_mono, counted_or_le, count_positive, count_elim, count_two, count_none, Found, lt_or_ge}
 use Rattle.theory_graph.specs.Path.{crosses}
 use Rattle.theory_graph.proofs.Laws.Linked.{crosses_not, linked_mono, without_intro}
 use Rattle.theory_graph.proofs.Laws.Component.{merged_cong}

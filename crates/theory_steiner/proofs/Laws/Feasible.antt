@@ -14,14 +14,7 @@ use Rattle.theory_steiner.specs.Growth.{State, start, active, numbers, load, sla
 use Rattle.theory_steiner.proofs.Laws.Joined.{separates_cong}
 use Rattle.theory_steiner.proofs.Laws.Round.{pick_label, pick_only}
 use Rattle.theory_steiner.proofs.Laws.Winner.{Waits, one_first, one_second, both, Candidate, delay_elim, delay_never, winner_wins}
-use Rattle.theory_steiner.proofs.Laws.Partition.{
-  label_merging,
-  label_fresh,
-  winner_candidate,
-  winner_below_law,
-  partition,
-  picked_usable,
-}
+use Rattle.theory_steiner.proofs.Laws.Partition.{label_merging, label_fresh, winner_candidate, winner_below_law, partition, picked_usable}
 use Rattle.theory_steiner.proofs.Laws.Weighed.{weighed, dual_load_at, dual_load_inside, dual_load_between, load_pick, load_weighed}
 
 weighed_start : (p : Problem) (t : (ℕ → Bool) → Bool) → weighed p start t ≡ 0

@@ -14,7 +14,7 @@ use Rattle.base_finite.specs.Laws.Below.{all_intro, all_elim, count_cong}
 use Rattle.theory_graph.specs.Path.{without}
 use Rattle.theory_graph.specs.Component.{components, merged}
 use Rattle.theory_steiner.specs.Problem.{Problem, Bounded, Joins, joined, separates, terminal, terminals, cost}
-use Rattle.theory_steiner.specs.Growth.{State, active, slack, load, numbers, delay_of, delay, Winner, nobody, edge, better, winner_below, winner, pick, advance, state_at, grown}
+use Rattle.theory_steiner.specs.Growth.{State, active, slack, load, numbers, delay, Winner, nobody, edge, winner_below, winner, pick, advance, state_at, grown}
 use Rattle.theory_steiner.specs.Dual.{duals_of}
 use Rattle.theory_steiner.specs.Pruning.{needed, picked, kept, mark_of, mark, dual_bound}
 use Rattle.theory_steiner.specs.Requirement.{requiring, Chain, one, more, SamePlan}

@@ -1,6 +1,5 @@
 -- `run` prints what checking says of what was read, and the line that the printed figures show.
-use Rattle.std.proofs.Common.{◌≡◌, ◌∙◌, sym, ap, List, ℕ, length, take, ◌++◌, drop}
-use Rattle.base_limits.specs.Limits.{verify_room}
+use Rattle.std.proofs.Common.{◌∙◌, ap}
 use Rattle.text_verify.specs.Output.{verify_output}
 use Rattle.format_plan.specs.Remark.{remark_line, remark_on}
 use Rattle.program_io.proofs.Prints.{prints, text_in_front, on_ok}

@@ -26,7 +26,7 @@ use Rattle.survey_components.specs.Labels.{picked_in}
 use Rattle.survey_components.specs.Forest.{forest_refusal}
 use Rattle.survey_components.specs.Laws.Picked.{picked_below}
 use Rattle.survey_components.specs.Laws.Forest.{fine_forest}
-use Rattle.theory_route.specs.Route.{Route, route_of}
+use Rattle.theory_route.specs.Route.{route_of}
 use Rattle.theory_route.proofs.Laws.Route.{route_is, route_none, route_here}
 use Rattle.why_core.specs.Visit.{end_in}
 use Rattle.why_core.specs.Walk.{unvisited, stored_at, Walkable, Explored, WalkEnds, arrives, fails, route_refusal}

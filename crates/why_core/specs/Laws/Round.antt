@@ -11,7 +11,6 @@ use Rattle.base_finite.specs.Laws.Test.{same_test_law, and_left, and_both}
 use Rattle.base_finite.specs.Laws.Below.{below_suc}
 use Rattle.base_limits.specs.Limits.{max_vertices}
 use Rattle.theory_graph.specs.Path.{Leads, forth, back, Linked, here, step}
-use Rattle.theory_graph.specs.Component.{components}
 use Rattle.theory_graph.proofs.Laws.Component.{below, components_iff}
 use Rattle.theory_steiner.specs.Problem.{Problem, Sound}
 use Rattle.theory_steiner.specs.Growth.{State, start, Winner, nobody, edge, winner, pick, state_at, grown}

@@ -11,7 +11,7 @@ use Rattle.base_finite.specs.Laws.Test.{either, and_left, and_right, and_both, t
 use Rattle.base_finite.specs.Laws.Below.{below_suc}
 use Rattle.theory_graph.specs.Path.{Leads}
 use Rattle.survey_components.specs.Labels.{picked_in}
-use Rattle.theory_route.specs.Route.{occurs, Route, arrived, onward, is_end, far_end}
+use Rattle.theory_route.specs.Route.{occurs, arrived, onward, is_end, far_end}
 use Rattle.theory_route.proofs.Laws.Route.{occurs_cases, none_occurs, end_at_law, far_end_is, is_end_law, leads_far}
 use Rattle.why_core.specs.Visit.{is_unvisited, end_in}
 use Rattle.why_core.specs.Laws.Visit.{free_below, free_zero, free_is}

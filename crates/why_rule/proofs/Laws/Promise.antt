@@ -1,6 +1,6 @@
 -- What an answer promises besides its equation with the definition: a reason exactly if none of the refusals applies, and it is true; 8 exactly if some list cannot be joined by any set
 -- of tracks, and then the lowest; 19 exactly if there is no such track; a refusal writes nothing.
-use Rattle.std.specs.Prelude.{ℕ, ◌-◌, ◌<◌, ◌≡◌, refl, ◌⊎◌, true, length, ltb, leb}
+use Rattle.std.specs.Prelude.{ℕ, ◌-◌, ◌<◌, ◌≡◌, refl, ◌⊎◌, length, ltb, leb}
 use Rattle.std.proofs.Common.{arith, ◌∙◌, inl, inr, ⊎_elim}
 use Rattle.std.proofs.Math.Path.{ap, sym, subst}
 use mathlib.Core.List.{List, ◌++◌}

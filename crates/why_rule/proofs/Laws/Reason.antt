@@ -13,7 +13,7 @@ use Rattle.base_finite.specs.Laws.Test.{either, and_both, true_not_false, not_tr
 use Rattle.base_finite.specs.Laws.Below.{any_none, lt_or_ge}
 use Rattle.base_limits.specs.declared.Verdict.{Verdict}
 use Rattle.base_limits.specs.declared.Verdict.TheVariants.{Fine, Refused}
-use Rattle.theory_graph.specs.Path.{Leads, forth, back, without, Forest}
+use Rattle.theory_graph.specs.Path.{Leads, forth, back, Forest}
 use Rattle.theory_graph.proofs.Laws.Linked.{linked_mono, without_elim, without_mono}
 use Rattle.theory_graph.proofs.Laws.Component.{linked_same_label}
 use Rattle.theory_steiner.specs.Problem.{Sound, Bounded, Joins, all_usable, joined}
@@ -34,7 +34,7 @@ use Rattle.survey_core.specs.Refusal.{group_refusal, LowestUnjoined}
 use Rattle.survey_core.proofs.Laws.Refusal.{survey_sound}
 use Rattle.survey_core.proofs.Laws.Group.{group_fine, group_refused, group_joined_elim, joins_groups}
 use Rattle.survey_components.specs.Laws.Forest.{forest_sub}
-use Rattle.why_rule.specs.Reason.{spared, others, place_of, parted_list, is_parted, low_member, high_member, kept_reason, joined_after, round_of, reason_of}
+use Rattle.why_rule.specs.Reason.{others, place_of, parted_list, is_parted, low_member, high_member, kept_reason, joined_after, round_of, reason_of}
 use Rattle.why_rule.specs.True.{LinkedBy, LowestPair, NeedsTrue, SparedTrue, LinkedAfter, FirstJoined, TrueOf, needs_true, spared_true, passed_true}
 use Rattle.why_rule.proofs.Laws.First.{zero_first, zero_none}
 use Rattle.why_rule.proofs.Laws.Kept.{others_alike, kept_list, kept_pair}

@@ -1,6 +1,4 @@
 -- `run` prints what the program says of what was read, where that fits.
-use Rattle.std.proofs.Common.{ℕ}
-use lib.ListN.{length-replicate}
 use Rattle.text_winter.specs.Output.{winter_output}
 use Rattle.std.proofs.lemmas.Result.{on_ok_weaker}
 use Rattle.program_io.proofs.Prints.{prints_within}

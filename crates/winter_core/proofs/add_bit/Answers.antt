@@ -1,9 +1,8 @@
 -- `add_bit` meets its contract: what the bit's plan keeps is copied (`copies_more`), at its price (`bit_price_law`).
 use Prim.Native.Nat.{ℕ}
-use mathlib.Core.Path.{refl, ap, sym, ◌∙◌}
-use lib.ListN.{length, replicate}
+use mathlib.Core.Path.{refl, sym, ◌∙◌}
+use lib.ListN.{replicate}
 use Rattle.base_limits.specs.Limits.{max_edges}
-use Rattle.base_buffer.proofs.Laws.Store.{length_remade}
 use Rattle.survey_core.specs.Survey.{survey_with, edge_count}
 use Rattle.winter_core.proofs.Laws.Copies.{marks_long, bit_cost, times_few, bit_price_law, copies_fit, copies_more}
 use borrow.Author.Rules.{rules}

@@ -1,12 +1,11 @@
 -- `add_bits` meets its contract: no copies, then those of one bit more in each turn.
-use Prim.Native.Nat.{◌≤◌, ◌-◌}
+use Prim.Native.Nat.{◌-◌}
 use native.Mathlib.Omega.{arith}
 use mathlib.Core.Path.{◌≡◌, refl, ap, sym, ◌∙◌}
 use lib.ListN.{length}
 use Rattle.base_finite.specs.Below.{sum_below}
 use Rattle.survey_core.specs.Survey.{survey_with, edge_count}
 use Rattle.theory_steiner.specs.Strength.{strength_bits}
-use Rattle.winter_core.specs.Bit.{bit_price, copies_for}
 use Rattle.winter_core.proofs.Laws.Copies.{length_for, for_holds, for_again, for_self, for_none, for_all, bit_price_few, total_all}
 use Rattle.winter_core.proofs.Laws.Call.{ready_same, total_few, total_more}
 use borrow.Author.Rules.{rules}
@@ -33,7 +32,6 @@ add_bit-total-requires c =
 pub overflow_add-total : goal.overflow_add-total
 overflow_add-total c =
     let a = c.args in
-    
     let s = survey_with a.groups.now a.firsts.now a.seconds.now a.weights.now a.owners.now a.others.now in
     let few = total_few s c.requires.byte_groups a.strengths.now c.requires.winter_ready c.loop-bit.bit c.loop-bit.invariant.0 in
     let more = bit_price_few s c.requires.byte_groups a.strengths.now c.requires.winter_ready c.loop-bit.bit c.loop-bit-test.true in
@@ -49,7 +47,6 @@ loop-bit-smaller c =
 pub loop-bit-preserved : goal.loop-bit-preserved
 loop-bit-preserved c =
     let a = c.args in
-    
     let s = survey_with a.groups.now a.firsts.now a.seconds.now a.weights.now a.owners.now a.others.now in (
       omega (arith, c.loop-bit-test.true),
       (
@@ -63,5 +60,8 @@ unfolding edge_count
 returns c =
     let a = c.args in
     let s = survey_with a.groups.now a.firsts.now a.seconds.now a.weights.now a.owners.now a.others.now in
-    let all : c.loop-bit.bit ≡ strength_bits = omega (arith, c.loop-bit.invariant.0, c.loop-bit-test.false) in record { result_value = total_all s a.strengths.now all c.loop-bit.invariant.1.0; copies_value = for_all s a.strengths.now a.copies.now all
-          (for_again s a.strengths.now a.copies.now 0 c.loop-bit.bit (for_none s a.strengths.now a.copies.now c.requires.winter_ready.copies_long c.clear.ensures) c.loop-bit.invariant.1.1) }
+    let all : c.loop-bit.bit ≡ strength_bits = omega (arith, c.loop-bit.invariant.0, c.loop-bit-test.false) in record {
+      result_value = total_all s a.strengths.now all c.loop-bit.invariant.1.0;
+      copies_value = for_all s a.strengths.now a.copies.now all
+          (for_again s a.strengths.now a.copies.now 0 c.loop-bit.bit (for_none s a.strengths.now a.copies.now c.requires.winter_ready.copies_long c.clear.ensures) c.loop-bit.invariant.1.1);
+    }

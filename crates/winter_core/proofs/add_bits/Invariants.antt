@@ -1,15 +1,10 @@
 -- `add_bits` meets its contract: no copies, then those of one bit more in each turn.
 use Prim.Native.Nat.{◌≤◌, ◌-◌}
-use native.Mathlib.Omega.{arith}
-use mathlib.Core.Path.{◌≡◌, refl, ap, sym, ◌∙◌}
-use lib.ListN.{length}
+use mathlib.Core.Path.{◌≡◌}
 use Rattle.base_finite.specs.Below.{sum_below}
-use Rattle.survey_core.specs.Survey.{survey_with, edge_count}
+use Rattle.survey_core.specs.Survey.{survey_with}
 use Rattle.theory_steiner.specs.Strength.{strength_bits}
 use Rattle.winter_core.specs.Bit.{bit_price, copies_for}
-use Rattle.winter_core.proofs.Laws.Copies.{length_for, for_holds, for_again, for_self, for_none, for_all, bit_price_few, total_all}
-use Rattle.winter_core.proofs.Laws.Call.{ready_same, total_few, total_more}
-use borrow.Author.Rules.{rules}
 use Rattle.winter_core.proofs.add_bits.Given as goal
 
 abbrev pub invariant-loop-bit : goal.invariant-loop-bit

@@ -6,7 +6,6 @@ use Rattle.survey_core.specs.Survey.{survey_with}
 use Rattle.survey_core.specs.Sound.{ByteGroups}
 use Rattle.winter_rule.proofs.Laws.Refusal.{fine_ready}
 use Rattle.winter_core.proofs.Laws.Call.{winter_stops, winter_goes}
-use borrow.Author.Rules.{rules}
 use Rattle.winter_core.proofs.winter.Goals as goal
 
 -- 1 to 6, 18, 24, 7, 8

@@ -1,5 +1,4 @@
 -- `verified_code` meets its contract: passed without room, passed, or refused.
-use borrow.Author.Rules.{rules}
 use Rattle.api_check.specs.Laws.VerifyCall.{verified_refused, verified_short, verified_passed}
 use Rattle.api_check.proofs.verify.verified_code.Goals as goal
 

@@ -1,5 +1,4 @@
 -- `verify_call` meets its contract: what `verify` answers, as one number.
-use borrow.Author.Rules.{rules}
 use Rattle.api_check.specs.Laws.VerifyCall.{verify_ends}
 use Rattle.api_check.proofs.verify.verify_call.Goals as goal
 

@@ -1,7 +1,6 @@
 -- `store_five` meets its contract: two stores after the first three.
 use mathlib.Core.Path.{ap, ◌∙◌}
 use lib.ListN.{set}
-use borrow.Author.Rules.{rules}
 use Rattle.api_code.proofs.store.store_five.Goals as goal
 
 pub returns : goal.returns

@@ -1,7 +1,6 @@
 -- `store_two` meets its contract: two stores, one after the other.
 use mathlib.Core.Path.{ap, ◌∙◌}
 use lib.ListN.{set}
-use borrow.Author.Rules.{rules}
 use Rattle.api_code.proofs.store.store_two.Goals as goal
 
 pub returns : goal.returns

@@ -2,7 +2,6 @@
 use mathlib.Core.Path.{sym, ◌∙◌}
 use Rattle.api_code.specs.Laws.Encodable.{exact_code, zero_code}
 use Rattle.api_plan.specs.Laws.ClosedCall.{closed_encodable}
-use borrow.Author.Rules.{rules}
 use Rattle.api_plan.proofs.closed.closed_call.Goals as goal
 
 -- refused

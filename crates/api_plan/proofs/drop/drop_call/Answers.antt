@@ -1,5 +1,4 @@
 -- `drop_call` meets its contract: counts that fit get what `prune_plan` answers, others are 7 after the survey's refusals.
-use borrow.Author.Rules.{rules}
 use Rattle.api_plan.specs.Laws.GrowCall.{drop_short_code, drop_short_marks, drop_short_counts, drop_marks_law, drop_finished, drop_stored, drop_refused, drop_kept}
 use Rattle.api_plan.proofs.drop.drop_call.Goals as goal
 

@@ -1,5 +1,4 @@
 -- `floor_call` meets its contract: counts that fit get what `floor` answers, others are 7 after the survey's refusals.
-use borrow.Author.Rules.{rules}
 use Rattle.api_plan.specs.Laws.FloorCall.{floor_short_code, floor_short_counts, floor_finished, floor_stored, floor_refused, floor_kept}
 use Rattle.api_plan.proofs.floor.floor_call.Goals as goal
 

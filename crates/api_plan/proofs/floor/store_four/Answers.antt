@@ -1,6 +1,5 @@
 -- `store_four` meets its contract: four stores, one after the other.
 use Rattle.api_plan.specs.Laws.FloorCall.{stored_four}
-use borrow.Author.Rules.{rules}
 use Rattle.api_plan.proofs.floor.store_four.Goals as goal
 
 pub returns : goal.returns

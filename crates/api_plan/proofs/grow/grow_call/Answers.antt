@@ -1,5 +1,4 @@
 -- `grow_call` meets its contract: counts that fit get what `grow_plan` answers, others are 7 after the survey's refusals.
-use borrow.Author.Rules.{rules}
 use Rattle.api_plan.specs.Laws.Call.{plan_short_code, plan_short_records, plan_records_law}
 use Rattle.api_plan.specs.Laws.GrowCall.{grow_short_marks, grow_short_counts, grow_marks_law, grow_finished, grow_stored, grow_refused, grow_kept}
 use Rattle.api_plan.proofs.grow.grow_call.Goals as goal

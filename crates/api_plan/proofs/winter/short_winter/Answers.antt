@@ -1,7 +1,6 @@
 -- `short_winter` meets its contract: 1 to 6, 18 and 24 as one number, else 7.
 use Rattle.survey_core.specs.Survey.{survey_with}
 use Rattle.api_plan.specs.Laws.WinterCall.{short_refused, short_seven}
-use borrow.Author.Rules.{rules}
 use Rattle.api_plan.proofs.winter.short_winter.Goals as goal
 
 pub returns-in-Refused : goal.returns-in-Refused

@@ -1,6 +1,5 @@
 -- `winter_call` meets its contract: counts that fit get what `winter` answers, others are 7 after the refusals before it.
 use Rattle.api_plan.specs.Laws.WinterCall.{winter_short_code, winter_short_copies, winter_short_counts, winter_copies_law, winter_finished, winter_stored, winter_refused, winter_kept}
-use borrow.Author.Rules.{rules}
 use Rattle.api_plan.proofs.winter.winter_call.Goals as goal
 
 -- 1 to 6, 18, 24, or 7

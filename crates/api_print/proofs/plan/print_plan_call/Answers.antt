@@ -1,5 +1,4 @@
 -- `print_plan_call` meets its contract: what `print_plan` answers where so much of the buffer is lent on.
-use borrow.Author.Rules.{rules}
 use Rattle.api_code.specs.Laws.Lending.{lent_le}
 use Rattle.api_print.specs.Laws.Call.{plan_into}
 use Rattle.api_print.proofs.plan.print_plan_call.Goals as goal

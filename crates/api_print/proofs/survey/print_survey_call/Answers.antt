@@ -1,5 +1,4 @@
 -- `print_survey_call` meets its contract: what `print_survey` answers where so much of the buffer is lent on.
-use borrow.Author.Rules.{rules}
 use Rattle.format_survey_print.specs.Print.{survey_of_lists}
 use Rattle.api_code.specs.Laws.Lending.{lent_le}
 use Rattle.api_print.specs.Laws.Call.{survey_into}

@@ -1,5 +1,4 @@
 -- `unpack_table_call` meets its contract: the refusal's number, or 0.
-use borrow.Author.Rules.{rules}
 use Rattle.api_print.specs.Laws.Table.{table_refused, table_fine}
 use Rattle.api_print.proofs.table.unpack_table_call.Goals as goal
 

@@ -1,6 +1,4 @@
 -- `write_report` meets its contract: three runs of numbers, one behind the other.
-use Prim.Native.Nat.{◌≤◌}
-use native.Mathlib.Omega.{arith}
 use mathlib.Core.Path.{◌≡◌, refl, sym}
 use lib.ListN.{length}
 use borrow.Author.Rules.{rules}

@@ -1,5 +1,4 @@
 -- `store_answer` meets its contract: by what was answered.
-use borrow.Author.Rules.{rules}
 use Rattle.why_rule.specs.Answer.{why_outcome}
 use Rattle.api_why.specs.Stored.{why_figures_of, answer_code, answer_stored}
 use Rattle.api_why.proofs.store.store_answer.Goals as goal

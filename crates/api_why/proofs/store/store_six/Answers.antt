@@ -1,7 +1,6 @@
 -- `store_six`: one store after the first five.
 use mathlib.Core.Path.{ap, ◌∙◌}
 use lib.ListN.{set}
-use borrow.Author.Rules.{rules}
 use Rattle.api_why.proofs.store.store_six.Goals as goal
 
 pub returns : goal.returns

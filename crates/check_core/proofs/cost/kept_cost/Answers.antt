@@ -4,7 +4,6 @@ use native.Mathlib.Omega.{arith}
 use mathlib.Core.Path.{ap, ap₂, ◌≡◌, refl, sym, ◌∙◌}
 use lib.Dec.{eqb}
 use lib.ListN.{get_or, length-take}
-use borrow.Author.Rules.{rules}
 use Rattle.base_finite.specs.Laws.Below.{counted_le, sum_limit}
 use Rattle.base_finite.specs.Below.{counted, sum_below}
 use Rattle.theory_steiner.specs.Problem.{cost}
@@ -20,7 +19,7 @@ unfolding sum_below
 loop-e-init c = (omega arith, refl)
 
 pub overflow_add-cost : goal.overflow_add-cost
-overflow_add-cost c =     let args = c.args in
+overflow_add-cost c = let args = c.args in
     let small : c.loop-e.cost ≤ c.loop-e.e * 4294967295 =
     rw c.loop-e.invariant.1 (sum_limit c.loop-e.e 4294967295 (λ e. counted (kept_by args.marks.now e) (get_or args.weights.now e 0)) (λ i b. omega (arith, counted_le (kept_by args.marks.now i) (get_or args.weights.now i 0), c.shared_slice_known-2-1.given i))) in
     let few : c.edges_within-m.result ≤ max_edges = rw c.edges_within-m.ensures (omega arith) in
@@ -34,7 +33,6 @@ pub returns : goal.returns
 unfolding kept_cost cost problem_of edge_count
 returns c =
     let firsts = c.args.firsts.now in
-    
     let e = c.loop-e.e in
     let end : e ≡ c.edges_within-m.result = omega arith in
     c.loop-e.invariant.1 ∙ ap (λ k. sum_below k (λ e. counted (kept_by c.args.marks.now e) (get_or c.args.weights.now e 0))) (end ∙ c.edges_within-m.ensures ∙ sym (length-take max_edges firsts))

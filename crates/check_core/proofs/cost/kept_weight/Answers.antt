@@ -2,7 +2,6 @@
 use native.Mathlib.Omega.{arith}
 use mathlib.Core.Path.{sym, ◌∙◌}
 use borrow.Author.Tests.{eq-eqb, ne_eqb}
-use borrow.Author.Rules.{rules}
 use Rattle.base_finite.specs.Laws.Below.{counted_true, counted_false}
 use Rattle.check_core.proofs.cost.kept_weight.Goals as goal
 

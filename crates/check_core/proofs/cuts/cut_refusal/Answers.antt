@@ -1,7 +1,6 @@
 -- `cut_refusal` meets its contract: the test of one cut, for the members of a record.
 use mathlib.Core.Path.{ap, sym, ◌∙◌}
 use mathlib.Core.Bool.{not}
-use borrow.Author.Rules.{rules}
 use Rattle.base_limits.specs.Laws.Verdict.{refuse_true, refuse_false}
 use Rattle.format_record.specs.Record.{member_in}
 use Rattle.check_core.specs.Laws.Sides.{sides_of_record}

@@ -1,17 +1,13 @@
 -- `cuts_refusal` meets its contract: a scan of the records for 12.
 use Prim.Native.Nat.{◌-◌, ◌/◌}
-use mathlib.Core.Path.{ap, ◌∙◌}
 use mathlib.Core.Bool.{not}
 use lib.ListN.{length}
 use Rattle.base_limits.specs.Limits.{record_bytes}
 use Rattle.base_limits.specs.Verdict.{refuse_if}
-use Rattle.format_record.specs.Record.{member_in}
 use Rattle.theory_steiner.specs.Problem.{separates}
 use Rattle.survey_core.specs.Survey.{groups_alone, problem_of}
 use Rattle.check_rule.specs.Check.{dual_at}
-use Rattle.base_limits.specs.Laws.Verdict.{Scanned, scan_start, scan_turn, scan_found, scan_end}
-use Rattle.check_core.specs.Laws.Sides.{record_short}
-use borrow.Author.Rules.{rules}
+use Rattle.base_limits.specs.Laws.Verdict.{Scanned}
 use Rattle.check_core.proofs.cuts.cuts_refusal.Given as goal
 
 abbrev pub invariant-loop-i : goal.invariant-loop-i

@@ -1,6 +1,5 @@
 -- `side` meets its contract.
 use mathlib.Core.Path.{sym, ◌∙◌}
-use borrow.Author.Rules.{rules}
 use Rattle.base_finite.specs.Laws.Below.{counted_true, counted_false}
 use Rattle.check_core.proofs.cuts.side.Goals as goal
 

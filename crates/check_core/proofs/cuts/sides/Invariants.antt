@@ -1,13 +1,9 @@
 -- `sides` meets its contract: while it runs, the labels below v are the sides.
-use Prim.Native.Nat.{ℕ, ◌≤◌, ◌-◌}
-use native.Mathlib.Omega.{arith}
-use mathlib.Core.Path.{◌≡◌, refl}
-use lib.ListN.{length-replicate}
-use borrow.Author.Rules.{rules}
+use Prim.Native.Nat.{◌≤◌, ◌-◌}
+use mathlib.Core.Path.{◌≡◌}
 use Rattle.base_finite.specs.Below.{counted}
 use Rattle.base_limits.specs.Limits.{max_vertices}
 use Rattle.format_record.specs.Record.{member_in}
-use Rattle.base_buffer.proofs.Laws.Store.{remade_more, stored_table}
 use Rattle.base_buffer.specs.Store.{remade}
 use Rattle.check_core.proofs.cuts.sides.Given as goal
 

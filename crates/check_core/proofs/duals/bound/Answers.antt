@@ -1,16 +1,13 @@
 -- `bound` meets its contract: while it runs, the sum is that of the records below i.
-use Prim.Native.Nat.{◌≤◌, ◌-◌, ◌/◌}
+use Prim.Native.Nat.{◌-◌}
 use native.Mathlib.Omega.{arith}
 use mathlib.Core.Bool.{true}
-use mathlib.Core.Path.{◌≡◌, refl, ap, ◌∙◌}
-use lib.ListN.{length}
-use borrow.Author.Rules.{rules}
+use mathlib.Core.Path.{refl, ap, ◌∙◌}
 use Rattle.base_finite.specs.Below.{counted, sum_below}
-use Rattle.base_limits.specs.Limits.{record_bytes}
 use Rattle.format_record.specs.Record.{value_in}
 use Rattle.theory_steiner.specs.Dual.{total}
 use Rattle.base_finite.specs.Laws.Count.{sum_more}
-use Rattle.check_core.specs.Laws.Duals.{weighed_at, weigh_end, weighed_fits}
+use Rattle.check_core.specs.Laws.Duals.{weigh_end, weighed_fits}
 use Rattle.check_core.proofs.duals.bound.Goals as goal
 
 pub loop-i-init : goal.loop-i-init

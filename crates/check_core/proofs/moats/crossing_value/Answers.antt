@@ -1,7 +1,6 @@
 -- `crossing_value` meets its contract: the value counts exactly if the two vertices lie on different sides.
 use mathlib.Core.Bool.{xor}
 use mathlib.Core.Path.{ap₂, sym, ◌∙◌}
-use borrow.Author.Rules.{rules}
 use Rattle.base_finite.specs.Laws.Below.{counted_true, counted_false}
 use Rattle.check_core.proofs.moats.crossing_value.Goals as goal
 

@@ -1,5 +1,4 @@
 -- `duals_refusal` meets its contract: the first finding stands, and 11 leaves values whose sums fit.
-use borrow.Author.Rules.{rules}
 use mathlib.Core.Path.{sym, ◌∙◌}
 use Rattle.base_limits.specs.Laws.Verdict.{passed_on, goes_on_law}
 use Rattle.theory_steiner.specs.Dual.{dual_load}

@@ -3,7 +3,6 @@ use Prim.Native.Nat.{◌*◌}
 use native.Mathlib.Omega.{arith}
 use mathlib.Core.Path.{◌≡◌, ap₂, sym, ◌∙◌}
 use borrow.Author.Tests.{le-ltb, lt-ltb}
-use borrow.Author.Rules.{rules}
 use Rattle.base_limits.specs.Laws.Verdict.{refuse_true, refuse_false}
 use Rattle.check_core.specs.Moats.{load_between}
 use Rattle.check_core.proofs.moats.load_refusal.Goals as goal

@@ -1,16 +1,10 @@
 -- `loads_refusal` meets its contract: a scan of the edges for 13.
-use Prim.Native.Nat.{◌-◌, ◌*◌}
+use Prim.Native.Nat.{◌-◌}
 use mathlib.Core.Path.{sym}
 use mathlib.Core.List.{[]}
-use lib.Dec.{ltb}
-use lib.ListN.{length, get_or}
-use Rattle.base_limits.specs.Verdict.{refuse_if}
-use Rattle.theory_steiner.specs.Dual.{dual_load}
-use Rattle.survey_core.specs.Survey.{survey_from, problem_of}
-use Rattle.check_rule.specs.Check.{duals_in}
+use Rattle.survey_core.specs.Survey.{survey_from}
 use Rattle.check_core.specs.Laws.Duals.{load_item}
-use Rattle.base_limits.specs.Laws.Verdict.{Scanned, scan_start, scan_turn, scan_found, scan_end}
-use borrow.Author.Rules.{rules}
+use Rattle.base_limits.specs.Laws.Verdict.{scan_start, scan_turn, scan_found, scan_end}
 use Rattle.check_core.proofs.moats.loads_refusal.Goals as goal
 
 pub loop-e-init : goal.loop-e-init
@@ -24,7 +18,6 @@ pub returns-in_default : goal.returns-in_default
 returns-in_default c =
     let args = c.args in
     let s = survey_from [] args.firsts.now args.seconds.now args.weights.now in
-    
     let is =
     sym
     (load_item s _ c.loop-e.e c.at32.ensures c.at32-in-loop-e.ensures c.at32-in-loop-e-2.ensures
@@ -35,7 +28,6 @@ pub loop-e-preserved : goal.loop-e-preserved
 loop-e-preserved c =
     let args = c.args in
     let s = survey_from [] args.firsts.now args.seconds.now args.weights.now in
-    
     let is =
     sym
     (load_item s _ c.loop-e.e c.at32.ensures c.at32-in-loop-e.ensures c.at32-in-loop-e-2.ensures

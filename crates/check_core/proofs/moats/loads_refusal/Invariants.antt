@@ -1,6 +1,5 @@
 -- `loads_refusal` meets its contract: a scan of the edges for 13.
 use Prim.Native.Nat.{◌-◌, ◌*◌}
-use mathlib.Core.Path.{sym}
 use mathlib.Core.List.{[]}
 use lib.Dec.{ltb}
 use lib.ListN.{length, get_or}
@@ -8,9 +7,7 @@ use Rattle.base_limits.specs.Verdict.{refuse_if}
 use Rattle.theory_steiner.specs.Dual.{dual_load}
 use Rattle.survey_core.specs.Survey.{survey_from, problem_of}
 use Rattle.check_rule.specs.Check.{duals_in}
-use Rattle.check_core.specs.Laws.Duals.{load_item}
-use Rattle.base_limits.specs.Laws.Verdict.{Scanned, scan_start, scan_turn, scan_found, scan_end}
-use borrow.Author.Rules.{rules}
+use Rattle.base_limits.specs.Laws.Verdict.{Scanned}
 use Rattle.check_core.proofs.moats.loads_refusal.Given as goal
 
 abbrev pub invariant-loop-e : goal.invariant-loop-e

@@ -1,7 +1,6 @@
 -- `rule_refusal` meets its contract: each return by the law of its case; the products fit.
 use native.Mathlib.Omega.{arith}
 use mathlib.Core.Path.{sym}
-use borrow.Author.Rules.{rules}
 use Rattle.check_rule.proofs.Laws.Refusal.{rule_none, rule_cost, rule_exceeded, rule_met}
 use Rattle.check_core.specs.Laws.Counts.{product_fits}
 use Rattle.check_core.proofs.rule.rule_refusal.Goals as goal

@@ -1,7 +1,6 @@
 -- `dual_refusal` meets its contract: each return by the law of its case.
 use native.Mathlib.Omega.{arith}
 use mathlib.Core.Path.{sym, ◌∙◌}
-use borrow.Author.Rules.{rules}
 use Rattle.check_rule.proofs.Laws.Refusal.{dual_zero, dual_large, dual_stray, dual_fine}
 use Rattle.check_core.proofs.values.dual_refusal.Goals as goal
 

@@ -1,15 +1,11 @@
 -- `has_stray` meets its contract: while it runs, nothing below v is stray.
 use Prim.Native.Nat.{◌≤◌, ◌-◌, ◌*◌}
-use native.Mathlib.Omega.{arith}
-use mathlib.Core.Path.{◌≡◌, refl, sym, ◌∙◌}
+use mathlib.Core.Path.{◌≡◌}
 use mathlib.Core.Bool.{◌&&◌, false}
 use lib.Dec.{leb}
-use borrow.Author.Rules.{rules}
 use Rattle.base_finite.specs.Below.{any_below}
-use Rattle.base_finite.specs.Laws.Below.{any_intro}
 use Rattle.base_limits.specs.Limits.{member_bytes}
 use Rattle.format_record.specs.Record.{member_in}
-use Rattle.base_finite.specs.Laws.Count.{any_more, any_end}
 use Rattle.check_core.proofs.values.has_stray.Given as goal
 
 abbrev pub invariant-loop-v : goal.invariant-loop-v

@@ -1,6 +1,5 @@
 -- `is_stray` meets its contract: below n nothing is stray.
 use borrow.Author.Tests.{le-leb, lt-leb}
-use borrow.Author.Rules.{rules}
 use Rattle.check_core.proofs.values.is_stray.Goals as goal
 
 pub returns-then-v-n : goal.returns-then-v-n

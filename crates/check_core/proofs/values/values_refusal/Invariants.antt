@@ -1,13 +1,10 @@
 -- `values_refusal` meets its contract: a scan of the records for 11.
 use Prim.Native.Nat.{◌-◌, ◌/◌}
-use mathlib.Core.Path.{ap, ◌∙◌}
 use lib.ListN.{length}
 use Rattle.base_limits.specs.Limits.{record_bytes}
 use Rattle.survey_core.specs.Survey.{groups_alone}
 use Rattle.check_rule.specs.Check.{dual_at, dual_refusal}
-use Rattle.check_core.specs.Duals.{dual_of_record}
-use Rattle.base_limits.specs.Laws.Verdict.{Scanned, scan_start, scan_turn, scan_found, scan_end}
-use borrow.Author.Rules.{rules}
+use Rattle.base_limits.specs.Laws.Verdict.{Scanned}
 use Rattle.check_core.proofs.values.values_refusal.Given as goal
 
 abbrev pub invariant-loop-i : goal.invariant-loop-i

@@ -1,5 +1,4 @@
 -- `check_printed::claims::judge` meets its contract: the checker's refusals first, then each claim.
-use borrow.Author.Rules.{rules}
 use mathlib.Core.Path.{ap, sym, ◌∙◌}
 use Rattle.check_rule.specs.Check.{Checked}
 use Rattle.check_core.specs.Stage.{checked_outcome}

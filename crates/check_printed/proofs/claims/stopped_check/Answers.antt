@@ -1,5 +1,4 @@
 -- `check_printed::claims::stopped_check` meets its contract, by the case that the answer is.
-use borrow.Author.Rules.{rules}
 use mathlib.Core.Path.{sym, ap}
 use Rattle.check_rule.specs.Check.{Checked}
 use Rattle.check_core.specs.Stage.{checked_outcome}

@@ -1,14 +1,11 @@
 -- `list_picked` meets its contract: each turn stores one number more in each list, and counts upwards.
-use Prim.Native.Nat.{◌≤◌, ◌-◌}
+use Prim.Native.Nat.{◌-◌}
 use native.Mathlib.Omega.{arith}
-use mathlib.Core.Path.{◌≡◌, refl, ◌∙◌}
-use lib.ListN.{length, get_or}
-use Rattle.base_finite.specs.Below.{counted, count_below, sum_below}
+use mathlib.Core.Path.{refl, ◌∙◌}
+use Rattle.base_finite.specs.Below.{count_below, sum_below}
 use Rattle.base_finite.specs.Laws.Count.{count_more, count_end, count_bound}
-use Rattle.survey_components.specs.Labels.{picked_in}
 use Rattle.closed_core.specs.Alone.{listed}
 use Rattle.closed_core.specs.Laws.Alone.{listed_more, listed_end}
-use borrow.Author.Rules.{rules}
 use Rattle.closed_core.proofs.alone.list_picked.Goals as goal
 
 pub loop-e-init : goal.loop-e-init
@@ -31,9 +28,12 @@ loop-e-preserved c =
 pub returns : goal.returns
 returns c =
     let inv = c.loop-e.invariant in
-    let left = c.loop-e-test.false in record { value = count_end _ _ _ inv.0.0 left inv.0.1; fact = (
+    let left = c.loop-e-test.false in record {
+      value = count_end _ _ _ inv.0.0 left inv.0.1;
+      fact = (
         listed_end _ _ _ _ _ inv.0.0 left inv.1,
         listed_end _ _ _ _ _ inv.0.0 left inv.2,
         listed_end _ _ _ _ _ inv.0.0 left inv.3,
         listed_end _ _ _ _ _ inv.0.0 left inv.4,
-      ) }
+      );
+    }

@@ -1,14 +1,10 @@
 -- `list_picked` meets its contract: each turn stores one number more in each list, and counts upwards.
 use Prim.Native.Nat.{◌≤◌, ◌-◌}
-use native.Mathlib.Omega.{arith}
-use mathlib.Core.Path.{◌≡◌, refl, ◌∙◌}
+use mathlib.Core.Path.{◌≡◌}
 use lib.ListN.{length, get_or}
-use Rattle.base_finite.specs.Below.{counted, count_below, sum_below}
-use Rattle.base_finite.specs.Laws.Count.{count_more, count_end, count_bound}
+use Rattle.base_finite.specs.Below.{counted, count_below}
 use Rattle.survey_components.specs.Labels.{picked_in}
 use Rattle.closed_core.specs.Alone.{listed}
-use Rattle.closed_core.specs.Laws.Alone.{listed_more, listed_end}
-use borrow.Author.Rules.{rules}
 use Rattle.closed_core.proofs.alone.list_picked.Given as goal
 
 abbrev pub invariant-loop-e : goal.invariant-loop-e

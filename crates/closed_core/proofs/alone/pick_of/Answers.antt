@@ -1,7 +1,6 @@
 -- `pick_of` meets its contract: each return by its test.
 use Rattle.base_finite.specs.Laws.Below.{counted_true, counted_false}
 use mathlib.Core.Path.{sym, ◌∙◌}
-use borrow.Author.Rules.{rules}
 use Rattle.closed_core.proofs.alone.pick_of.Goals as goal
 
 pub returns-then-is_picked : goal.returns-then-is_picked

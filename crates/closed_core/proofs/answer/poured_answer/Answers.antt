@@ -4,11 +4,10 @@ use Rattle.theory_steiner.specs.Growth.{grown}
 use Rattle.theory_steiner.specs.Pruning.{picked}
 use Rattle.survey_core.specs.Survey.{vertex_count, problem_of}
 use Rattle.plan_rule.specs.Plan.{plan_of}
-use borrow.Author.Rules.{rules}
 use Rattle.closed_core.proofs.answer.poured_answer.Goals as goal
 
 pub grow_rounds-grown-requires : goal.grow_rounds-grown-requires
-grow_rounds-grown-requires c =  record { survey_sound = c.requires; values_value = (refl, refl, refl) }
+grow_rounds-grown-requires c = record { survey_sound = c.requires; values_value = (refl, refl, refl) }
 
 pub kept_alone-requires : goal.kept_alone-requires
 unfolding picked grown problem_of vertex_count plan_of

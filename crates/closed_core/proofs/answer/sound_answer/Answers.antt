@@ -25,5 +25,4 @@ pub returns : goal.returns
 unfolding closed_outcome
 returns c =
     let part = part_poured _ c.requires.few c.pour-poured.ensures in
-    
     c.poured_answer-answer.ensures ∙ answer_finished _ c.requires part (sym c.poured_answer-answer.ensures ∙ ap closed_outcome c.in_default.is)

@@ -7,7 +7,6 @@ use Rattle.plan_core.specs.Laws.Planned.{unjoined_comes}
 use Rattle.plan_core.specs.Laws.Figures.{figures_refused, unjoined_eight}
 use Rattle.closed_rule.specs.Closed.{closed_outcome}
 use Rattle.closed_core.specs.LeftOut.{closed_of}
-use borrow.Author.Rules.{rules}
 use Rattle.closed_core.proofs.answer.unjoined_answer.Goals as goal
 
 -- it would not come

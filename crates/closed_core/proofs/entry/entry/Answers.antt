@@ -2,13 +2,11 @@
 use native.Mathlib.Omega.{arith}
 use mathlib.Core.Path.{ap, sym, ◌∙◌}
 use lib.ListN.{replicate}
-use borrow.Author.Tests.{not-true}
 use Rattle.base_limits.specs.Limits.{max_edges}
 use Rattle.plan_rule.specs.Figures.{figured_outcome}
 use Rattle.closed_rule.specs.Closed.{closed_outcome}
 use Rattle.closed_core.specs.Laws.Entry.{entry_unknown, entry_unpicked}
 use Rattle.closed_core.specs.Laws.LeftOut.{left_out_asked}
-use borrow.Author.Rules.{rules}
 use Rattle.closed_core.proofs.entry.entry.Goals as goal
 
 -- 19
@@ -24,7 +22,7 @@ returns-in-Finished c =
     (ap figured_outcome c.in-Finished.is) c.requires.marks_value (sym c.is_picked.ensures ∙ c.if-not-is_picked.true)
 
 pub answer_without-requires : goal.answer_without-requires
-answer_without-requires c =  record { survey_sound = c.requires.survey_sound; c_in_bounds = c.if-firsts-c.false }
+answer_without-requires c = record { survey_sound = c.requires.survey_sound; c_in_bounds = c.if-firsts-c.false }
 
 -- planned anew
 pub returns : goal.returns

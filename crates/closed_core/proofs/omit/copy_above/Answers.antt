@@ -1,12 +1,8 @@
 -- `copy_above` meets its contract: it stores at rising places, and from c on the old number is one more.
-use Prim.Native.Nat.{ℕ, ◌≤◌, ◌-◌}
+use Prim.Native.Nat.{◌-◌}
 use native.Mathlib.Omega.{arith}
-use mathlib.Core.Path.{◌≡◌, refl, sym, ◌∙◌}
-use lib.ListN.{get_or, replicate}
-use Rattle.base_limits.specs.Limits.{max_edges}
-use Rattle.base_buffer.specs.Store.{remade}
+use mathlib.Core.Path.{◌∙◌}
 use Rattle.base_buffer.proofs.Laws.Store.{remade_more, remade_end}
-use Rattle.theory_steiner.specs.Closed.{skipping}
 use Rattle.closed_core.specs.Laws.LeftOut.{read_above}
 use borrow.Author.Rules.{rules}
 use Rattle.closed_core.proofs.omit.copy_above.Goals as goal

@@ -1,11 +1,9 @@
 -- `copy_below` meets its contract: it stores at rising places, and below c old and new numbers are the same.
-use Prim.Native.Nat.{◌≤◌, ◌-◌}
+use Prim.Native.Nat.{◌-◌}
 use native.Mathlib.Omega.{arith}
-use mathlib.Core.Path.{◌≡◌, refl, sym, ◌∙◌}
-use lib.ListN.{get_or}
+use mathlib.Core.Path.{refl, ◌∙◌}
 use Rattle.base_buffer.specs.Store.{remade}
 use Rattle.base_buffer.proofs.Laws.Store.{remade_more, remade_end}
-use Rattle.theory_steiner.specs.Closed.{skipping}
 use Rattle.closed_core.specs.Laws.LeftOut.{read_below}
 use borrow.Author.Rules.{rules}
 use Rattle.closed_core.proofs.omit.copy_below.Goals as goal

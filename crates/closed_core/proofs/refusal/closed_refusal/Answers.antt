@@ -1,7 +1,5 @@
 -- `closed_refusal` meets its contract: the stages, one after the other, come to the definition.
-use native.Mathlib.Omega.{arith}
 use Rattle.closed_core.specs.Laws.Call.{unsound_stops, long_stops, short_stops, nothing_stops}
-use borrow.Author.Rules.{rules}
 use Rattle.closed_core.proofs.refusal.closed_refusal.Goals as goal
 
 -- 1 to 6, 18

@@ -1,6 +1,5 @@
 -- `store_four` meets its contract: four stores, one after the other.
 use Rattle.closed_core.specs.Laws.Call.{stored_four}
-use borrow.Author.Rules.{rules}
 use Rattle.closed_core.proofs.row.store_four.Goals as goal
 
 pub returns : goal.returns

@@ -1,6 +1,5 @@
 -- `store_row` meets its contract: an arm for each answer.
 use Rattle.closed_core.specs.Laws.Call.{row_finished, row_refused}
-use borrow.Author.Rules.{rules}
 use Rattle.closed_core.proofs.row.store_row.Goals as goal
 
 -- a plan

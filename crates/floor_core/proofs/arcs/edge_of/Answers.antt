@@ -1,6 +1,5 @@
 -- `edge_of` meets its contract: below m as it is, from m on less by m.
 use Rattle.floor_core.specs.Laws.Arcs.{edge_low, edge_high}
-use borrow.Author.Rules.{rules}
 use Rattle.floor_core.proofs.arcs.edge_of.Goals as goal
 
 pub returns-then-a-firsts : goal.returns-then-a-firsts

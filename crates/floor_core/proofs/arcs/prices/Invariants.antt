@@ -1,14 +1,9 @@
 -- `prices` meets its contract: it stores at rising places.
-use Prim.Native.Nat.{ℕ, ◌≤◌, ◌-◌}
-use native.Mathlib.Omega.{arith}
-use mathlib.Core.Path.{◌≡◌, refl, ap, sym, ◌∙◌}
-use lib.ListN.{length, get_or, replicate, length-replicate}
+use Prim.Native.Nat.{◌≤◌, ◌-◌}
+use mathlib.Core.Path.{◌≡◌}
+use lib.ListN.{get_or, replicate}
 use Rattle.base_buffer.specs.Store.{remade}
-use Rattle.base_buffer.proofs.Laws.Store.{length_remade, remade_more}
-use Rattle.survey_core.proofs.Laws.Pairs.{own_read}
 use Rattle.floor_rule.specs.Ascent.{max_arcs, edge_of}
-use Rattle.floor_core.specs.Laws.Arcs.{prices_end}
-use borrow.Author.Rules.{rules}
 use Rattle.floor_core.proofs.arcs.prices.Given as goal
 
 abbrev pub invariant-loop-a : goal.invariant-loop-a

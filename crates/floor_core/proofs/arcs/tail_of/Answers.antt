@@ -1,7 +1,6 @@
 -- `tail_of` meets its contract: a branch on the direction.
 use mathlib.Core.Path.{◌∙◌}
 use Rattle.floor_core.specs.Laws.Arcs.{tail_low, tail_high}
-use borrow.Author.Rules.{rules}
 use Rattle.floor_core.proofs.arcs.tail_of.Goals as goal
 
 pub returns-then-a-firsts : goal.returns-then-a-firsts

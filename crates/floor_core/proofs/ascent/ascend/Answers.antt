@@ -15,7 +15,7 @@ pub overflow_add-arcs-2 : goal.overflow_add-arcs-2
 overflow_add-arcs-2 c = let few = c.requires.ends.few in let short = c.requires.ends.short in search (rules, few, short)
 
 pub passes-requires : goal.passes-requires
-passes-requires c =  record { ends = c.requires.ends; chained = c.requires.chained; done = none_done _ _ _ _ _ c.requires.ends.few refl }
+passes-requires c = record { ends = c.requires.ends; chained = c.requires.chained; done = none_done _ _ _ _ _ c.requires.ends.few refl }
 
 pub returns : goal.returns
 returns c = ascended_is _ _ _ _ _ _ c.prices-rests.ensures c.root_of-root.ensures refl c.passes.ensures

@@ -1,6 +1,5 @@
 -- `missing` meets its contract: a subtraction that stops at 0.
 use Rattle.floor_core.specs.Laws.State.{missing_none, missing_some}
-use borrow.Author.Rules.{rules}
 use Rattle.floor_core.proofs.ascent.missing.Goals as goal
 
 pub returns-then-whole-part : goal.returns-then-whole-part

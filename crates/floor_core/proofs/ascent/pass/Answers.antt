@@ -1,14 +1,10 @@
 -- `pass` meets its contract: one group after the other.
-use Prim.Native.Nat.{◌≤◌, ◌-◌}
+use Prim.Native.Nat.{◌-◌}
 use native.Mathlib.Omega.{arith}
-use mathlib.Core.Path.{◌≡◌, refl, ◌∙◌}
+use mathlib.Core.Path.{refl, ◌∙◌}
 use mathlib.Core.Bool.{false}
-use lib.ListN.{length}
-use Rattle.base_limits.specs.Limits.{group_numbers}
-use Rattle.floor_rule.specs.Ascent.{state_with, visit_groups}
-use Rattle.floor_core.specs.Done.{Done}
+use Rattle.floor_rule.specs.Ascent.{visit_groups}
 use Rattle.floor_core.specs.Laws.State.{groups_more, groups_end}
-use borrow.Author.Rules.{rules}
 use Rattle.floor_core.proofs.ascent.pass.Goals as goal
 
 pub loop-l-init : goal.loop-l-init
@@ -16,7 +12,7 @@ unfolding visit_groups
 loop-l-init c = (omega arith, refl, λ h. refl, c.requires.done)
 
 pub visit_group-more-requires : goal.visit_group-more-requires
-visit_group-more-requires c =  record { ends = c.requires.ends; chained = c.requires.chained; done = c.loop-l.invariant.3 }
+visit_group-more-requires c = record { ends = c.requires.ends; chained = c.requires.chained; done = c.loop-l.invariant.3 }
 
 pub loop-l-smaller : goal.loop-l-smaller
 loop-l-smaller c = omega arith

@@ -1,14 +1,11 @@
 -- `pass` meets its contract: one group after the other.
 use Prim.Native.Nat.{◌≤◌, ◌-◌}
-use native.Mathlib.Omega.{arith}
-use mathlib.Core.Path.{◌≡◌, refl, ◌∙◌}
+use mathlib.Core.Path.{◌≡◌}
 use mathlib.Core.Bool.{false}
 use lib.ListN.{length}
 use Rattle.base_limits.specs.Limits.{group_numbers}
 use Rattle.floor_rule.specs.Ascent.{state_with, visit_groups}
 use Rattle.floor_core.specs.Done.{Done}
-use Rattle.floor_core.specs.Laws.State.{groups_more, groups_end}
-use borrow.Author.Rules.{rules}
 use Rattle.floor_core.proofs.ascent.pass.Given as goal
 
 abbrev pub invariant-loop-l : goal.invariant-loop-l

@@ -1,13 +1,9 @@
 -- `passes` meets its contract: passes until one changes nothing, or so many.
-use Prim.Native.Nat.{◌≤◌, ◌-◌}
+use Prim.Native.Nat.{◌-◌}
 use native.Mathlib.Omega.{arith}
-use mathlib.Core.Path.{◌≡◌, refl}
-use lib.ListN.{length}
-use borrow.Author.Tests.{not-true}
-use Rattle.floor_rule.specs.Ascent.{state_with, passes}
-use Rattle.floor_core.specs.Done.{Done}
+use mathlib.Core.Path.{refl}
+use Rattle.floor_rule.specs.Ascent.{passes}
 use Rattle.floor_core.specs.Laws.State.{passes_more, passes_end, passes_ended}
-use borrow.Author.Rules.{rules}
 use Rattle.floor_core.proofs.ascent.passes.Goals as goal
 
 pub loop-i-init : goal.loop-i-init
@@ -15,7 +11,7 @@ unfolding passes
 loop-i-init c = (omega arith, refl, c.requires.done)
 
 pub pass-requires : goal.pass-requires
-pass-requires c =  record { ends = c.requires.ends; chained = c.requires.chained; done = c.loop-i.invariant.2 }
+pass-requires c = record { ends = c.requires.ends; chained = c.requires.chained; done = c.loop-i.invariant.2 }
 
 pub returns-then-not-pass : goal.returns-then-not-pass
 returns-then-not-pass c = let inv = c.loop-i.invariant in passes_ended _ _ _ _ _ _ _ _ _ inv.0 inv.1 c.pass.ensures.got_value (c.pass.ensures.got_value_2 c.if-not-pass.true)

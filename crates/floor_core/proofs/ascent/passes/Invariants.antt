@@ -1,13 +1,9 @@
 -- `passes` meets its contract: passes until one changes nothing, or so many.
 use Prim.Native.Nat.{◌≤◌, ◌-◌}
-use native.Mathlib.Omega.{arith}
-use mathlib.Core.Path.{◌≡◌, refl}
+use mathlib.Core.Path.{◌≡◌}
 use lib.ListN.{length}
-use borrow.Author.Tests.{not-true}
 use Rattle.floor_rule.specs.Ascent.{state_with, passes}
 use Rattle.floor_core.specs.Done.{Done}
-use Rattle.floor_core.specs.Laws.State.{passes_more, passes_end, passes_ended}
-use borrow.Author.Rules.{rules}
 use Rattle.floor_core.proofs.ascent.passes.Given as goal
 
 abbrev pub invariant-loop-i : goal.invariant-loop-i

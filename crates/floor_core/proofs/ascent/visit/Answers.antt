@@ -11,14 +11,14 @@ use Rattle.floor_core.proofs.ascent.visit.Goals as goal
 
 -- the group has its share
 pub returns-then-cap-eq0 : goal.returns-then-cap-eq0
-returns-then-cap-eq0 c =  record { got_value = visit_passed _ _ _ _ _ _ _ _ c.missing-cap.ensures c.if-cap-eq0.true; more_value = λ h. (h, refl); done_2 = c.requires.done }
+returns-then-cap-eq0 c = record { got_value = visit_passed _ _ _ _ _ _ _ _ c.missing-cap.ensures c.if-cap-eq0.true; more_value = λ h. (h, refl); done_2 = c.requires.done }
 
 -- the vertex is done
 pub returns-then-at8-ne0 : goal.returns-then-at8-ne0
-returns-then-at8-ne0 c =  record { got_value = visit_inside _ _ _ _ _ _ _ _ (c.requires.done.root_inside _ c.requires.v_lt_n (λ z. c.if-at8-ne0.true (c.at8.ensures ∙ z))); more_value = λ h. (h, refl); done_2 = c.requires.done }
+returns-then-at8-ne0 c = record { got_value = visit_inside _ _ _ _ _ _ _ _ (c.requires.done.root_inside _ c.requires.v_lt_n (λ z. c.if-at8-ne0.true (c.at8.ensures ∙ z))); more_value = λ h. (h, refl); done_2 = c.requires.done }
 
 pub raise_cut-raised-requires : goal.raise_cut-raised-requires
-raise_cut-raised-requires c =  record { ends = c.requires.ends; chained = c.requires.chained; v_lt_n = c.requires.v_lt_n }
+raise_cut-raised-requires c = record { ends = c.requires.ends; chained = c.requires.chained; v_lt_n = c.requires.v_lt_n }
 
 -- the root is inside
 pub returns-then-raised : goal.returns-then-raised

@@ -1,13 +1,10 @@
 -- `visit_members` meets its contract: one vertex after the other.
-use Prim.Native.Nat.{◌≤◌, ◌-◌}
+use Prim.Native.Nat.{◌-◌}
 use native.Mathlib.Omega.{arith}
-use mathlib.Core.Path.{◌≡◌, refl, ◌∙◌}
+use mathlib.Core.Path.{refl, ◌∙◌}
 use mathlib.Core.Bool.{false}
-use lib.ListN.{length}
-use Rattle.floor_rule.specs.Ascent.{state_with, visit_members}
-use Rattle.floor_core.specs.Done.{Done}
+use Rattle.floor_rule.specs.Ascent.{visit_members}
 use Rattle.floor_core.specs.Laws.State.{members_more, members_end}
-use borrow.Author.Rules.{rules}
 use Rattle.floor_core.proofs.ascent.visit_members.Goals as goal
 
 pub loop-v-init : goal.loop-v-init
@@ -15,7 +12,7 @@ unfolding visit_members
 loop-v-init c = (omega arith, refl, λ h. (h, refl), c.requires.done)
 
 pub visit_member-more-requires : goal.visit_member-more-requires
-visit_member-more-requires c =  record { ends = c.requires.ends; chained = c.requires.chained; v_in_bounds = c.loop-v-test.true; done = c.loop-v.invariant.3 }
+visit_member-more-requires c = record { ends = c.requires.ends; chained = c.requires.chained; v_in_bounds = c.loop-v-test.true; done = c.loop-v.invariant.3 }
 
 pub loop-v-smaller : goal.loop-v-smaller
 loop-v-smaller c = omega arith

@@ -1,13 +1,10 @@
 -- `visit_members` meets its contract: one vertex after the other.
 use Prim.Native.Nat.{◌≤◌, ◌-◌}
-use native.Mathlib.Omega.{arith}
-use mathlib.Core.Path.{◌≡◌, refl, ◌∙◌}
+use mathlib.Core.Path.{◌≡◌}
 use mathlib.Core.Bool.{false}
 use lib.ListN.{length}
 use Rattle.floor_rule.specs.Ascent.{state_with, visit_members}
 use Rattle.floor_core.specs.Done.{Done}
-use Rattle.floor_core.specs.Laws.State.{members_more, members_end}
-use borrow.Author.Rules.{rules}
 use Rattle.floor_core.proofs.ascent.visit_members.Given as goal
 
 abbrev pub invariant-loop-v : goal.invariant-loop-v

@@ -1,9 +1,7 @@
 -- `chain` meets its contract: one arc after the other.
-use Prim.Native.Nat.{◌≤◌, ◌-◌}
+use Prim.Native.Nat.{◌-◌}
 use native.Mathlib.Omega.{arith}
-use Rattle.floor_core.specs.Chain.{Chained}
 use Rattle.floor_core.specs.Laws.Chain.{chained_none, chained_end}
-use borrow.Author.Rules.{rules}
 use Rattle.floor_core.proofs.chain.chain.Goals as goal
 
 pub loop-a-init : goal.loop-a-init

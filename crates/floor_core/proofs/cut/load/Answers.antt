@@ -1,10 +1,8 @@
 -- `load` meets its contract: one arc at the rim after the other.
-use Prim.Native.Nat.{◌-◌, ◌≤◌}
+use Prim.Native.Nat.{◌-◌}
 use native.Mathlib.Omega.{arith}
-use mathlib.Core.Path.{◌≡◌, refl, ◌∙◌}
-use lib.ListN.{length}
-use Rattle.floor_core.specs.Laws.Rim.{Loads, loads_start, loads_more, loads_end}
-use borrow.Author.Rules.{rules}
+use mathlib.Core.Path.{refl, ◌∙◌}
+use Rattle.floor_core.specs.Laws.Rim.{loads_start, loads_more, loads_end}
 use Rattle.floor_core.proofs.cut.load.Goals as goal
 
 pub loop-j-init : goal.loop-j-init

@@ -1,10 +1,8 @@
 -- `load` meets its contract: one arc at the rim after the other.
 use Prim.Native.Nat.{◌-◌, ◌≤◌}
-use native.Mathlib.Omega.{arith}
-use mathlib.Core.Path.{◌≡◌, refl, ◌∙◌}
+use mathlib.Core.Path.{◌≡◌}
 use lib.ListN.{length}
-use Rattle.floor_core.specs.Laws.Rim.{Loads, loads_start, loads_more, loads_end}
-use borrow.Author.Rules.{rules}
+use Rattle.floor_core.specs.Laws.Rim.{Loads}
 use Rattle.floor_core.proofs.cut.load.Given as goal
 
 abbrev pub invariant-loop-j : goal.invariant-loop-j

@@ -1,8 +1,7 @@
 -- `narrow` meets its contract: one arc at the rim after the other.
-use Prim.Native.Nat.{◌-◌, ◌≤◌}
+use Prim.Native.Nat.{◌-◌}
 use native.Mathlib.Omega.{arith}
-use Rattle.floor_core.specs.Laws.Rim.{Narrows, narrows_start, narrows_end}
-use borrow.Author.Rules.{rules}
+use Rattle.floor_core.specs.Laws.Rim.{narrows_start, narrows_end}
 use Rattle.floor_core.proofs.cut.narrow.Goals as goal
 
 pub loop-j-init : goal.loop-j-init

@@ -1,8 +1,6 @@
 -- `narrow` meets its contract: one arc at the rim after the other.
 use Prim.Native.Nat.{◌-◌, ◌≤◌}
-use native.Mathlib.Omega.{arith}
-use Rattle.floor_core.specs.Laws.Rim.{Narrows, narrows_start, narrows_end}
-use borrow.Author.Rules.{rules}
+use Rattle.floor_core.specs.Laws.Rim.{Narrows}
 use Rattle.floor_core.proofs.cut.narrow.Given as goal
 
 abbrev pub invariant-loop-j : goal.invariant-loop-j

@@ -1,7 +1,6 @@
 -- `narrow_at` meets its contract: the arc comes from inside, or is kept.
 use native.Mathlib.Omega.{arith}
 use Rattle.floor_core.specs.Laws.Rim.{place_inside, place_outside}
-use borrow.Author.Rules.{rules}
 use Rattle.floor_core.proofs.cut.narrow_at.Goals as goal
 
 pub returns-then-at8-ne0 : goal.returns-then-at8-ne0

@@ -1,6 +1,5 @@
 -- `note` meets its contract: the lower of two numbers is stored.
 use Rattle.floor_core.specs.Laws.Number.{noted_at}
-use borrow.Author.Rules.{rules}
 use Rattle.floor_core.proofs.number.note.Goals as goal
 
 pub returns : goal.returns

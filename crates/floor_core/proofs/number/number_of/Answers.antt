@@ -1,6 +1,5 @@
 -- `number_of` meets its contract, case by case.
 use Rattle.floor_core.specs.Laws.Number.{number_none, number_some}
-use borrow.Author.Rules.{rules}
 use Rattle.floor_core.proofs.number.number_of.Goals as goal
 
 pub returns-then-c-eq0 : goal.returns-then-c-eq0

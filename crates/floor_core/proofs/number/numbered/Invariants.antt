@@ -1,14 +1,10 @@
 -- `numbered` meets its contract: it stores at rising places.
-use Prim.Native.Nat.{ℕ, ◌≤◌, ◌<◌, ◌-◌}
-use native.Mathlib.Omega.{arith}
-use mathlib.Core.Path.{◌≡◌, refl, ap, sym, ◌∙◌}
-use lib.ListN.{length, get_or, replicate, length-replicate}
+use Prim.Native.Nat.{◌≤◌, ◌-◌}
+use mathlib.Core.Path.{◌≡◌}
+use lib.ListN.{length, get_or, replicate}
 use Rattle.base_buffer.specs.Store.{remade}
-use Rattle.base_buffer.proofs.Laws.Store.{length_remade, remade_more}
-use Rattle.base_limits.specs.Limits.{max_vertices, group_numbers}
+use Rattle.base_limits.specs.Limits.{max_vertices}
 use Rattle.floor_rule.specs.Number.{number_of}
-use Rattle.floor_core.specs.Laws.Number.{number_is, at_end}
-use borrow.Author.Rules.{rules}
 use Rattle.floor_core.proofs.number.numbered.Given as goal
 
 abbrev pub invariant-loop-v : goal.invariant-loop-v

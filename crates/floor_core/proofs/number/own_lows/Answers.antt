@@ -1,10 +1,7 @@
 -- `own_lows` meets its contract: one vertex after the other.
-use Prim.Native.Nat.{◌≤◌, ◌-◌}
+use Prim.Native.Nat.{◌-◌}
 use native.Mathlib.Omega.{arith}
-use lib.ListN.{length}
-use Rattle.floor_core.specs.Tables.{OwnLows}
 use Rattle.floor_core.specs.Laws.Number.{own_start, own_more, own_end}
-use borrow.Author.Rules.{rules}
 use Rattle.floor_core.proofs.number.own_lows.Goals as goal
 
 pub loop-v-init : goal.loop-v-init

@@ -1,11 +1,8 @@
 -- `paired_lows` meets its contract: one pair after the other.
-use Prim.Native.Nat.{◌≤◌, ◌-◌}
+use Prim.Native.Nat.{◌-◌}
 use native.Mathlib.Omega.{arith}
 use mathlib.Core.Path.{◌∙◌}
-use lib.ListN.{length}
-use Rattle.floor_core.specs.Tables.{PairedLows}
 use Rattle.floor_core.specs.Laws.Number.{paired_start, paired_more, paired_end}
-use borrow.Author.Rules.{rules}
 use Rattle.floor_core.proofs.number.paired_lows.Goals as goal
 
 pub own_lows-requires : goal.own_lows-requires

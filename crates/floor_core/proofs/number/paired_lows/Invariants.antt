@@ -1,11 +1,7 @@
 -- `paired_lows` meets its contract: one pair after the other.
 use Prim.Native.Nat.{◌≤◌, ◌-◌}
-use native.Mathlib.Omega.{arith}
-use mathlib.Core.Path.{◌∙◌}
 use lib.ListN.{length}
 use Rattle.floor_core.specs.Tables.{PairedLows}
-use Rattle.floor_core.specs.Laws.Number.{paired_start, paired_more, paired_end}
-use borrow.Author.Rules.{rules}
 use Rattle.floor_core.proofs.number.paired_lows.Given as goal
 
 abbrev pub invariant-loop-i : goal.invariant-loop-i

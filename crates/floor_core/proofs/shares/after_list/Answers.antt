@@ -1,6 +1,5 @@
 -- `after_list` meets its contract: a group without a share has no list.
 use Rattle.floor_core.specs.Laws.Shares.{list_none, list_some}
-use borrow.Author.Rules.{rules}
 use Rattle.floor_core.proofs.shares.after_list.Goals as goal
 
 pub returns-then-at64-eq0 : goal.returns-then-at64-eq0

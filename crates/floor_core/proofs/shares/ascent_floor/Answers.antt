@@ -9,10 +9,10 @@ pub overflow_add-arcs : goal.overflow_add-arcs
 overflow_add-arcs c = let short = c.requires.short in search (rules, short)
 
 pub chain-requires : goal.chain-requires
-chain-requires c =  record { arcs_value = refl; ends = ends_room _ _ c.requires; tops_value = refl }
+chain-requires c = record { arcs_value = refl; ends = ends_room _ _ c.requires; tops_value = refl }
 
 pub shares-share-requires : goal.shares-share-requires
-shares-share-requires c =  record { ends = c.requires; chained = c.chain.ensures }
+shares-share-requires c = record { ends = c.requires; chained = c.chain.ensures }
 
 pub slice_bounds-total-end : goal.slice_bounds-total-end
 slice_bounds-total-end c = shares_long _ _ _ _ _ c.shares-share.ensures

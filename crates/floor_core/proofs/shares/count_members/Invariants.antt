@@ -1,11 +1,7 @@
 -- `count_members` meets its contract: one vertex after the other.
-use Prim.Native.Nat.{◌≤◌, ◌<◌, ◌-◌}
-use native.Mathlib.Omega.{arith}
+use Prim.Native.Nat.{◌≤◌, ◌-◌}
 use lib.ListN.{length}
-use Rattle.base_limits.specs.Limits.{group_numbers}
 use Rattle.floor_core.specs.Tables.{Counts}
-use Rattle.floor_core.specs.Laws.Shares.{counts_start, count_fits, counts_more, counts_end}
-use borrow.Author.Rules.{rules}
 use Rattle.floor_core.proofs.shares.count_members.Given as goal
 
 abbrev pub invariant-loop-v : goal.invariant-loop-v

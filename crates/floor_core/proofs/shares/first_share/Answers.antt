@@ -1,6 +1,5 @@
 -- `first_share` meets its contract, case by case.
 use Rattle.floor_core.specs.Laws.Shares.{share_none, share_alone, share_company}
-use borrow.Author.Rules.{rules}
 use Rattle.floor_core.proofs.shares.first_share.Goals as goal
 
 pub returns-then-l-eq0 : goal.returns-then-l-eq0

@@ -1,15 +1,11 @@
 -- `first_shares` meets its contract: it stores at rising places.
-use Prim.Native.Nat.{ℕ, ◌≤◌, ◌-◌}
-use native.Mathlib.Omega.{arith}
-use mathlib.Core.Path.{◌≡◌, refl, ap, sym, ◌∙◌}
-use lib.ListN.{length, replicate, length-replicate}
+use Prim.Native.Nat.{◌≤◌, ◌-◌}
+use mathlib.Core.Path.{◌≡◌}
+use lib.ListN.{replicate}
 use Rattle.base_finite.specs.Below.{counted}
 use Rattle.base_buffer.specs.Store.{remade}
-use Rattle.base_buffer.proofs.Laws.Store.{length_remade, remade_more}
 use Rattle.base_limits.specs.Limits.{group_numbers}
 use Rattle.floor_rule.specs.Ascent.{max_cost, in_company}
-use Rattle.floor_core.specs.Laws.Shares.{first_shares_end}
-use borrow.Author.Rules.{rules}
 use Rattle.floor_core.proofs.shares.first_shares.Given as goal
 
 abbrev pub invariant-loop-l : goal.invariant-loop-l

@@ -1,6 +1,5 @@
 -- `kept_share` meets its contract: a branch on the number and on what was got.
 use Rattle.floor_core.specs.Laws.Shares.{share_below, share_less, share_whole}
-use borrow.Author.Rules.{rules}
 use Rattle.floor_core.proofs.shares.kept_share.Goals as goal
 
 pub returns-then-l-k : goal.returns-then-l-k

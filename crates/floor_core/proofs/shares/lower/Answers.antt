@@ -1,16 +1,10 @@
 -- `lower` meets its contract: it stores at rising places.
-use Prim.Native.Nat.{◌≤◌, ◌-◌}
+use Prim.Native.Nat.{◌-◌}
 use native.Mathlib.Omega.{arith}
-use mathlib.Core.Path.{◌≡◌, refl, ap, ◌∙◌}
-use mathlib.Core.Bool.{cond}
-use lib.ListN.{length, get_or}
-use lib.Dec.{ltb}
+use mathlib.Core.Path.{refl, ◌∙◌}
 use Rattle.base_buffer.specs.Store.{remade}
-use Rattle.base_buffer.proofs.Laws.Store.{length_remade, remade_more}
-use Rattle.base_limits.specs.Limits.{group_numbers}
-use Rattle.floor_rule.specs.Ascent.{lesser}
+use Rattle.base_buffer.proofs.Laws.Store.{remade_more}
 use Rattle.floor_core.specs.Laws.Shares.{share_kept, lowered_end}
-use borrow.Author.Rules.{rules}
 use Rattle.floor_core.proofs.shares.lower.Goals as goal
 
 pub loop-l-init : goal.loop-l-init

@@ -1,16 +1,12 @@
 -- `lower` meets its contract: it stores at rising places.
 use Prim.Native.Nat.{◌≤◌, ◌-◌}
-use native.Mathlib.Omega.{arith}
-use mathlib.Core.Path.{◌≡◌, refl, ap, ◌∙◌}
+use mathlib.Core.Path.{◌≡◌}
 use mathlib.Core.Bool.{cond}
-use lib.ListN.{length, get_or}
+use lib.ListN.{get_or}
 use lib.Dec.{ltb}
 use Rattle.base_buffer.specs.Store.{remade}
-use Rattle.base_buffer.proofs.Laws.Store.{length_remade, remade_more}
 use Rattle.base_limits.specs.Limits.{group_numbers}
 use Rattle.floor_rule.specs.Ascent.{lesser}
-use Rattle.floor_core.specs.Laws.Shares.{share_kept, lowered_end}
-use borrow.Author.Rules.{rules}
 use Rattle.floor_core.proofs.shares.lower.Given as goal
 
 abbrev pub invariant-loop-l : goal.invariant-loop-l

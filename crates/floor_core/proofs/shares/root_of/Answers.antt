@@ -1,11 +1,9 @@
 -- `root_of` meets its contract: one vertex after the other.
-use Prim.Native.Nat.{◌≤◌, ◌-◌}
+use Prim.Native.Nat.{◌-◌}
 use native.Mathlib.Omega.{arith}
-use mathlib.Core.Path.{◌≡◌, refl}
-use lib.ListN.{length}
+use mathlib.Core.Path.{refl}
 use Rattle.floor_rule.specs.Ascent.{lowest_in}
 use Rattle.floor_core.specs.Laws.Shares.{lowest_more, lowest_end}
-use borrow.Author.Rules.{rules}
 use Rattle.floor_core.proofs.shares.root_of.Goals as goal
 
 pub loop-v-init : goal.loop-v-init
@@ -13,7 +11,7 @@ unfolding lowest_in
 loop-v-init c = (omega arith, refl)
 
 pub lower_in-low-requires : goal.lower_in-low-requires
-lower_in-low-requires c =  record { v_in_bounds = c.loop-v-test.true; low_value = c.loop-v.invariant.1 }
+lower_in-low-requires c = record { v_in_bounds = c.loop-v-test.true; low_value = c.loop-v.invariant.1 }
 
 pub loop-v-smaller : goal.loop-v-smaller
 loop-v-smaller c = omega arith

@@ -1,11 +1,8 @@
 -- `root_of` meets its contract: one vertex after the other.
 use Prim.Native.Nat.{◌≤◌, ◌-◌}
-use native.Mathlib.Omega.{arith}
-use mathlib.Core.Path.{◌≡◌, refl}
+use mathlib.Core.Path.{◌≡◌}
 use lib.ListN.{length}
 use Rattle.floor_rule.specs.Ascent.{lowest_in}
-use Rattle.floor_core.specs.Laws.Shares.{lowest_more, lowest_end}
-use borrow.Author.Rules.{rules}
 use Rattle.floor_core.proofs.shares.root_of.Given as goal
 
 abbrev pub invariant-loop-v : goal.invariant-loop-v

@@ -1,11 +1,8 @@
 -- `shares` meets its contract: one list after the other, from the last group down.
 use Prim.Native.Nat.{◌≤◌, ◌-◌}
-use native.Mathlib.Omega.{arith}
-use mathlib.Core.Path.{◌≡◌, refl}
+use mathlib.Core.Path.{◌≡◌}
 use Rattle.base_limits.specs.Limits.{group_numbers}
 use Rattle.floor_rule.specs.Ascent.{shares_after}
-use Rattle.floor_core.specs.Laws.Shares.{shares_more, shares_long, shares_end}
-use borrow.Author.Rules.{rules}
 use Rattle.floor_core.proofs.shares.shares.Given as goal
 
 abbrev pub invariant-loop-j : goal.invariant-loop-j

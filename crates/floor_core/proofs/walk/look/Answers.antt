@@ -1,10 +1,6 @@
 -- `look` meets its contract: one arc after the other, from the last on.
-use Prim.Native.Nat.{◌+◌, ◌≤◌}
 use native.Mathlib.Omega.{arith}
-use Rattle.base_limits.specs.Limits.{max_vertices}
-use Rattle.floor_rule.specs.Ascent.{max_arcs}
-use Rattle.floor_core.specs.Laws.Walk.{falls, TurnsFrom, turns_start, turns_more, turns_end}
-use borrow.Author.Rules.{rules}
+use Rattle.floor_core.specs.Laws.Walk.{falls, turns_start, turns_more, turns_end}
 use Rattle.floor_core.proofs.walk.look.Goals as goal
 
 pub loop-x-init : goal.loop-x-init

@@ -1,6 +1,5 @@
 -- `look_at` meets its contract: the vertex is looked at, once.
 use Rattle.floor_core.specs.Laws.Walk.{next_ready, look_again, look_next}
-use borrow.Author.Rules.{rules}
 use Rattle.floor_core.proofs.walk.look_at.Goals as goal
 
 pub returns-then-at8-eq2 : goal.returns-then-at8-eq2

@@ -1,9 +1,7 @@
 -- `walk` meets its contract: one vertex of the queue after the other, until the root is found or none is left.
 use Prim.Native.Nat.{◌-◌}
-use native.Mathlib.Omega.{arith}
 use Rattle.base_limits.specs.Limits.{max_vertices}
-use Rattle.floor_core.specs.Laws.Walk.{Walks, walks_start, walks_next, walks_few, walks_more, walked_inside, walked_outside}
-use borrow.Author.Rules.{rules}
+use Rattle.floor_core.specs.Laws.Walk.{Walks}
 use Rattle.floor_core.proofs.walk.walk.Given as goal
 
 abbrev pub invariant-loop-i : goal.invariant-loop-i

@@ -1,6 +1,5 @@
 -- `format_also::line::also_line` meets its contract: a line past the last is malformed, another is read and then tested.
 use native.Mathlib.Omega.{arith}
-use borrow.Author.Rules.{rules}
 use Prim.Native.Nat.{◌≤◌}
 use mathlib.Core.Path.{ap, sym, ◌∙◌}
 use Rattle.base_limits.specs.Limits.{max_pairs}

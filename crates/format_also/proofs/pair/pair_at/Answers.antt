@@ -1,5 +1,4 @@
 -- `format_also::pair::pair_at` meets its contract: a refusal of any part stays, and a value goes on to the next part.
-use borrow.Author.Rules.{rules}
 use mathlib.Core.Path.{sym, ◌∙◌}
 use Rattle.format_read.specs.Number.{stop_of}
 use Rattle.format_also.specs.Pair.{pair_at}

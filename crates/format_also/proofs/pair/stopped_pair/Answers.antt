@@ -1,5 +1,4 @@
 -- `format_also::pair::stopped_pair` meets its contract, by the case that the step is.
-use borrow.Author.Rules.{rules}
 use mathlib.Core.Path.{sym, ap}
 use Rattle.format_also.specs.Pair.{Pair}
 use Rattle.format_also.specs.Answer.{pair_step}

@@ -1,7 +1,6 @@
 -- `format_also::print::put_pair` meets its contract: the key, and the two numbers with the bytes that end them.
 use Prim.Native.Nat.{◌≤◌}
 use native.Mathlib.Omega.{arith}
-use borrow.Author.Rules.{rules}
 use lib.ListN.{length}
 use Rattle.format_write.specs.Wrote.{farthest}
 use Rattle.format_write.proofs.Laws.Wrote.{wrote_then, wrote_as}

@@ -6,8 +6,8 @@ use mathlib.Core.Path.{◌≡◌, ap, ◌∙◌}
 use mathlib.Core.List.{◌++◌}
 use lib.ListN.{length}
 use Rattle.base_finite.specs.Below.{tabulate}
-use Rattle.format_write.specs.Wrote.{farthest, Wrote}
-use Rattle.format_write.proofs.Laws.Wrote.{wrote_none, wrote_length, wrote_then, wrote_as}
+use Rattle.format_write.specs.Wrote.{farthest}
+use Rattle.format_write.proofs.Laws.Wrote.{wrote_none, wrote_then, wrote_as}
 use Rattle.format_also.specs.Pair.{pair_of}
 use Rattle.format_also.specs.Render.{pair_text, pairs_text, pair_in, pairs_from}
 use Rattle.format_also.specs.Laws.Render.{table_none, table_more}
@@ -22,8 +22,6 @@ loop-i-smaller c = omega arith
 pub loop-i-preserved : goal.loop-i-preserved
 loop-i-preserved c =
     let a = c.args in
-    
-    
     let small : length a.out.now ≤ farthest = omega arith in
     let here : pair_of c.wide32-owner.result c.wide8-other.result ≡ pair_in a.owners.now a.others.now c.loop-i.i =
     rw (c.wide32-owner.ensures, c.at32.ensures, c.wide8-other.ensures, c.at8.ensures) in (

@@ -1,6 +1,5 @@
 -- `format_also::test::pair_test` meets its contract: each test decides a case of the definition.
 use native.Mathlib.Omega.{arith}
-use borrow.Author.Rules.{rules}
 use Prim.Native.Nat.{ℕ, ◌≤◌, ◌<◌}
 use mathlib.Core.Path.{sym, ◌∙◌, subst}
 use Rattle.format_also.specs.Pair.{pair_of, rank}

@@ -1,5 +1,4 @@
 -- `format_plan::claim_lines::claim_lines` meets its contract: a refusal of any line stays, and a value goes on to the next line.
-use borrow.Author.Rules.{rules}
 use mathlib.Core.Path.{sym, ◌∙◌}
 use Rattle.format_write.specs.Key.{terminals_key, cost_key, bound_key, rounds_key}
 use Rattle.format_read.proofs.Laws.NumberStep.{stopped_stays, value_goes}

@@ -1,5 +1,4 @@
 -- `format_plan::claim_lines::stopped_claims` meets its contract, by the case that the step is.
-use borrow.Author.Rules.{rules}
 use mathlib.Core.Path.{sym, ap}
 use Rattle.format_read.specs.Answer.{number_step}
 use Rattle.format_read.specs.Step.{stopped}

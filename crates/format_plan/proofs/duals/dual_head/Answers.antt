@@ -1,5 +1,4 @@
 -- `format_plan::duals::dual_head` meets its contract: a refusal of any part stays, and a value goes on to the next part.
-use borrow.Author.Rules.{rules}
 use mathlib.Core.Path.{sym, ◌∙◌}
 use Rattle.format_write.specs.Key.{dual_key}
 use Rattle.format_read.specs.Answer.{number_step}

@@ -1,6 +1,5 @@
 -- `format_plan::duals::dual_line` meets its contract: a refusal of the start, of the members or of a test stays; otherwise the record is stored.
 use native.Mathlib.Omega.{arith}
-use borrow.Author.Rules.{rules}
 use mathlib.Core.Path.{refl, ap, sym, ◌∙◌}
 use Rattle.format_read.specs.Answer.{number_step}
 use Rattle.format_plan.specs.Lines.{put_member, put_dual, listed_dual}

@@ -1,10 +1,8 @@
 -- `format_plan::duals::fill_record` meets its contract: a record that is started and gets its members is that of the moat.
-use borrow.Author.Rules.{rules}
-use mathlib.Core.Path.{ap, sym, ◌∙◌}
-use lib.ListN.{length}
+use mathlib.Core.Path.{ap, ◌∙◌}
 use Rattle.format_read.specs.Items.{puts}
 use Rattle.format_plan.specs.Lines.{put_member, members_at}
-use Rattle.format_plan.proofs.Laws.Lines.{record_filled, length_dual_record}
+use Rattle.format_plan.proofs.Laws.Lines.{record_filled}
 use Rattle.format_plan.proofs.duals.fill_record.Goals as goal
 
 pub returns : goal.returns

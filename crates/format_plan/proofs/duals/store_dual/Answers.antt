@@ -1,6 +1,5 @@
 -- `format_plan::duals::store_dual` meets its contract: the record takes the place of that of the buffer.
 use native.Mathlib.Omega.{arith}
-use borrow.Author.Rules.{rules}
 use mathlib.Core.Path.{sym}
 use lib.ListN.{length-take, length-drop}
 use Rattle.format_plan.specs.Lines.{listed_dual}

@@ -1,5 +1,4 @@
 -- `format_plan::keep::keep_line` meets its contract: the tests decide the case of the definition.
-use borrow.Author.Rules.{rules}
 use Rattle.format_write.specs.Key.{kept_key}
 use Rattle.format_read.specs.Answer.{number_step}
 use Rattle.format_read.proofs.Laws.NumberStep.{refusal_stays, check_refused, check_fine}

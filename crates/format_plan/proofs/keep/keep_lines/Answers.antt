@@ -1,6 +1,5 @@
 -- `format_plan::keep::keep_lines` meets its contract: what is left to read and to store is what the whole reads and stores.
 use native.Mathlib.Omega.{arith}
-use borrow.Author.Rules.{rules}
 use Prim.Native.Nat.{◌-◌}
 use mathlib.Core.Path.{ap, sym, ◌∙◌}
 use mathlib.Core.Bool.{not}
@@ -8,8 +7,7 @@ use lib.ListN.{length}
 use Rattle.format_read.specs.Answer.{number_step}
 use Rattle.format_read.proofs.Laws.Byte.{is_keep}
 use Rattle.format_plan.specs.Lines.{keep_reader, kept_at, put_mark}
-use Rattle.format_read.proofs.Laws.Items.{ItemsLeft, left_start, left_more, left_stop, left_refused, left_out_law, left_length}
-use Rattle.format_plan.proofs.Laws.Puts.{mark_length}
+use Rattle.format_read.proofs.Laws.Items.{left_start, left_more, left_stop, left_refused, left_out_law}
 use Rattle.format_plan.proofs.Laws.Lines.{keep_passed}
 use Rattle.format_plan.proofs.keep.keep_lines.Goals as goal
 
@@ -35,7 +33,6 @@ pub overflow_add-low : goal.overflow_add-low
 unfolding number_step
 overflow_add-low c =
     let a = c.args in
-    
     let k = keep_passed a.text.now a.edges c.loop-i.low c.loop-i.i c.loop-i.next.at (sym c.keep_line-step.ensures ∙ ap number_step c.in-Value.is) in
     omega (arith, k.below)
 

@@ -1,16 +1,8 @@
 -- `format_plan::keep::keep_lines` meets its contract: what is left to read and to store is what the whole reads and stores.
-use native.Mathlib.Omega.{arith}
-use borrow.Author.Rules.{rules}
 use Prim.Native.Nat.{◌-◌}
-use mathlib.Core.Path.{ap, sym, ◌∙◌}
-use mathlib.Core.Bool.{not}
 use lib.ListN.{length}
-use Rattle.format_read.specs.Answer.{number_step}
-use Rattle.format_read.proofs.Laws.Byte.{is_keep}
 use Rattle.format_plan.specs.Lines.{keep_reader, kept_at, put_mark}
-use Rattle.format_read.proofs.Laws.Items.{ItemsLeft, left_start, left_more, left_stop, left_refused, left_out_law, left_length}
-use Rattle.format_plan.proofs.Laws.Puts.{mark_length}
-use Rattle.format_plan.proofs.Laws.Lines.{keep_passed}
+use Rattle.format_read.proofs.Laws.Items.{ItemsLeft}
 use Rattle.format_plan.proofs.keep.keep_lines.Given as goal
 
 abbrev pub invariant-loop-i : goal.invariant-loop-i

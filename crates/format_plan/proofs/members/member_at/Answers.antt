@@ -1,5 +1,4 @@
 -- `format_plan::members::member_at` meets its contract: the first member follows at once, a later one behind a comma.
-use borrow.Author.Rules.{rules}
 use mathlib.Core.Path.{sym, ◌∙◌}
 use Rattle.format_read.specs.Step.{◌then◌}
 use Rattle.format_read.specs.Bytes.{fixed_at}

@@ -1,5 +1,4 @@
 -- `format_plan::members::risen_after` meets its contract: each test is a case of the definition.
-use borrow.Author.Rules.{rules}
 use mathlib.Core.Path.{sym}
 use Rattle.format_plan.proofs.Laws.Tests.{risen_low, risen_high, risen_next}
 use Rattle.format_plan.proofs.members.risen_after.Goals as goal

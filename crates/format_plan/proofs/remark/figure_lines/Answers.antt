@@ -1,5 +1,4 @@
 -- `figure_lines`: a refusal of any line stays, and a value goes on to the next line.
-use borrow.Author.Rules.{rules}
 use mathlib.Core.Path.{sym, ◌∙◌}
 use Rattle.format_write.specs.Key.{terminals_key, cost_key, bound_key}
 use Rattle.format_read.specs.Answer.{number_step}

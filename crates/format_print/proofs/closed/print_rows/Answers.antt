@@ -5,7 +5,6 @@ use lib.ListN.{length}
 use Rattle.format_write.specs.Wrote.{farthest}
 use Rattle.format_print.specs.Laws.Print.{short_prints, fit_prints}
 use Rattle.format_print.specs.RowText.{row_lines}
-use borrow.Author.Rules.{rules}
 use Rattle.format_print.proofs.closed.print_rows.Goals as goal
 
 -- 7: the buffer is short

@@ -5,7 +5,6 @@ use lib.ListN.{length}
 use Rattle.format_write.specs.Wrote.{farthest}
 use Rattle.format_write.proofs.Laws.Wrote.{wrote_then}
 use Rattle.format_read.specs.Number.{number_text}
-use borrow.Author.Rules.{rules}
 use Rattle.format_print.proofs.closed.put_field.Goals as goal
 
 pub returns : goal.returns

@@ -2,7 +2,6 @@
 use mathlib.Core.Path.{◌∙◌}
 use Rattle.format_write.proofs.Laws.Wrote.{wrote_as}
 use Rattle.format_print.specs.Laws.Row.{row_read}
-use borrow.Author.Rules.{rules}
 use Rattle.format_print.proofs.closed.put_line_of.Goals as goal
 
 pub returns : goal.returns

@@ -6,8 +6,6 @@ use Rattle.format_write.specs.Wrote.{farthest}
 use Rattle.format_write.proofs.Laws.Wrote.{wrote_then, wrote_as}
 use Rattle.format_print.specs.RowText.{closed_key, refused_word}
 use Rattle.format_print.specs.Laws.Row.{row_planned, row_refused}
-use native.Mathlib.Nat.{le_antisymm}
-use borrow.Author.Rules.{rules}
 use Rattle.format_print.proofs.closed.put_row.Goals as goal
 
 -- refused

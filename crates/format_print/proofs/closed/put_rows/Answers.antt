@@ -3,9 +3,9 @@ use Prim.Native.Nat.{◌≤◌, ◌-◌}
 use native.Mathlib.Omega.{arith}
 use mathlib.Core.Path.{◌≡◌, ap, sym}
 use lib.ListN.{length}
-use Rattle.format_write.specs.Wrote.{farthest, Wrote}
+use Rattle.format_write.specs.Wrote.{farthest}
 use Rattle.format_write.specs.Text.{text_below}
-use Rattle.format_write.proofs.Laws.Wrote.{wrote_none, wrote_length, wrote_then, wrote_as}
+use Rattle.format_write.proofs.Laws.Wrote.{wrote_none, wrote_then, wrote_as}
 use Rattle.format_write.proofs.Laws.Text.{text_none, text_next}
 use Rattle.format_print.specs.RowText.{row_line, row_lines}
 use borrow.Author.Rules.{rules}
@@ -22,7 +22,6 @@ loop-i-smaller c = omega arith
 pub loop-i-preserved : goal.loop-i-preserved
 loop-i-preserved c =
     let a = c.args in
-    
     let small : length a.out.now ≤ farthest = omega arith in
     (omega arith, wrote_as (wrote_then small c.loop-i.invariant.1 c.put_line_of-next.ensures) (text_next (row_line a.tracks.now a.res.now) c.loop-i.i))
 

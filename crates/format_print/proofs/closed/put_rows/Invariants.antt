@@ -1,14 +1,9 @@
 -- `put_rows`: what is written so far are the lines of the first i tracks.
 use Prim.Native.Nat.{◌≤◌, ◌-◌}
-use native.Mathlib.Omega.{arith}
-use mathlib.Core.Path.{◌≡◌, ap, sym}
 use lib.ListN.{length}
-use Rattle.format_write.specs.Wrote.{farthest, Wrote}
+use Rattle.format_write.specs.Wrote.{Wrote}
 use Rattle.format_write.specs.Text.{text_below}
-use Rattle.format_write.proofs.Laws.Wrote.{wrote_none, wrote_length, wrote_then, wrote_as}
-use Rattle.format_write.proofs.Laws.Text.{text_none, text_next}
-use Rattle.format_print.specs.RowText.{row_line, row_lines}
-use borrow.Author.Rules.{rules}
+use Rattle.format_print.specs.RowText.{row_line}
 use Rattle.format_print.proofs.closed.put_rows.Given as goal
 
 abbrev pub invariant-loop-i : goal.invariant-loop-i

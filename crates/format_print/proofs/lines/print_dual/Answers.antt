@@ -6,7 +6,6 @@ use lib.ListN.{length}
 use Rattle.format_write.specs.Wrote.{farthest}
 use Rattle.format_write.specs.Text.{dual_line}
 use Rattle.format_print.specs.Laws.Print.{short_prints, fit_prints, dual_short_answer, dual_short_out, dual_answer, dual_out_law}
-use borrow.Author.Rules.{rules}
 use Rattle.format_print.proofs.lines.print_dual.Goals as goal
 
 -- 9: a record of another length

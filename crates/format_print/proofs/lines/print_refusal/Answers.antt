@@ -5,7 +5,6 @@ use lib.ListN.{length}
 use Rattle.format_write.specs.Wrote.{farthest}
 use Rattle.format_write.specs.Text.{refusal_text}
 use Rattle.format_print.specs.Laws.Print.{short_prints, fit_prints}
-use borrow.Author.Rules.{rules}
 use Rattle.format_print.proofs.lines.print_refusal.Goals as goal
 
 -- 7: the buffer is short

@@ -7,7 +7,6 @@ use Rattle.format_write.specs.Wrote.{farthest}
 use Rattle.format_write.proofs.Laws.Wrote.{wrote_then, wrote_as}
 use Rattle.format_write.specs.Key.{refused_key, place_key}
 use Rattle.format_write.specs.Text.{line_of, refusal_text}
-use borrow.Author.Rules.{rules}
 use Rattle.format_print.proofs.lines.put_refusal.Goals as goal
 
 pub returns : goal.returns

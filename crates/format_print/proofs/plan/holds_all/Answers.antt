@@ -1,5 +1,4 @@
 -- `holds_all`: too many marks, too many records, or the room is compared.
-use borrow.Author.Rules.{rules}
 use Rattle.format_print.specs.Laws.Room.{many_marks, many_records, few_hold}
 use Rattle.format_print.proofs.plan.holds_all.Goals as goal
 

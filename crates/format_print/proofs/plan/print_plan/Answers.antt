@@ -1,13 +1,11 @@
 -- `print_plan`: printed where every such plan fits; else refused by the measured text, or printed.
-use Prim.Native.Nat.{◌<◌, ◌≤◌}
+use Prim.Native.Nat.{◌≤◌}
 use native.Mathlib.Omega.{arith}
 use mathlib.Core.Path.{sym, ◌∙◌}
 use lib.ListN.{length}
-use Rattle.format_write.specs.Wrote.{farthest}
 use Rattle.format_write.specs.Text.{plan_text}
 use Rattle.format_print.specs.Laws.Print.{whole_prints, short_prints, fit_prints}
 use Rattle.format_print.specs.Laws.Room.{plan_text_room, holds_all_elim}
-use borrow.Author.Rules.{rules}
 use Rattle.format_print.proofs.plan.print_plan.Goals as goal
 
 -- printed, not measured

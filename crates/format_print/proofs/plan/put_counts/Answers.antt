@@ -6,7 +6,6 @@ use Rattle.format_write.proofs.Laws.Wrote.{wrote_then}
 use Prim.Native.Nat.{◌≤◌}
 use Rattle.format_write.specs.Key.{terminals_key, cost_key, bound_key, rounds_key}
 use Rattle.format_write.specs.Text.{count_lines}
-use borrow.Author.Rules.{rules}
 use Rattle.format_print.proofs.plan.put_counts.Goals as goal
 
 pub returns : goal.returns

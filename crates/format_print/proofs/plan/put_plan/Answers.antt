@@ -5,7 +5,6 @@ use lib.ListN.{length}
 use Rattle.format_write.specs.Wrote.{farthest}
 use Rattle.format_write.proofs.Laws.Wrote.{wrote_then}
 use Rattle.format_write.specs.Text.{plan_text}
-use borrow.Author.Rules.{rules}
 use Rattle.format_print.proofs.plan.put_plan.Goals as goal
 
 pub returns : goal.returns

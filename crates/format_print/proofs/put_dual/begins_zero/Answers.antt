@@ -2,7 +2,6 @@
 use Prim.Native.Nat.{◌%◌}
 use native.Mathlib.Omega.{arith}
 use mathlib.Core.Path.{◌≡◌}
-use borrow.Author.Rules.{rules}
 use Rattle.format_write.proofs.Laws.Members.{inside_no_zero, begins_by_byte}
 use Rattle.format_print.proofs.put_dual.begins_zero.Goals as goal
 

@@ -9,7 +9,6 @@ use mathlib.Core.List.{◌++◌}
 use Rattle.format_write.specs.Key.{dual_key}
 use Rattle.format_write.specs.Decimal.{decimal}
 use Rattle.format_write.specs.Text.{dual_line}
-use borrow.Author.Rules.{rules}
 use Rattle.format_print.proofs.put_dual.put_dual.Goals as goal
 
 pub returns : goal.returns

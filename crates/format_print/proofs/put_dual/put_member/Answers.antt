@@ -2,10 +2,8 @@
 use mathlib.Core.Path.{◌≡◌, sym, ◌∙◌}
 use Rattle.format_write.proofs.Laws.Wrote.{wrote_none, wrote_as}
 use mathlib.Core.Bool.{true, false}
-use borrow.Author.Tests.{not-true, not-false}
 use Rattle.format_record.specs.Record.{member_in}
 use Rattle.format_write.proofs.Laws.Text.{member_here, member_not, and_not_true, and_not_false}
-use borrow.Author.Rules.{rules}
 use Rattle.format_print.proofs.put_dual.put_member.Goals as goal
 
 pub returns-then-not-member : goal.returns-then-not-member

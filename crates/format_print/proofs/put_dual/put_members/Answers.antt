@@ -7,11 +7,10 @@ use Rattle.base_finite.specs.Below.{those_below}
 use Rattle.base_limits.specs.Limits.{member_bytes}
 use Rattle.format_record.specs.Record.{member_in}
 use Rattle.format_write.specs.Text.{listed, members_of}
-use Rattle.format_write.specs.Wrote.{farthest, Wrote, is_none}
+use Rattle.format_write.specs.Wrote.{farthest, is_none}
 use Rattle.format_write.proofs.Laws.Members.{begins_zero_none, those_past}
 use Rattle.format_write.proofs.Laws.Text.{members_none, none_none, members_next, none_next}
-use Rattle.format_write.proofs.Laws.Wrote.{wrote_none, wrote_length, wrote_then, wrote_as}
-use borrow.Author.Rules.{rules}
+use Rattle.format_write.proofs.Laws.Wrote.{wrote_none, wrote_then, wrote_as}
 use Rattle.format_print.proofs.put_dual.put_members.Goals as goal
 
 pub loop-v-init : goal.loop-v-init
@@ -34,8 +33,7 @@ pub loop-v-preserved : goal.loop-v-preserved
 loop-v-preserved c =
     let a = c.args in
     let t = member_in a.part.now in
-    let small : length a.out.now ≤ farthest = omega arith in
-    (
+    let small : length a.out.now ≤ farthest = omega arith in (
       omega arith,
       wrote_as (wrote_then small c.loop-v.invariant.1 c.put_member-list.ensures.fact) (members_next t c.loop-v.v c.loop-v.invariant.2),
       none_next t c.loop-v.v c.loop-v.invariant.2 c.put_member-list.ensures.first_value,

@@ -1,17 +1,11 @@
 -- `put_members`: what is written so far are the members below v; a byte that is passed over has none.
-use Prim.Native.Nat.{◌*◌, ◌-◌, ◌%◌, ◌≤◌}
-use native.Mathlib.Omega.{arith}
-use mathlib.Core.Path.{◌≡◌, ap, sym, ◌∙◌}
-use lib.ListN.{length}
+use Prim.Native.Nat.{◌*◌, ◌-◌, ◌≤◌}
+use mathlib.Core.Path.{◌≡◌}
 use Rattle.base_finite.specs.Below.{those_below}
 use Rattle.base_limits.specs.Limits.{member_bytes}
 use Rattle.format_record.specs.Record.{member_in}
-use Rattle.format_write.specs.Text.{listed, members_of}
-use Rattle.format_write.specs.Wrote.{farthest, Wrote, is_none}
-use Rattle.format_write.proofs.Laws.Members.{begins_zero_none, those_past}
-use Rattle.format_write.proofs.Laws.Text.{members_none, none_none, members_next, none_next}
-use Rattle.format_write.proofs.Laws.Wrote.{wrote_none, wrote_length, wrote_then, wrote_as}
-use borrow.Author.Rules.{rules}
+use Rattle.format_write.specs.Text.{listed}
+use Rattle.format_write.specs.Wrote.{Wrote, is_none}
 use Rattle.format_print.proofs.put_dual.put_members.Given as goal
 
 abbrev pub invariant-loop-v : goal.invariant-loop-v

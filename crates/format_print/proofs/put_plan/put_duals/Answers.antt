@@ -4,11 +4,10 @@ use native.Mathlib.Omega.{arith}
 use mathlib.Core.Path.{◌≡◌, ap, sym}
 use lib.ListN.{length}
 use Rattle.format_write.specs.Wrote.{farthest}
-use Rattle.format_write.proofs.Laws.Wrote.{wrote_none, wrote_length, wrote_then, wrote_as}
+use Rattle.format_write.proofs.Laws.Wrote.{wrote_none, wrote_then, wrote_as}
 use Rattle.base_limits.specs.Limits.{record_bytes}
 use Rattle.format_record.specs.Record.{record_at}
 use Rattle.format_write.specs.Text.{text_below, dual_line, dual_lines}
-use Rattle.format_write.specs.Wrote.{Wrote}
 use Rattle.format_write.proofs.Laws.Text.{text_none, text_next}
 use borrow.Author.Rules.{rules}
 use Rattle.format_print.proofs.put_plan.put_duals.Goals as goal
@@ -24,7 +23,6 @@ loop-i-smaller c = omega arith
 pub loop-i-preserved : goal.loop-i-preserved
 loop-i-preserved c =
     let a = c.args in
-    
     let small : length a.out.now ≤ farthest = omega arith in
     let line = wrote_as c.put_dual-next.ensures (ap dual_line c.«record».ensures) in
     (omega arith, wrote_as (wrote_then small c.loop-i.invariant.1 line) (text_next (λ k. dual_line (record_at a.records.now k)) c.loop-i.i))

@@ -1,16 +1,10 @@
 -- `put_duals`: what is written so far are the lines of the records before i.
 use Prim.Native.Nat.{◌≤◌, ◌-◌, ◌/◌}
-use native.Mathlib.Omega.{arith}
-use mathlib.Core.Path.{◌≡◌, ap, sym}
 use lib.ListN.{length}
-use Rattle.format_write.specs.Wrote.{farthest}
-use Rattle.format_write.proofs.Laws.Wrote.{wrote_none, wrote_length, wrote_then, wrote_as}
 use Rattle.base_limits.specs.Limits.{record_bytes}
 use Rattle.format_record.specs.Record.{record_at}
-use Rattle.format_write.specs.Text.{text_below, dual_line, dual_lines}
+use Rattle.format_write.specs.Text.{text_below, dual_line}
 use Rattle.format_write.specs.Wrote.{Wrote}
-use Rattle.format_write.proofs.Laws.Text.{text_none, text_next}
-use borrow.Author.Rules.{rules}
 use Rattle.format_print.proofs.put_plan.put_duals.Given as goal
 
 abbrev pub invariant-loop-i : goal.invariant-loop-i

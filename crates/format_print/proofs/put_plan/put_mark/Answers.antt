@@ -5,7 +5,6 @@ use Rattle.format_write.proofs.Laws.Wrote.{wrote_none, wrote_as}
 use Rattle.format_write.specs.Key.{kept_key}
 use Rattle.format_write.specs.Text.{line_of}
 use Rattle.format_write.proofs.Laws.Text.{kept_line_law, kept_line_none}
-use borrow.Author.Rules.{rules}
 use Rattle.format_print.proofs.put_plan.put_mark.Goals as goal
 
 pub returns-in-0 : goal.returns-in-0

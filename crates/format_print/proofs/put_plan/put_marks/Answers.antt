@@ -3,10 +3,9 @@ use native.Mathlib.Omega.{arith}
 use mathlib.Core.Path.{◌≡◌, ap, sym}
 use lib.ListN.{length, get_or}
 use Rattle.format_write.specs.Wrote.{farthest}
-use Rattle.format_write.proofs.Laws.Wrote.{wrote_none, wrote_length, wrote_then, wrote_as}
+use Rattle.format_write.proofs.Laws.Wrote.{wrote_none, wrote_then, wrote_as}
 use Prim.Native.Nat.{◌≤◌, ◌-◌}
 use Rattle.format_write.specs.Text.{text_below, kept_line, kept_lines}
-use Rattle.format_write.specs.Wrote.{Wrote}
 use Rattle.format_write.proofs.Laws.Text.{text_none, text_next}
 use borrow.Author.Rules.{rules}
 use Rattle.format_print.proofs.put_plan.put_marks.Goals as goal
@@ -22,7 +21,6 @@ loop-e-smaller c = omega arith
 pub loop-e-preserved : goal.loop-e-preserved
 loop-e-preserved c =
     let a = c.args in
-    
     let small : length a.out.now ≤ farthest = omega arith in (
       omega arith,
       wrote_as (wrote_then small c.loop-e.invariant.1 c.put_mark-next.ensures) (text_next (λ i. kept_line (get_or a.marks.now i 0) i) c.loop-e.e),

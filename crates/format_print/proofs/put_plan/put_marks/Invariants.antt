@@ -1,14 +1,8 @@
 -- `put_marks`: what is written so far are the lines of the tracks below e.
-use native.Mathlib.Omega.{arith}
-use mathlib.Core.Path.{◌≡◌, ap, sym}
 use lib.ListN.{length, get_or}
-use Rattle.format_write.specs.Wrote.{farthest}
-use Rattle.format_write.proofs.Laws.Wrote.{wrote_none, wrote_length, wrote_then, wrote_as}
 use Prim.Native.Nat.{◌≤◌, ◌-◌}
-use Rattle.format_write.specs.Text.{text_below, kept_line, kept_lines}
+use Rattle.format_write.specs.Text.{text_below, kept_line}
 use Rattle.format_write.specs.Wrote.{Wrote}
-use Rattle.format_write.proofs.Laws.Text.{text_none, text_next}
-use borrow.Author.Rules.{rules}
 use Rattle.format_print.proofs.put_plan.put_marks.Given as goal
 
 abbrev pub invariant-loop-e : goal.invariant-loop-e

@@ -1,5 +1,4 @@
 -- `format_read::classes::class_from` meets its contract: past the end no byte stands, and classes are compared by their numbers.
-use borrow.Author.Rules.{rules}
 use mathlib.Core.Path.{sym}
 use borrow.Author.Tests.{le-ltb, lt-ltb}
 use Rattle.format_read.specs.Number.{is_class}

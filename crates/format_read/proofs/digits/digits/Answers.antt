@@ -1,6 +1,5 @@
 -- `format_read::digits::digits` meets its contract: the digits end inside the text, unless it has ended before them.
 use native.Mathlib.Omega.{arith}
-use borrow.Author.Rules.{rules}
 use Prim.Native.Nat.{ℕ, ◌-◌}
 use mathlib.Core.Path.{sym, ap}
 use lib.ListN.{take, drop}

@@ -1,13 +1,7 @@
 -- `format_read::digits::digits_end` meets its contract: what is left of the digits ends where all of them end.
-use native.Mathlib.Omega.{arith}
-use borrow.Author.Rules.{rules}
-use Prim.Native.Nat.{ℕ, ◌≤◌, ◌-◌}
-use native.Mathlib.Nat.{sub-zero}
-use mathlib.Core.Path.{◌≡◌, ◌∙◌, sym, ap}
-use mathlib.Core.Bool.{not, not-not}
-use Rattle.format_read.specs.Number.{digits_end, class_of, is_digit}
-use Rattle.format_read.proofs.Laws.Byte.{digit_inside}
-use Rattle.format_read.proofs.Laws.Number.{digits_more, digits_stop, digits_end_zero}
+use Prim.Native.Nat.{◌≤◌, ◌-◌}
+use mathlib.Core.Path.{◌≡◌}
+use Rattle.format_read.specs.Number.{digits_end}
 use Rattle.format_read.proofs.digits.digits_end.Given as goal
 
 abbrev pub invariant-loop-taken : goal.invariant-loop-taken

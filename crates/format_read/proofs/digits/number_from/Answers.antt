@@ -1,6 +1,5 @@
 -- `format_read::digits::number_from` meets its contract: without digits it is refused, and what the digits write fits.
 use native.Mathlib.Omega.{arith}
-use borrow.Author.Rules.{rules}
 use Prim.Native.Nat.{ℕ, min}
 use mathlib.Core.Path.{◌≡◌, sym, ap, ◌∙◌}
 use borrow.Author.Tests.{eq-eqb, ne_eqb}

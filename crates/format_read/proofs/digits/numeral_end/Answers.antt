@@ -1,6 +1,5 @@
 -- `format_read::digits::numeral_end` meets its contract: the first byte decides.
 use native.Mathlib.Omega.{arith}
-use borrow.Author.Rules.{rules}
 use mathlib.Core.Path.{sym, ◌∙◌}
 use Rattle.format_read.specs.Number.{numeral_end}
 use Rattle.format_read.proofs.Laws.Byte.{is_zero, class_inside}

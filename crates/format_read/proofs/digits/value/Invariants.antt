@@ -1,12 +1,9 @@
 -- `format_read::digits::value` meets its contract: what has been read and what is left write the number, and so many digits fit.
-use native.Mathlib.Omega.{arith}
-use borrow.Author.Rules.{rules}
 use Prim.Native.Nat.{ℕ, ◌+◌, ◌*◌, ◌-◌, ◌^◌, ◌≤◌}
-use mathlib.Core.Path.{◌≡◌, ◌∙◌, sym, ap, refl}
+use mathlib.Core.Path.{◌≡◌}
 use mathlib.Core.List.{List}
-use lib.ListN.{length, get_or, drop, drop_of_length-le}
+use lib.ListN.{length, drop}
 use Rattle.format_write.specs.Decimal.{spelled_after}
-use Rattle.format_read.proofs.Laws.Number.{value_step, spelled_fits, spelled_more}
 use Rattle.format_read.proofs.digits.value.Given as goal
 
 pub record Inv (s : List ℕ) (n i : ℕ) : Type 0 where

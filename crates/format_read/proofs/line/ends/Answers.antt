@@ -1,5 +1,4 @@
 -- `format_read::line::ends` meets its contract: each of the two bytes has a class of its own.
-use borrow.Author.Rules.{rules}
 use mathlib.Core.Path.{◌∙◌}
 use Rattle.format_read.specs.Number.{stop_of}
 use Rattle.format_read.proofs.Laws.Byte.{is_line_end, is_comma_law}

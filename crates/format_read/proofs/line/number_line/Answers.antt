@@ -1,5 +1,4 @@
 -- `format_read::number_line` meets its contract: a refusal stays, and after the key comes the number.
-use borrow.Author.Rules.{rules}
 use mathlib.Core.Path.{sym, ◌∙◌}
 use Rattle.format_read.specs.Number.{stop_of, number_line}
 use Rattle.format_read.proofs.Laws.NumberStep.{refusal_stays, value_goes}

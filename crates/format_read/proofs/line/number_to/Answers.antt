@@ -1,6 +1,5 @@
 -- `format_read::number_to` meets its contract: a refusal stays, and a value goes on to its end.
 use native.Mathlib.Omega.{arith}
-use borrow.Author.Rules.{rules}
 use mathlib.Core.Path.{sym, ◌∙◌}
 use Rattle.format_read.specs.Number.{number_to, stop_of}
 use Rattle.format_read.proofs.Laws.Bytes.{byte_inside, stop_found, stop_refused}
@@ -22,7 +21,6 @@ pub returns-then-ends : goal.returns-then-ends
 unfolding number_to number_step
 returns-then-ends c =
     let a = c.args in
-    
     sym (value_goes _ c.number_at-step.ensures c.in-Value.is
     ∙ stop_found a.text.now (stop_of a.comma) c.in-Value.value c.in-Value.next.at (sym c.ends.ensures ∙ c.if-ends.true))
 
@@ -30,6 +28,5 @@ pub returns : goal.returns
 unfolding number_to number_step
 returns c =
     let a = c.args in
-    
     sym (value_goes _ c.number_at-step.ensures c.in-Value.is
     ∙ stop_refused a.text.now (stop_of a.comma) c.in-Value.value c.in-Value.next.at (sym c.ends.ensures ∙ c.if-ends.false))

@@ -1,5 +1,4 @@
 -- `format_stp::free::is_free_law` meets its contract: each test decides a case of the definition.
-use borrow.Author.Rules.{rules}
 use mathlib.Core.Path.{sym}
 use Rattle.format_stp.proofs.Laws.Turn.{free_low, free_high, free_within}
 use Rattle.format_stp.proofs.free.is_free.Goals as goal

@@ -1,9 +1,8 @@
 -- `format_stp::free::opens` meets its contract: one of the numbers reaches, or none does.
-use borrow.Author.Rules.{rules}
 use native.Mathlib.Omega.{arith}
-use Prim.Native.Nat.{◌+◌, ◌-◌, ◌≤◌}
+use Prim.Native.Nat.{◌+◌, ◌-◌}
 use mathlib.Core.Bool.{false}
-use mathlib.Core.Path.{◌≡◌, ◌∙◌, sym, refl}
+use mathlib.Core.Path.{◌∙◌, sym, refl}
 use Rattle.base_finite.specs.Below.{any_below}
 use Rattle.base_finite.specs.Laws.Count.{any_more, any_end}
 use Rattle.format_stp.proofs.Laws.RuleLines.{free_elim}
@@ -34,14 +33,12 @@ returns-then-reaches-2 c =
 pub loop-i-preserved : goal.loop-i-preserved
 loop-i-preserved c =
     let a = c.args in
-    
     let h = c.loop-i-test.true in
     (omega arith, any_more c.loop-i.i (λ j. reaches (is_free a.groups.now a.low a.high) a.more a.x (j + 1)) c.loop-i.invariant.1 (sym c.reaches-in-loop-i.ensures ∙ c.if-reaches-2.false))
 
 pub returns : goal.returns
 returns c =
     let a = c.args in
-    
     sym
     (opens_none (is_free a.groups.now a.low a.high) a.high a.more a.x (sym c.reaches.ensures ∙ c.if-reaches.false)
     (any_end a.high c.loop-i.i (λ j. reaches (is_free a.groups.now a.low a.high) a.more a.x (j + 1)) c.loop-i.invariant.0 c.loop-i-test.false c.loop-i.invariant.1))

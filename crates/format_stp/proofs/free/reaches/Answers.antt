@@ -1,5 +1,4 @@
 -- `format_stp::free::reaches` meets its contract, by its two cases.
-use borrow.Author.Rules.{rules}
 use mathlib.Core.Path.{◌∙◌, sym}
 use Rattle.format_stp.specs.StpNumber.{is_free}
 use Rattle.format_stp.proofs.Laws.Turn.{reach_free, reach_none}

@@ -1,10 +1,8 @@
 -- `format_stp::head::comment` meets its contract: what is left of the comment ends where the whole ends.
-use borrow.Author.Rules.{rules}
 use Prim.Native.Nat.{◌-◌}
-use mathlib.Core.Path.{◌≡◌, ◌∙◌, sym, refl}
-use lib.ListN.{drop, length}
+use mathlib.Core.Path.{◌∙◌, sym, refl}
 use Rattle.format_read.specs.Answer.{number_step}
-use Rattle.format_stp.specs.StpWord.{comment_from, comment_at}
+use Rattle.format_stp.specs.StpWord.{comment_at}
 use Rattle.format_stp.proofs.Laws.HeadTurn.{comment_ends, comment_on, comment_over}
 use Rattle.format_stp.proofs.head.comment.Goals as goal
 

@@ -1,11 +1,6 @@
 -- `format_stp::head::graph_section` meets its contract: the letter decides.
-use borrow.Author.Rules.{rules}
-use native.Mathlib.Omega.{arith}
-use mathlib.Core.Path.{◌≡◌, sym, ◌∙◌}
-use lib.ListN.{get_or}
-use Rattle.format_read.proofs.Laws.Bytes.{read_inside}
+use mathlib.Core.Path.{sym, ◌∙◌}
 use Rattle.format_read.specs.Answer.{number_step}
-use Rattle.format_stp.specs.StpKey.{comment_letter, graph_letter}
 use Rattle.format_stp.proofs.Laws.HeadTurn.{section_comment, section_graph, section_other}
 use Rattle.format_stp.proofs.head.graph_section.Goals as goal
 

@@ -1,5 +1,4 @@
 -- `format_stp::head::head` meets its contract: a refusal of any part stays, and a value goes on to the next part.
-use borrow.Author.Rules.{rules}
 use mathlib.Core.Path.{sym, ◌∙◌}
 use Rattle.format_read.proofs.Laws.NumberStep.{refusal_stays, value_goes}
 use Rattle.format_stp.specs.StpReading.{stp_head}

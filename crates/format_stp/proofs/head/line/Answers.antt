@@ -1,5 +1,4 @@
 -- `format_stp::head::line` meets its contract: fixed bytes behind the empty lines.
-use borrow.Author.Rules.{rules}
 use Prim.Native.Nat.{ℕ}
 use mathlib.Core.Path.{◌∙◌, ap}
 use Rattle.format_read.specs.Bytes.{fixed_at}

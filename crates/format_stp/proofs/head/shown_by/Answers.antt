@@ -1,5 +1,4 @@
 -- `format_stp::head::shown_by` meets its contract, by the letters of END.
-use borrow.Author.Rules.{rules}
 use mathlib.Core.Path.{◌∙◌, sym}
 use Rattle.format_stp.proofs.Laws.HeadTurn.{shown_line, shown_one, shown_two, shown_three, shown_other}
 use Rattle.format_stp.proofs.head.shown_by.Goals as goal

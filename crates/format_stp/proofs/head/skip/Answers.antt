@@ -1,9 +1,6 @@
 -- `format_stp::head::skip` meets its contract: what is left of the empty lines ends where all of them end.
-use borrow.Author.Rules.{rules}
-use Prim.Native.Nat.{◌+◌, ◌-◌}
-use mathlib.Core.Path.{◌≡◌, ◌∙◌, refl}
-use lib.ListN.{drop, length}
-use Rattle.format_stp.specs.StpWord.{empty_lines}
+use Prim.Native.Nat.{◌-◌}
+use mathlib.Core.Path.{◌∙◌, refl}
 use Rattle.format_stp.proofs.Laws.HeadTurn.{skip_on, skip_stop, skip_end}
 use Rattle.format_stp.proofs.head.skip.Goals as goal
 

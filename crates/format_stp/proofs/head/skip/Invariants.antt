@@ -1,10 +1,8 @@
 -- `format_stp::head::skip` meets its contract: what is left of the empty lines ends where all of them end.
-use borrow.Author.Rules.{rules}
 use Prim.Native.Nat.{◌+◌, ◌-◌}
-use mathlib.Core.Path.{◌≡◌, ◌∙◌, refl}
+use mathlib.Core.Path.{◌≡◌}
 use lib.ListN.{drop, length}
 use Rattle.format_stp.specs.StpWord.{empty_lines}
-use Rattle.format_stp.proofs.Laws.HeadTurn.{skip_on, skip_stop, skip_end}
 use Rattle.format_stp.proofs.head.skip.Given as goal
 
 abbrev pub invariant-loop-at : goal.invariant-loop-at

@@ -1,5 +1,4 @@
 -- `format_stp::line::edge_after` meets its contract: a track line behind the empty lines.
-use borrow.Author.Rules.{rules}
 use Prim.Native.Nat.{ℕ}
 use mathlib.Core.Path.{◌∙◌, ap}
 use Rattle.format_stp.specs.StpReading.{stp_edge}

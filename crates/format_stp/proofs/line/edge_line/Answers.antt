@@ -1,5 +1,4 @@
 -- `format_stp::line::edge_line` meets its contract: a refusal of any part stays, and a value goes on to the next part.
-use borrow.Author.Rules.{rules}
 use mathlib.Core.Path.{sym, ◌∙◌}
 use Rattle.format_read.proofs.Laws.NumberStep.{stopped_stays, value_goes}
 use Rattle.format_read.specs.Number.{stop_of}

@@ -1,5 +1,4 @@
 -- `format_stp::line::endpoint` meets its contract: a number that no group excludes.
-use borrow.Author.Rules.{rules}
 use Rattle.format_stp.specs.StpNumber.{stop_byte}
 use Rattle.format_stp.specs.StpReading.{stp_end}
 use Rattle.format_stp.proofs.line.endpoint.Goals as goal

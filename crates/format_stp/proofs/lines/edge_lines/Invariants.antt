@@ -1,16 +1,11 @@
 -- `format_stp::lines::edge_lines` meets its contract: what is left to read and to store is what the whole reads and stores.
-use borrow.Author.Rules.{rules}
 use Prim.Native.Nat.{ℕ, ◌-◌}
-use mathlib.Core.Path.{◌≡◌, ap, sym, ◌∙◌}
 use mathlib.Core.List.{List}
-use Rattle.format_read.specs.Step.{Step, stopped}
-use Rattle.format_survey.specs.Line.{Edge, firsts_of, seconds_of, weights_of}
-use Rattle.format_read.specs.Answer.{number_step}
-use Rattle.format_survey.specs.LinesAnswer.{edge_step}
-use Rattle.format_read.proofs.Laws.Lines.{LinesLeft, Stored, stored_length, left_start, stored_start, left_more, left_stop, left_done, stored_more, stored_stop, stored_done}
+use Rattle.format_read.specs.Step.{Step}
+use Rattle.format_survey.specs.Line.{Edge}
+use Rattle.format_read.proofs.Laws.Lines.{LinesLeft, Stored}
 use Rattle.format_stp.specs.StpReading.{stp_edge, stp_edges}
 use Rattle.format_stp.specs.StpWord.{after_empty}
-use Rattle.format_stp.proofs.Laws.EdgeBound.{edge_words}
 use Rattle.format_stp.proofs.lines.edge_lines.Given as goal
 
 -- The reader of line e.

@@ -1,15 +1,10 @@
 -- `format_stp::number::digits_after` meets its contract: what is left of the digits is what follows those before them.
-use borrow.Author.Rules.{rules}
-use native.Mathlib.Omega.{arith}
 use Prim.Native.Nat.{ℕ, ◌+◌, ◌-◌, ◌*◌, ◌^◌, ◌≤◌}
-use mathlib.Core.Bool.{not, not-not}
 use mathlib.Core.List.{List}
 use mathlib.Core.Bool.{Bool}
-use mathlib.Core.Path.{◌≡◌, ◌∙◌, sym, ap, refl}
-use lib.ListN.{get_or}
+use mathlib.Core.Path.{◌≡◌}
 use Rattle.base_limits.specs.Limits.{max_digits}
 use Rattle.format_stp.specs.StpNumber.{is_free, stop_byte, digits_after}
-use Rattle.format_stp.proofs.Laws.NumberTurn.{digits_on, digits_stay, goes_facts, goes_inside, digit_fits, digit_left}
 use Rattle.format_stp.proofs.number.digits_after.Given as goal
 
 pub record Inv (text : List ℕ) (free : ℕ → Bool) (high stop most first from at x more : ℕ) : Type 0 where

@@ -1,5 +1,4 @@
 -- `format_stp::number::free_end` meets its contract: the number ends there where it is free.
-use borrow.Author.Rules.{rules}
 use native.Mathlib.Omega.{arith}
 use mathlib.Core.Path.{◌≡◌, ◌∙◌, sym}
 use lib.ListN.{get_or}

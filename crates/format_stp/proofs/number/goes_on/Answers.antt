@@ -1,5 +1,4 @@
 -- `format_stp::number::goes_on_law` meets its contract, by its two cases.
-use borrow.Author.Rules.{rules}
 use Prim.Native.Nat.{ℕ}
 use mathlib.Core.Path.{◌∙◌, sym, ap}
 use lib.ListN.{get_or}

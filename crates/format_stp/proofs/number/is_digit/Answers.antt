@@ -1,5 +1,4 @@
 -- `format_stp::number::is_digit` meets its contract: the digits are two classes of bytes.
-use borrow.Author.Rules.{rules}
 use mathlib.Core.Path.{◌∙◌, sym}
 use Rattle.format_stp.proofs.Laws.NumberTurn.{digit_zero, digit_other}
 use Rattle.format_stp.proofs.number.is_digit.Goals as goal

@@ -1,5 +1,4 @@
 -- `format_stp::number::more_after` meets its contract, by its three cases.
-use borrow.Author.Rules.{rules}
 use native.Mathlib.Omega.{arith}
 use Prim.Native.Nat.{◌-◌, min}
 use mathlib.Core.Path.{◌≡◌, ◌∙◌, sym}

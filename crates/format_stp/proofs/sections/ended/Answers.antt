@@ -1,5 +1,4 @@
 -- `format_stp::sections::ended` meets its contract: the end is looked for behind the empty lines.
-use borrow.Author.Rules.{rules}
 use Prim.Native.Nat.{ℕ}
 use mathlib.Core.Path.{ap, sym, ◌∙◌}
 use Rattle.format_read.specs.Bytes.{end_at}

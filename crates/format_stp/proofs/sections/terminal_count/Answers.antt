@@ -1,5 +1,4 @@
 -- `format_stp::sections::terminal_count` meets its contract: the word, and a number that no group excludes.
-use borrow.Author.Rules.{rules}
 use mathlib.Core.Path.{sym, ◌∙◌}
 use Rattle.format_read.proofs.Laws.NumberStep.{refusal_stays, value_goes}
 use Rattle.format_stp.specs.StpNumber.{stop_byte}

@@ -1,5 +1,4 @@
 -- `format_stp::sections::terminals_announced` meets its contract: a refusal of any line stays, and a value goes on to the next.
-use borrow.Author.Rules.{rules}
 use mathlib.Core.Path.{sym, ◌∙◌}
 use Rattle.format_read.proofs.Laws.NumberStep.{refusal_stays, value_goes}
 use Rattle.format_stp.specs.Section.{terminals_announced}

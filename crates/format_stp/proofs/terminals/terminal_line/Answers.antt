@@ -1,5 +1,4 @@
 -- `format_stp::terminals::terminal_line` meets its contract: the word, and a number of a vertex in no group.
-use borrow.Author.Rules.{rules}
 use mathlib.Core.Path.{sym, ◌∙◌}
 use Rattle.format_read.proofs.Laws.NumberStep.{refusal_stays, value_goes}
 use Rattle.format_stp.specs.StpNumber.{stop_byte}

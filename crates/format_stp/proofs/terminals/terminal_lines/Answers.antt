@@ -1,11 +1,7 @@
 -- `format_stp::terminals::terminal_lines` meets its contract: what is left to read, from the groups so far, is what the whole reads.
-use borrow.Author.Rules.{rules}
-use Prim.Native.Nat.{ℕ}
-use mathlib.Core.List.{List}
-use mathlib.Core.Path.{◌≡◌, refl, ap, sym, ◌∙◌}
-use lib.ListN.{length, length-set}
+use mathlib.Core.Path.{refl, ap, sym, ◌∙◌}
+use lib.ListN.{length-set}
 use Rattle.format_read.specs.Answer.{number_step}
-use Rattle.format_stp.specs.StpReading.{terminal_lines}
 use Rattle.format_stp.specs.TerminalsAnswer.{groups_step}
 use Rattle.format_stp.proofs.Laws.TerminalTurn.{terminals_on, terminals_stop, terminals_done}
 use Rattle.format_stp.proofs.terminals.terminal_lines.Goals as goal
@@ -18,7 +14,6 @@ pub returns-in_default : goal.returns-in_default
 unfolding groups_step number_step
 returns-in_default c =
     let a = c.args in
-    
     let told = c.in_default.is in
     ap (λ x. groups_step x c.loop-left.groups) told
     ∙ sym (terminals_stop a.vertices c.loop-left.left c.loop-left.groups a.text.now c.loop-left.next.at c.loop-left-test.true (sym c.terminal_line-step.ensures ∙ ap number_step told))
@@ -28,7 +23,6 @@ pub loop-left-preserved : goal.loop-left-preserved
 unfolding number_step
 loop-left-preserved c =
     let a = c.args in
-    
     let on = terminals_on a.vertices c.loop-left.left c.loop-left.groups a.text.now c.loop-left.next.at c.loop-left-test.true (sym c.terminal_line-step.ensures ∙ ap number_step c.in-Value.is) in
     record {
       long = rw c.put8.ensures (length-set c.loop-left.groups c.less.result 1 ∙ c.loop-left.invariant.long);
@@ -40,5 +34,4 @@ pub returns : goal.returns
 unfolding groups_step
 returns c =
     let a = c.args in
-    
     sym (terminals_done a.vertices c.loop-left.left c.loop-left.groups a.text.now c.loop-left.next.at c.loop-left-test.false) ∙ c.loop-left.invariant.rest

@@ -1,13 +1,9 @@
 -- `format_stp::terminals::terminal_lines` meets its contract: what is left to read, from the groups so far, is what the whole reads.
-use borrow.Author.Rules.{rules}
 use Prim.Native.Nat.{ℕ}
 use mathlib.Core.List.{List}
-use mathlib.Core.Path.{◌≡◌, refl, ap, sym, ◌∙◌}
-use lib.ListN.{length, length-set}
-use Rattle.format_read.specs.Answer.{number_step}
+use mathlib.Core.Path.{◌≡◌}
+use lib.ListN.{length}
 use Rattle.format_stp.specs.StpReading.{terminal_lines}
-use Rattle.format_stp.specs.TerminalsAnswer.{groups_step}
-use Rattle.format_stp.proofs.Laws.TerminalTurn.{terminals_on, terminals_stop, terminals_done}
 use Rattle.format_stp.proofs.terminals.terminal_lines.Given as goal
 
 pub record Inv (text : List ℕ) (n count at₀ : ℕ) (groups₀ groups : List ℕ) (at left : ℕ) : Type 0 where

@@ -1,5 +1,4 @@
 -- `format_stp::terminals::terminals` meets its contract: the groups are made in an array of zeros, and written where all is read.
-use borrow.Author.Rules.{rules}
 use mathlib.Core.Path.{ap, sym, ◌∙◌}
 use lib.Seq.{sets}
 use Rattle.format_read.specs.Answer.{number_step}

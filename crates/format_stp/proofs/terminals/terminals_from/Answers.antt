@@ -1,5 +1,4 @@
 -- `format_stp::terminals::terminals_from` meets its contract: a refusal of any part stays, and the groups of the lines are handed on.
-use borrow.Author.Rules.{rules}
 use mathlib.Core.Path.{ap, sym, ◌∙◌}
 use Rattle.format_read.proofs.Laws.Step.{then_found, then_refused}
 use Rattle.format_read.specs.Answer.{number_step}

@@ -1,5 +1,4 @@
 -- `format_survey::counts::counts` meets its contract: a refusal of either line stays, and a value goes on.
-use borrow.Author.Rules.{rules}
 use mathlib.Core.Path.{sym, ◌∙◌}
 use Rattle.format_survey.specs.Line.{counts_at}
 use Rattle.format_survey.specs.LinesAnswer.{counts_step}

@@ -1,5 +1,4 @@
 -- `format_survey::counts::vertices_line` meets its contract: each test decides a case of the definition.
-use borrow.Author.Rules.{rules}
 use Rattle.format_survey.specs.Line.{count_line, vertices_test}
 use Rattle.format_read.specs.Answer.{number_step}
 use Rattle.format_read.proofs.Laws.NumberStep.{refusal_stays, check_refused, check_fine}

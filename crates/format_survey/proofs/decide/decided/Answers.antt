@@ -1,5 +1,4 @@
 -- `format_survey::decide::decided` meets its contract: what the lines end with, and the end of the text.
-use borrow.Author.Rules.{rules}
 use mathlib.Core.Path.{ap, ◌∙◌}
 use Rattle.format_read.specs.Bytes.{end_at}
 use Rattle.format_read.specs.Step.{found, ◌then◌}

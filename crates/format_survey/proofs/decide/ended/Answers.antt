@@ -1,5 +1,4 @@
 -- `format_survey::decide::ended` meets its contract: a refusal of a line stays, and the end of the text is looked for last.
-use borrow.Author.Rules.{rules}
 use mathlib.Core.Path.{ap, sym, ◌∙◌}
 use Rattle.format_read.proofs.Laws.Step.{then_found, then_refused}
 use Rattle.format_read.proofs.Laws.Bytes.{end_here, end_later}

@@ -1,5 +1,4 @@
 -- `format_survey::stopped_edge` meets its contract, by the case that the step is.
-use borrow.Author.Rules.{rules}
 use mathlib.Core.Path.{sym, ap}
 use Rattle.format_survey.specs.Line.{Edge}
 use Rattle.format_survey.specs.LinesAnswer.{edge_step}

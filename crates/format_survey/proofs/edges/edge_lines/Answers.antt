@@ -1,16 +1,14 @@
 -- `format_survey::edges::edge_lines` meets its contract: what is left to read and to store is what the whole reads and stores.
 use native.Mathlib.Omega.{arith}
-use borrow.Author.Rules.{rules}
-use Prim.Native.Nat.{ℕ, ◌-◌}
+use Prim.Native.Nat.{◌-◌}
 use mathlib.Core.Path.{◌≡◌, ap, sym, ◌∙◌}
-use mathlib.Core.List.{List}
 use Rattle.base_limits.specs.Limits.{endpoint_digits, weight_digits}
 use Rattle.format_read.specs.Step.{stopped}
 use Rattle.format_survey.specs.Line.{edge_line, edge_lines, firsts_of, seconds_of, weights_of}
 use Rattle.format_read.specs.Answer.{number_step}
 use Rattle.format_survey.specs.LinesAnswer.{edge_step}
 use Rattle.format_survey.proofs.Laws.Tests.{edge_below, below_word}
-use Rattle.format_read.proofs.Laws.Lines.{LinesLeft, Stored, stored_length, left_start, stored_start, left_more, left_stop, left_done, stored_more, stored_stop, stored_done}
+use Rattle.format_read.proofs.Laws.Lines.{left_start, stored_start, left_more, left_stop, left_done, stored_more, stored_stop, stored_done}
 use Rattle.format_survey.proofs.edges.edge_lines.Goals as goal
 
 pub loop-edge-init : goal.loop-edge-init

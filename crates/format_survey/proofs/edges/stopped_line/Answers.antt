@@ -1,5 +1,4 @@
 -- `format_survey::stopped_line` meets its contract, by the case that the line is.
-use borrow.Author.Rules.{rules}
 use Prim.Native.Nat.{ℕ}
 use mathlib.Core.Path.{sym, ap}
 use Rattle.format_survey.specs.LinesAnswer.{edge_step}

@@ -1,5 +1,4 @@
 -- `format_survey::groups::group_line` meets its contract: the test decides the case of the definition.
-use borrow.Author.Rules.{rules}
 use Rattle.format_survey.specs.Line.{group_line, group_test}
 use Rattle.format_read.specs.Answer.{number_step}
 use Rattle.format_read.proofs.Laws.NumberStep.{refusal_stays, check_refused, check_fine}

@@ -1,5 +1,4 @@
 -- `format_survey::survey_lines` meets its contract: 7 where the group buffer is short, a refused group line stays, and the tail follows the group lines.
-use borrow.Author.Rules.{rules}
 use mathlib.Core.Path.{refl, ap, sym, ◌∙◌}
 use lib.Seq.{sets}
 use Rattle.format_read.specs.Answer.{number_step}
@@ -28,7 +27,6 @@ pub returns-in_default : goal.returns-in_default
 unfolding number_step firsts_of seconds_of weights_of owners_of others_of
 returns-in_default c =
     let a = c.args in
-    
     let told = ap number_step c.in_default.is in
     let l = lines_refused _ a.room a.text.now a.vertices a.edges a.cursor.at c.if-groups-vertices.false (sym c.group_lines-heads.ensures.0 ∙ told) in (
       told ∙ sym l.end,
@@ -45,8 +43,6 @@ pub returns : goal.returns
 unfolding number_step
 returns c =
     let a = c.args in
-    
-    
     let l = lines_found _ a.room a.text.now a.vertices a.edges a.cursor.at c.if-groups-vertices.false a.groups.now _ refl c.group_lines-heads.ensures.1 (sym c.group_lines-heads.ensures.0 ∙ ap number_step c.in-Value.is) in (
       c.tail_lines.ensures.0 ∙ sym l.end,
       c.group_lines-heads.ensures.1 ∙ sym (ap (sets a.groups.now 0) l.groups),

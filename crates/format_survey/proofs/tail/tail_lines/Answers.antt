@@ -1,5 +1,4 @@
 -- `format_survey::tail::tail_lines` meets its contract: a refused also line stays, the edge lines follow the also lines, and the number of pairs is handed on.
-use borrow.Author.Rules.{rules}
 use mathlib.Core.Path.{ap, sym, ◌∙◌}
 use lib.Seq.{sets}
 use Rattle.format_read.proofs.Laws.Step.{then_found, then_refused}
@@ -13,7 +12,6 @@ pub returns-in_default : goal.returns-in_default
 unfolding number_step tail_at firsts_of seconds_of weights_of
 returns-in_default c =
     let a = c.args in
-    
     let told = ap number_step c.in_default.is in
     let l = tail_refused a.room a.text.now a.groups.now a.edges a.cursor.at (sym c.pair_lines-also.ensures.0 ∙ told) in (
       told ∙ sym l.0,
@@ -29,8 +27,6 @@ pub returns-in_default-links : goal.returns-in_default-links
 unfolding number_step tail_at
 returns-in_default-links c =
     let a = c.args in
-    
-    
     let told = ap number_step c.in_default-links.is in
     let l = tail_found a.room a.text.now a.groups.now a.edges a.cursor.at (sym c.pair_lines-also.ensures.0 ∙ ap number_step c.in-Value.is) in (
       told ∙ sym (l.0 ∙ then_refused _ (sym c.edge_lines-links.ensures.0 ∙ told)),
@@ -46,8 +42,6 @@ pub returns : goal.returns
 unfolding number_step tail_at
 returns c =
     let a = c.args in
-    
-    
     let l = tail_found a.room a.text.now a.groups.now a.edges a.cursor.at (sym c.pair_lines-also.ensures.0 ∙ ap number_step c.in-Value.is) in (
       sym (l.0 ∙ then_found _ (sym c.edge_lines-links.ensures.0 ∙ ap number_step c.in-Value-links.is)),
       c.edge_lines-links.ensures.1 ∙ sym (ap (λ es. sets a.firsts.now 0 (firsts_of es)) l.1),

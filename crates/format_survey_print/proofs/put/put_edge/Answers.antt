@@ -5,7 +5,6 @@ use lib.ListN.{length}
 use Rattle.format_write.specs.Wrote.{farthest}
 use Rattle.format_write.proofs.Laws.Wrote.{wrote_then}
 use Rattle.format_survey.specs.LinesRender.{edge_text}
-use borrow.Author.Rules.{rules}
 use Rattle.format_survey_print.proofs.put.put_edge.Goals as goal
 
 pub returns : goal.returns

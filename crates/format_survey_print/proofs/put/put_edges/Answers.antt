@@ -5,8 +5,8 @@ use mathlib.Core.Path.{◌≡◌, ap, ◌∙◌}
 use mathlib.Core.List.{◌++◌}
 use lib.ListN.{length}
 use Rattle.base_finite.specs.Below.{tabulate}
-use Rattle.format_write.specs.Wrote.{farthest, Wrote}
-use Rattle.format_write.proofs.Laws.Wrote.{wrote_none, wrote_length, wrote_then, wrote_as}
+use Rattle.format_write.specs.Wrote.{farthest}
+use Rattle.format_write.proofs.Laws.Wrote.{wrote_none, wrote_then, wrote_as}
 use Rattle.format_survey.specs.LinesRender.{edge_text}
 use Rattle.format_read.specs.Lines.{text_of}
 use Rattle.format_survey_print.specs.Print.{edge_with, edge_at, edges_from}
@@ -23,8 +23,6 @@ loop-e-smaller c = omega arith
 pub loop-e-preserved : goal.loop-e-preserved
 loop-e-preserved c =
     let a = c.args in
-    
-    
     let small : length a.out.now ≤ farthest = omega arith in
     let here : edge_with c.wide_at-first.result c.wide_at-second.result c.wide_at-weight.result ≡ edge_at a.firsts.now a.seconds.now a.weights.now c.loop-e.e =
     rw (c.wide_at-first.ensures, c.wide_at-second.ensures, c.wide_at-weight.ensures) in (

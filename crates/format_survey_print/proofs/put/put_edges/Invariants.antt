@@ -1,17 +1,11 @@
 -- `put_edges`: what is written so far are the lines of the edges below e.
 use Prim.Native.Nat.{◌≤◌, ◌-◌}
-use native.Mathlib.Omega.{arith}
-use mathlib.Core.Path.{◌≡◌, ap, ◌∙◌}
-use mathlib.Core.List.{◌++◌}
 use lib.ListN.{length}
 use Rattle.base_finite.specs.Below.{tabulate}
-use Rattle.format_write.specs.Wrote.{farthest, Wrote}
-use Rattle.format_write.proofs.Laws.Wrote.{wrote_none, wrote_length, wrote_then, wrote_as}
+use Rattle.format_write.specs.Wrote.{Wrote}
 use Rattle.format_survey.specs.LinesRender.{edge_text}
 use Rattle.format_read.specs.Lines.{text_of}
-use Rattle.format_survey_print.specs.Print.{edge_with, edge_at, edges_from}
-use Rattle.format_survey_print.specs.Laws.Print.{text_table_none, text_table_law}
-use borrow.Author.Rules.{rules}
+use Rattle.format_survey_print.specs.Print.{edge_at}
 use Rattle.format_survey_print.proofs.put.put_edges.Given as goal
 
 abbrev pub invariant-loop-e : goal.invariant-loop-e

@@ -3,7 +3,6 @@ use mathlib.Core.Path.{ap}
 use Rattle.format_write.specs.Key.{node_key}
 use Rattle.format_write.specs.Text.{line_of}
 use Rattle.format_write.proofs.Laws.Wrote.{wrote_as}
-use borrow.Author.Rules.{rules}
 use Rattle.format_survey_print.proofs.put.put_group.Goals as goal
 
 pub returns : goal.returns

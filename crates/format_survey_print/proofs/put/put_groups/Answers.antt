@@ -2,15 +2,14 @@
 use Prim.Native.Nat.{◌≤◌, ◌-◌}
 use native.Mathlib.Omega.{arith}
 use mathlib.Core.Path.{ap}
-use lib.ListN.{length, take}
+use lib.ListN.{length}
 use lib.Seq.{take_all}
 use Rattle.format_write.specs.Key.{node_key}
 use Rattle.format_write.specs.Text.{line_of}
-use Rattle.format_write.specs.Wrote.{farthest, Wrote}
-use Rattle.format_write.proofs.Laws.Wrote.{wrote_none, wrote_length, wrote_then, wrote_as}
+use Rattle.format_write.specs.Wrote.{farthest}
+use Rattle.format_write.proofs.Laws.Wrote.{wrote_none, wrote_then, wrote_as}
 use Rattle.format_read.specs.Lines.{text_of}
 use Rattle.format_survey_print.specs.Laws.Print.{no_text, text_take}
-use borrow.Author.Rules.{rules}
 use Rattle.format_survey_print.proofs.put.put_groups.Goals as goal
 
 pub loop-v-init : goal.loop-v-init
@@ -22,7 +21,6 @@ loop-v-smaller c = omega arith
 pub loop-v-preserved : goal.loop-v-preserved
 loop-v-preserved c =
     let a = c.args in
-    
     let small : length a.out.now ≤ farthest = omega arith in
     wrote_as (wrote_then small c.loop-v.invariant c.put_group-next.ensures) (text_take (line_of node_key) a.groups.now c.loop-v.v c.loop-v-test.true)
 

@@ -10,7 +10,6 @@ use Rattle.format_write.proofs.Laws.Wrote.{wrote_then, wrote_as}
 use Rattle.format_survey.specs.Render.{render}
 use Rattle.format_survey_print.specs.Print.{survey_text}
 use Rattle.format_survey_print.specs.Laws.Print.{edges_count}
-use borrow.Author.Rules.{rules}
 use Rattle.format_survey_print.proofs.write.put_survey.Goals as goal
 
 pub returns : goal.returns

@@ -6,7 +6,6 @@ use Rattle.format_write.specs.Wrote.{farthest}
 use Rattle.format_write.proofs.Laws.Wrote.{wrote_then}
 use Rattle.format_write.specs.Key.{group_key, from_key, to_key}
 use Rattle.format_why.specs.ReasonText.{kept_text}
-use borrow.Author.Rules.{rules}
 use Rattle.format_why.proofs.kept.put_kept.Goals as goal
 
 pub returns : goal.returns

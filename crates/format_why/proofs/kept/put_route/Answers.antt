@@ -6,7 +6,6 @@ use Rattle.format_write.specs.Wrote.{farthest}
 use Rattle.format_write.proofs.Laws.Wrote.{wrote_then}
 use Rattle.format_write.specs.Key.{route_key}
 use Rattle.format_why.specs.ReasonText.{route_line}
-use borrow.Author.Rules.{rules}
 use Rattle.format_why.proofs.kept.put_route.Goals as goal
 
 pub returns : goal.returns

@@ -5,7 +5,6 @@ use lib.ListN.{length}
 use Rattle.format_write.specs.Wrote.{farthest}
 use Rattle.format_print.specs.Laws.Print.{short_prints, fit_prints}
 use Rattle.format_why.specs.ReasonText.{reason_text}
-use borrow.Author.Rules.{rules}
 use Rattle.format_why.proofs.print.print_reason.Goals as goal
 
 -- 7: the buffer is short

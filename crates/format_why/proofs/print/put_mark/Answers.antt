@@ -3,7 +3,6 @@ use Rattle.format_write.specs.Key.{round_key}
 use native.Mathlib.Omega.{arith}
 use Rattle.format_write.proofs.Laws.Wrote.{wrote_none, wrote_as}
 use Rattle.format_why.specs.Laws.Mark.{mark_kept, mark_unpicked, mark_other}
-use borrow.Author.Rules.{rules}
 use Rattle.format_why.proofs.print.put_mark.Goals as goal
 
 -- not picked

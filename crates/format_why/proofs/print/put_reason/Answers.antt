@@ -6,7 +6,6 @@ use Rattle.format_write.specs.Wrote.{farthest}
 use Rattle.format_write.proofs.Laws.Wrote.{wrote_then}
 use Rattle.format_write.specs.Key.{track_key, mark_key}
 use Rattle.format_why.specs.ReasonText.{reason_text}
-use borrow.Author.Rules.{rules}
 use Rattle.format_why.proofs.print.put_reason.Goals as goal
 
 pub returns : goal.returns

@@ -9,7 +9,6 @@ use Prim.Native.Nat.{◌≤◌}
 use Rattle.format_write.specs.Key.{comma}
 use Rattle.format_write.specs.Decimal.{decimal}
 use Rattle.format_write.proofs.Laws.Text.{item_first, item_later}
-use borrow.Author.Rules.{rules}
 use Rattle.format_write.proofs.put_list.put_item.Goals as goal
 
 pub returns-then-first : goal.returns-then-first

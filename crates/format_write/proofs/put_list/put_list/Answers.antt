@@ -2,13 +2,12 @@
 use Prim.Native.Nat.{◌-◌, ◌≤◌}
 use native.Mathlib.Omega.{arith}
 use mathlib.Core.Path.{ap, sym}
-use lib.ListN.{length, take}
+use lib.ListN.{length}
 use lib.Seq.{take_all}
-use borrow.Author.Rules.{rules}
 use Rattle.format_write.specs.Text.{listed}
-use Rattle.format_write.specs.Wrote.{farthest, Wrote}
+use Rattle.format_write.specs.Wrote.{farthest}
 use Rattle.format_write.proofs.Laws.Text.{list_none, list_next}
-use Rattle.format_write.proofs.Laws.Wrote.{wrote_none, wrote_length, wrote_then, wrote_as}
+use Rattle.format_write.proofs.Laws.Wrote.{wrote_none, wrote_then, wrote_as}
 use Rattle.format_write.proofs.put_list.put_list.Goals as goal
 
 pub loop-i-init : goal.loop-i-init

@@ -1,14 +1,8 @@
 -- `put_list`: what is written so far are the first numbers.
-use Prim.Native.Nat.{◌-◌, ◌≤◌}
-use native.Mathlib.Omega.{arith}
-use mathlib.Core.Path.{ap, sym}
+use Prim.Native.Nat.{◌-◌}
 use lib.ListN.{length, take}
-use lib.Seq.{take_all}
-use borrow.Author.Rules.{rules}
 use Rattle.format_write.specs.Text.{listed}
-use Rattle.format_write.specs.Wrote.{farthest, Wrote}
-use Rattle.format_write.proofs.Laws.Text.{list_none, list_next}
-use Rattle.format_write.proofs.Laws.Wrote.{wrote_none, wrote_length, wrote_then, wrote_as}
+use Rattle.format_write.specs.Wrote.{Wrote}
 use Rattle.format_write.proofs.put_list.put_list.Given as goal
 
 abbrev pub invariant-loop-i : goal.invariant-loop-i

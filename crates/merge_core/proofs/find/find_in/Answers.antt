@@ -1,11 +1,8 @@
 -- `find_in` meets its contract: a scan of the list.
 use Prim.Native.Nat.{◌-◌}
 use mathlib.Core.Path.{refl, sym, ◌∙◌}
-use lib.ListN.{get_or}
-use lib.Dec.{eqb}
 use borrow.Author.Tests.{eq-eqb, ne_eqb}
-use Rattle.theory_route.proofs.Laws.First.{Unmet, unmet_start, unmet_turn, unmet_found, unmet_end}
-use borrow.Author.Rules.{rules}
+use Rattle.theory_route.proofs.Laws.First.{unmet_start, unmet_turn, unmet_found, unmet_end}
 use Rattle.merge_core.proofs.find.find_in.Goals as goal
 
 pub loop-i-init : goal.loop-i-init

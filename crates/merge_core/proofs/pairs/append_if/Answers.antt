@@ -1,6 +1,5 @@
 -- `append_if` meets its contract: the pair is stored, or nothing is.
 use Rattle.merge_core.specs.Laws.Pairs.{flag_off, flag_on}
-use borrow.Author.Rules.{rules}
 use Rattle.merge_core.proofs.pairs.append_if.Goals as goal
 
 pub returns-then-flag-eq0 : goal.returns-then-flag-eq0

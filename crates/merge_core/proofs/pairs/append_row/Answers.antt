@@ -1,13 +1,8 @@
 -- `append_row` meets its contract: one more flag in each turn (`row_turn`).
 use Prim.Native.Nat.{◌-◌}
 use native.Mathlib.Omega.{arith}
-use mathlib.Core.Path.{refl, ap, ◌∙◌}
-use lib.ListN.{length}
-use lib.Seq.{length-sets}
-use Rattle.base_limits.specs.Limits.{group_numbers}
-use Rattle.merge_core.specs.Pairs.{row_pairs}
-use Rattle.merge_core.specs.Laws.Pairs.{RowAt, row_start, row_turn, row_end, length_row}
-use borrow.Author.Rules.{rules}
+use mathlib.Core.Path.{refl}
+use Rattle.merge_core.specs.Laws.Pairs.{row_start, row_turn, row_end, length_row}
 use Rattle.merge_core.proofs.pairs.append_row.Goals as goal
 
 pub loop-g-init : goal.loop-g-init

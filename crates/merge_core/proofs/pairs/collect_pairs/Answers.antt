@@ -1,9 +1,7 @@
 -- `collect_pairs` meets its contract: one more row in each turn (`pairs_turn`).
 use Prim.Native.Nat.{◌-◌}
 use native.Mathlib.Omega.{arith}
-use Rattle.survey_core.specs.Lists.{lists_from}
-use Rattle.merge_core.specs.Laws.Pairs.{PairsAt, pairs_start, pairs_few, pairs_turn, pairs_end}
-use borrow.Author.Rules.{rules}
+use Rattle.merge_core.specs.Laws.Pairs.{pairs_start, pairs_few, pairs_turn, pairs_end}
 use Rattle.merge_core.proofs.pairs.collect_pairs.Goals as goal
 
 pub loop-w-init : goal.loop-w-init

@@ -1,9 +1,7 @@
 -- `collect_pairs` meets its contract: one more row in each turn (`pairs_turn`).
 use Prim.Native.Nat.{◌-◌}
-use native.Mathlib.Omega.{arith}
 use Rattle.survey_core.specs.Lists.{lists_from}
-use Rattle.merge_core.specs.Laws.Pairs.{PairsAt, pairs_start, pairs_few, pairs_turn, pairs_end}
-use borrow.Author.Rules.{rules}
+use Rattle.merge_core.specs.Laws.Pairs.{PairsAt}
 use Rattle.merge_core.proofs.pairs.collect_pairs.Given as goal
 
 abbrev pub invariant-loop-w : goal.invariant-loop-w

@@ -1,6 +1,5 @@
 -- `place_at` meets its contract: each return by its test.
 use borrow.Author.Tests.{lt-ltb, le-ltb}
-use borrow.Author.Rules.{rules}
 use Rattle.merge_core.proofs.places.place_at.Goals as goal
 
 pub returns-then-i-count : goal.returns-then-i-count

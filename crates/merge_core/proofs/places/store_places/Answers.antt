@@ -1,12 +1,9 @@
 -- `store_places` meets its contract: one more place in each turn (`head_more`).
-use Prim.Native.Nat.{◌+◌, ◌≤◌, ◌-◌}
+use Prim.Native.Nat.{◌+◌, ◌-◌}
 use native.Mathlib.Omega.{arith}
-use mathlib.Core.Path.{◌≡◌, refl, ◌∙◌}
-use lib.ListN.{take}
-use lib.Seq.{sets}
-use Rattle.base_finite.specs.Below.{count_below, tabulate}
+use mathlib.Core.Path.{refl, ◌∙◌}
 use Rattle.base_finite.specs.Laws.Below.{count_le}
-use Rattle.merge_rule.specs.Ties.{ties_from, is_untied, placed}
+use Rattle.merge_rule.specs.Ties.{ties_from, is_untied}
 use Rattle.merge_core.specs.Laws.Stored.{head_more, run_end}
 use Rattle.merge_core.specs.Laws.Copy.{table_below, table_end, table_read}
 use Rattle.merge_core.specs.Laws.Find.{place_found, next_found, places_start, places_counted}
@@ -26,4 +23,4 @@ pub loop-v-preserved : goal.loop-v-preserved
 loop-v-preserved c = (omega arith, (next_found c.args.n (ties_from c.args.firsts.now c.args.seconds.now) c.loop-v.v c.find_in-i.ensures c.loop-v.invariant.1.0 c.one_if_past-next.ensures, c.put32.ensures ∙ head_more _ _ _ c.loop-v.invariant.1.1 (table_below _ _ c.loop-v-test.true) (table_read _ _ c.loop-v-test.true (place_found c.args.n (ties_from c.args.firsts.now c.args.seconds.now) c.loop-v.v c.find_in-i.ensures c.loop-v.invariant.1.0 c.place_at.ensures))))
 
 pub returns : goal.returns
-returns c =  record { value = places_counted _ (ties_from c.args.firsts.now c.args.seconds.now) c.loop-v.invariant.0 c.loop-v-test.false c.loop-v.invariant.1.0; places_value = run_end _ _ _ _ c.loop-v.invariant.1.1 (table_end _ _ c.loop-v-test.false) }
+returns c = record { value = places_counted _ (ties_from c.args.firsts.now c.args.seconds.now) c.loop-v.invariant.0 c.loop-v-test.false c.loop-v.invariant.1.0; places_value = run_end _ _ _ _ c.loop-v.invariant.1.1 (table_end _ _ c.loop-v-test.false) }

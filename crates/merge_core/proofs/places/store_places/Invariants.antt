@@ -1,16 +1,10 @@
 -- `store_places` meets its contract: one more place in each turn (`head_more`).
 use Prim.Native.Nat.{◌+◌, ◌≤◌, ◌-◌}
-use native.Mathlib.Omega.{arith}
-use mathlib.Core.Path.{◌≡◌, refl, ◌∙◌}
+use mathlib.Core.Path.{◌≡◌}
 use lib.ListN.{take}
 use lib.Seq.{sets}
 use Rattle.base_finite.specs.Below.{count_below, tabulate}
-use Rattle.base_finite.specs.Laws.Below.{count_le}
 use Rattle.merge_rule.specs.Ties.{ties_from, is_untied, placed}
-use Rattle.merge_core.specs.Laws.Stored.{head_more, run_end}
-use Rattle.merge_core.specs.Laws.Copy.{table_below, table_end, table_read}
-use Rattle.merge_core.specs.Laws.Find.{place_found, next_found, places_start, places_counted}
-use borrow.Author.Rules.{rules}
 use Rattle.merge_core.proofs.places.store_places.Given as goal
 
 abbrev pub invariant-loop-v : goal.invariant-loop-v

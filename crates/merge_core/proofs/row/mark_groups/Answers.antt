@@ -1,7 +1,6 @@
 -- `mark_groups` meets its contract: the pairs, then the own group.
 use Rattle.survey_core.specs.Lists.{lists_from}
 use Rattle.merge_core.specs.Laws.Row.{groups_marked}
-use borrow.Author.Rules.{rules}
 use Rattle.merge_core.proofs.row.mark_groups.Goals as goal
 
 pub returns : goal.returns

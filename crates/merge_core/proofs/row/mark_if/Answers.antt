@@ -1,7 +1,6 @@
 -- `mark_if` meets its contract: the flag is stored, or nothing is.
 use mathlib.Core.Path.{sym, ◌∙◌}
 use borrow.Author.Tests.{eq-eqb, ne_eqb}
-use borrow.Author.Rules.{rules}
 use Rattle.merge_core.proofs.row.mark_if.Goals as goal
 
 pub returns-then-index32-v : goal.returns-then-index32-v

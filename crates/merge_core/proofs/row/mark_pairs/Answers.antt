@@ -1,11 +1,7 @@
 -- `mark_pairs` meets its contract: one more pair in each turn (`paired_more`).
-use Prim.Native.Nat.{◌≤◌, ◌-◌}
+use Prim.Native.Nat.{◌-◌}
 use native.Mathlib.Omega.{arith}
-use mathlib.Core.Path.{◌≡◌, ap, ◌∙◌}
-use lib.ListN.{length}
-use Rattle.merge_core.specs.Row.{marked, paired_below}
-use Rattle.merge_core.specs.Laws.Row.{length_marked, paired_none, paired_more, paired_end}
-use borrow.Author.Rules.{rules}
+use Rattle.merge_core.specs.Laws.Row.{paired_none, paired_more, paired_end}
 use Rattle.merge_core.proofs.row.mark_pairs.Goals as goal
 
 pub loop-i-init : goal.loop-i-init

@@ -1,11 +1,8 @@
 -- `mark_pairs` meets its contract: one more pair in each turn (`paired_more`).
 use Prim.Native.Nat.{◌≤◌, ◌-◌}
-use native.Mathlib.Omega.{arith}
-use mathlib.Core.Path.{◌≡◌, ap, ◌∙◌}
+use mathlib.Core.Path.{◌≡◌}
 use lib.ListN.{length}
 use Rattle.merge_core.specs.Row.{marked, paired_below}
-use Rattle.merge_core.specs.Laws.Row.{length_marked, paired_none, paired_more, paired_end}
-use borrow.Author.Rules.{rules}
 use Rattle.merge_core.proofs.row.mark_pairs.Given as goal
 
 abbrev pub invariant-loop-i : goal.invariant-loop-i

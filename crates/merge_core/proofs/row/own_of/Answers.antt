@@ -2,7 +2,6 @@
 use mathlib.Core.Path.{sym, ◌∙◌}
 use borrow.Author.Tests.{eq-eqb, ne_eqb}
 use Rattle.merge_core.specs.Row.{own_with}
-use borrow.Author.Rules.{rules}
 use Rattle.merge_core.proofs.row.own_of.Goals as goal
 
 pub returns-then-own-eq0 : goal.returns-then-own-eq0

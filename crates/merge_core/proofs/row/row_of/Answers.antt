@@ -2,7 +2,6 @@
 use mathlib.Core.Path.{sym}
 use Rattle.survey_core.specs.Lists.{lists_from}
 use Rattle.merge_core.specs.Laws.Row.{row_found, one_long, two_long, three_long}
-use borrow.Author.Rules.{rules}
 use Rattle.merge_core.proofs.row.row_of.Goals as goal
 
 pub slice_bounds-mark_groups-end-2 : goal.slice_bounds-mark_groups-end-2

@@ -2,7 +2,6 @@
 use mathlib.Core.Path.{◌∙◌}
 use Rattle.merge_rule.specs.Ties.{ties_from}
 use Rattle.merge_core.specs.Laws.Find.{first_out, second_out, first_again, second_again, tie_fine}
-use borrow.Author.Rules.{rules}
 use Rattle.merge_core.proofs.ties.tie_refusal.Goals as goal
 
 -- out of range, in the first

@@ -1,12 +1,9 @@
 -- `ties_refusal` meets its contract: 2, or a scan of the ties.
 use Prim.Native.Nat.{◌-◌}
 use native.Mathlib.Omega.{arith}
-use lib.ListN.{length}
-use Rattle.base_limits.specs.Laws.Verdict.{Scanned, scan_start, scan_turn, scan_found, scan_end}
+use Rattle.base_limits.specs.Laws.Verdict.{scan_start, scan_turn, scan_found, scan_end}
 use Rattle.merge_rule.specs.Ties.{ties_from}
-use Rattle.merge_rule.specs.Refusal.{tie_refusal}
 use Rattle.merge_core.specs.Laws.Find.{uneven_ties, even_ties}
-use borrow.Author.Rules.{rules}
 use Rattle.merge_core.proofs.ties.ties_refusal.Goals as goal
 
 -- 2

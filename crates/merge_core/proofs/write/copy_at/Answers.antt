@@ -1,11 +1,8 @@
 -- `copy_at` meets its contract: one more store in each turn (`run_more`).
-use Prim.Native.Nat.{◌≤◌, ◌-◌}
+use Prim.Native.Nat.{◌-◌}
 use native.Mathlib.Omega.{arith}
-use mathlib.Core.Path.{◌≡◌, refl, ◌∙◌}
-use lib.Seq.{sets}
-use lib.ListN.{length, take}
-use Rattle.merge_core.specs.Laws.Stored.{run_more, run_end, run_long}
-use borrow.Author.Rules.{rules}
+use mathlib.Core.Path.{refl, ◌∙◌}
+use Rattle.merge_core.specs.Laws.Stored.{run_more, run_end}
 use Rattle.merge_core.proofs.write.copy_at.Goals as goal
 
 pub loop-i-init : goal.loop-i-init

@@ -1,11 +1,8 @@
 -- `copy_at` meets its contract: one more store in each turn (`run_more`).
 use Prim.Native.Nat.{◌≤◌, ◌-◌}
-use native.Mathlib.Omega.{arith}
-use mathlib.Core.Path.{◌≡◌, refl, ◌∙◌}
+use mathlib.Core.Path.{◌≡◌}
 use lib.Seq.{sets}
 use lib.ListN.{length, take}
-use Rattle.merge_core.specs.Laws.Stored.{run_more, run_end, run_long}
-use borrow.Author.Rules.{rules}
 use Rattle.merge_core.proofs.write.copy_at.Given as goal
 
 abbrev pub invariant-loop-i : goal.invariant-loop-i

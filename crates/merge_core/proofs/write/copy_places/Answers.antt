@@ -1,13 +1,10 @@
 -- `copy_places` meets its contract: one more store in each turn (`run_more`).
-use Prim.Native.Nat.{◌≤◌, ◌-◌}
+use Prim.Native.Nat.{◌-◌}
 use native.Mathlib.Omega.{arith}
-use mathlib.Core.Path.{◌≡◌, refl, ◌∙◌}
-use lib.Seq.{sets}
-use mathlib.Core.List.{map}
-use lib.ListN.{length, get_or, take}
-use Rattle.merge_core.specs.Laws.Stored.{run_more, run_end, run_long}
+use mathlib.Core.Path.{refl, ◌∙◌}
+use lib.ListN.{get_or}
+use Rattle.merge_core.specs.Laws.Stored.{run_more, run_end}
 use Rattle.merge_core.specs.Laws.Copy.{mapped_below, mapped_end, mapped_read}
-use borrow.Author.Rules.{rules}
 use Rattle.merge_core.proofs.write.copy_places.Goals as goal
 
 pub loop-i-init : goal.loop-i-init

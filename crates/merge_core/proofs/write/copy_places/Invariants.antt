@@ -1,13 +1,9 @@
 -- `copy_places` meets its contract: one more store in each turn (`run_more`).
 use Prim.Native.Nat.{◌≤◌, ◌-◌}
-use native.Mathlib.Omega.{arith}
-use mathlib.Core.Path.{◌≡◌, refl, ◌∙◌}
+use mathlib.Core.Path.{◌≡◌}
 use lib.Seq.{sets}
 use mathlib.Core.List.{map}
 use lib.ListN.{length, get_or, take}
-use Rattle.merge_core.specs.Laws.Stored.{run_more, run_end, run_long}
-use Rattle.merge_core.specs.Laws.Copy.{mapped_below, mapped_end, mapped_read}
-use borrow.Author.Rules.{rules}
 use Rattle.merge_core.proofs.write.copy_places.Given as goal
 
 abbrev pub invariant-loop-i : goal.invariant-loop-i

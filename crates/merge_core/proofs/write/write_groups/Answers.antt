@@ -1,16 +1,13 @@
 -- `write_groups` meets its contract: one more store in each turn (`head_more`).
-use Prim.Native.Nat.{◌≤◌, ◌-◌}
+use Prim.Native.Nat.{◌-◌}
 use native.Mathlib.Omega.{arith}
-use mathlib.Core.Path.{◌≡◌, refl, ◌∙◌}
-use lib.ListN.{length, take}
-use lib.Seq.{sets}
-use Rattle.base_finite.specs.Below.{tabulate}
+use mathlib.Core.Path.{refl, ◌∙◌}
+use lib.ListN.{length}
 use Rattle.merge_core.specs.Row.{own_with}
 use Rattle.merge_core.specs.Pairs.{standing_in}
-use Rattle.merge_core.specs.Laws.Stored.{head_more, run_end, run_long}
+use Rattle.merge_core.specs.Laws.Stored.{head_more, run_end}
 use Rattle.merge_core.specs.Laws.Copy.{table_below, table_end, table_read}
 use Rattle.merge_core.specs.Laws.Pairs.{own_read}
-use borrow.Author.Rules.{rules}
 use Rattle.merge_core.proofs.write.write_groups.Goals as goal
 
 pub loop-w-init : goal.loop-w-init

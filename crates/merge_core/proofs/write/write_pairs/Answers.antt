@@ -1,14 +1,10 @@
 -- `write_pairs` meets its contract: two more stores in each turn (`head_more`).
-use Prim.Native.Nat.{◌≤◌, ◌-◌}
+use Prim.Native.Nat.{◌-◌}
 use native.Mathlib.Omega.{arith}
-use mathlib.Core.Path.{◌≡◌, refl, ◌∙◌}
-use lib.Seq.{sets}
-use mathlib.Core.List.{map}
-use lib.ListN.{take}
+use mathlib.Core.Path.{refl, ◌∙◌}
 use Rattle.merge_rule.specs.Merged.{pair_vertex, pair_group}
-use Rattle.merge_core.specs.Laws.Stored.{head_more, run_end, run_long}
+use Rattle.merge_core.specs.Laws.Stored.{head_more, run_end}
 use Rattle.merge_core.specs.Laws.Copy.{part_below, part_end_law, part_read}
-use borrow.Author.Rules.{rules}
 use Rattle.merge_core.proofs.write.write_pairs.Goals as goal
 
 pub loop-i-init : goal.loop-i-init
@@ -18,4 +14,4 @@ pub loop-i-preserved : goal.loop-i-preserved
 loop-i-preserved c = (omega arith, (c.put32.ensures ∙ head_more _ _ _ c.loop-i.invariant.1.0 (part_below pair_vertex c.args.pairs.now c.requires c.loop-i-test.true) (part_read pair_vertex c.args.pairs.now c.requires c.loop-i-test.true c.at32.ensures c.index32-pair.ensures), c.put8.ensures ∙ head_more _ _ _ c.loop-i.invariant.1.1 (part_below pair_group c.args.pairs.now c.requires c.loop-i-test.true) (part_read pair_group c.args.pairs.now c.requires c.loop-i-test.true c.at32.ensures c.index32-pair.ensures)))
 
 pub returns : goal.returns
-returns c =  record { owners_value = run_end _ _ _ _ c.loop-i.invariant.1.0 (part_end_law pair_vertex c.args.pairs.now c.requires c.loop-i-test.false); others_value = run_end _ _ _ _ c.loop-i.invariant.1.1 (part_end_law pair_group c.args.pairs.now c.requires c.loop-i-test.false) }
+returns c = record { owners_value = run_end _ _ _ _ c.loop-i.invariant.1.0 (part_end_law pair_vertex c.args.pairs.now c.requires c.loop-i-test.false); others_value = run_end _ _ _ _ c.loop-i.invariant.1.1 (part_end_law pair_group c.args.pairs.now c.requires c.loop-i-test.false) }

@@ -1,14 +1,10 @@
 -- `write_pairs` meets its contract: two more stores in each turn (`head_more`).
 use Prim.Native.Nat.{◌≤◌, ◌-◌}
-use native.Mathlib.Omega.{arith}
-use mathlib.Core.Path.{◌≡◌, refl, ◌∙◌}
+use mathlib.Core.Path.{◌≡◌}
 use lib.Seq.{sets}
 use mathlib.Core.List.{map}
 use lib.ListN.{take}
 use Rattle.merge_rule.specs.Merged.{pair_vertex, pair_group}
-use Rattle.merge_core.specs.Laws.Stored.{head_more, run_end, run_long}
-use Rattle.merge_core.specs.Laws.Copy.{part_below, part_end_law, part_read}
-use borrow.Author.Rules.{rules}
 use Rattle.merge_core.proofs.write.write_pairs.Given as goal
 
 abbrev pub invariant-loop-i : goal.invariant-loop-i

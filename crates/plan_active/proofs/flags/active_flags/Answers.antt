@@ -1,18 +1,16 @@
 -- `active_flags` meets its contract: after v vertices the flags say which components those make active.
-use Prim.Native.Nat.{◌≤◌, ◌-◌}
-use mathlib.Core.Path.{◌≡◌, refl, ap, sym, ◌∙◌}
+use Prim.Native.Nat.{◌-◌}
+use mathlib.Core.Path.{refl, ap, sym, ◌∙◌}
 use lib.ListN.{length, get_or}
 use lib.Dec.{eqb}
-use Rattle.base_finite.specs.Below.{counted, tabulate}
 use Rattle.base_finite.specs.Laws.Below.{length_tabulate}
 use Rattle.base_limits.specs.Limits.{max_duals, group_numbers}
-use Rattle.survey_core.specs.Survey.{groups_alone, vertex_count}
+use Rattle.survey_core.specs.Survey.{vertex_count}
 use Rattle.survey_groups.specs.Laws.Spread.{split_read}
 use Rattle.base_buffer.proofs.Laws.Store.{replicate_table}
 use Rattle.plan_active.specs.Flags.{active_flags}
-use Rattle.plan_active.specs.Laws.Flags.{active_below, flags_none, flags_step, flags_end, flags_active}
+use Rattle.plan_active.specs.Laws.Flags.{flags_none, flags_step, flags_end, flags_active}
 use native.Mathlib.Omega.{arith}
-use borrow.Author.Rules.{rules}
 use Rattle.plan_active.proofs.flags.active_flags.Goals as goal
 
 pub loop-v-init : goal.loop-v-init
@@ -26,21 +24,20 @@ loop-v-smaller c = omega arith
 
 pub loop-v-preserved : goal.loop-v-preserved
 unfolding vertex_count
-loop-v-preserved c =
-    (
-      omega arith,
-      flags_step
-          _
-          _
-          _
-          _
-          _
-          c.loop-v.invariant.1
-          c.flag_label.ensures
-          (ap (λ x. eqb x 1) (c.at64-summary.ensures ∙ ap (λ g. get_or c.spreads-table.result g 0) (c.index8.ensures ∙ c.at8.ensures))
-          ∙ split_read _ _ c.spreads-table.ensures _ (omega (arith, c.shared_slice_known-1.given c.loop-v.v)))
-          c.at32.ensures,
-    )
+loop-v-preserved c = (
+  omega arith,
+  flags_step
+      _
+      _
+      _
+      _
+      _
+      c.loop-v.invariant.1
+      c.flag_label.ensures
+      (ap (λ x. eqb x 1) (c.at64-summary.ensures ∙ ap (λ g. get_or c.spreads-table.result g 0) (c.index8.ensures ∙ c.at8.ensures))
+      ∙ split_read _ _ c.spreads-table.ensures _ (omega (arith, c.shared_slice_known-1.given c.loop-v.v)))
+      c.at32.ensures,
+)
 
 pub returns : goal.returns
 unfolding vertex_count active_flags

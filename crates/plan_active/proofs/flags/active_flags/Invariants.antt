@@ -1,18 +1,11 @@
 -- `active_flags` meets its contract: after v vertices the flags say which components those make active.
 use Prim.Native.Nat.{◌≤◌, ◌-◌}
-use mathlib.Core.Path.{◌≡◌, refl, ap, sym, ◌∙◌}
+use mathlib.Core.Path.{◌≡◌}
 use lib.ListN.{length, get_or}
-use lib.Dec.{eqb}
 use Rattle.base_finite.specs.Below.{counted, tabulate}
-use Rattle.base_finite.specs.Laws.Below.{length_tabulate}
-use Rattle.base_limits.specs.Limits.{max_duals, group_numbers}
-use Rattle.survey_core.specs.Survey.{groups_alone, vertex_count}
-use Rattle.survey_groups.specs.Laws.Spread.{split_read}
-use Rattle.base_buffer.proofs.Laws.Store.{replicate_table}
-use Rattle.plan_active.specs.Flags.{active_flags}
-use Rattle.plan_active.specs.Laws.Flags.{active_below, flags_none, flags_step, flags_end, flags_active}
-use native.Mathlib.Omega.{arith}
-use borrow.Author.Rules.{rules}
+use Rattle.base_limits.specs.Limits.{max_duals}
+use Rattle.survey_core.specs.Survey.{groups_alone}
+use Rattle.plan_active.specs.Laws.Flags.{active_below}
 use Rattle.plan_active.proofs.flags.active_flags.Given as goal
 
 abbrev pub invariant-loop-v : goal.invariant-loop-v

@@ -3,7 +3,6 @@ use mathlib.Core.Path.{ap, ◌∙◌}
 use lib.ListN.{set}
 use borrow.Author.Tests.{eq-eqb, ne_eqb}
 use Rattle.plan_active.specs.Flags.{flagged}
-use borrow.Author.Rules.{rules}
 use Rattle.plan_active.proofs.flags.flag_label.Goals as goal
 
 -- split

@@ -1,8 +1,7 @@
 -- `list_members` meets its contract: before each turn the members below v are listed and counted.
-use Prim.Native.Nat.{◌≤◌, ◌-◌}
-use mathlib.Core.Path.{◌≡◌, refl}
+use Prim.Native.Nat.{◌-◌}
+use mathlib.Core.Path.{refl}
 use native.Mathlib.Omega.{arith}
-use borrow.Author.Rules.{rules}
 use Rattle.base_finite.specs.Below.{sum_below, count_below}
 use Rattle.base_finite.specs.Laws.Below.{count_le}
 use Rattle.base_finite.specs.Laws.Count.{count_end}

@@ -1,6 +1,5 @@
 -- `list_vertex` meets its contract: each return by its test.
 use native.Mathlib.Omega.{arith}
-use borrow.Author.Rules.{rules}
 use Rattle.base_finite.specs.Laws.Below.{counted_true, counted_false}
 use Rattle.plan_active.specs.Laws.Listed.{own_mate, other_mate}
 use Rattle.plan_active.proofs.mated.list_vertex.Goals as goal

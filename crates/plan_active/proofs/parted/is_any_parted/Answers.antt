@@ -1,10 +1,9 @@
 -- `is_any_parted` meets its contract: before each turn none of the first k listed is parted from its mate.
-use Prim.Native.Nat.{◌≤◌, ◌-◌}
-use mathlib.Core.Path.{◌≡◌, refl, sym}
+use Prim.Native.Nat.{◌-◌}
+use mathlib.Core.Path.{refl, sym}
 use mathlib.Core.Bool.{false}
 use lib.ListN.{get_or}
 use native.Mathlib.Omega.{arith}
-use borrow.Author.Rules.{rules}
 use Rattle.base_finite.specs.Below.{any_below}
 use Rattle.base_finite.specs.Laws.Below.{any_intro}
 use Rattle.base_finite.specs.Laws.Count.{any_more, any_end}

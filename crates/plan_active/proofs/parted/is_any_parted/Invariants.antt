@@ -1,15 +1,10 @@
 -- `is_any_parted` meets its contract: before each turn none of the first k listed is parted from its mate.
 use Prim.Native.Nat.{◌≤◌, ◌-◌}
-use mathlib.Core.Path.{◌≡◌, refl, sym}
+use mathlib.Core.Path.{◌≡◌}
 use mathlib.Core.Bool.{false}
 use lib.ListN.{get_or}
-use native.Mathlib.Omega.{arith}
-use borrow.Author.Rules.{rules}
 use Rattle.base_finite.specs.Below.{any_below}
-use Rattle.base_finite.specs.Laws.Below.{any_intro}
-use Rattle.base_finite.specs.Laws.Count.{any_more, any_end}
 use Rattle.plan_active.specs.Flags.{apart_from_mate}
-use Rattle.plan_active.specs.Laws.Merged.{apart_by}
 use Rattle.plan_active.proofs.parted.is_any_parted.Given as goal
 
 abbrev pub invariant-loop-k : goal.invariant-loop-k

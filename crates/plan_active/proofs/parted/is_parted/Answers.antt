@@ -1,5 +1,4 @@
 -- `is_parted` meets its contract: each return by where the vertex is.
-use borrow.Author.Rules.{rules}
 use Rattle.plan_active.specs.Laws.Merged.{parted_in, parted_out}
 use Rattle.plan_active.proofs.parted.is_parted.Goals as goal
 

@@ -1,7 +1,6 @@
 -- `joined_flag` meets its contract: the two vertices first, then the list.
 use mathlib.Core.Path.{ap, sym, ◌∙◌}
 use lib.ListN.{get_or}
-use borrow.Author.Rules.{rules}
 use Rattle.base_finite.specs.Laws.Below.{counted_true, counted_false}
 use Rattle.plan_active.specs.Laws.Merged.{flag_first, flag_second, flag_all}
 use Rattle.plan_active.proofs.parted.joined_flag.Goals as goal

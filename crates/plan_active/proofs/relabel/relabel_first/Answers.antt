@@ -1,6 +1,5 @@
 -- `relabel_first` meets its contract: the whole where there are no more labels, else the part that is lent.
 use native.Mathlib.Omega.{arith}
-use borrow.Author.Rules.{rules}
 use Rattle.plan_active.specs.Laws.First.{first_lent, first_all}
 use Rattle.plan_active.proofs.relabel.relabel_first.Goals as goal
 

@@ -1,6 +1,5 @@
 -- `grown_counts` meets its contract: the numbers as they are given.
 use Rattle.plan_rule.specs.Answer.{planned_outcome}
-use borrow.Author.Rules.{rules}
 use Rattle.plan_core.proofs.counts.grown_counts.Goals as goal
 
 pub returns : goal.returns

@@ -3,7 +3,6 @@ use mathlib.Core.Path.{sym, ◌∙◌}
 use Rattle.survey_core.proofs.Laws.Refusal.{fine_survey}
 use Rattle.plan_rule.specs.Figures.{figured_outcome}
 use Rattle.plan_core.specs.Laws.Figures.{survey_refuses, figures_refused}
-use borrow.Author.Rules.{rules}
 use Rattle.plan_core.proofs.figures.figures.Goals as goal
 
 -- 1 to 6, 18

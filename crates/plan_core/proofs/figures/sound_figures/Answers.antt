@@ -1,5 +1,5 @@
 -- `sound_figures` meets its contract: the poured groups can be joined exactly if the lists can, and have their plan (`figures_finished`).
-use mathlib.Core.Path.{ap, sym, ◌∙◌}
+use mathlib.Core.Path.{ap}
 use native.Mathlib.Omega.{arith}
 use Rattle.survey_lists.proofs.Laws.Room.{part_poured}
 use Rattle.plan_rule.specs.Figures.{figured_outcome}
@@ -19,7 +19,6 @@ pub unjoined_figures-requires : goal.unjoined_figures-requires
 unfolding figured_outcome
 unjoined_figures-requires c =
     let part = part_poured _ c.requires.few c.pour-poured.ensures in
-    
     record { survey_sound = c.requires; others_value = lists_parted _ c.requires part c.poured_figures-figured.ensures.result_value (ap figured_outcome c.in-Refused.is) }
 
 -- 8
@@ -27,7 +26,6 @@ pub returns-in-Refused : goal.returns-in-Refused
 unfolding figured_outcome
 returns-in-Refused c =
     let part = part_poured _ c.requires.few c.pour-poured.ensures in
-    
     record { result_value = c.unjoined_figures.ensures; marks_value = parted_marks _ c.requires part _ c.poured_figures-figured.ensures.result_value c.poured_figures-figured.ensures.marks_value (record { own_byte = λ v. omega (arith, c.shared_slice_known-1.given v); other_byte = λ i. omega (arith, c.shared_slice_known-6-1.given i) }) (ap figured_outcome c.in-Refused.is) }
 
 -- finished
@@ -35,5 +33,4 @@ pub returns : goal.returns
 unfolding figured_outcome
 returns c =
     let part = part_poured _ c.requires.few c.pour-poured.ensures in
-    
     let whole = figures_finished _ c.requires part _ c.poured_figures-figured.ensures.result_value c.poured_figures-figured.ensures.marks_value (ap figured_outcome c.in_default.is) in record { result_value = whole.0; marks_value = whole.1 }

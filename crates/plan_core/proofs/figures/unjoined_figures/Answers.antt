@@ -6,7 +6,6 @@ use Rattle.plan_rule.specs.Figures.{figured_outcome}
 use Rattle.plan_rule.proofs.Laws.Ready.{groups_of_all}
 use Rattle.plan_core.specs.Laws.Planned.{unjoined_comes}
 use Rattle.plan_core.specs.Laws.Figures.{figures_refused, unjoined_eight}
-use borrow.Author.Rules.{rules}
 use Rattle.plan_core.proofs.figures.unjoined_figures.Goals as goal
 
 -- it would not come

@@ -1,6 +1,5 @@
 -- `list_refusal` meets its contract: each return by what was found.
 use Rattle.plan_core.specs.Laws.Stages.{lists_fine, lists_apart, lists_other}
-use borrow.Author.Rules.{rules}
 use Rattle.plan_core.proofs.lists.list_refusal.Goals as goal
 
 -- nothing

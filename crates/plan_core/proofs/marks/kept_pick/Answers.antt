@@ -1,7 +1,6 @@
 -- `kept_pick` meets its contract: each return by its test.
 use Rattle.base_finite.specs.Laws.Below.{counted_true, counted_false}
 use mathlib.Core.Path.{sym, ◌∙◌}
-use borrow.Author.Rules.{rules}
 use Rattle.plan_core.proofs.marks.kept_pick.Goals as goal
 
 pub returns-then-is_picked : goal.returns-then-is_picked

@@ -1,14 +1,11 @@
 -- `kept_picks` meets its contract: it stores at rising places.
-use Prim.Native.Nat.{ℕ, ◌≤◌, ◌-◌}
-use native.Mathlib.Omega.{arith}
-use mathlib.Core.Path.{◌≡◌, refl, ap, sym, ◌∙◌}
-use lib.ListN.{length, replicate, length-replicate}
+use Prim.Native.Nat.{◌≤◌, ◌-◌}
+use mathlib.Core.Path.{◌≡◌}
+use lib.ListN.{replicate}
 use Rattle.base_finite.specs.Below.{counted}
 use Rattle.base_limits.specs.Limits.{max_edges}
 use Rattle.base_buffer.specs.Store.{remade}
-use Rattle.base_buffer.proofs.Laws.Store.{length_remade, remade_more, remade_end}
 use Rattle.survey_components.specs.Labels.{picked_in}
-use borrow.Author.Rules.{rules}
 use Rattle.plan_core.proofs.marks.kept_picks.Given as goal
 
 abbrev pub invariant-loop-e : goal.invariant-loop-e

@@ -1,6 +1,5 @@
 -- `marked_refusal` meets its contract: the stages, one after the other, come to the definition.
 use Rattle.plan_core.specs.Laws.Stages.{unsound_stops, uneven_stops, marks_decide}
-use borrow.Author.Rules.{rules}
 use Rattle.plan_core.proofs.marks.marked_refusal.Goals as goal
 
 -- 1 to 6 and 18

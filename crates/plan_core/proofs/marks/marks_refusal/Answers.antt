@@ -1,11 +1,9 @@
 -- `marks_refusal` meets its contract: a scan of the marks.
 use Prim.Native.Nat.{◌-◌}
 use mathlib.Core.Path.{ap, ◌∙◌}
-use lib.ListN.{get_or}
 use lib.Dec.{ltb}
 use Rattle.base_limits.specs.Verdict.{refuse_if}
-use Rattle.base_limits.specs.Laws.Verdict.{Scanned, scan_start, scan_turn, scan_found, scan_end}
-use borrow.Author.Rules.{rules}
+use Rattle.base_limits.specs.Laws.Verdict.{scan_start, scan_turn, scan_found, scan_end}
 use Rattle.plan_core.proofs.marks.marks_refusal.Goals as goal
 
 pub loop-e-init : goal.loop-e-init

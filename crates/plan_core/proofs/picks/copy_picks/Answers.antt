@@ -1,10 +1,8 @@
 -- `copy_picks` meets its contract: it stores at rising places.
 use Rattle.base_buffer.specs.Store.{remade}
-use Rattle.base_buffer.proofs.Laws.Store.{length_remade, remade_more, remade_end}
-use lib.ListN.{length, get_or}
-use mathlib.Core.Path.{◌≡◌, refl, ap, ◌∙◌}
-use Prim.Native.Nat.{◌≤◌, ◌-◌}
-use borrow.Author.Rules.{rules}
+use Rattle.base_buffer.proofs.Laws.Store.{remade_more, remade_end}
+use mathlib.Core.Path.{refl, ◌∙◌}
+use Prim.Native.Nat.{◌-◌}
 use native.Mathlib.Omega.{arith}
 use Rattle.plan_core.proofs.picks.copy_picks.Goals as goal
 

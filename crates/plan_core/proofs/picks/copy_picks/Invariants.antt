@@ -1,11 +1,8 @@
 -- `copy_picks` meets its contract: it stores at rising places.
 use Rattle.base_buffer.specs.Store.{remade}
-use Rattle.base_buffer.proofs.Laws.Store.{length_remade, remade_more, remade_end}
-use lib.ListN.{length, get_or}
-use mathlib.Core.Path.{◌≡◌, refl, ap, ◌∙◌}
+use lib.ListN.{get_or}
+use mathlib.Core.Path.{◌≡◌}
 use Prim.Native.Nat.{◌≤◌, ◌-◌}
-use borrow.Author.Rules.{rules}
-use native.Mathlib.Omega.{arith}
 use Rattle.plan_core.proofs.picks.copy_picks.Given as goal
 
 abbrev pub invariant-loop-e : goal.invariant-loop-e

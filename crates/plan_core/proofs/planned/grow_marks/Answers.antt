@@ -6,7 +6,6 @@ use Rattle.base_finite.specs.Laws.Below.{length_tabulate}
 use Rattle.base_limits.specs.Limits.{max_edges}
 use Rattle.survey_core.proofs.Laws.Group.{plain_bytes}
 use Rattle.plan_core.specs.Laws.Planned.{picks_pruned, picks_join, picks_part, marks_joined_law, marks_parted}
-use borrow.Author.Rules.{rules}
 use Rattle.plan_core.proofs.planned.grow_marks.Goals as goal
 
 pub slice_bounds-prune_picks-end : goal.slice_bounds-prune_picks-end
@@ -19,8 +18,6 @@ prune_picks-found-requires c = picks_pruned _ _ _ _ c.requires.survey_sound c.gr
 pub returns-in-Fine : goal.returns-in-Fine
 returns-in-Fine c =
     let sound = c.requires.survey_sound in
-    
-    
     record {
       picked = _;
       grew = c.grow_rounds-grown.ensures;
@@ -32,8 +29,6 @@ returns-in-Fine c =
 pub returns-in-Refused : goal.returns-in-Refused
 returns-in-Refused c =
     let sound = c.requires.survey_sound in
-    
-    
     record {
       picked = _;
       grew = c.grow_rounds-grown.ensures;

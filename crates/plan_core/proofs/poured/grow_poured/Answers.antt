@@ -3,11 +3,10 @@ use mathlib.Core.Path.{refl, ap, sym, ◌∙◌}
 use lib.ListN.{length}
 use Rattle.base_finite.specs.Laws.Below.{length_tabulate}
 use Rattle.base_limits.specs.Limits.{max_vertices, max_edges, max_duals}
-use borrow.Author.Rules.{rules}
 use Rattle.plan_core.proofs.poured.grow_poured.Goals as goal
 
 pub grow_rounds-grown-requires : goal.grow_rounds-grown-requires
-grow_rounds-grown-requires c =  record { survey_sound = c.requires; values_value = (refl, refl, refl) }
+grow_rounds-grown-requires c = record { survey_sound = c.requires; values_value = (refl, refl, refl) }
 
 pub slice_bounds-copy_picks-end : goal.slice_bounds-copy_picks-end
 slice_bounds-copy_picks-end c = sym (ap length c.grow_rounds-grown.ensures.picked_are ∙ length_tabulate max_edges _)

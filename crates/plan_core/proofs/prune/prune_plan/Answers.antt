@@ -2,7 +2,6 @@
 use mathlib.Core.Path.{refl, sym, ◌∙◌}
 use native.Mathlib.Omega.{arith}
 use Rattle.plan_core.specs.Laws.Picks.{marked_fine, marked_stops, refused_answer, refused_marks, promised_call}
-use borrow.Author.Rules.{rules}
 use Rattle.plan_core.proofs.prune.prune_plan.Goals as goal
 
 -- 1 to 6, 18, 9, 10

@@ -4,7 +4,6 @@ use Rattle.base_limits.specs.Laws.Verdict.{passed_on, goes_on_law}
 use Rattle.survey_core.specs.Survey.{edge_count, vertex_count}
 use Rattle.survey_core.proofs.Laws.Refusal.{fine_survey}
 use Rattle.plan_core.specs.Planned.{lent_refusal}
-use borrow.Author.Rules.{rules}
 use Rattle.plan_core.proofs.refusal.lent_refusal.Goals as goal
 
 -- 1 to 6 and 18

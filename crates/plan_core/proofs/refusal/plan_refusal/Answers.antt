@@ -1,7 +1,6 @@
 -- `plan_refusal` meets its contract: what comes before 8, then 8.
 use mathlib.Core.Path.{sym, ◌∙◌}
 use Rattle.plan_core.specs.Laws.Whole.{lent_fits, lent_stops, lent_goes_on}
-use borrow.Author.Rules.{rules}
 use Rattle.plan_core.proofs.refusal.plan_refusal.Goals as goal
 
 -- 1 to 6, 18 and 7

@@ -1,7 +1,6 @@
 -- `room_refusal` meets its contract: each answer is the definition's, by the tests that led to it.
 use mathlib.Core.Path.{sym}
 use native.Mathlib.Omega.{arith}
-use borrow.Author.Rules.{rules}
 use Rattle.plan_rule.proofs.Laws.Ready.{marks_short, records_short, buffers_fit}
 use Rattle.plan_core.proofs.refusal.room_refusal.Goals as goal
 

@@ -25,7 +25,6 @@ pub returns-in-Refused : goal.returns-in-Refused
 unfolding planned_outcome
 returns-in-Refused c =
     let part = part_poured _ c.requires.survey.few c.pour-poured.ensures in
-    
     let whole = apart_call _ _ _ c.requires part (record { own_byte = λ v. omega (arith, c.shared_slice_known-1.given v); other_byte = λ i. omega (arith, c.shared_slice_known-6-1.given i) }) c.poured_plan-planned.ensures.marks_value c.poured_plan-planned.ensures.records_value
     c.poured_plan-planned.ensures.result_value (ap planned_outcome c.in-Refused.is) c.unjoined_plan.ensures in record { result_value = whole.0; marks_value = whole.1.0; records_value = whole.1.1 }
 
@@ -34,6 +33,5 @@ pub returns : goal.returns
 unfolding planned_outcome
 returns c =
     let part = part_poured _ c.requires.survey.few c.pour-poured.ensures in
-    
     let whole = joined_call _ _ _ c.requires part (record { own_byte = λ v. omega (arith, c.shared_slice_known-1.given v); other_byte = λ i. omega (arith, c.shared_slice_known-6-1.given i) }) c.poured_plan-planned.ensures.marks_value c.poured_plan-planned.ensures.records_value
     c.poured_plan-planned.ensures.result_value (ap planned_outcome c.in_default.is) in record { result_value = whole.0; marks_value = whole.1.0; records_value = whole.1.1 }

@@ -9,12 +9,11 @@ use Rattle.check_core.specs.Cost.{kept_cost_all}
 use Rattle.plan_rule.specs.Answer.{planned_outcome}
 use Rattle.plan_rule.proofs.Laws.Same.{plan_terminals}
 use Rattle.plan_core.specs.Laws.Whole.{plan_parted, plan_joined}
-use borrow.Author.Rules.{rules}
 use Rattle.plan_core.proofs.whole.poured_plan.Goals as goal
 
 pub grow_marks-marked-requires : goal.grow_marks-marked-requires
 unfolding edge_count
-grow_marks-marked-requires c =  record { survey_sound = c.requires.survey; values_value = (refl, refl); firsts_in_bounds = c.requires.marks_fit }
+grow_marks-marked-requires c = record { survey_sound = c.requires.survey; values_value = (refl, refl); firsts_in_bounds = c.requires.marks_fit }
 
 -- 8
 pub returns-then-not-marked : goal.returns-then-not-marked

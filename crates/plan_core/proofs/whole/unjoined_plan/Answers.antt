@@ -5,7 +5,6 @@ use Rattle.base_limits.specs.Verdict.{outcome}
 use Rattle.plan_rule.specs.Answer.{planned_outcome}
 use Rattle.plan_rule.proofs.Laws.Ready.{groups_of_all}
 use Rattle.plan_core.specs.Laws.Planned.{unjoined_comes}
-use borrow.Author.Rules.{rules}
 use Rattle.plan_core.proofs.whole.unjoined_plan.Goals as goal
 
 -- it would not come

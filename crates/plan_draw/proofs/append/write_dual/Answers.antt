@@ -3,7 +3,6 @@ use mathlib.Core.Path.{refl}
 use Rattle.plan_draw.specs.Drawing.{dual_put, count_put}
 use Rattle.plan_draw.proofs.Laws.Members.{put_none, put_no_room, put_one}
 use native.Mathlib.Omega.{arith}
-use borrow.Author.Rules.{rules}
 use Rattle.plan_draw.proofs.append.write_dual.Goals as goal
 
 -- value 0: no record

@@ -1,13 +1,11 @@
 -- `arise` meets its contract: the members of both parts, which hang on the new component; its record is kept.
 use mathlib.Core.Path.{ap₂, ◌∙◌}
 use Rattle.plan_draw.specs.Members.{union_of}
-use borrow.Author.Rules.{rules}
 use Rattle.plan_draw.proofs.arise.arise.Goals as goal
 
 pub returns : goal.returns
 returns c =
     let a = c.args in
-    
     let second = rw c.part_of-x.ensures.left at c.part_of-y.ensures in
     let x = c.index32.ensures ∙ c.part_of-x.ensures.part in
     let y = c.index32-2.ensures ∙ second.part in

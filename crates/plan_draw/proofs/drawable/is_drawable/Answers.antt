@@ -3,7 +3,6 @@ use mathlib.Core.Path.{sym, ◌∙◌}
 use native.Mathlib.Omega.{arith}
 use Rattle.plan_draw.specs.Trace.{trace_from}
 use Rattle.plan_draw.proofs.Laws.Drawable.{too_many, too_long_law, too_short, ends_decide}
-use borrow.Author.Rules.{rules}
 use Rattle.plan_draw.proofs.drawable.is_drawable.Goals as goal
 
 -- too many vertices

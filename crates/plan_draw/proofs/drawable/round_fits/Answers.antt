@@ -3,7 +3,6 @@ use Prim.Native.Nat.{◌<◌, ◌≤◌}
 use mathlib.Core.Path.{sym}
 use Rattle.plan_draw.specs.Trace.{end_of}
 use Rattle.plan_draw.proofs.Laws.Drawable.{fits_both, first_out, second_out}
-use borrow.Author.Rules.{rules}
 use Rattle.plan_draw.proofs.drawable.round_fits.Goals as goal
 
 -- the first end

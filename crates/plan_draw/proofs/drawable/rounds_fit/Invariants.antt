@@ -1,13 +1,9 @@
 -- `rounds_fit` meets its contract: a loop that stops at the first round that does not fit.
 use Prim.Native.Nat.{◌≤◌, ◌-◌}
-use mathlib.Core.Path.{◌≡◌, sym, ◌∙◌}
+use mathlib.Core.Path.{◌≡◌}
 use mathlib.Core.Bool.{true}
-use native.Mathlib.Omega.{arith}
-use borrow.Author.Tests.{not-true, not-false}
 use Rattle.base_finite.specs.Below.{all_below}
 use Rattle.plan_draw.specs.Trace.{end_of, ends_fit}
-use Rattle.plan_draw.proofs.Laws.Drawable.{all_none, all_more, all_fails, all_end}
-use borrow.Author.Rules.{rules}
 use Rattle.plan_draw.proofs.drawable.rounds_fit.Given as goal
 
 abbrev pub invariant-loop-r : goal.invariant-loop-r

@@ -2,7 +2,6 @@
 use mathlib.Core.Path.{ap, ◌∙◌}
 use borrow.Author.Tests.{lt-ltb, le-ltb}
 use Rattle.plan_draw.specs.Members.{ored, with_part}
-use borrow.Author.Rules.{rules}
 use Rattle.plan_draw.proofs.members.add_part.Goals as goal
 
 -- a single vertex

@@ -1,14 +1,12 @@
 -- `or_record` meets its contract: it stores at rising places.
-use Prim.Native.Nat.{◌≤◌, ◌-◌}
-use mathlib.Core.Path.{◌≡◌, refl, ap₂, ◌∙◌}
+use Prim.Native.Nat.{◌-◌}
+use mathlib.Core.Path.{refl, ap₂, ◌∙◌}
 use lib.Bits.{bit_or}
 use lib.ListN.{get_or}
-use Rattle.base_limits.specs.Limits.{record_bytes}
 use Rattle.base_buffer.specs.Store.{remade}
 use Rattle.base_buffer.proofs.Laws.Store.{remade_more, remade_end}
 use Rattle.plan_draw.specs.Members.{ored}
 use native.Mathlib.Omega.{arith}
-use borrow.Author.Rules.{rules}
 use Rattle.plan_draw.proofs.members.or_record.Goals as goal
 
 pub loop-i-init : goal.loop-i-init

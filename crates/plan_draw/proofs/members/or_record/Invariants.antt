@@ -1,14 +1,10 @@
 -- `or_record` meets its contract: it stores at rising places.
 use Prim.Native.Nat.{◌≤◌, ◌-◌}
-use mathlib.Core.Path.{◌≡◌, refl, ap₂, ◌∙◌}
+use mathlib.Core.Path.{◌≡◌}
 use lib.Bits.{bit_or}
 use lib.ListN.{get_or}
 use Rattle.base_limits.specs.Limits.{record_bytes}
 use Rattle.base_buffer.specs.Store.{remade}
-use Rattle.base_buffer.proofs.Laws.Store.{remade_more, remade_end}
-use Rattle.plan_draw.specs.Members.{ored}
-use native.Mathlib.Omega.{arith}
-use borrow.Author.Rules.{rules}
 use Rattle.plan_draw.proofs.members.or_record.Given as goal
 
 abbrev pub invariant-loop-i : goal.invariant-loop-i

@@ -1,7 +1,6 @@
 -- `union_of` meets its contract: no member, then those of both components.
 use mathlib.Core.Path.{ap, ◌∙◌}
 use Rattle.plan_draw.specs.Members.{with_part, union_of}
-use borrow.Author.Rules.{rules}
 use Rattle.plan_draw.proofs.members.union_of.Goals as goal
 
 pub returns : goal.returns

@@ -1,13 +1,9 @@
 -- `copy_record` meets its contract: it stores at rising places.
 use Prim.Native.Nat.{◌≤◌, ◌-◌}
-use mathlib.Core.Path.{◌≡◌, refl, ap, ◌∙◌}
-use lib.ListN.{length, get_or}
+use mathlib.Core.Path.{◌≡◌}
+use lib.ListN.{get_or}
 use Rattle.base_limits.specs.Limits.{record_bytes}
 use Rattle.base_buffer.specs.Store.{remade}
-use Rattle.base_buffer.proofs.Laws.Store.{length_remade, remade_more, remade_end}
-use Rattle.plan_draw.specs.Members.{copied}
-use native.Mathlib.Omega.{arith}
-use borrow.Author.Rules.{rules}
 use Rattle.plan_draw.proofs.record.copy_record.Given as goal
 
 abbrev pub invariant-loop-i : goal.invariant-loop-i

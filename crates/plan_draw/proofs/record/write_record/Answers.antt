@@ -1,7 +1,6 @@
 -- `write_record` meets its contract: the bytes of the set, then the value.
 use mathlib.Core.Path.{ap, ◌∙◌}
 use Rattle.format_record.specs.Record.{with_value}
-use borrow.Author.Rules.{rules}
 use Rattle.plan_draw.proofs.record.write_record.Goals as goal
 
 pub returns : goal.returns

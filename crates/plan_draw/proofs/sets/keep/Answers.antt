@@ -2,7 +2,6 @@
 use mathlib.Core.Path.{refl}
 use borrow.Author.Tests.{lt-ltb, le-ltb}
 use Rattle.plan_draw.specs.Members.{sets_kept}
-use borrow.Author.Rules.{rules}
 use Rattle.plan_draw.proofs.sets.keep.Goals as goal
 
 -- a single vertex
@@ -17,5 +16,4 @@ pub returns : goal.returns
 unfolding sets_kept
 returns c =
     let a = c.args in
-    
     rw (le-ltb a.c a.n (rw (← c.index32-k.ensures) c.if-k-n.false), ← c.index32-k.ensures) c.put_set.ensures

@@ -5,7 +5,6 @@ use lib.ListN.{get_or-eq_default}
 use Rattle.plan_draw.specs.Members.{no_member}
 use Rattle.plan_draw.proofs.Laws.Members.{at_any}
 use native.Mathlib.Omega.{arith}
-use borrow.Author.Rules.{rules}
 use Rattle.plan_draw.proofs.sets.set_at.Goals as goal
 
 -- a round within the limits

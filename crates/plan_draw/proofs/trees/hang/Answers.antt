@@ -1,6 +1,5 @@
 -- `hang` meets its contract: three stores.
 use Rattle.plan_draw.specs.Trace.{hung_on}
-use borrow.Author.Rules.{rules}
 use Rattle.plan_draw.proofs.trees.hang.Goals as goal
 
 pub returns : goal.returns

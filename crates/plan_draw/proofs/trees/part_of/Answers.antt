@@ -2,7 +2,6 @@
 use mathlib.Core.Path.{refl}
 use borrow.Author.Tests.{lt-ltb, le-ltb}
 use Rattle.plan_draw.specs.Trace.{end_of, part_of}
-use borrow.Author.Rules.{rules}
 use Rattle.plan_draw.proofs.trees.part_of.Goals as goal
 
 -- a single vertex
@@ -18,6 +17,5 @@ pub returns : goal.returns
 unfolding part_of end_of
 returns c =
     let a = c.args in
-    
     let past = le-ltb a.c a.n (rw (← c.index32-k.ensures) c.if-k-n.false) in
     rw (past, ← c.index32-k.ensures, ← c.at32.ensures, ← c.index32-e.ensures, ← c.at32-2.ensures) (record { part = c.climb.ensures.root; left = c.climb.ensures.left })

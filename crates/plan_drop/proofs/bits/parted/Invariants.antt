@@ -1,7 +1,6 @@
 -- `parted` meets its contract: before each turn the bits are those of the vertices below v.
-use Rattle.std.proofs.Common.{◌≡◌, ◌-◌, ◌≤◌, ◌∙◌, arith, rules}
+use Rattle.std.proofs.Common.{◌≡◌, ◌-◌, ◌≤◌}
 use Rattle.plan_drop.specs.Parted.{parted_below}
-use Rattle.plan_drop.specs.Laws.Parted.{parted_none, parted_more, parted_end}
 use Rattle.plan_drop.proofs.bits.parted.Given as goal
 
 abbrev pub invariant-loop-v : goal.invariant-loop-v

@@ -1,9 +1,8 @@
 -- `count_picked` meets its contract: it counts upwards.
 use Rattle.plan_drop.specs.Laws.Dropped.{dropped_counts_law}
-use Rattle.survey_components.specs.Labels.{picked_in}
 use Rattle.base_finite.specs.Laws.Count.{count_more, count_end, count_bound}
 use Rattle.base_finite.specs.Below.{count_below, sum_below}
-use Rattle.std.proofs.Common.{◌≡◌, ◌-◌, ◌≤◌, refl, ◌∙◌, arith, rules}
+use Rattle.std.proofs.Common.{◌-◌, refl, ◌∙◌, arith}
 use Rattle.plan_drop.proofs.dropped.count_picked.Goals as goal
 
 pub loop-e-init : goal.loop-e-init

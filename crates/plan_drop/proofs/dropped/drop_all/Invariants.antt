@@ -1,10 +1,8 @@
 -- `drop_all` meets its contract: it stores at rising places.
-use Rattle.plan_drop.specs.Dropped.{dropped_marks}
 use Rattle.survey_components.specs.Labels.{picked_in}
 use Rattle.base_buffer.specs.Store.{remade}
-use Rattle.base_buffer.proofs.Laws.Store.{length_remade, remade_more, remade_end}
 use Rattle.theory_steiner.specs.Pruning.{mark_of}
-use Rattle.std.proofs.Common.{◌≡◌, ◌-◌, ◌≤◌, false, length, refl, ap, ◌∙◌, arith, rules}
+use Rattle.std.proofs.Common.{◌≡◌, ◌-◌, ◌≤◌, false}
 use Rattle.plan_drop.proofs.dropped.drop_all.Given as goal
 
 abbrev pub invariant-loop-e : goal.invariant-loop-e

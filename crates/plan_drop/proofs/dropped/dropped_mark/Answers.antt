@@ -1,6 +1,6 @@
 -- `dropped_mark` meets its contract: each return by its test.
 use Rattle.plan_drop.specs.Laws.Dropped.{dropped_picked, dropped_other}
-use Rattle.std.proofs.Common.{sym, ◌∙◌, rules}
+use Rattle.std.proofs.Common.{sym, ◌∙◌}
 use Rattle.plan_drop.proofs.dropped.dropped_mark.Goals as goal
 
 pub returns-then-is_picked : goal.returns-then-is_picked

@@ -1,7 +1,7 @@
 -- `is_needed` meets its contract: each return by the law of its case.
 use Rattle.format_record.specs.Bits.{bit_at}
 use Rattle.plan_drop.specs.Laws.Needed.{judged_before, judged_after, judged_in}
-use Rattle.std.proofs.Common.{sym, arith, rules}
+use Rattle.std.proofs.Common.{sym, arith}
 use Rattle.plan_drop.proofs.judge.is_needed.Goals as goal
 
 -- before the batch

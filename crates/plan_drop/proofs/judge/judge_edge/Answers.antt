@@ -1,6 +1,6 @@
 -- `judge_edge` meets its contract: each return by the law of its case.
 use Rattle.plan_drop.specs.Laws.Needed.{mark_passed, mark_kept, mark_dropped}
-use Rattle.std.proofs.Common.{sym, ◌∙◌, rules}
+use Rattle.std.proofs.Common.{sym, ◌∙◌}
 use Rattle.plan_drop.proofs.judge.judge_edge.Goals as goal
 
 pub returns-then-is_needed : goal.returns-then-is_needed

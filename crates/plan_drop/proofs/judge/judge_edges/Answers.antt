@@ -1,13 +1,12 @@
 -- `judge_edges` meets its contract: after e edges their marks are judged, and the index is that of the next picked one.
 use Rattle.plan_drop.specs.Laws.Needed.{marks_more}
 use Rattle.plan_drop.specs.Laws.Word.{count_start, next_index}
-use Rattle.plan_drop.specs.Needed.{judged, raised}
+use Rattle.plan_drop.specs.Needed.{judged}
 use Rattle.survey_components.specs.Labels.{picked_in}
 use Rattle.base_buffer.specs.Store.{remade}
-use Rattle.base_buffer.proofs.Laws.Store.{length_remade, remade_end}
+use Rattle.base_buffer.proofs.Laws.Store.{remade_end}
 use Rattle.base_finite.specs.Laws.Below.{count_le}
-use Rattle.base_finite.specs.Below.{count_below}
-use Rattle.std.proofs.Common.{◌≡◌, ◌-◌, ◌≤◌, length, refl, ap, ◌∙◌, arith, rules}
+use Rattle.std.proofs.Common.{◌-◌, refl, ◌∙◌, arith}
 use Rattle.plan_drop.proofs.judge.judge_edges.Goals as goal
 
 pub loop-e-init : goal.loop-e-init
@@ -22,8 +21,7 @@ judge_edge-i-requires c =
 pub loop-e-preserved : goal.loop-e-preserved
 loop-e-preserved c =
     let args = c.args in
-    let inv = c.loop-e.invariant in
-    (
+    let inv = c.loop-e.invariant in (
       omega arith,
       next_index _ _ inv.1 c.judge_edge-i.ensures.index,
       marks_more (picked_in args.picked.now) (judged c.parted-bits.result args.base) _ _ _ inv.2 inv.1 c.judge_edge-i.ensures.marks_are,

@@ -1,13 +1,9 @@
 -- `judge_edges` meets its contract: after e edges their marks are judged, and the index is that of the next picked one.
-use Rattle.plan_drop.specs.Laws.Needed.{marks_more}
-use Rattle.plan_drop.specs.Laws.Word.{count_start, next_index}
 use Rattle.plan_drop.specs.Needed.{judged, raised}
 use Rattle.survey_components.specs.Labels.{picked_in}
 use Rattle.base_buffer.specs.Store.{remade}
-use Rattle.base_buffer.proofs.Laws.Store.{length_remade, remade_end}
-use Rattle.base_finite.specs.Laws.Below.{count_le}
 use Rattle.base_finite.specs.Below.{count_below}
-use Rattle.std.proofs.Common.{◌≡◌, ◌-◌, ◌≤◌, length, refl, ap, ◌∙◌, arith, rules}
+use Rattle.std.proofs.Common.{◌≡◌, ◌-◌, ◌≤◌}
 use Rattle.plan_drop.proofs.judge.judge_edges.Given as goal
 
 abbrev pub invariant-loop-e : goal.invariant-loop-e

@@ -1,5 +1,5 @@
 -- `note_edge` meets its contract: a branch on whether the edge is picked.
-use Rattle.std.proofs.Common.{sym, ◌∙◌, rules}
+use Rattle.std.proofs.Common.{sym, ◌∙◌}
 use Rattle.plan_drop.specs.Laws.Peel.{noted_picked, noted_passed}
 use Rattle.plan_drop.proofs.peel.note_edge.Goals as goal
 

@@ -1,10 +1,8 @@
 -- `note_edges` meets its contract: it counts upwards, modulo 2^32, and after e edges the buffers are those of the definition.
-use Rattle.std.proofs.Common.{◌≡◌, ℕ, ◌+◌, ◌-◌, ◌%◌, ◌^◌, ◌≤◌, Bool, true, false, cond, length, get_or, sym, refl, ap, ◌∙◌, add-one, arith, rules}
-use Rattle.base_finite.specs.Below.{counted, sum_below, count_below}
-use Rattle.base_finite.specs.Laws.Below.{sum_suc}
+use Rattle.std.proofs.Common.{◌≡◌, ◌-◌, ◌%◌, ◌^◌, ◌≤◌, length, get_or}
+use Rattle.base_finite.specs.Below.{count_below}
 use Rattle.survey_components.specs.Labels.{picked_in}
 use Rattle.plan_drop.specs.Peel.{ends_of, edges_noted}
-use Rattle.plan_drop.specs.Laws.Peel.{edges_none, edges_more, edges_end}
 use Rattle.plan_drop.proofs.peel.note_edges.Given as goal
 
 abbrev pub invariant-loop-e : goal.invariant-loop-e

@@ -1,8 +1,7 @@
 -- `peel` meets its contract: after k vertices the buffers are those of the definition, and behind the last nothing changes.
-use Rattle.std.proofs.Common.{◌≡◌, ◌-◌, ◌≤◌, length, get_or, ap, arith, rules}
+use Rattle.std.proofs.Common.{◌-◌, ap, arith}
 use Rattle.base_limits.specs.Limits.{max_vertices}
-use Rattle.survey_components.specs.Labels.{picked_in}
-use Rattle.plan_drop.specs.Peel.{ends_of, queue_of, Peel, peel_of, leaves_taken, unpeeled}
+use Rattle.plan_drop.specs.Peel.{Peel}
 use Rattle.plan_drop.specs.Laws.Peel.{peel_more, peel_start, peel_few, peel_end}
 use Rattle.plan_drop.proofs.peel.peel.Goals as goal
 

@@ -1,5 +1,5 @@
 -- `queue_leaf` meets its contract: one store, or none.
-use Rattle.std.proofs.Common.{get_or, sym, ap, ◌∙◌, rules}
+use Rattle.std.proofs.Common.{get_or, sym, ap, ◌∙◌}
 use Rattle.base_limits.specs.Limits.{max_vertices}
 use Rattle.plan_drop.specs.Laws.Peel.{queued_not, queued_full, queued_next}
 use Rattle.plan_drop.proofs.peel.queue_leaf.Goals as goal

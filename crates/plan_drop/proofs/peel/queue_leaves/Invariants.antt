@@ -1,8 +1,7 @@
 -- `queue_leaves` meets its contract: after v vertices the order is that of the definition.
-use Rattle.std.proofs.Common.{◌≡◌, ◌-◌, ◌≤◌, sym, arith, rules}
+use Rattle.std.proofs.Common.{◌≡◌, ◌-◌, ◌≤◌}
 use Rattle.base_limits.specs.Limits.{max_vertices}
 use Rattle.plan_drop.specs.Peel.{queue_of, leaves_queued}
-use Rattle.plan_drop.specs.Laws.Peel.{leaves_none, leaves_more, leaves_end}
 use Rattle.plan_drop.proofs.peel.queue_leaves.Given as goal
 
 abbrev pub invariant-loop-v : goal.invariant-loop-v

@@ -1,5 +1,5 @@
 -- `take_leaf` meets its contract: no change, or the edge goes from its other end.
-use Rattle.std.proofs.Common.{get_or, sym, ap, ◌∙◌, rules}
+use Rattle.std.proofs.Common.{get_or, sym, ap, ◌∙◌}
 use Rattle.base_limits.specs.Limits.{max_vertices}
 use Rattle.plan_drop.specs.Laws.Peel.{leaf_kept, leaf_gone_law}
 use Rattle.plan_drop.proofs.peel.take_leaf.Goals as goal

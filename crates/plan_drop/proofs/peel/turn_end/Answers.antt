@@ -1,12 +1,10 @@
 -- `turn_end` meets its contract: three stores at the vertex's place.
 use Rattle.plan_drop.specs.Laws.Peel.{turned_by}
-use Rattle.std.proofs.Common.{rules}
 use Rattle.plan_drop.proofs.peel.turn_end.Goals as goal
 
 pub returns : goal.returns
 returns c =
     let args = c.args in
-    
     turned_by args.v args.w args.mark args.more args.degrees.now args.others.now args.marks.now
     (rw (← c.index32-i.ensures, ← c.at32.ensures, ← c.wrapping_add_u32-degree.ensures.value) c.put32.ensures)
     (rw (← c.index32-i.ensures, ← c.at32-2.ensures) c.put32-2.ensures)

@@ -1,5 +1,5 @@
 -- `hang` meets its contract: no edge, no change; else one store.
-use Rattle.std.proofs.Common.{get_or, sym, ap, ◌∙◌, rules, eq-eqb, ne_eqb}
+use Rattle.std.proofs.Common.{get_or, sym, ap, ◌∙◌}
 use Rattle.plan_drop.specs.Laws.Alone.{hung_none, hung_by}
 use Rattle.plan_drop.proofs.sides.hang.Goals as goal
 

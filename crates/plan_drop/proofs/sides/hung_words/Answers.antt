@@ -1,7 +1,5 @@
 -- `hung_words` meets its contract: what is left of the order leads to the whole.
-use Rattle.std.proofs.Common.{◌≡◌, replicate, sym, refl, ap, ◌∙◌, arith, rules}
-use Rattle.base_limits.specs.Limits.{max_vertices}
-use Rattle.plan_drop.specs.Word.{hung_from}
+use Rattle.std.proofs.Common.{refl, ◌∙◌, arith}
 use Rattle.plan_drop.specs.Laws.Alone.{hung_end, hung_less}
 use Rattle.plan_drop.proofs.sides.hung_words.Goals as goal
 

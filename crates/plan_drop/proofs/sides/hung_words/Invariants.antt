@@ -1,8 +1,7 @@
 -- `hung_words` meets its contract: what is left of the order leads to the whole.
-use Rattle.std.proofs.Common.{◌≡◌, replicate, sym, refl, ap, ◌∙◌, arith, rules}
+use Rattle.std.proofs.Common.{◌≡◌, replicate}
 use Rattle.base_limits.specs.Limits.{max_vertices}
 use Rattle.plan_drop.specs.Word.{hung_from}
-use Rattle.plan_drop.specs.Laws.Alone.{hung_end, hung_less}
 use Rattle.plan_drop.proofs.sides.hung_words.Given as goal
 
 abbrev pub invariant-loop-k : goal.invariant-loop-k

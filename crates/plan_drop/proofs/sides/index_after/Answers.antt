@@ -1,5 +1,5 @@
 -- `index_after` meets its contract: each return by its test.
-use Rattle.std.proofs.Common.{sym, ◌∙◌, arith, rules}
+use Rattle.std.proofs.Common.{sym, ◌∙◌, arith}
 use Rattle.base_finite.specs.Laws.Below.{counted_true, counted_false}
 use Rattle.plan_drop.proofs.sides.index_after.Goals as goal
 

@@ -1,11 +1,7 @@
 -- `is_alone` meets its contract: before each turn the edges below e have passed.
-use Rattle.std.proofs.Common.{◌≡◌, ◌-◌, ◌≤◌, true, not, ◌||◌, eqb, length, get_or, sym, ap, ◌∙◌, arith, rules}
-use lib.Bits.{bit_xor}
-use borrow.Author.Tests.{not-true, not-false}
-use Rattle.base_finite.specs.Below.{count_below}
+use Rattle.std.proofs.Common.{◌-◌, true, length, sym, ◌∙◌, arith}
 use Rattle.base_finite.specs.Laws.Below.{count_le}
 use Rattle.survey_components.specs.Labels.{picked_in}
-use Rattle.plan_drop.specs.Word.{own_word, are_alone}
 use Rattle.plan_drop.specs.Laws.Word.{count_start, next_index}
 use Rattle.plan_drop.specs.Laws.Alone.{alone_none, alone_more, alone_end, alone_fails}
 use Rattle.plan_drop.proofs.sides.is_alone.Goals as goal
@@ -26,13 +22,12 @@ index_after-i-requires c =
     omega (arith, c.loop-e.invariant.1, count_le c.loop-e.e (picked_in c.args.picked.now))
 
 pub loop-e-preserved : goal.loop-e-preserved
-loop-e-preserved c =
-    (
-      omega arith,
-      next_index _ _ c.loop-e.invariant.1 c.index_after-i.ensures,
-      alone_more _ _ _ _ _ _ c.loop-e.invariant.2
-          (rw (← c.loop-e.invariant.1) (sym c.is_own.ensures ∙ c.if-not-is_own.false)),
-    )
+loop-e-preserved c = (
+  omega arith,
+  next_index _ _ c.loop-e.invariant.1 c.index_after-i.ensures,
+  alone_more _ _ _ _ _ _ c.loop-e.invariant.2
+      (rw (← c.loop-e.invariant.1) (sym c.is_own.ensures ∙ c.if-not-is_own.false)),
+)
 
 -- none
 pub returns : goal.returns

@@ -1,13 +1,8 @@
 -- `is_alone` meets its contract: before each turn the edges below e have passed.
-use Rattle.std.proofs.Common.{◌≡◌, ◌-◌, ◌≤◌, true, not, ◌||◌, eqb, length, get_or, sym, ap, ◌∙◌, arith, rules}
-use lib.Bits.{bit_xor}
-use borrow.Author.Tests.{not-true, not-false}
+use Rattle.std.proofs.Common.{◌≡◌, ◌-◌, ◌≤◌, true, length, get_or}
 use Rattle.base_finite.specs.Below.{count_below}
-use Rattle.base_finite.specs.Laws.Below.{count_le}
 use Rattle.survey_components.specs.Labels.{picked_in}
-use Rattle.plan_drop.specs.Word.{own_word, are_alone}
-use Rattle.plan_drop.specs.Laws.Word.{count_start, next_index}
-use Rattle.plan_drop.specs.Laws.Alone.{alone_none, alone_more, alone_end, alone_fails}
+use Rattle.plan_drop.specs.Word.{are_alone}
 use Rattle.plan_drop.proofs.sides.is_alone.Given as goal
 
 abbrev pub invariant-loop-e : goal.invariant-loop-e

@@ -1,5 +1,5 @@
 -- `is_own` meets its contract: a branch on whether the edge is picked.
-use Rattle.std.proofs.Common.{sym, ◌∙◌, rules}
+use Rattle.std.proofs.Common.{sym, ◌∙◌}
 use Rattle.plan_drop.specs.Laws.Alone.{own_word_read, own_passed}
 use Rattle.plan_drop.proofs.sides.is_own.Goals as goal
 

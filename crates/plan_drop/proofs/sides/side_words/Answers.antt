@@ -1,5 +1,5 @@
 -- `side_words` meets its contract: a branch on whether the guess passes.
-use Rattle.std.proofs.Common.{sym, ◌∙◌, rules}
+use Rattle.std.proofs.Common.{sym, ◌∙◌}
 use Rattle.base_limits.specs.Limits.{max_vertices}
 use Rattle.plan_drop.specs.Laws.Tried.{tried_passes, tried_fails}
 use Rattle.plan_drop.proofs.sides.side_words.Goals as goal

@@ -1,6 +1,6 @@
 -- `take_edge` meets its contract: a branch on whether the edge is picked.
 use Rattle.plan_drop.specs.Laws.Taken.{step_taken, step_passed}
-use Rattle.std.proofs.Common.{sym, ◌∙◌, rules}
+use Rattle.std.proofs.Common.{sym, ◌∙◌}
 use Rattle.plan_drop.proofs.taken.take_edge.Goals as goal
 
 pub returns-then-is_picked : goal.returns-then-is_picked

@@ -1,6 +1,6 @@
 -- `take_ends` meets its contract: what it reads is what the definitions read.
 use Rattle.plan_drop.specs.Laws.Word.{edge_taken_by, ends_joined_by}
-use Rattle.std.proofs.Common.{get_or, ap, ◌∙◌, rules}
+use Rattle.std.proofs.Common.{get_or, ap, ◌∙◌}
 use Rattle.plan_drop.proofs.taken.take_ends.Goals as goal
 
 pub returns : goal.returns

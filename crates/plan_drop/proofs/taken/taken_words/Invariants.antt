@@ -1,14 +1,9 @@
 -- `taken_words` meets its contract: after e edges the buffers are those of the definition.
-use Rattle.std.proofs.Common.{◌≡◌, ℕ, ◌-◌, ◌≤◌, length, get_or, sym, refl, ◌∙◌, arith, rules}
-use lib.ListN.{length-replicate}
+use Rattle.std.proofs.Common.{◌≡◌, ◌-◌, ◌≤◌, length, get_or}
 use Rattle.base_finite.specs.Below.{count_below}
-use Rattle.base_finite.specs.Laws.Below.{count_le}
 use Rattle.base_limits.specs.Limits.{max_vertices}
-use Rattle.base_buffer.proofs.Laws.Store.{remade_table, replicate_table}
 use Rattle.survey_components.specs.Labels.{picked_in}
 use Rattle.plan_drop.specs.Taken.{taken_below}
-use Rattle.plan_drop.specs.Laws.Word.{count_start, next_index}
-use Rattle.plan_drop.specs.Laws.Taken.{taken_none, taken_more, labels_long, words_long, taken_end}
 use Rattle.plan_drop.proofs.taken.taken_words.Given as goal
 
 abbrev pub invariant-loop-e : goal.invariant-loop-e

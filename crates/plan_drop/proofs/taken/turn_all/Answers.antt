@@ -2,7 +2,7 @@
 use Rattle.plan_drop.specs.Word.{turned, turned_all}
 use Rattle.base_buffer.proofs.Laws.Store.{length_remade, remade_more, remade_end}
 use Rattle.base_buffer.specs.Store.{remade}
-use Rattle.std.proofs.Common.{◌≡◌, ◌-◌, ◌≤◌, length, get_or, refl, ap, ◌∙◌, arith, rules}
+use Rattle.std.proofs.Common.{◌-◌, length, get_or, refl, ap, ◌∙◌, arith}
 use Rattle.plan_drop.proofs.taken.turn_all.Goals as goal
 
 pub loop-w-init : goal.loop-w-init

@@ -1,8 +1,7 @@
 -- `turn_all` meets its contract: it stores at rising places.
-use Rattle.plan_drop.specs.Word.{turned, turned_all}
-use Rattle.base_buffer.proofs.Laws.Store.{length_remade, remade_more, remade_end}
+use Rattle.plan_drop.specs.Word.{turned}
 use Rattle.base_buffer.specs.Store.{remade}
-use Rattle.std.proofs.Common.{◌≡◌, ◌-◌, ◌≤◌, length, get_or, refl, ap, ◌∙◌, arith, rules}
+use Rattle.std.proofs.Common.{◌≡◌, ◌-◌, ◌≤◌, length, get_or}
 use Rattle.plan_drop.proofs.taken.turn_all.Given as goal
 
 abbrev pub invariant-loop-w : goal.invariant-loop-w

@@ -1,5 +1,5 @@
 -- `own_word` meets its contract: each return by the law of its case.
-use Rattle.std.proofs.Common.{◌-◌, ◌^◌, sym, ◌∙◌, one-mul, arith, lit<, shl_exact, rules}
+use Rattle.std.proofs.Common.{◌-◌, ◌^◌, sym, ◌∙◌, one-mul, arith, lit<, shl_exact}
 use Rattle.plan_drop.specs.Laws.Word.{own_before, own_after, own_in}
 use Rattle.plan_drop.proofs.word.own_word.Goals as goal
 

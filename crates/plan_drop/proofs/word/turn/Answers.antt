@@ -1,6 +1,5 @@
 -- `turn` meets its contract: the two exclusive ors of the definition.
 use Rattle.plan_drop.specs.Word.{turned}
-use Rattle.std.proofs.Common.{rules}
 use Rattle.plan_drop.proofs.word.turn.Goals as goal
 
 pub returns : goal.returns

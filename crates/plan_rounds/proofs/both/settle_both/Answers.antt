@@ -1,5 +1,4 @@
 -- `settle_both` meets its contract: one after the other.
-use Rattle.std.proofs.Common.{rules}
 use Rattle.plan_rounds.proofs.both.settle_both.Goals as goal
 
 pub returns : goal.returns

@@ -1,5 +1,5 @@
 -- `sum_values` meets its contract: it sums upwards.
-use Rattle.std.proofs.Common.{◌≡◌, ℕ, ◌+◌, ◌-◌, ◌%◌, ◌^◌, ◌≤◌, get_or, sym, refl, ap, ◌∙◌, arith, rules}
+use Rattle.std.proofs.Common.{◌≡◌, ℕ, ◌+◌, ◌-◌, ◌%◌, ◌^◌, get_or, sym, refl, ap, ◌∙◌, arith}
 use Rattle.base_finite.specs.Below.{sum_below}
 use Rattle.base_finite.specs.Laws.Count.{sum_more}
 use Rattle.plan_rounds.proofs.bound.sum_values.Goals as goal

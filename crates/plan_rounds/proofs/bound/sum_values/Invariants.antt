@@ -1,7 +1,6 @@
 -- `sum_values` meets its contract: it sums upwards.
-use Rattle.std.proofs.Common.{◌≡◌, ℕ, ◌+◌, ◌-◌, ◌%◌, ◌^◌, ◌≤◌, get_or, sym, refl, ap, ◌∙◌, arith, rules}
+use Rattle.std.proofs.Common.{◌≡◌, ◌-◌, ◌%◌, ◌^◌, ◌≤◌, get_or}
 use Rattle.base_finite.specs.Below.{sum_below}
-use Rattle.base_finite.specs.Laws.Count.{sum_more}
 use Rattle.plan_rounds.proofs.bound.sum_values.Given as goal
 
 abbrev pub invariant-loop-c : goal.invariant-loop-c

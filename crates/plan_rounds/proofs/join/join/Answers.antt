@@ -1,5 +1,5 @@
 -- `join` meets its contract: the loads are turned and the two values settled before the components are merged, the new value after.
-use Rattle.std.proofs.Common.{get_or, refl, ap, ◌∙◌, rules}
+use Rattle.std.proofs.Common.{get_or, refl, ap, ◌∙◌}
 use Rattle.plan_rounds.specs.Laws.Clock.{settled_three}
 use Rattle.plan_rounds.specs.Laws.Loads.{turned_both, merged_both}
 use Rattle.plan_rounds.proofs.join.join.Goals as goal

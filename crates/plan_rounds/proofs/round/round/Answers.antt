@@ -1,6 +1,5 @@
 -- `round` meets its contract: what its calls leave is what the definition makes.
 use Rattle.plan_rounds.specs.Laws.Arrays.{arrays_over, arrays_won}
-use Rattle.std.proofs.Common.{rules}
 use Rattle.plan_rounds.proofs.round.round.Goals as goal
 
 -- no winner

@@ -1,6 +1,5 @@
 -- `settle` meets its contract: one store.
 use Rattle.plan_rounds.specs.Tables.{settled_at}
-use Rattle.std.proofs.Common.{rules}
 use Rattle.plan_rounds.proofs.settle.settle.Goals as goal
 
 pub returns : goal.returns

@@ -1,8 +1,7 @@
 -- `settle_all` meets its contract: it stores at rising places.
-use Rattle.std.proofs.Common.{◌≡◌, ◌-◌, ◌≤◌, eqb, get_or, refl, ◌∙◌, arith, rules}
+use Rattle.std.proofs.Common.{◌-◌, refl, ◌∙◌, arith}
 use Rattle.base_buffer.specs.Store.{remade}
 use Rattle.base_buffer.proofs.Laws.Store.{remade_more, remade_end}
-use Rattle.plan_search.specs.Held.{settled_by}
 use Rattle.plan_rounds.specs.Tables.{settled_values}
 use Rattle.plan_rounds.proofs.settle.settle_all.Goals as goal
 

@@ -1,5 +1,5 @@
 -- `turn_component` meets its contract: each return by the test that led there.
-use Rattle.std.proofs.Common.{rules, le-ltb, lt-ltb}
+use Rattle.std.proofs.Common.{le-ltb, lt-ltb}
 use Rattle.plan_rounds.specs.Tables.{turned_component}
 use Rattle.plan_rounds.proofs.settle.turn_component.Goals as goal
 

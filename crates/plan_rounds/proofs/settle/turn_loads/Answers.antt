@@ -1,6 +1,5 @@
 -- `turn_loads` meets its contract: each return by the test that led there.
 use Rattle.plan_rounds.specs.Laws.Loads.{turned_stays, turned_changes}
-use Rattle.std.proofs.Common.{rules}
 use Rattle.plan_rounds.proofs.settle.turn_loads.Goals as goal
 
 -- the flag stays

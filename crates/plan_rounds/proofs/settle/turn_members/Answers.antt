@@ -1,5 +1,5 @@
 -- `turn_members` meets its contract: before vertex v it has turned those below v.
-use Rattle.std.proofs.Common.{◌≡◌, ◌-◌, ◌≤◌, refl, ◌∙◌, ⊎_elim, arith, rules}
+use Rattle.std.proofs.Common.{◌-◌, refl, ◌∙◌, arith}
 use Rattle.base_buffer.specs.Store.{remade}
 use Rattle.base_buffer.proofs.Laws.Store.{remade_end}
 use Rattle.plan_rounds.specs.Tables.{turned_members}
@@ -16,12 +16,11 @@ loop-v-smaller c = omega arith
 
 pub loop-v-preserved : goal.loop-v-preserved
 loop-v-preserved c =
-    let made = c.loop-v.invariant.1 in
-    (
+    let made = c.loop-v.invariant.1 in (
       omega arith,
       elim c.if-at32-c.branch [
-        then-at32-c w ↦ member_turned _ _ _ _ _ made c.at32.ensures w.if-at32-c.true (w.loads-is ∙ w.turn_load.ensures)
-      | else-at32-c w ↦ member_passed _ _ _ _ _ made c.at32.ensures w.if-at32-c.false w.loads-is
+        | then-at32-c w ↦ member_turned _ _ _ _ _ made c.at32.ensures w.if-at32-c.true (w.loads-is ∙ w.turn_load.ensures)
+        | else-at32-c w ↦ member_passed _ _ _ _ _ made c.at32.ensures w.if-at32-c.false w.loads-is
       ],
     )
 

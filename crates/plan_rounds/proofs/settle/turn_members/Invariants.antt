@@ -1,9 +1,6 @@
 -- `turn_members` meets its contract: before vertex v it has turned those below v.
-use Rattle.std.proofs.Common.{◌≡◌, ◌-◌, ◌≤◌, refl, ◌∙◌, ⊎_elim, arith, rules}
-use Rattle.base_buffer.specs.Store.{remade}
-use Rattle.base_buffer.proofs.Laws.Store.{remade_end}
+use Rattle.std.proofs.Common.{◌≡◌, ◌-◌, ◌≤◌}
 use Rattle.plan_rounds.specs.Tables.{turned_members}
-use Rattle.plan_rounds.specs.Laws.Loads.{member_turned, member_passed}
 use Rattle.plan_rounds.proofs.settle.turn_members.Given as goal
 
 abbrev pub invariant-loop-v : goal.invariant-loop-v

@@ -1,6 +1,5 @@
 -- `turn_load` meets its contract: one store.
 use Rattle.plan_rounds.specs.Tables.{turned_at}
-use Rattle.std.proofs.Common.{rules}
 use Rattle.plan_rounds.proofs.turn.turn_load.Goals as goal
 
 pub returns : goal.returns

@@ -2,7 +2,6 @@
 use borrow.Author.Tests.{lt-ltb, le-ltb}
 use Rattle.theory_steiner.specs.Growth.{better}
 use Rattle.plan_search.specs.Between.{delay_in, winner_in}
-use borrow.Author.Rules.{rules}
 use Rattle.plan_search.proofs.better.better_of.Goals as goal
 
 -- no candidate yet, and none now

@@ -1,6 +1,5 @@
 -- `delay_of` meets its contract: the delay of the case that was found.
 use mathlib.Core.Path.{sym}
-use borrow.Author.Rules.{rules}
 use Rattle.theory_steiner.specs.Growth.{delay_for}
 use Rattle.plan_search.specs.Between.{ends_in, delay_in}
 use Rattle.plan_search.proofs.Laws.Between.{delay_case}

@@ -1,6 +1,5 @@
 -- `end_at` meets its contract: what it reads, read by read.
 use Rattle.plan_search.proofs.Laws.Between.{end_read}
-use borrow.Author.Rules.{rules}
 use Rattle.plan_search.proofs.delay.end_at.Goals as goal
 
 pub returns : goal.returns

@@ -1,9 +1,8 @@
 -- `settled` meets its contract: each return by its test.
 use native.Mathlib.Omega.{arith}
-use mathlib.Core.Path.{sym, ◌∙◌}
+use mathlib.Core.Path.{sym}
 use borrow.Author.Tests.{eq-eqb, ne_eqb}
 use Rattle.plan_search.proofs.Laws.Held.{settled_on, settled_off}
-use borrow.Author.Rules.{rules}
 use Rattle.plan_search.proofs.delay.settled.Goals as goal
 
 -- not active

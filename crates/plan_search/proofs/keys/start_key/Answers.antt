@@ -3,7 +3,6 @@ use Prim.Native.Nat.{◌*◌}
 use mathlib.Core.Path.{ap}
 use borrow.Author.Tests.{eq-eqb, ne_eqb}
 use Rattle.plan_search.specs.Keys.{start_key}
-use borrow.Author.Rules.{rules}
 use Rattle.plan_search.proofs.keys.start_key.Goals as goal
 
 -- both ends active

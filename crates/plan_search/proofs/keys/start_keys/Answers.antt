@@ -1,13 +1,10 @@
 -- `start_keys` meets its contract: it stores at rising places.
-use Prim.Native.Nat.{◌≤◌, ◌-◌}
-use mathlib.Core.Path.{◌≡◌, refl, ap, ◌∙◌}
-use lib.ListN.{length}
+use Prim.Native.Nat.{◌-◌}
+use mathlib.Core.Path.{refl, ◌∙◌}
 use Rattle.base_buffer.specs.Store.{remade}
-use Rattle.base_buffer.proofs.Laws.Store.{length_remade, remade_more, remade_end}
-use Rattle.plan_search.specs.Keys.{start_key_of}
+use Rattle.base_buffer.proofs.Laws.Store.{remade_more, remade_end}
 use Rattle.plan_search.proofs.Laws.Keys.{key_read}
 use native.Mathlib.Omega.{arith}
-use borrow.Author.Rules.{rules}
 use Rattle.plan_search.proofs.keys.start_keys.Goals as goal
 
 pub loop-e-init : goal.loop-e-init
@@ -15,13 +12,12 @@ unfolding remade
 loop-e-init c = (omega arith, refl)
 
 pub loop-e-preserved : goal.loop-e-preserved
-loop-e-preserved c =
-    (
-      omega arith,
-      c.put64.ensures
-          ∙ remade_more _ _ _ _ _ c.loop-e.invariant.1
-          (key_read _ _ _ _ _ c.at32.ensures c.index32.ensures c.at8-first.ensures c.at32-in-loop-e.ensures c.index32-in-loop-e.ensures c.at8-second.ensures c.at32-in-loop-e-2.ensures c.start_key-key.ensures),
-    )
+loop-e-preserved c = (
+  omega arith,
+  c.put64.ensures
+      ∙ remade_more _ _ _ _ _ c.loop-e.invariant.1
+      (key_read _ _ _ _ _ c.at32.ensures c.index32.ensures c.at8-first.ensures c.at32-in-loop-e.ensures c.index32-in-loop-e.ensures c.at8-second.ensures c.at32-in-loop-e-2.ensures c.start_key-key.ensures),
+)
 
 pub returns : goal.returns
 returns c = c.loop-e.invariant.1 ∙ remade_end _ _ _ _ (omega arith) (omega arith)

@@ -1,13 +1,9 @@
 -- `start_keys` meets its contract: it stores at rising places.
 use Prim.Native.Nat.{◌≤◌, ◌-◌}
-use mathlib.Core.Path.{◌≡◌, refl, ap, ◌∙◌}
+use mathlib.Core.Path.{◌≡◌}
 use lib.ListN.{length}
 use Rattle.base_buffer.specs.Store.{remade}
-use Rattle.base_buffer.proofs.Laws.Store.{length_remade, remade_more, remade_end}
 use Rattle.plan_search.specs.Keys.{start_key_of}
-use Rattle.plan_search.proofs.Laws.Keys.{key_read}
-use native.Mathlib.Omega.{arith}
-use borrow.Author.Rules.{rules}
 use Rattle.plan_search.proofs.keys.start_keys.Given as goal
 
 abbrev pub invariant-loop-e : goal.invariant-loop-e

@@ -4,7 +4,6 @@ use Rattle.plan_search.specs.Scan.{limit_of}
 use Rattle.plan_search.proofs.Laws.Scan.{capped_small}
 use Rattle.plan_search.specs.Between.{winner_in}
 use native.Mathlib.Omega.{arith}
-use borrow.Author.Rules.{rules}
 use Rattle.plan_search.proofs.limit.limit_of.Goals as goal
 
 -- no candidate so far

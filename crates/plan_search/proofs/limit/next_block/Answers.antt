@@ -1,9 +1,7 @@
 -- `next_block` meets its contract: what is found from b on is what is found from the start.
 use Prim.Native.Nat.{◌-◌}
-use mathlib.Core.Path.{◌≡◌, refl, sym, ◌∙◌}
-use Rattle.plan_search.specs.Scan.{next_block}
+use mathlib.Core.Path.{refl, sym, ◌∙◌}
 use Rattle.plan_search.proofs.Laws.Loops.{next_here, next_on, next_end}
-use borrow.Author.Rules.{rules}
 use native.Mathlib.Omega.{arith}
 use Rattle.plan_search.proofs.limit.next_block.Goals as goal
 

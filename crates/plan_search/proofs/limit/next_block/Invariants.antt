@@ -1,10 +1,7 @@
 -- `next_block` meets its contract: what is found from b on is what is found from the start.
 use Prim.Native.Nat.{◌-◌}
-use mathlib.Core.Path.{◌≡◌, refl, sym, ◌∙◌}
+use mathlib.Core.Path.{◌≡◌}
 use Rattle.plan_search.specs.Scan.{next_block}
-use Rattle.plan_search.proofs.Laws.Loops.{next_here, next_on, next_end}
-use borrow.Author.Rules.{rules}
-use native.Mathlib.Omega.{arith}
 use Rattle.plan_search.proofs.limit.next_block.Given as goal
 
 abbrev pub invariant-loop-b : goal.invariant-loop-b

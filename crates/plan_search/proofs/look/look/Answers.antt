@@ -3,7 +3,6 @@ use mathlib.Core.Path.{◌∙◌}
 use Rattle.plan_search.specs.Tables.{tables_from}
 use Rattle.plan_search.proofs.Laws.Scan.{capped_small}
 use Rattle.plan_search.proofs.Laws.Tables.{best_read, keys_read}
-use borrow.Author.Rules.{rules}
 use Rattle.plan_search.proofs.look.look.Goals as goal
 
 pub note_edge-requires : goal.note_edge-requires

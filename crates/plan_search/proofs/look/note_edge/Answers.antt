@@ -6,7 +6,6 @@ use Rattle.plan_search.specs.Between.{slack_between, winner_in}
 use Rattle.plan_search.proofs.Laws.Between.{better_never, better_inside, delay_apart}
 use Rattle.plan_search.proofs.Laws.Tables.{better_resting, key_inside, key_resting, key_apart, reach_le}
 use native.Mathlib.Omega.{arith}
-use borrow.Author.Rules.{rules}
 use Rattle.plan_search.proofs.look.note_edge.Goals as goal
 
 -- inside a component

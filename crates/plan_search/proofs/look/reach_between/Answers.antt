@@ -1,6 +1,5 @@
 -- `reach_between` meets its contract: each return by the ends that led there.
 use Rattle.plan_search.proofs.Laws.Tables.{reach_first, reach_second, reach_neither}
-use borrow.Author.Rules.{rules}
 use Rattle.plan_search.proofs.look.reach_between.Goals as goal
 
 pub returns-then-alone_at : goal.returns-then-alone_at

@@ -1,6 +1,5 @@
 -- `alone_at` meets its contract: the flag decides, and then the number.
 use Rattle.plan_search.proofs.Laws.Tables.{alone_active, alone_idle}
-use borrow.Author.Rules.{rules}
 use Rattle.plan_search.proofs.rest.alone_at.Goals as goal
 
 -- active

@@ -1,6 +1,5 @@
 -- `rests_between` meets its contract: the one end, and then the other.
 use Rattle.plan_search.proofs.Laws.Tables.{rests_second, rests_not}
-use borrow.Author.Rules.{rules}
 use Rattle.plan_search.proofs.rest.rests_between.Goals as goal
 
 pub returns-then-alone_at : goal.returns-then-alone_at

@@ -1,12 +1,9 @@
 -- `has_end` meets its contract: one end more is compared at each turn.
-use Prim.Native.Nat.{◌-◌, ◌≤◌}
+use Prim.Native.Nat.{◌-◌}
 use native.Mathlib.Omega.{arith}
-use mathlib.Core.Path.{◌≡◌, refl}
-use lib.ListN.{length, get_or}
-use lib.Dec.{eqb}
+use mathlib.Core.Path.{refl}
 use Rattle.base_finite.specs.Below.{counted, any_below}
 use Rattle.plan_wake.specs.Laws.Loops.{found_more, found_end}
-use borrow.Author.Rules.{rules}
 use Rattle.plan_wake.proofs.ends.has_end.Goals as goal
 
 pub loop-i-init : goal.loop-i-init

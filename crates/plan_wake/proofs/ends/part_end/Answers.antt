@@ -1,6 +1,5 @@
 -- `part_end_law` meets its contract: a whole part, or what is left.
 use mathlib.Core.Path.{refl}
-use borrow.Author.Rules.{rules}
 use borrow.Author.Tests.{lt-ltb, le-ltb}
 use Rattle.plan_wake.specs.Wake.{part_end}
 use Rattle.plan_wake.proofs.ends.part_end.Goals as goal

@@ -1,7 +1,6 @@
 -- `wake_edge` meets its contract: the key is stored and the floor lowered, or nothing is.
 use Rattle.plan_wake.specs.Wake.{ends_at, notes_from, woken_key}
 use Rattle.plan_wake.specs.Laws.Loops.{edge_woken, edge_left}
-use borrow.Author.Rules.{rules}
 use Rattle.plan_wake.proofs.ends.wake_edge.Goals as goal
 
 pub returns-then-ends_at : goal.returns-then-ends_at

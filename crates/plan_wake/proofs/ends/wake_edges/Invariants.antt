@@ -1,9 +1,7 @@
 -- `wake_edges` meets its contract: one edge more at each turn.
 use Prim.Native.Nat.{◌-◌}
-use native.Mathlib.Omega.{arith}
 use Rattle.plan_wake.specs.Wake.{ends_at, notes_from, woken_key}
-use Rattle.plan_wake.specs.Laws.Loops.{Waking, waking_start, waking_more, waking_long, waking_end}
-use borrow.Author.Rules.{rules}
+use Rattle.plan_wake.specs.Laws.Loops.{Waking}
 use Rattle.plan_wake.proofs.ends.wake_edges.Given as goal
 
 abbrev pub invariant-loop-e : goal.invariant-loop-e

@@ -1,10 +1,7 @@
 -- `wake_ends` meets its contract: part after part.
 use Prim.Native.Nat.{◌-◌}
 use native.Mathlib.Omega.{arith}
-use mathlib.Core.Path.{◌∙◌}
-use Rattle.plan_wake.specs.Wake.{ends_at, notes_from, woken_key}
-use Rattle.plan_wake.specs.Laws.Loops.{WakingParts, parts_start, parts_more, parts_end, least_le, part_within, parts_long}
-use borrow.Author.Rules.{rules}
+use Rattle.plan_wake.specs.Laws.Loops.{parts_start, parts_more, parts_end, least_le, part_within}
 use Rattle.plan_wake.proofs.ends.wake_ends.Goals as goal
 
 pub loop-from-init : goal.loop-from-init

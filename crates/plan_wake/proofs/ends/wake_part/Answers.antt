@@ -1,7 +1,6 @@
 -- `wake_part` meets its contract: a part with c at no end has no edge to wake.
 use Rattle.plan_wake.specs.Wake.{notes_from, woken_key}
 use Rattle.plan_wake.specs.Laws.Loops.{part_left}
-use borrow.Author.Rules.{rules}
 use Rattle.plan_wake.proofs.ends.wake_part.Goals as goal
 
 -- some end

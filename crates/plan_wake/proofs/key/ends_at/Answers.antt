@@ -1,6 +1,5 @@
 -- `ends_at` meets its contract: the first end decides, and then the second.
 use Rattle.plan_wake.specs.Laws.Loops.{ends_first, ends_second}
-use borrow.Author.Rules.{rules}
 use Rattle.plan_wake.proofs.key.ends_at.Goals as goal
 
 pub returns-then-at32-c : goal.returns-then-at32-c

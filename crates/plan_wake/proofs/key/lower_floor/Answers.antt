@@ -1,6 +1,5 @@
 -- `lower_floor` meets its contract: the key is stored where it is lower.
 use Rattle.plan_wake.specs.Laws.Wake.{lowered_falls, lowered_stays}
-use borrow.Author.Rules.{rules}
 use Rattle.plan_wake.proofs.key.lower_floor.Goals as goal
 
 pub returns-then-key-at64 : goal.returns-then-key-at64

@@ -1,6 +1,5 @@
 -- `add_figured` meets its contract.
 use mathlib.Core.Path.{ap}
-use borrow.Author.Rules.{rules}
 use Rattle.plan_rule.specs.Figures.{figured_outcome}
 use Rattle.season_rule.specs.Figures.{figures_of, cost_of}
 use Rattle.season_core.specs.Laws.Room.{by_outcome}

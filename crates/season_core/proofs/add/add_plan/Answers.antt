@@ -1,7 +1,6 @@
 -- `add_plan` meets its contract.
 use native.Mathlib.Omega.{arith}
 use mathlib.Core.Path.{sym, ◌∙◌}
-use borrow.Author.Rules.{rules}
 use Rattle.season_core.specs.Laws.Room.{plan_refusal_law, plan_fits, unchanged, plan_after}
 use Rattle.season_core.proofs.add.add_plan.Goals as goal
 

@@ -1,7 +1,6 @@
 -- `add_refusal` meets its contract.
 use native.Mathlib.Omega.{arith}
 use mathlib.Core.Path.{sym, ap, ◌∙◌}
-use borrow.Author.Rules.{rules}
 use Rattle.season_core.specs.Room.{count_refusal}
 use Rattle.season_core.specs.Laws.Room.{count_refusal_law, count_fits, unchanged, refusal_after}
 use Rattle.season_core.proofs.add.add_refusal.Goals as goal

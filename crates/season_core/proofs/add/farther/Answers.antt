@@ -1,5 +1,4 @@
 -- `farther` meets its contract.
-use borrow.Author.Rules.{rules}
 use Rattle.season_core.specs.Laws.Farther.{none_farther, first_farther, above_farther, under_farther}
 use Rattle.season_core.proofs.add.farther.Goals as goal
 

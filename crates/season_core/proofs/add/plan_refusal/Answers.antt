@@ -1,7 +1,6 @@
 -- `plan_refusal` meets its contract: by the surveys, then by each sum.
 use native.Mathlib.Omega.{arith}
 use Prim.Native.Nat.{◌+◌}
-use borrow.Author.Rules.{rules}
 use borrow.Author.Tests.{le-leb, lt-leb}
 use Rattle.base_limits.specs.Verdict.{refuse_if}
 use Rattle.season_rule.specs.Report.{max_surveys, word_limit}

@@ -5,7 +5,6 @@ use lib.ListN.{length}
 use Rattle.format_write.specs.Wrote.{farthest}
 use Rattle.format_print.specs.Laws.Print.{short_prints, fit_prints}
 use Rattle.season_rule.specs.Text.{report_text}
-use borrow.Author.Rules.{rules}
 use Rattle.season_core.proofs.print.print_report.Goals as goal
 
 -- 7: the buffer is short

@@ -6,7 +6,6 @@ use Rattle.format_write.specs.Wrote.{farthest}
 use Rattle.format_write.proofs.Laws.Wrote.{wrote_then, wrote_as}
 use Rattle.season_rule.specs.Text.{far_key}
 use Rattle.season_core.specs.Laws.Lines.{triple_line}
-use borrow.Author.Rules.{rules}
 use Rattle.season_core.proofs.print.put_at.Goals as goal
 
 pub returns : goal.returns

@@ -2,7 +2,6 @@
 use Rattle.format_write.specs.Key.{refused_key}
 use Rattle.format_write.proofs.Laws.Wrote.{wrote_none, wrote_as}
 use Rattle.season_core.specs.Laws.Lines.{met_line, no_line_law}
-use borrow.Author.Rules.{rules}
 use Rattle.season_core.proofs.print.put_count.Goals as goal
 
 -- met

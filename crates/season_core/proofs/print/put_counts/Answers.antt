@@ -4,7 +4,7 @@ use native.Mathlib.Omega.{arith}
 use mathlib.Core.Path.{◌≡◌, ap, sym}
 use lib.ListN.{length, get_or}
 use Rattle.format_write.specs.Text.{text_below}
-use Rattle.format_write.specs.Wrote.{farthest, Wrote}
+use Rattle.format_write.specs.Wrote.{farthest}
 use Rattle.format_write.proofs.Laws.Wrote.{wrote_none, wrote_length, wrote_then, wrote_as}
 use Rattle.format_write.proofs.Laws.Text.{text_none, text_next}
 use Rattle.season_rule.specs.Text.{refused_line, refused_lines}

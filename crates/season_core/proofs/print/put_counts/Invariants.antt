@@ -1,14 +1,9 @@
 -- `put_counts`: what is written so far are the lines of the numbers below k.
 use Prim.Native.Nat.{◌≤◌, ◌-◌}
-use native.Mathlib.Omega.{arith}
-use mathlib.Core.Path.{◌≡◌, ap, sym}
 use lib.ListN.{length, get_or}
 use Rattle.format_write.specs.Text.{text_below}
-use Rattle.format_write.specs.Wrote.{farthest, Wrote}
-use Rattle.format_write.proofs.Laws.Wrote.{wrote_none, wrote_length, wrote_then, wrote_as}
-use Rattle.format_write.proofs.Laws.Text.{text_none, text_next}
-use Rattle.season_rule.specs.Text.{refused_line, refused_lines}
-use borrow.Author.Rules.{rules}
+use Rattle.format_write.specs.Wrote.{Wrote}
+use Rattle.season_rule.specs.Text.{refused_line}
 use Rattle.season_core.proofs.print.put_counts.Given as goal
 
 abbrev pub invariant-loop-k : goal.invariant-loop-k

@@ -2,7 +2,6 @@
 use mathlib.Core.Path.{ap, sym}
 use Rattle.format_write.proofs.Laws.Wrote.{wrote_as}
 use Rattle.season_rule.specs.Text.{far_key, none_word, far_line}
-use borrow.Author.Rules.{rules}
 use Rattle.season_core.proofs.print.put_far.Goals as goal
 
 -- none

@@ -5,7 +5,6 @@ use lib.ListN.{length}
 use Rattle.format_write.specs.Wrote.{farthest}
 use Rattle.format_write.proofs.Laws.Wrote.{wrote_then, wrote_as}
 use Rattle.season_core.specs.Laws.Lines.{pair_line}
-use borrow.Author.Rules.{rules}
 use Rattle.season_core.proofs.print.put_pair.Goals as goal
 
 pub returns : goal.returns

@@ -6,7 +6,6 @@ use Rattle.format_write.specs.Wrote.{farthest}
 use Rattle.format_write.proofs.Laws.Wrote.{wrote_then}
 use Rattle.format_write.specs.Key.{cost_key, bound_key}
 use Rattle.season_rule.specs.Text.{planned_key, report_text}
-use borrow.Author.Rules.{rules}
 use Rattle.season_core.proofs.print.put_report.Goals as goal
 
 pub returns : goal.returns

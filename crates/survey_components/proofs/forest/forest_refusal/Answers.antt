@@ -4,7 +4,6 @@ use Rattle.base_limits.specs.Laws.Verdict.{passed_on}
 use Rattle.survey_core.specs.Survey.{survey_from}
 use Rattle.survey_components.specs.Forest.{forest_refusal}
 use Rattle.survey_components.specs.Laws.Forest.{marks_uneven, marks_even, ends_below}
-use borrow.Author.Rules.{rules}
 use Rattle.survey_components.proofs.forest.forest_refusal.Goals as goal
 
 -- 1 to 6

@@ -1,7 +1,6 @@
 -- `join_picked` meets its contract: a branch on whether the edge is picked, and one on whether it closes a loop.
 use mathlib.Core.Path.{sym, ◌∙◌}
 use Rattle.base_limits.specs.Laws.Verdict.{refuse_true, refuse_false}
-use borrow.Author.Rules.{rules}
 use Rattle.survey_components.proofs.forest.join_picked.Goals as goal
 
 -- 21

@@ -1,12 +1,10 @@
 -- `loop_refusal` meets its contract: a scan of the picked tracks, which leaves the trees whose roots decide about the groups.
 use Prim.Native.Nat.{◌-◌}
-use mathlib.Core.Path.{refl, sym, ◌∙◌}
-use lib.ListN.{length}
+use mathlib.Core.Path.{refl, ◌∙◌}
 use Rattle.base_limits.specs.Limits.{max_vertices}
 use Rattle.base_buffer.proofs.Laws.Store.{remade_table}
-use Rattle.survey_components.specs.Laws.Forest.{Joining, joining_start, joining_found, joining_turn, joining_long, joining_end}
+use Rattle.survey_components.specs.Laws.Forest.{joining_start, joining_found, joining_turn, joining_long, joining_end}
 use native.Mathlib.Omega.{arith}
-use borrow.Author.Rules.{rules}
 use Rattle.survey_components.proofs.forest.loop_refusal.Goals as goal
 
 pub loop-e-init : goal.loop-e-init

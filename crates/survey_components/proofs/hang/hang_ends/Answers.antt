@@ -1,6 +1,4 @@
 -- `hang_ends` meets its contract: two climbs, then one root hangs on the other.
-use mathlib.Core.Path.{sym, ◌∙◌}
-use borrow.Author.Rules.{rules}
 use Rattle.survey_components.specs.Roots.{climbed_twice, ends_hung, one_root}
 use Rattle.survey_components.proofs.hang.hang_ends.Goals as goal
 

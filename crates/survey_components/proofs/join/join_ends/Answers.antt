@@ -1,6 +1,5 @@
 -- `join_ends` meets its contract: a branch on what the two vertices hang on.
 use Rattle.survey_components.specs.Laws.Met.{met_one, met_hung}
-use borrow.Author.Rules.{rules}
 use Rattle.survey_components.proofs.join.join_ends.Goals as goal
 
 pub returns-then-up-at32 : goal.returns-then-up-at32

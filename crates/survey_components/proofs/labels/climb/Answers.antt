@@ -1,10 +1,8 @@
 -- `climb` meets its contract: before each turn what is left of the climb is that from x.
-use Prim.Native.Nat.{◌≤◌, ◌-◌}
-use mathlib.Core.Path.{◌≡◌, refl, ap, ◌∙◌}
-use lib.ListN.{length}
+use Prim.Native.Nat.{◌-◌}
+use mathlib.Core.Path.{refl, ap, ◌∙◌}
 use native.Mathlib.Omega.{arith}
-use borrow.Author.Rules.{rules}
-use Rattle.survey_components.specs.Roots.{Climbed, climbed}
+use Rattle.survey_components.specs.Roots.{Climbed}
 use Rattle.survey_components.specs.Laws.Roots.{climb_start, climb_out, climb_found, climb_turn}
 use Rattle.survey_components.proofs.labels.climb.Goals as goal
 

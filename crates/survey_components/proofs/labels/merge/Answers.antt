@@ -1,5 +1,4 @@
 -- `merge` meets its contract: the two labels are read, then relabelled.
-use borrow.Author.Rules.{rules}
 use Rattle.survey_components.proofs.labels.merge.Goals as goal
 
 pub returns : goal.returns

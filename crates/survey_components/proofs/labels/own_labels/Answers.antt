@@ -1,12 +1,9 @@
 -- `own_labels` meets its contract: it stores at rising places.
-use Prim.Native.Nat.{◌≤◌, ◌-◌}
-use mathlib.Core.Path.{◌≡◌, refl, ap, ◌∙◌}
-use lib.ListN.{length}
-use Rattle.base_limits.specs.Limits.{max_vertices}
+use Prim.Native.Nat.{◌-◌}
+use mathlib.Core.Path.{refl, ◌∙◌}
 use Rattle.base_buffer.specs.Store.{remade}
-use Rattle.base_buffer.proofs.Laws.Store.{length_remade, remade_more, remade_end}
+use Rattle.base_buffer.proofs.Laws.Store.{remade_more, remade_end}
 use native.Mathlib.Omega.{arith}
-use borrow.Author.Rules.{rules}
 use Rattle.survey_components.proofs.labels.own_labels.Goals as goal
 
 pub loop-v-init : goal.loop-v-init

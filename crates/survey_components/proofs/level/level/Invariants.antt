@@ -1,11 +1,8 @@
 -- `level` meets its contract: before each turn the vertices below v hang on their roots.
 use Prim.Native.Nat.{◌≤◌, ◌-◌}
-use mathlib.Core.Path.{◌≡◌, refl, ap, ◌∙◌}
+use mathlib.Core.Path.{◌≡◌}
 use lib.ListN.{length}
-use native.Mathlib.Omega.{arith}
-use borrow.Author.Rules.{rules}
 use Rattle.survey_components.specs.Roots.{levelled}
-use Rattle.survey_components.specs.Laws.Roots.{level_turn, level_end}
 use Rattle.survey_components.proofs.level.level.Given as goal
 
 abbrev pub invariant-loop-v : goal.invariant-loop-v

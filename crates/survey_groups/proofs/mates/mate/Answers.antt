@@ -1,7 +1,6 @@
 -- `mate` meets its contract: each return by its test.
 use mathlib.Core.Path.{sym}
 use native.Mathlib.Omega.{arith}
-use borrow.Author.Rules.{rules}
 use Rattle.survey_groups.specs.Laws.Mate.{mate_none, mate_some}
 use Rattle.survey_groups.proofs.mates.mate.Goals as goal
 

@@ -1,16 +1,10 @@
 -- `mates` meets its contract: before each turn the table holds the last members below v, and the mates below v are stored; from the end of the groups on each is its own.
 use Prim.Native.Nat.{◌≤◌, ◌-◌}
-use mathlib.Core.Path.{◌≡◌, refl, ap, sym, ◌∙◌}
-use lib.ListN.{length}
-use native.Mathlib.Omega.{arith}
-use borrow.Author.Rules.{rules}
+use mathlib.Core.Path.{◌≡◌}
 use Rattle.base_finite.specs.Below.{tabulate}
-use Rattle.base_finite.specs.Laws.Below.{length_tabulate}
 use Rattle.base_limits.specs.Limits.{max_vertices, group_numbers}
 use Rattle.base_buffer.specs.Store.{remade}
-use Rattle.base_buffer.proofs.Laws.Store.{remade_more, replicate_table}
 use Rattle.survey_groups.specs.Mate.{last_below, mate_of}
-use Rattle.survey_groups.specs.Laws.Mate.{last_none, last_step, mate_read, mate_past, mates_stored}
 use Rattle.survey_groups.proofs.mates.mates.Given as goal
 
 abbrev pub invariant-loop-v : goal.invariant-loop-v

@@ -1,6 +1,5 @@
 -- `note_last` meets its contract: no group, no change; else one store.
 use borrow.Author.Tests.{eq-eqb, ne_eqb}
-use borrow.Author.Rules.{rules}
 use Rattle.survey_groups.specs.Mate.{last_in}
 use Rattle.survey_groups.proofs.mates.note_last.Goals as goal
 

@@ -1,9 +1,8 @@
 -- `own_mates` meets its contract: it stores at rising places.
-use Prim.Native.Nat.{ℕ, ◌≤◌, ◌-◌}
-use mathlib.Core.Path.{◌≡◌, refl}
+use Prim.Native.Nat.{ℕ, ◌-◌}
+use mathlib.Core.Path.{refl}
 use lib.ListN.{length-replicate}
 use native.Mathlib.Omega.{arith}
-use borrow.Author.Rules.{rules}
 use Rattle.base_limits.specs.Limits.{max_vertices}
 use Rattle.base_buffer.specs.Store.{remade}
 use Rattle.base_buffer.proofs.Laws.Store.{remade_more, stored_table}

@@ -1,7 +1,6 @@
 -- `is_separating` meets its contract: a set separates exactly if its sides, as labels, split a group.
 use native.Mathlib.Omega.{arith}
 use mathlib.Core.Path.{sym, ◌∙◌}
-use borrow.Author.Rules.{rules}
 use Rattle.survey_core.specs.Survey.{groups_alone}
 use Rattle.survey_core.proofs.Laws.Group.{plain_bytes}
 use Rattle.survey_groups.specs.Laws.Cut.{whole_separates_none, parted_separates}

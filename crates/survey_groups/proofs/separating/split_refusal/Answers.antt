@@ -5,7 +5,6 @@ use Rattle.base_finite.specs.Laws.Below.{length_tabulate}
 use Rattle.base_limits.specs.Limits.{group_numbers}
 use Rattle.survey_groups.specs.Laws.Spread.{split_lowest}
 use Rattle.survey_core.specs.Survey.{vertex_count}
-use borrow.Author.Rules.{rules}
 use Rattle.survey_groups.proofs.separating.split_refusal.Goals as goal
 
 pub slice_bounds-first_split-end : goal.slice_bounds-first_split-end

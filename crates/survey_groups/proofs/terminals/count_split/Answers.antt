@@ -1,12 +1,11 @@
 -- `count_split` meets its contract: it counts upwards.
-use Prim.Native.Nat.{◌≤◌, ◌-◌}
+use Prim.Native.Nat.{◌-◌}
 use mathlib.Core.Path.{◌≡◌, refl}
-use lib.ListN.{length, get_or}
+use lib.ListN.{get_or}
 use lib.Dec.{eqb}
 use Rattle.base_finite.specs.Below.{counted, count_below}
 use Rattle.base_finite.specs.Laws.Count.{count_more, count_end, count_bound}
 use native.Mathlib.Omega.{arith}
-use borrow.Author.Rules.{rules}
 use Rattle.survey_groups.proofs.terminals.count_split.Goals as goal
 
 step : (c : goal.After-one_if_split-count)

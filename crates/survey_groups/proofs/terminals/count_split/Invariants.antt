@@ -1,12 +1,9 @@
 -- `count_split` meets its contract: it counts upwards.
 use Prim.Native.Nat.{◌≤◌, ◌-◌}
-use mathlib.Core.Path.{◌≡◌, refl}
+use mathlib.Core.Path.{◌≡◌}
 use lib.ListN.{length, get_or}
 use lib.Dec.{eqb}
-use Rattle.base_finite.specs.Below.{counted, count_below}
-use Rattle.base_finite.specs.Laws.Count.{count_more, count_end, count_bound}
-use native.Mathlib.Omega.{arith}
-use borrow.Author.Rules.{rules}
+use Rattle.base_finite.specs.Below.{count_below}
 use Rattle.survey_groups.proofs.terminals.count_split.Given as goal
 
 abbrev pub invariant-loop-v : goal.invariant-loop-v

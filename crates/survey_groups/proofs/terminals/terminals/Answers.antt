@@ -6,7 +6,6 @@ use Rattle.base_limits.specs.Limits.{group_numbers}
 use Rattle.survey_groups.specs.Laws.Spread.{split_terminals}
 use Rattle.survey_core.specs.Survey.{vertex_count}
 use native.Mathlib.Omega.{arith}
-use borrow.Author.Rules.{rules}
 use Rattle.survey_groups.proofs.terminals.terminals.Goals as goal
 
 pub slice_bounds-count_split-end : goal.slice_bounds-count_split-end

@@ -1,11 +1,8 @@
 -- `home` meets its contract: the own group, or the first pair that the search finds.
 use Prim.Native.Nat.{◌-◌}
-use native.Mathlib.Omega.{arith}
-use mathlib.Core.Path.{sym, ◌∙◌}
 use lib.ListN.{length}
-use borrow.Author.Rules.{rules}
 use Rattle.survey_core.specs.Lists.{lists_from}
-use Rattle.survey_lists.proofs.Laws.Home.{home_own, Homeless, homeless_start, homeless_turn, homeless_found, homeless_end}
+use Rattle.survey_lists.proofs.Laws.Home.{Homeless}
 use Rattle.survey_lists.proofs.homes.home.Given as goal
 
 abbrev pub invariant-loop-i : goal.invariant-loop-i

@@ -5,9 +5,7 @@ use mathlib.Core.Path.{ap, sym, ◌∙◌}
 use lib.ListN.{length}
 use Rattle.base_finite.specs.Laws.Below.{length_tabulate}
 use Rattle.base_limits.specs.Limits.{max_vertices}
-use borrow.Author.Rules.{rules}
-use Rattle.survey_core.specs.Lists.{lists_from}
-use Rattle.survey_lists.proofs.Laws.Room.{Housed, housed_start, housed_turn, housed_end}
+use Rattle.survey_lists.proofs.Laws.Room.{housed_start, housed_turn, housed_end}
 use Rattle.survey_lists.proofs.homes.homes.Goals as goal
 
 pub loop-i-init : goal.loop-i-init

@@ -1,7 +1,6 @@
 -- `note_home` meets its contract: a vertex past the table or with a home stays, another gets one.
 use native.Mathlib.Omega.{arith}
 use mathlib.Core.Path.{sym, ◌∙◌}
-use borrow.Author.Rules.{rules}
 use Rattle.survey_lists.proofs.Laws.Room.{home_past, home_kept, home_noted}
 use Rattle.survey_lists.proofs.homes.note_home.Goals as goal
 

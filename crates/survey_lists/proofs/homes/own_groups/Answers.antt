@@ -1,10 +1,8 @@
 -- `own_groups` meets its contract: it stores at rising places.
 use Prim.Native.Nat.{◌-◌}
-use native.Mathlib.Omega.{arith}
 use mathlib.Core.Path.{ap, sym, ◌∙◌}
-use lib.ListN.{length, get_or}
-use borrow.Author.Rules.{rules}
-use Rattle.survey_lists.proofs.Laws.Room.{length_room, Filled, filled_start, filled_turn, filled_end}
+use lib.ListN.{length}
+use Rattle.survey_lists.proofs.Laws.Room.{length_room, filled_start, filled_turn, filled_end}
 use Rattle.survey_lists.proofs.homes.own_groups.Goals as goal
 
 pub loop-v-init : goal.loop-v-init

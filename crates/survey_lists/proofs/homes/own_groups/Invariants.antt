@@ -1,10 +1,7 @@
 -- `own_groups` meets its contract: it stores at rising places.
 use Prim.Native.Nat.{◌-◌}
-use native.Mathlib.Omega.{arith}
-use mathlib.Core.Path.{ap, sym, ◌∙◌}
 use lib.ListN.{length, get_or}
-use borrow.Author.Rules.{rules}
-use Rattle.survey_lists.proofs.Laws.Room.{length_room, Filled, filled_start, filled_turn, filled_end}
+use Rattle.survey_lists.proofs.Laws.Room.{Filled}
 use Rattle.survey_lists.proofs.homes.own_groups.Given as goal
 
 abbrev pub invariant-loop-v : goal.invariant-loop-v

@@ -1,6 +1,5 @@
 -- `pair_of` meets its contract: a branch on the vertex of the pair.
 use mathlib.Core.Path.{sym, ◌∙◌}
-use borrow.Author.Rules.{rules}
 use Rattle.survey_lists.proofs.Laws.Home.{pair_taken, pair_passed}
 use Rattle.survey_lists.proofs.homes.pair_of.Goals as goal
 

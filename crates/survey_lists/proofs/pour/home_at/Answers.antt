@@ -1,5 +1,4 @@
 -- `home_at` meets its contract: from the table, or by the search.
-use borrow.Author.Rules.{rules}
 use Rattle.survey_lists.proofs.Laws.Room.{home_read}
 use Rattle.survey_lists.proofs.pour.home_at.Goals as goal
 

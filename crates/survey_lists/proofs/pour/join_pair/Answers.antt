@@ -1,6 +1,5 @@
 -- `join_pair` meets its contract: the home's label takes the place of both.
 use mathlib.Core.Path.{ap, ◌∙◌}
-use borrow.Author.Rules.{rules}
 use Rattle.survey_core.specs.Lists.{lists_from}
 use Rattle.survey_lists.specs.Pouring.{home}
 use Rattle.survey_core.proofs.Laws.Pairs.{own_read}

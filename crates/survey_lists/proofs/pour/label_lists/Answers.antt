@@ -5,9 +5,7 @@ use mathlib.Core.Path.{ap, sym, ◌∙◌}
 use lib.ListN.{length, replicate, length-replicate}
 use Rattle.base_finite.specs.Laws.Below.{length_tabulate}
 use Rattle.base_limits.specs.Limits.{group_numbers}
-use borrow.Author.Rules.{rules}
-use Rattle.survey_core.specs.Lists.{lists_from}
-use Rattle.survey_lists.proofs.Laws.Room.{Labelled, labelled_start, labelled_turn, labelled_end}
+use Rattle.survey_lists.proofs.Laws.Room.{labelled_start, labelled_turn, labelled_end}
 use Rattle.survey_lists.proofs.pour.label_lists.Goals as goal
 
 pub loop-i-init : goal.loop-i-init

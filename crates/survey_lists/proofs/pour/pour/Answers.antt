@@ -1,5 +1,4 @@
 -- `pour` meets its contract: without pairs nothing is poured.
-use borrow.Author.Rules.{rules}
 use Rattle.survey_core.specs.Lists.{lists_from}
 use Rattle.survey_lists.proofs.Laws.Room.{unpaired_room}
 use Rattle.survey_lists.proofs.pour.pour.Goals as goal

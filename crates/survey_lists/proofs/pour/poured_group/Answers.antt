@@ -1,7 +1,6 @@
 -- `poured_group` meets its contract: the label of the home, which is a byte.
 use native.Mathlib.Omega.{arith}
 use mathlib.Core.Path.{◌≡◌, ◌∙◌}
-use borrow.Author.Rules.{rules}
 use Rattle.survey_core.specs.Lists.{lists_from}
 use Rattle.survey_lists.specs.Pouring.{poured}
 use Rattle.survey_core.proofs.Laws.Pairs.{own_read}
@@ -12,8 +11,6 @@ use Rattle.survey_lists.proofs.pour.poured_group.Goals as goal
 -- The label that was read.
 read : (c : goal.After-at32) → c.at32.result ≡ poured (lists_from c.args.groups.now c.args.owners.now c.args.others.now) c.args.v
 read c =
-    
-    
     own_read c.args.labels.now (c.index8.ensures ∙ c.home_at-list.ensures) c.at32.ensures
     ∙ label_read
     (lists_from c.args.groups.now c.args.owners.now c.args.others.now)

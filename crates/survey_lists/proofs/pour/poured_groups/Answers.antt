@@ -5,10 +5,7 @@ use mathlib.Core.Path.{ap, sym, ◌∙◌}
 use lib.ListN.{length}
 use Rattle.base_finite.specs.Laws.Below.{length_tabulate}
 use Rattle.base_limits.specs.Limits.{max_vertices, group_numbers}
-use borrow.Author.Rules.{rules}
-use Rattle.survey_core.specs.Lists.{lists_from}
-use Rattle.survey_lists.specs.Pouring.{poured}
-use Rattle.survey_lists.proofs.Laws.Room.{length_room, Filled, filled_start, filled_turn, filled_end}
+use Rattle.survey_lists.proofs.Laws.Room.{length_room, filled_start, filled_turn, filled_end}
 use Rattle.survey_lists.proofs.pour.poured_groups.Goals as goal
 
 pub slice_bounds-label_lists-end : goal.slice_bounds-label_lists-end
@@ -30,7 +27,7 @@ pub slice_bounds-poured_group-end-in-loop-v : goal.slice_bounds-poured_group-end
 slice_bounds-poured_group-end-in-loop-v c = sym (ap length c.label_lists-labels.ensures ∙ length_tabulate group_numbers _)
 
 pub poured_group-requires : goal.poured_group-requires
-poured_group-requires c =  record { homes_value = c.homes-housed.ensures; labels_value = c.label_lists-labels.ensures }
+poured_group-requires c = record { homes_value = c.homes-housed.ensures; labels_value = c.label_lists-labels.ensures }
 
 pub loop-v-smaller : goal.loop-v-smaller
 loop-v-smaller c = omega arith

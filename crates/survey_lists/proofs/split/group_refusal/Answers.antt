@@ -2,7 +2,6 @@
 use mathlib.Core.Path.{sym, ◌∙◌}
 use Rattle.base_limits.specs.Laws.Verdict.{passed_on, goes_on_law}
 use Rattle.survey_core.proofs.Laws.Refusal.{fine_survey}
-use borrow.Author.Rules.{rules}
 use Rattle.survey_lists.proofs.split.group_refusal.Goals as goal
 
 -- 1 to 6 and 18

@@ -5,9 +5,8 @@ use mathlib.Core.Path.{ap, sym, ◌∙◌}
 use lib.ListN.{length, get_or}
 use Rattle.base_finite.specs.Laws.Below.{length_tabulate}
 use Rattle.base_limits.specs.Limits.{group_numbers}
-use borrow.Author.Rules.{rules}
 use Rattle.survey_core.specs.Lists.{lists_from}
-use Rattle.survey_lists.proofs.Laws.Split.{Noted, noted_start, noted_turn, noted_end}
+use Rattle.survey_lists.proofs.Laws.Split.{noted_start, noted_turn, noted_end}
 use Rattle.survey_lists.proofs.split.list_spreads.Goals as goal
 
 pub loop-i-init : goal.loop-i-init

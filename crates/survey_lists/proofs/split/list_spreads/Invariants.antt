@@ -1,13 +1,8 @@
 -- `list_spreads` meets its contract: after i pairs the table holds the own groups and the pairs below i.
 use Prim.Native.Nat.{◌-◌}
-use native.Mathlib.Omega.{arith}
-use mathlib.Core.Path.{ap, sym, ◌∙◌}
 use lib.ListN.{length, get_or}
-use Rattle.base_finite.specs.Laws.Below.{length_tabulate}
-use Rattle.base_limits.specs.Limits.{group_numbers}
-use borrow.Author.Rules.{rules}
 use Rattle.survey_core.specs.Lists.{lists_from}
-use Rattle.survey_lists.proofs.Laws.Split.{Noted, noted_start, noted_turn, noted_end}
+use Rattle.survey_lists.proofs.Laws.Split.{Noted}
 use Rattle.survey_lists.proofs.split.list_spreads.Given as goal
 
 abbrev pub invariant-loop-i : goal.invariant-loop-i

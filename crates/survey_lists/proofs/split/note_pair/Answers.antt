@@ -1,7 +1,5 @@
 -- `note_pair` meets its contract: the pair's group is noted with the label of its vertex.
-use native.Mathlib.Omega.{arith}
 use mathlib.Core.Path.{◌∙◌}
-use borrow.Author.Rules.{rules}
 use Rattle.survey_core.proofs.Laws.Pairs.{own_read}
 use Rattle.survey_lists.proofs.Laws.Split.{noted_by}
 use Rattle.survey_lists.proofs.split.note_pair.Goals as goal

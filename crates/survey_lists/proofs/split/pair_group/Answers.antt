@@ -1,7 +1,6 @@
 -- `pair_group` meets its contract: a branch on the vertex of the pair.
 use native.Mathlib.Omega.{arith}
 use mathlib.Core.Path.{sym, ◌∙◌}
-use borrow.Author.Rules.{rules}
 use Rattle.survey_core.specs.Lists.{lists_from}
 use Rattle.survey_lists.proofs.Laws.Split.{pair_group_law, pair_none}
 use Rattle.survey_lists.proofs.split.pair_group.Goals as goal

@@ -3,7 +3,6 @@ use mathlib.Core.Path.{ap, sym, ◌∙◌}
 use lib.ListN.{length, get_or}
 use Rattle.base_finite.specs.Laws.Below.{length_tabulate}
 use Rattle.base_limits.specs.Limits.{group_numbers}
-use borrow.Author.Rules.{rules}
 use Rattle.survey_core.specs.Lists.{lists_from}
 use Rattle.survey_lists.proofs.Laws.Split.{split_list_found}
 use Rattle.survey_lists.proofs.split.split_list.Goals as goal

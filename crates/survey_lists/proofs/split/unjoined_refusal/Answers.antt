@@ -2,7 +2,6 @@
 use mathlib.Core.Path.{sym, ◌∙◌}
 use Rattle.survey_core.specs.Survey.{survey_with}
 use Rattle.survey_components.specs.Laws.Labels.{sound_ends, long_labels, lists_by_labels}
-use borrow.Author.Rules.{rules}
 use Rattle.survey_lists.proofs.split.unjoined_refusal.Goals as goal
 
 pub joined_labels-labels-requires : goal.joined_labels-labels-requires

@@ -1,12 +1,9 @@
 -- `edges_fault` meets its contract: one track more is tested at each turn.
-use Prim.Native.Nat.{◌-◌, ◌≤◌}
+use Prim.Native.Nat.{◌-◌}
 use native.Mathlib.Omega.{arith}
-use mathlib.Core.Path.{◌≡◌, refl}
-use lib.ListN.{length, get_or}
+use mathlib.Core.Path.{refl}
 use Rattle.base_finite.specs.Below.{counted, any_below}
-use Rattle.survey_refusal.specs.Fault.{faulty}
 use Rattle.survey_refusal.specs.Laws.EdgesFault.{faults_more, faults_end}
-use borrow.Author.Rules.{rules}
 use Rattle.survey_refusal.proofs.edges.edges_fault.Goals as goal
 
 pub loop-e-init : goal.loop-e-init
@@ -17,12 +14,11 @@ pub loop-e-smaller : goal.loop-e-smaller
 loop-e-smaller c = omega arith
 
 pub loop-e-preserved : goal.loop-e-preserved
-loop-e-preserved c =
-    (
-      omega arith,
-      faults_more _ _ c.loop-e.invariant.1
-          (rw (← c.at32.ensures, ← c.at32-in-loop-e.ensures, ← c.at32-in-loop-e-2.ensures) c.edge_fault-found.ensures),
-    )
+loop-e-preserved c = (
+  omega arith,
+  faults_more _ _ c.loop-e.invariant.1
+      (rw (← c.at32.ensures, ← c.at32-in-loop-e.ensures, ← c.at32-in-loop-e-2.ensures) c.edge_fault-found.ensures),
+)
 
 pub returns : goal.returns
 returns c = faults_end _ _ _ c.loop-e.invariant.0 c.loop-e-test.false c.loop-e.invariant.1

@@ -1,12 +1,9 @@
 -- `edges_fault` meets its contract: one track more is tested at each turn.
 use Prim.Native.Nat.{◌-◌, ◌≤◌}
-use native.Mathlib.Omega.{arith}
-use mathlib.Core.Path.{◌≡◌, refl}
+use mathlib.Core.Path.{◌≡◌}
 use lib.ListN.{length, get_or}
 use Rattle.base_finite.specs.Below.{counted, any_below}
 use Rattle.survey_refusal.specs.Fault.{faulty}
-use Rattle.survey_refusal.specs.Laws.EdgesFault.{faults_more, faults_end}
-use borrow.Author.Rules.{rules}
 use Rattle.survey_refusal.proofs.edges.edges_fault.Given as goal
 
 abbrev pub invariant-loop-e : goal.invariant-loop-e

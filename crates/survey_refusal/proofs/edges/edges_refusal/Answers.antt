@@ -1,6 +1,5 @@
 -- `edges_refusal` meets its contract: no track has a fault, or they are gone through.
 use Rattle.survey_refusal.specs.Laws.EdgesFault.{no_fault}
-use borrow.Author.Rules.{rules}
 use Rattle.survey_refusal.proofs.edges.edges_refusal.Goals as goal
 
 pub returns-then-edges_fault-eq0 : goal.returns-then-edges_fault-eq0

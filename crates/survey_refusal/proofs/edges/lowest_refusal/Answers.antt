@@ -1,10 +1,7 @@
 -- `lowest_refusal` meets its contract: a scan of the tracks.
 use Prim.Native.Nat.{◌-◌}
-use lib.ListN.{length}
-use Rattle.base_limits.specs.Laws.Verdict.{Scanned, scan_start, scan_turn, scan_found, scan_end}
-use Rattle.survey_core.specs.Survey.{survey_from, edge_count}
-use Rattle.survey_core.specs.Refusal.{edge_refusal}
-use borrow.Author.Rules.{rules}
+use Rattle.base_limits.specs.Laws.Verdict.{scan_start, scan_turn, scan_found, scan_end}
+use Rattle.survey_core.specs.Survey.{edge_count}
 use Rattle.survey_refusal.proofs.edges.lowest_refusal.Goals as goal
 
 pub loop-e-init : goal.loop-e-init

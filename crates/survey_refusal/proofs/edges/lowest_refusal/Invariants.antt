@@ -1,10 +1,9 @@
 -- `lowest_refusal` meets its contract: a scan of the tracks.
 use Prim.Native.Nat.{◌-◌}
 use lib.ListN.{length}
-use Rattle.base_limits.specs.Laws.Verdict.{Scanned, scan_start, scan_turn, scan_found, scan_end}
-use Rattle.survey_core.specs.Survey.{survey_from, edge_count}
+use Rattle.base_limits.specs.Laws.Verdict.{Scanned}
+use Rattle.survey_core.specs.Survey.{survey_from}
 use Rattle.survey_core.specs.Refusal.{edge_refusal}
-use borrow.Author.Rules.{rules}
 use Rattle.survey_refusal.proofs.edges.lowest_refusal.Given as goal
 
 abbrev pub invariant-loop-e : goal.invariant-loop-e

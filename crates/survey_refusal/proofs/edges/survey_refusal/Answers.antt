@@ -2,7 +2,6 @@
 use mathlib.Core.Path.{refl, sym, ◌∙◌}
 use Rattle.survey_core.proofs.Laws.Refusal.{survey_empty, survey_large, survey_uneven, survey_many, tracks_decide}
 use native.Mathlib.Omega.{arith}
-use borrow.Author.Rules.{rules}
 use Rattle.survey_refusal.proofs.edges.survey_refusal.Goals as goal
 
 -- 1: no vertex

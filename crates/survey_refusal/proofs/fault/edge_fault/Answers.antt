@@ -1,7 +1,6 @@
 -- `edge_fault` meets its contract: its four tests, one after the other.
 use Rattle.survey_refusal.specs.Fault.{faulty}
 use Rattle.survey_refusal.specs.Laws.Fault.{or_counted}
-use borrow.Author.Rules.{rules}
 use Rattle.survey_refusal.proofs.fault.edge_fault.Goals as goal
 
 pub returns : goal.returns

@@ -1,7 +1,6 @@
 -- `is_rising` meets its contract: each return by the law of its case.
 use native.Mathlib.Omega.{arith}
 use mathlib.Core.Path.{sym}
-use borrow.Author.Rules.{rules}
 use Rattle.survey_core.proofs.Laws.Pairs.{rising_first, rising_vertex, falling_vertex, rising_group, falling_group}
 use Rattle.survey_refusal.proofs.rising.is_rising.Goals as goal
 

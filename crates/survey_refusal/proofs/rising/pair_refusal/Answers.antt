@@ -1,8 +1,6 @@
 -- `pair_refusal` meets its contract: each return by the law of its case.
 use native.Mathlib.Omega.{arith}
 use mathlib.Core.Path.{sym, ◌∙◌}
-use borrow.Author.Tests.{not-true, not-false}
-use borrow.Author.Rules.{rules}
 use Rattle.survey_core.specs.Lists.{lists_from}
 use Rattle.survey_core.proofs.Laws.Pairs.{pair_out, pair_none, pair_own, pair_falls, pair_past, pair_fine, own_read}
 use Rattle.survey_refusal.proofs.rising.pair_refusal.Goals as goal

@@ -1,10 +1,9 @@
 -- `pairs_refusal` meets its contract: a scan of the pairs.
 use Prim.Native.Nat.{◌-◌}
 use lib.ListN.{length}
-use Rattle.base_limits.specs.Laws.Verdict.{Scanned, scan_start, scan_turn, scan_found, scan_end}
+use Rattle.base_limits.specs.Laws.Verdict.{Scanned}
 use Rattle.survey_core.specs.Lists.{lists_from}
-use Rattle.survey_core.specs.Pairs.{pair_refusal, pairs_refusal}
-use borrow.Author.Rules.{rules}
+use Rattle.survey_core.specs.Pairs.{pair_refusal}
 use Rattle.survey_refusal.proofs.rising.pairs_refusal.Given as goal
 
 abbrev pub invariant-loop-i : goal.invariant-loop-i

@@ -1,7 +1,6 @@
 -- `edge_refusal` meets its contract: each return by the law of its case.
 use native.Mathlib.Omega.{arith}
 use mathlib.Core.Path.{sym}
-use borrow.Author.Rules.{rules}
 use Rattle.survey_core.proofs.Laws.Refusal.{edge_first_out, edge_second_out, edge_loop, edge_heavy, edge_fine}
 use Rattle.survey_refusal.proofs.track.edge_refusal.Goals as goal
 

@@ -1,5 +1,4 @@
 -- `gap_of` meets its contract: no gap without a floor, and else a division rounded up.
-use native.Mathlib.Omega.{arith}
 use Rattle.text_floor.proofs.Laws.Gap.{gap_none, gap_some, gap_fits}
 use borrow.Author.Rules.{rules}
 use Rattle.text_floor.proofs.gap.gap_of.Goals as goal

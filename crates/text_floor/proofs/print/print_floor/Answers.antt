@@ -9,11 +9,10 @@ use Rattle.format_write.specs.Text.{line_of}
 use Rattle.format_print.specs.Laws.Print.{short_prints, fit_prints}
 use Rattle.text_floor.specs.Output.{floor_key, gap_key}
 use Rattle.text_floor.proofs.Laws.Output.{printed_as, gap_lines}
-use borrow.Author.Rules.{rules}
 use Rattle.text_floor.proofs.print.print_floor.Goals as goal
 
 pub gap_of-gap-requires : goal.gap_of-gap-requires
-gap_of-gap-requires c =  record { floor_le_cost = c.requires.floor_le_cost; cost_le_max_cost = c.requires.cost_le_max_cost }
+gap_of-gap-requires c = record { floor_le_cost = c.requires.floor_le_cost; cost_le_max_cost = c.requires.cost_le_max_cost }
 
 -- 7: the buffer is short
 pub returns-then-out-need : goal.returns-then-out-need

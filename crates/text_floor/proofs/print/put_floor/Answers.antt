@@ -6,7 +6,6 @@ use Rattle.format_write.proofs.Laws.Wrote.{wrote_then}
 use Prim.Native.Nat.{◌≤◌}
 use Rattle.format_write.specs.Key.{cost_key}
 use Rattle.text_floor.specs.Output.{floor_key, gap_key}
-use borrow.Author.Rules.{rules}
 use Rattle.text_floor.proofs.print.put_floor.Goals as goal
 
 pub returns : goal.returns

@@ -2,7 +2,6 @@
 use Rattle.survey_core.specs.Survey.{survey_with}
 use Rattle.text_floor.proofs.Laws.Gap.{floor_le_cost, answered_small}
 use Rattle.text_floor.proofs.Laws.Output.{printed_as, told_refused, told_finished, stopped_lines, floored_lines}
-use borrow.Author.Rules.{rules}
 use Rattle.text_floor.proofs.survey.floor_survey.Goals as goal
 
 pub print_floor-requires : goal.print_floor-requires

@@ -1,6 +1,5 @@
 -- `moved_place` meets its contract: each return by its test.
 use Rattle.text_merge.specs.Laws.Output.{moved_sixteen, moved_other}
-use borrow.Author.Rules.{rules}
 use Rattle.text_merge.proofs.moved.moved_place.Goals as goal
 
 pub returns-then-number-eq16 : goal.returns-then-number-eq16

@@ -1,7 +1,6 @@
 -- `reach` meets its contract: each return by its test.
 use native.Mathlib.Omega.{arith}
 use Rattle.text_merge.specs.Laws.Output.{reach_most, reach_sum}
-use borrow.Author.Rules.{rules}
 use Rattle.text_merge.proofs.moved.reach.Goals as goal
 
 pub returns-then-at-next : goal.returns-then-at-next

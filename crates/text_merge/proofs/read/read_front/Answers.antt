@@ -7,7 +7,6 @@ use Rattle.format_survey.specs.LinesAnswer.{counts_step}
 use Rattle.format_survey.specs.Reading.{SurveyText}
 use Rattle.text_merge.specs.Front.{front_of}
 use Rattle.text_merge.specs.Laws.Front.{front_uncounted, front_unlined, front_read}
-use borrow.Author.Rules.{rules}
 use Rattle.text_merge.proofs.read.read_front.Goals as goal
 
 -- the counts are refused

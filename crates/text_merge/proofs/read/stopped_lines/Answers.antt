@@ -4,7 +4,6 @@ use Rattle.format_read.specs.Step.{stopped}
 use Rattle.format_read.specs.Answer.{number_step}
 use Rattle.format_survey.specs.Reading.{SurveyText}
 use Rattle.text_merge.specs.Front.{front_of}
-use borrow.Author.Rules.{rules}
 use Rattle.text_merge.proofs.read.stopped_lines.Goals as goal
 
 pub returns-in-Refused : goal.returns-in-Refused

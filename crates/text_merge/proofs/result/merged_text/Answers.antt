@@ -2,7 +2,6 @@
 use Rattle.survey_core.specs.Survey.{survey_with}
 use Rattle.merge_rule.specs.Ties.{ties_from}
 use Rattle.text_merge.specs.Laws.Output.{merged_printed}
-use borrow.Author.Rules.{rules}
 use Rattle.text_merge.proofs.result.merged_text.Goals as goal
 
 pub returns : goal.returns

@@ -4,7 +4,6 @@ use mathlib.Core.Path.{sym, ap}
 use Rattle.format_read.specs.Step.{stopped}
 use Rattle.format_read.specs.Answer.{number_step}
 use Rattle.format_also.specs.Answer.{pair_step}
-use borrow.Author.Rules.{rules}
 use Rattle.text_merge.proofs.ties.stopped_line.Goals as goal
 
 pub returns-in-Refused : goal.returns-in-Refused

@@ -4,7 +4,6 @@ use Rattle.format_read.specs.Number.{stop_of}
 use Rattle.format_read.proofs.Laws.NumberStep.{stopped_stays, value_goes}
 use Rattle.format_also.specs.Answer.{pair_step}
 use Rattle.text_merge.specs.Ties.{tie_at}
-use borrow.Author.Rules.{rules}
 use Rattle.text_merge.proofs.ties.tie_at.Goals as goal
 
 pub returns-in_default : goal.returns-in_default

@@ -2,7 +2,6 @@
 use mathlib.Core.Path.{◌∙◌}
 use Rattle.format_also.specs.Answer.{pair_step}
 use Rattle.text_merge.specs.Laws.Ties.{line_past, line_read}
-use borrow.Author.Rules.{rules}
 use Rattle.text_merge.proofs.ties.tie_line.Goals as goal
 
 pub returns-then-i-ge-MAX_TIES : goal.returns-then-i-ge-MAX_TIES

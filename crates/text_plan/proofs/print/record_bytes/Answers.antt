@@ -1,6 +1,5 @@
 -- `record_bytes` meets its contract.
 use Rattle.text_plan.specs.Laws.Planned.{held_room, held_wanted}
-use borrow.Author.Rules.{rules}
 use Rattle.text_plan.proofs.print.record_bytes.Goals as goal
 
 pub returns-then-room-wanted : goal.returns-then-room-wanted

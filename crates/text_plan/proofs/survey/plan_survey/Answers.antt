@@ -1,6 +1,5 @@
 -- `plan_survey` meets its contract: what is printed of planning's answer is what `plan` prints for the survey (`survey_printed_law`).
 use native.Mathlib.Omega.{arith}
-use borrow.Author.Rules.{rules}
 use Rattle.survey_core.specs.Survey.{edge_count}
 use Rattle.text_plan.specs.Laws.Output.{plan_buffers}
 use Rattle.text_plan.specs.Laws.Printed.{survey_printed_law}

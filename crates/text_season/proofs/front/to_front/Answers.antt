@@ -2,8 +2,7 @@
 use Prim.Native.Nat.{◌-◌}
 use native.Mathlib.Omega.{arith}
 use mathlib.Core.Path.{refl}
-use borrow.Author.Rules.{rules}
-use Rattle.text_season.specs.Laws.Front.{Moved, moved_start, moved_turn, moved_end, moved_none}
+use Rattle.text_season.specs.Laws.Front.{moved_start, moved_turn, moved_end, moved_none}
 use Rattle.text_season.proofs.front.to_front.Goals as goal
 
 -- nothing to move

@@ -1,9 +1,6 @@
 -- `to_front` meets its contract: it stores at rising places, and reads ahead of them.
 use Prim.Native.Nat.{◌-◌}
-use native.Mathlib.Omega.{arith}
-use mathlib.Core.Path.{refl}
-use borrow.Author.Rules.{rules}
-use Rattle.text_season.specs.Laws.Front.{Moved, moved_start, moved_turn, moved_end, moved_none}
+use Rattle.text_season.specs.Laws.Front.{Moved}
 use Rattle.text_season.proofs.front.to_front.Given as goal
 
 abbrev pub invariant-loop-i : goal.invariant-loop-i

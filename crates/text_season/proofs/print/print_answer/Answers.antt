@@ -1,5 +1,4 @@
 -- `print_answer` meets its contract, by the verdict.
-use borrow.Author.Rules.{rules}
 use Rattle.text_season.specs.Laws.Print.{printed_as, fine_text, refused_text}
 use Rattle.text_season.proofs.print.print_answer.Goals as goal
 

@@ -1,5 +1,4 @@
 -- `print_bytes` meets its contract: the length that was answered, or none.
-use borrow.Author.Rules.{rules}
 use Rattle.text_season.specs.Laws.Print.{bytes_printed, none_printed}
 use Rattle.text_season.proofs.print.print_bytes.Goals as goal
 

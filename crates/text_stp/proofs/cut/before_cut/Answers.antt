@@ -1,6 +1,5 @@
 -- `before_cut` meets its contract, by the cases of the answer and of its place.
-use mathlib.Core.Path.{ap, sym, ◌∙◌, refl}
-use borrow.Author.Rules.{rules}
+use mathlib.Core.Path.{ap, sym, refl}
 use borrow.Author.Tests.{lt-ltb, le-ltb}
 use Rattle.format_stp.specs.Answer.{stp_answer}
 use Rattle.text_stp.specs.StpOutput.{stp_room, before_cut}

@@ -1,6 +1,5 @@
 -- `judge` meets its contract, by the length.
 use mathlib.Core.Path.{refl}
-use borrow.Author.Rules.{rules}
 use borrow.Author.Tests.{lt-ltb, le-ltb}
 use Rattle.text_stp.specs.StpOutput.{stp_room, judged}
 use Rattle.text_stp.proofs.cut.judge.Goals as goal

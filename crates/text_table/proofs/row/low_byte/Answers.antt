@@ -1,7 +1,6 @@
 -- `low_byte` meets its contract: each byte by its place.
 use native.Mathlib.Omega.{arith}
 use mathlib.Core.Path.{◌≡◌}
-use borrow.Author.Rules.{rules}
 use Rattle.format_record.specs.Bits.{low_bytes}
 use Rattle.text_table.specs.Laws.TrackTable.{low_at_law, low_past}
 use Rattle.text_table.proofs.row.low_byte.Goals as goal

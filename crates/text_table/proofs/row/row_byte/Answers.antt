@@ -1,6 +1,5 @@
 -- `row_byte` meets its contract: an end, the other end, the price.
 use mathlib.Core.Path.{sym, ◌∙◌}
-use borrow.Author.Rules.{rules}
 use Rattle.text_table.specs.Laws.TrackTable.{row_first, row_second, row_weight}
 use Rattle.text_table.proofs.row.row_byte.Goals as goal
 

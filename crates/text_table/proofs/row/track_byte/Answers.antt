@@ -1,5 +1,4 @@
 -- `track_byte` meets its contract: the track of a byte, and its place there.
-use borrow.Author.Rules.{rules}
 use Rattle.text_table.specs.TrackTable.{track_byte}
 use Rattle.text_table.proofs.row.track_byte.Goals as goal
 

@@ -5,7 +5,6 @@ use lib.ListN.{length}
 use Rattle.format_write.specs.Wrote.{farthest}
 use Rattle.format_print.specs.Laws.Print.{short_prints, fit_prints}
 use Rattle.text_verify.specs.Output.{passed_text}
-use borrow.Author.Rules.{rules}
 use Rattle.text_verify.proofs.findings.print_passed.Goals as goal
 
 -- 7: the buffer is short

@@ -6,7 +6,6 @@ use Rattle.format_write.specs.Wrote.{farthest}
 use Rattle.format_write.proofs.Laws.Wrote.{wrote_then}
 use Rattle.format_write.specs.Key.{terminals_key, cost_key, bound_key}
 use Rattle.text_verify.specs.Output.{passed_line, passed_text}
-use borrow.Author.Rules.{rules}
 use Rattle.text_verify.proofs.findings.put_passed.Goals as goal
 
 pub returns : goal.returns

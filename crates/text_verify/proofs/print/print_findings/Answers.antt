@@ -1,6 +1,5 @@
 -- `print_findings` meets its contract: an arm for each answer.
 use native.Mathlib.Omega.{arith}
-use borrow.Author.Rules.{rules}
 use mathlib.Core.Path.{ap, sym}
 use Rattle.check_printed.specs.Answer.{verified_outcome}
 use Rattle.format_print.specs.Laws.Print.{prints_as}

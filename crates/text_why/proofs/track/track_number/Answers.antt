@@ -1,7 +1,5 @@
 -- `track_number`: a number, and the end of the word.
-use borrow.Author.Rules.{rules}
-use native.Mathlib.Omega.{arith}
-use Rattle.format_read.specs.Step.{found, refused, ◌then◌}
+use Rattle.format_read.specs.Step.{found, ◌then◌}
 use Rattle.format_read.specs.Bytes.{end_at}
 use Rattle.format_read.proofs.Laws.Step.{then_found, then_refused}
 use Rattle.format_read.proofs.Laws.Bytes.{end_here, end_later}

@@ -3,7 +3,6 @@ use mathlib.Core.Path.{sym, ◌∙◌}
 use Rattle.format_read.specs.Number.{stop_of}
 use Rattle.format_read.proofs.Laws.NumberStep.{stopped_stays, value_goes}
 use Rattle.text_winter.specs.Given.{strength_key, given_at, given_step}
-use borrow.Author.Rules.{rules}
 use Rattle.text_winter.proofs.given.given_at.Goals as goal
 
 pub returns-in_default : goal.returns-in_default

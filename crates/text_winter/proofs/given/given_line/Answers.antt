@@ -2,7 +2,6 @@
 use mathlib.Core.Path.{ap, sym, ◌∙◌}
 use Rattle.text_winter.specs.Given.{given_step}
 use Rattle.text_winter.proofs.Laws.Given.{line_malformed, line_refused, line_fine}
-use borrow.Author.Rules.{rules}
 use Rattle.text_winter.proofs.given.given_line.Goals as goal
 
 -- malformed

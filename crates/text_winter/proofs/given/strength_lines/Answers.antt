@@ -5,9 +5,9 @@ use mathlib.Core.Path.{ap, sym, ◌∙◌}
 use borrow.Author.Tests.{le-leb, lt-leb}
 use Rattle.format_read.specs.Step.{stopped}
 use Rattle.format_read.specs.Answer.{number_step}
-use Rattle.format_read.proofs.Laws.Items.{ItemsLeft, left_start, left_more, left_stop, left_refused, left_out_law, left_length}
+use Rattle.format_read.proofs.Laws.Items.{left_start, left_more, left_stop, left_refused, left_out_law}
 use Rattle.text_winter.specs.Given.{given_reader, given_turns, givens_at, put_strength, given_step}
-use Rattle.text_winter.proofs.Laws.Given.{line_passes, put_length}
+use Rattle.text_winter.proofs.Laws.Given.{line_passes}
 use borrow.Author.Rules.{rules}
 use Rattle.text_winter.proofs.given.strength_lines.Goals as goal
 

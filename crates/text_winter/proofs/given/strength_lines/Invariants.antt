@@ -1,14 +1,7 @@
 -- `strength_lines` meets its contract: what is left to read and to store is what the whole reads and stores.
 use Prim.Native.Nat.{◌-◌}
-use native.Mathlib.Omega.{arith}
-use mathlib.Core.Path.{ap, sym, ◌∙◌}
-use borrow.Author.Tests.{le-leb, lt-leb}
-use Rattle.format_read.specs.Step.{stopped}
-use Rattle.format_read.specs.Answer.{number_step}
-use Rattle.format_read.proofs.Laws.Items.{ItemsLeft, left_start, left_more, left_stop, left_refused, left_out_law, left_length}
-use Rattle.text_winter.specs.Given.{given_reader, given_turns, givens_at, put_strength, given_step}
-use Rattle.text_winter.proofs.Laws.Given.{line_passes, put_length}
-use borrow.Author.Rules.{rules}
+use Rattle.format_read.proofs.Laws.Items.{ItemsLeft}
+use Rattle.text_winter.specs.Given.{given_reader, given_turns, givens_at, put_strength}
 use Rattle.text_winter.proofs.given.strength_lines.Given as goal
 
 abbrev pub invariant-loop-i : goal.invariant-loop-i

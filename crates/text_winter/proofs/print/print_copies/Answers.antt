@@ -5,7 +5,6 @@ use lib.ListN.{length}
 use Rattle.format_write.specs.Wrote.{farthest}
 use Rattle.format_print.specs.Laws.Print.{short_prints, fit_prints}
 use Rattle.text_winter.specs.Output.{copies_text}
-use borrow.Author.Rules.{rules}
 use Rattle.text_winter.proofs.print.print_copies.Goals as goal
 
 -- 7

@@ -6,7 +6,6 @@ use Rattle.format_write.specs.Wrote.{farthest}
 use Rattle.format_write.proofs.Laws.Wrote.{wrote_none, wrote_then, wrote_as}
 use Rattle.text_winter.specs.Output.{copies_key}
 use Rattle.text_winter.proofs.Laws.Lines.{copied_line, uncopied_line}
-use borrow.Author.Rules.{rules}
 use Rattle.text_winter.proofs.print.put_copies.Goals as goal
 
 pub returns-then-copies-lt1 : goal.returns-then-copies-lt1

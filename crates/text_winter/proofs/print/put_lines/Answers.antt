@@ -4,12 +4,11 @@ use native.Mathlib.Omega.{arith}
 use mathlib.Core.Path.{◌≡◌, ap, sym}
 use lib.ListN.{length, get_or}
 use Rattle.format_write.specs.Text.{text_below}
-use Rattle.format_write.specs.Wrote.{farthest, Wrote}
-use Rattle.format_write.proofs.Laws.Wrote.{wrote_none, wrote_length, wrote_then, wrote_as}
+use Rattle.format_write.specs.Wrote.{farthest}
+use Rattle.format_write.proofs.Laws.Wrote.{wrote_none, wrote_then, wrote_as}
 use Rattle.format_write.proofs.Laws.Text.{text_none, text_next}
 use Rattle.text_winter.specs.Output.{copies_line, copies_lines}
 use Rattle.text_winter.proofs.Laws.Lines.{line_read}
-use borrow.Author.Rules.{rules}
 use Rattle.text_winter.proofs.print.put_lines.Goals as goal
 
 pub loop-e-init : goal.loop-e-init
@@ -23,7 +22,6 @@ loop-e-smaller c =
 pub loop-e-preserved : goal.loop-e-preserved
 loop-e-preserved c =
     let a = c.args in
-    
     let small : length a.out.now ≤ farthest = omega arith in (
       omega (arith, c.loop-e-test.true),
       wrote_as (wrote_then small c.loop-e.invariant.1 (wrote_as c.put_copies-next.ensures (line_read a.copies.now c.wide8.ensures c.at8.ensures c.wide.ensures)))

@@ -1,15 +1,9 @@
 -- `put_lines` meets its contract: what is written so far are the lines of the tracks below e.
 use Prim.Native.Nat.{◌≤◌, ◌-◌}
-use native.Mathlib.Omega.{arith}
-use mathlib.Core.Path.{◌≡◌, ap, sym}
 use lib.ListN.{length, get_or}
 use Rattle.format_write.specs.Text.{text_below}
-use Rattle.format_write.specs.Wrote.{farthest, Wrote}
-use Rattle.format_write.proofs.Laws.Wrote.{wrote_none, wrote_length, wrote_then, wrote_as}
-use Rattle.format_write.proofs.Laws.Text.{text_none, text_next}
-use Rattle.text_winter.specs.Output.{copies_line, copies_lines}
-use Rattle.text_winter.proofs.Laws.Lines.{line_read}
-use borrow.Author.Rules.{rules}
+use Rattle.format_write.specs.Wrote.{Wrote}
+use Rattle.text_winter.specs.Output.{copies_line}
 use Rattle.text_winter.proofs.print.put_lines.Given as goal
 
 abbrev pub invariant-loop-e : goal.invariant-loop-e

@@ -6,7 +6,6 @@ use Rattle.format_write.specs.Key.{cost_key}
 use Rattle.format_write.specs.Wrote.{farthest}
 use Rattle.format_write.proofs.Laws.Wrote.{wrote_then}
 use Rattle.text_winter.specs.Output.{copies_text}
-use borrow.Author.Rules.{rules}
 use Rattle.text_winter.proofs.print.put_text.Goals as goal
 
 pub returns : goal.returns

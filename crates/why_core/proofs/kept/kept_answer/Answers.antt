@@ -1,7 +1,6 @@
 -- `kept_answer` meets its contract: the numbers are those of the pair.
 use Rattle.why_rule.specs.Answer.{why_outcome}
 use Rattle.why_core.specs.Kept.{kept_counts}
-use borrow.Author.Rules.{rules}
 use Rattle.why_core.proofs.kept.kept_answer.Goals as goal
 
 pub returns : goal.returns

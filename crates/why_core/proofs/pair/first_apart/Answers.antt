@@ -1,11 +1,6 @@
 -- `first_apart` meets its contract: a scan of the vertices.
 use Prim.Native.Nat.{◌-◌}
-use mathlib.Core.Bool.{◌&&◌, not}
-use lib.ListN.{length, get_or}
-use lib.Dec.{eqb}
-use Rattle.survey_core.specs.Lists.{lists_from, in_list}
-use Rattle.theory_route.proofs.Laws.First.{Unmet, unmet_start, unmet_turn, unmet_found, unmet_end}
-use borrow.Author.Rules.{rules}
+use Rattle.theory_route.proofs.Laws.First.{unmet_start, unmet_turn, unmet_found, unmet_end}
 use Rattle.why_core.proofs.pair.first_apart.Goals as goal
 
 pub loop-v-init : goal.loop-v-init

@@ -4,8 +4,7 @@ use mathlib.Core.Bool.{◌&&◌, not}
 use lib.ListN.{length, get_or}
 use lib.Dec.{eqb}
 use Rattle.survey_core.specs.Lists.{lists_from, in_list}
-use Rattle.theory_route.proofs.Laws.First.{Unmet, unmet_start, unmet_turn, unmet_found, unmet_end}
-use borrow.Author.Rules.{rules}
+use Rattle.theory_route.proofs.Laws.First.{Unmet}
 use Rattle.why_core.proofs.pair.first_apart.Given as goal
 
 abbrev pub invariant-loop-v : goal.invariant-loop-v

@@ -1,7 +1,5 @@
 -- `is_apart` meets its contract.
 use mathlib.Core.Path.{sym, ◌∙◌}
-use borrow.Author.Tests.{not-true}
-use borrow.Author.Rules.{rules}
 use Rattle.why_core.specs.Laws.Member.{labels_apart}
 use Rattle.std.proofs.Common.{not, ap}
 use Rattle.why_core.proofs.pair.is_apart.Goals as goal

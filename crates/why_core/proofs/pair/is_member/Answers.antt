@@ -2,7 +2,6 @@
 use mathlib.Core.Path.{◌∙◌}
 use Rattle.survey_core.specs.Lists.{lists_from}
 use Rattle.why_core.specs.Laws.Member.{no_list, by_pairs, by_group}
-use borrow.Author.Rules.{rules}
 use Rattle.why_core.proofs.pair.is_member.Goals as goal
 
 pub returns-then-g-eq0 : goal.returns-then-g-eq0

@@ -1,7 +1,6 @@
 -- `is_pair` meets its contract.
 use mathlib.Core.Path.{sym, ◌∙◌}
 use borrow.Author.Tests.{eq-eqb, ne_eqb}
-use borrow.Author.Rules.{rules}
 use Rattle.why_core.proofs.pair.is_pair.Goals as goal
 
 pub returns-then-index32-v : goal.returns-then-index32-v

@@ -1,15 +1,12 @@
 -- `is_paired` meets its contract: a scan of the pairs.
-use Prim.Native.Nat.{◌≤◌, ◌-◌}
+use Prim.Native.Nat.{◌-◌}
 use native.Mathlib.Omega.{arith}
-use mathlib.Core.Path.{◌≡◌, refl, sym, ◌∙◌}
-use mathlib.Core.Bool.{false, ◌&&◌}
-use lib.ListN.{length, get_or}
-use lib.Dec.{eqb}
+use mathlib.Core.Path.{refl, sym, ◌∙◌}
+use mathlib.Core.Bool.{false}
 use Rattle.base_finite.specs.Below.{any_below}
 use Rattle.base_finite.specs.Laws.Below.{any_intro}
 use Rattle.base_finite.specs.Laws.Count.{any_more, any_end}
 use Rattle.survey_core.specs.Lists.{is_paired}
-use borrow.Author.Rules.{rules}
 use Rattle.why_core.proofs.pair.is_paired.Goals as goal
 
 pub loop-i-init : goal.loop-i-init

@@ -1,15 +1,10 @@
 -- `is_paired` meets its contract: a scan of the pairs.
 use Prim.Native.Nat.{◌≤◌, ◌-◌}
-use native.Mathlib.Omega.{arith}
-use mathlib.Core.Path.{◌≡◌, refl, sym, ◌∙◌}
+use mathlib.Core.Path.{◌≡◌}
 use mathlib.Core.Bool.{false, ◌&&◌}
 use lib.ListN.{length, get_or}
 use lib.Dec.{eqb}
 use Rattle.base_finite.specs.Below.{any_below}
-use Rattle.base_finite.specs.Laws.Below.{any_intro}
-use Rattle.base_finite.specs.Laws.Count.{any_more, any_end}
-use Rattle.survey_core.specs.Lists.{is_paired}
-use borrow.Author.Rules.{rules}
 use Rattle.why_core.proofs.pair.is_paired.Given as goal
 
 abbrev pub invariant-loop-i : goal.invariant-loop-i

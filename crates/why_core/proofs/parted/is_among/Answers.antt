@@ -1,6 +1,5 @@
 -- `is_among` meets its contract: an arm for each set.
 use Rattle.why_core.specs.Parted.{least_mark}
-use borrow.Author.Rules.{rules}
 use Rattle.why_core.proofs.parted.is_among.Goals as goal
 
 pub returns-in-Picks : goal.returns-in-Picks

@@ -1,6 +1,5 @@
 -- `mark_but` meets its contract: each return by its test.
 use mathlib.Core.Path.{sym, ◌∙◌}
-use borrow.Author.Rules.{rules}
 use Rattle.why_core.specs.Laws.PartedFound.{not_among, left_out_law, marked_two}
 use Rattle.why_core.proofs.parted.mark_but.Goals as goal
 

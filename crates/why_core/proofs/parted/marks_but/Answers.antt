@@ -1,14 +1,11 @@
 -- `marks_but` meets its contract: it stores at rising places.
-use Prim.Native.Nat.{ℕ, ◌≤◌, ◌-◌}
+use Prim.Native.Nat.{ℕ, ◌-◌}
 use native.Mathlib.Omega.{arith}
-use mathlib.Core.Path.{◌≡◌, refl, ap, sym, ◌∙◌}
+use mathlib.Core.Path.{refl, ap, sym, ◌∙◌}
 use lib.ListN.{length, replicate, length-replicate}
-use Rattle.base_finite.specs.Below.{counted}
 use Rattle.base_limits.specs.Limits.{max_edges}
 use Rattle.base_buffer.specs.Store.{remade}
 use Rattle.base_buffer.proofs.Laws.Store.{length_remade, remade_more, remade_end}
-use Rattle.why_core.specs.Parted.{least_mark, marked_but}
-use borrow.Author.Rules.{rules}
 use Rattle.why_core.proofs.parted.marks_but.Goals as goal
 
 pub loop-e-init : goal.loop-e-init

@@ -1,6 +1,5 @@
 -- `parted_list` meets its contract: the place of what is found.
 use Rattle.why_core.specs.Laws.PartedFound.{no_place, the_place}
-use borrow.Author.Rules.{rules}
 use Rattle.why_core.proofs.parted.parted_list.Goals as goal
 
 pub returns-in-Fine : goal.returns-in-Fine

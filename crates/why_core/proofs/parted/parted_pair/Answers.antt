@@ -2,7 +2,6 @@
 use mathlib.Core.Path.{sym}
 use Rattle.survey_components.specs.Laws.Labels.{length_labels}
 use Rattle.why_core.specs.Laws.PartedFound.{pair_found}
-use borrow.Author.Rules.{rules}
 use Rattle.why_core.proofs.parted.parted_pair.Goals as goal
 
 pub slice_bounds-first_apart-end : goal.slice_bounds-first_apart-end

@@ -1,7 +1,6 @@
 -- `first_of` meets its contract: by what the first is.
 use mathlib.Core.Path.{sym, ◌∙◌}
 use Rattle.base_limits.specs.Laws.Verdict.{before_fine, before_refused}
-use borrow.Author.Rules.{rules}
 use Rattle.why_core.proofs.refusal.first_of.Goals as goal
 
 pub returns-in_default : goal.returns-in_default

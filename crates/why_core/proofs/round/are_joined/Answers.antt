@@ -1,7 +1,6 @@
 -- `are_joined` meets its contract.
 use mathlib.Core.Path.{◌∙◌}
 use Rattle.why_core.specs.Laws.Replay.{read_both}
-use borrow.Author.Rules.{rules}
 use Rattle.why_core.proofs.round.are_joined.Goals as goal
 
 pub returns : goal.returns

@@ -5,8 +5,7 @@ use mathlib.Core.Path.{ap, sym, ◌∙◌}
 use lib.ListN.{length, replicate, length-replicate}
 use Rattle.base_finite.specs.Laws.Below.{length_tabulate}
 use Rattle.base_limits.specs.Limits.{max_vertices}
-use borrow.Author.Rules.{rules}
-use Rattle.why_core.specs.Laws.Replay.{PicksReplayed, own_after, joined_at_once, replay_start, replay_turn, replay_found, replay_end}
+use Rattle.why_core.specs.Laws.Replay.{own_after, joined_at_once, replay_start, replay_turn, replay_found, replay_end}
 use Rattle.why_core.proofs.round.find_round.Goals as goal
 
 pub slice_bounds-are_joined-end : goal.slice_bounds-are_joined-end

@@ -3,7 +3,6 @@ use mathlib.Core.Path.{sym, ◌∙◌}
 use Rattle.base_limits.specs.Laws.Verdict.{written_refused, written_fine}
 use Rattle.survey_core.proofs.Laws.Refusal.{fine_survey}
 use Rattle.why_core.specs.Laws.Replay.{picks_fit}
-use borrow.Author.Rules.{rules}
 use Rattle.why_core.proofs.round.join_round.Goals as goal
 
 pub returns-in_default : goal.returns-in_default

@@ -3,7 +3,6 @@ use mathlib.Core.Path.{ap, ◌∙◌}
 use lib.ListN.{get_or}
 use Rattle.survey_core.proofs.Laws.Pairs.{own_read}
 use Rattle.survey_lists.proofs.Laws.Room.{joined_by_merge}
-use borrow.Author.Rules.{rules}
 use Rattle.why_core.proofs.round.merge_pick.Goals as goal
 
 pub returns : goal.returns

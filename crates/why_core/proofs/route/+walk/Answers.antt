@@ -1,5 +1,5 @@
 -- `walk` meets its contract: the vertex is visited first, and each edge that leaves it is tried.
-use Rattle.std.proofs.Common.{ℕ, ◌<◌, refl, ap, sym, ◌∙◌, subst, arith}
+use Rattle.std.proofs.Common.{◌<◌, refl, sym, ◌∙◌, subst, arith}
 use Rattle.why_core.specs.Walk.{unvisited}
 use Rattle.why_core.specs.Laws.Walk.{is_free_law, visit_made, walk_refused, walk_here, walk_falls, walk_next, far_below, walking_start, walking_skip, walking_lost, walking_stored, walking_end}
 use Rattle.why_core.proofs.route.+walk.Goals as goal
@@ -44,11 +44,11 @@ pub loop-e-preserved : goal.loop-e-preserved
 loop-e-preserved t c =
     let made = visit_made c.args.visited.now c.args.v c.visit.ensures.value c.visit.ensures.visited_value c.if-not-visit.false in
     elim c.if-is_at.branch [
-      then-is_at+in_default w ↦
-        let lost = walking_lost c.loop-e.invariant.0 c.loop-e-test.true w.far_end-next.ensures (far_below c.args.v c.requires made c.loop-e.invariant.0.explored c.loop-e-test.true) w.walk-walked.ensures w.in_default.is in
-        (rw w.visited-is lost.0, w.route-is ∙ lost.1 ∙ c.loop-e.invariant.1)
-    | else-is_at w ↦
-        (rw w.visited-is (walking_skip c.loop-e.invariant.0 c.loop-e-test.true c.is_at.ensures w.if-is_at.false), w.route-is ∙ c.loop-e.invariant.1)
+      | then-is_at+in_default w ↦
+          let lost = walking_lost c.loop-e.invariant.0 c.loop-e-test.true w.far_end-next.ensures (far_below c.args.v c.requires made c.loop-e.invariant.0.explored c.loop-e-test.true) w.walk-walked.ensures w.in_default.is in
+          (rw w.visited-is lost.0, w.route-is ∙ lost.1 ∙ c.loop-e.invariant.1)
+      | else-is_at w ↦
+          (rw w.visited-is (walking_skip c.loop-e.invariant.0 c.loop-e-test.true c.is_at.ensures w.if-is_at.false), w.route-is ∙ c.loop-e.invariant.1)
     ]
 
 -- no edge leads there

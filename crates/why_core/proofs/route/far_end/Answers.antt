@@ -1,6 +1,5 @@
 -- `far_end` meets its contract: the second end where the first is at hand.
 use mathlib.Core.Path.{sym, ◌∙◌}
-use borrow.Author.Rules.{rules}
 use borrow.Author.Tests.{eq-eqb, ne_eqb}
 use Rattle.theory_route.specs.Route.{far_end}
 use Rattle.why_core.proofs.route.far_end.Goals as goal

@@ -1,5 +1,4 @@
 -- `find_route` meets its contract: a refusal stops it with nothing stored; otherwise a walk over no visited vertex stores the route, or there is none.
-use native.Mathlib.Omega.{arith}
 use mathlib.Core.Path.{refl, sym, ◌∙◌}
 use lib.ListN.{length}
 use borrow.Author.Rules.{rules}
@@ -34,7 +33,6 @@ walk-walked-requires c = walk_starts (survey_from c.args.groups.now c.args.first
 pub returns-in-Arrived : goal.returns-in-Arrived
 returns-in-Arrived c =
     let fine = c.in-Fine.is in
-    
     let fits = route_fits (survey_from c.args.groups.now c.args.firsts.now c.args.seconds.now c.args.weights.now) c.args.kept.now (length c.args.route.now) c.forest_refusal-found.ensures fine c.if-route-n.false in
     let got = walk_arrived (survey_from c.args.groups.now c.args.firsts.now c.args.seconds.now c.args.weights.now) c.args.kept.now (sym c.forest_refusal-found.ensures ∙ fine) refl c.if-route-n.false c.walk-walked.ensures c.in-Arrived.is in
     record { result_value = got.0 ∙ written_fine _ _ fits fine; route_value = got.1 ∙ written_fine _ _ fits fine }
@@ -43,7 +41,6 @@ returns-in-Arrived c =
 pub returns-in-Lost : goal.returns-in-Lost
 returns-in-Lost c =
     let fine = c.in-Fine.is in
-    
     let fits = route_fits (survey_from c.args.groups.now c.args.firsts.now c.args.seconds.now c.args.weights.now) c.args.kept.now (length c.args.route.now) c.forest_refusal-found.ensures fine c.if-route-n.false in
     let got = walk_lost (survey_from c.args.groups.now c.args.firsts.now c.args.seconds.now c.args.weights.now) c.args.kept.now (sym c.forest_refusal-found.ensures ∙ fine) refl c.walk-walked.ensures c.in-Lost.is in
     record { result_value = got.0 ∙ written_fine _ _ fits fine; route_value = got.1 ∙ written_fine _ _ fits fine }

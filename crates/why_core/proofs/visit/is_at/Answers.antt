@@ -1,7 +1,6 @@
 -- `is_at` meets its contract.
 use mathlib.Core.Path.{sym, ◌∙◌}
-use borrow.Author.Rules.{rules}
-use borrow.Author.Tests.{eq-eqb, ne_eqb, not-false}
+use borrow.Author.Tests.{eq-eqb, ne_eqb}
 use Rattle.theory_route.specs.Route.{is_end}
 use Rattle.why_core.specs.Laws.Visit.{not_of_forest}
 use Rattle.std.proofs.Common.{not, ap}

@@ -1,6 +1,5 @@
 -- `visit` meets its contract: past the end, visited, free.
 use mathlib.Core.Path.{sym, ◌∙◌}
-use borrow.Author.Rules.{rules}
 use Rattle.why_core.specs.Laws.Visit.{free_out, free_visited, free_is}
 use Rattle.why_core.proofs.visit.visit.Goals as goal
 

@@ -1,7 +1,6 @@
 -- `bit_group` meets its contract: the group, or none.
 use mathlib.Core.Path.{sym, ◌∙◌}
 use Rattle.winter_core.proofs.Laws.Bit.{group_carried, group_lacking}
-use borrow.Author.Rules.{rules}
 use Rattle.winter_core.proofs.bit.bit_group.Goals as goal
 
 pub returns-then-carries : goal.returns-then-carries

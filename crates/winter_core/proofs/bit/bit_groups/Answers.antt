@@ -1,14 +1,13 @@
 -- `bit_groups` meets its contract: it stores at rising places.
-use Prim.Native.Nat.{ℕ, ◌≤◌, ◌-◌}
+use Prim.Native.Nat.{ℕ, ◌-◌}
 use native.Mathlib.Omega.{arith}
-use mathlib.Core.Path.{◌≡◌, refl, ap, sym, ◌∙◌}
-use lib.ListN.{length, get_or, replicate, length-replicate}
+use mathlib.Core.Path.{refl, ap, sym, ◌∙◌}
+use lib.ListN.{length, replicate, length-replicate}
 use Rattle.base_limits.specs.Limits.{max_vertices}
 use Rattle.base_buffer.specs.Store.{remade}
 use Rattle.base_buffer.proofs.Laws.Store.{length_remade, remade_more, remade_end}
 use Rattle.winter_core.specs.Bit.{bit_group}
 use Rattle.winter_core.proofs.Laws.Call.{group_at}
-use borrow.Author.Rules.{rules}
 use Rattle.winter_core.proofs.bit.bit_groups.Goals as goal
 
 pub loop-v-init : goal.loop-v-init

@@ -1,14 +1,10 @@
 -- `bit_groups` meets its contract: it stores at rising places.
-use Prim.Native.Nat.{ℕ, ◌≤◌, ◌-◌}
-use native.Mathlib.Omega.{arith}
-use mathlib.Core.Path.{◌≡◌, refl, ap, sym, ◌∙◌}
-use lib.ListN.{length, get_or, replicate, length-replicate}
+use Prim.Native.Nat.{◌≤◌, ◌-◌}
+use mathlib.Core.Path.{◌≡◌}
+use lib.ListN.{length, get_or, replicate}
 use Rattle.base_limits.specs.Limits.{max_vertices}
 use Rattle.base_buffer.specs.Store.{remade}
-use Rattle.base_buffer.proofs.Laws.Store.{length_remade, remade_more, remade_end}
 use Rattle.winter_core.specs.Bit.{bit_group}
-use Rattle.winter_core.proofs.Laws.Call.{group_at}
-use borrow.Author.Rules.{rules}
 use Rattle.winter_core.proofs.bit.bit_groups.Given as goal
 
 abbrev pub invariant-loop-v : goal.invariant-loop-v

@@ -1,12 +1,11 @@
 -- `bit_pairs` meets its contract: a pair that passes is stored behind the others (`passed_more`).
-use Prim.Native.Nat.{◌≤◌, ◌-◌}
+use Prim.Native.Nat.{◌-◌}
 use native.Mathlib.Omega.{arith}
-use mathlib.Core.Path.{◌≡◌, refl, ap, ◌∙◌}
-use lib.ListN.{length}
+use mathlib.Core.Path.{refl, ◌∙◌}
 use Rattle.base_finite.specs.Below.{count_below, sum_below}
 use Rattle.base_finite.specs.Laws.Below.{count_le}
-use Rattle.winter_core.specs.Bit.{pair_carries, passed}
-use Rattle.winter_core.proofs.Laws.Passing.{passed_start, length_passed, passed_more, passed_end}
+use Rattle.winter_core.specs.Bit.{pair_carries}
+use Rattle.winter_core.proofs.Laws.Passing.{passed_start, passed_more, passed_end}
 use Rattle.winter_core.proofs.Laws.Call.{carries_at, count_on, count_end}
 use borrow.Author.Rules.{rules}
 use Rattle.winter_core.proofs.bit.bit_pairs.Goals as goal
@@ -24,7 +23,6 @@ carries-keep-requires c =
 pub next-count-requires : goal.next-count-requires
 next-count-requires c =
     let a = c.args in
-    
     omega (arith, c.loop-i.invariant.1.0, count_le c.loop-i.i (pair_carries a.strengths.now a.others.now a.bit), c.loop-i-test.true, c.requires.owners_len_bound)
 
 pub overflow_add-i : goal.overflow_add-i
@@ -38,10 +36,8 @@ loop-i-smaller c =
 pub loop-i-preserved : goal.loop-i-preserved
 loop-i-preserved c =
     let a = c.args in
-    
     let below = c.loop-i-test.true in
     let inv = c.loop-i.invariant in
-    
     let keep = (carries_at a.strengths.now a.bit c.at8-other.ensures c.carries-keep.ensures) in (
       omega (arith, below),
       (

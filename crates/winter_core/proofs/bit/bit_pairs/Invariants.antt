@@ -1,14 +1,9 @@
 -- `bit_pairs` meets its contract: a pair that passes is stored behind the others (`passed_more`).
 use Prim.Native.Nat.{◌≤◌, ◌-◌}
-use native.Mathlib.Omega.{arith}
-use mathlib.Core.Path.{◌≡◌, refl, ap, ◌∙◌}
+use mathlib.Core.Path.{◌≡◌}
 use lib.ListN.{length}
-use Rattle.base_finite.specs.Below.{count_below, sum_below}
-use Rattle.base_finite.specs.Laws.Below.{count_le}
+use Rattle.base_finite.specs.Below.{count_below}
 use Rattle.winter_core.specs.Bit.{pair_carries, passed}
-use Rattle.winter_core.proofs.Laws.Passing.{passed_start, length_passed, passed_more, passed_end}
-use Rattle.winter_core.proofs.Laws.Call.{carries_at, count_on, count_end}
-use borrow.Author.Rules.{rules}
 use Rattle.winter_core.proofs.bit.bit_pairs.Given as goal
 
 abbrev pub invariant-loop-i : goal.invariant-loop-i

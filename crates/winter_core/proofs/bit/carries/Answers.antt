@@ -1,6 +1,5 @@
 -- `carries` meets its contract: the bit of the group's strength.
 use Rattle.winter_core.proofs.Laws.Call.{carries_read}
-use borrow.Author.Rules.{rules}
 use Rattle.winter_core.proofs.bit.carries.Goals as goal
 
 pub returns : goal.returns

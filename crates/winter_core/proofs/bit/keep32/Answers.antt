@@ -1,7 +1,6 @@
 -- `keep32` meets its contract: stored, or as it was.
 use lib.ListN.{set}
 use Rattle.winter_core.proofs.Laws.Call.{stored_when, left_when}
-use borrow.Author.Rules.{rules}
 use Rattle.winter_core.proofs.bit.keep32.Goals as goal
 
 pub returns-then-keep : goal.returns-then-keep

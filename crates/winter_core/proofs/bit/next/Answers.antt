@@ -1,6 +1,5 @@
 -- `next` meets its contract: one more, or as many.
 use Rattle.winter_core.proofs.Laws.Call.{more_when, same_when}
-use borrow.Author.Rules.{rules}
 use Rattle.winter_core.proofs.bit.next.Goals as goal
 
 pub returns-then-keep : goal.returns-then-keep

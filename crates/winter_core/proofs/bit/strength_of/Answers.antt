@@ -1,6 +1,5 @@
 -- `strength_of` meets its contract: group 1 stands first.
 use Rattle.winter_core.proofs.Laws.Call.{strength_none, strength_some}
-use borrow.Author.Rules.{rules}
 use Rattle.winter_core.proofs.bit.strength_of.Goals as goal
 
 pub returns-then-group-lt1 : goal.returns-then-group-lt1

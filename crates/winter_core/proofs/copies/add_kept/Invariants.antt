@@ -1,14 +1,10 @@
 -- `add_kept` meets its contract: it stores at rising places.
 use Prim.Native.Nat.{◌≤◌, ◌+◌, ◌-◌}
-use native.Mathlib.Omega.{arith}
-use mathlib.Core.Path.{◌≡◌, refl, ap, ◌∙◌}
-use lib.ListN.{length, get_or}
+use mathlib.Core.Path.{◌≡◌}
+use lib.ListN.{get_or}
 use lib.Dec.{eqb}
 use Rattle.base_finite.specs.Below.{counted}
 use Rattle.base_buffer.specs.Store.{remade}
-use Rattle.base_buffer.proofs.Laws.Store.{length_remade, remade_more, remade_end}
-use Rattle.winter_core.proofs.Laws.Call.{room_ahead, more_read}
-use borrow.Author.Rules.{rules}
 use Rattle.winter_core.proofs.copies.add_kept.Given as goal
 
 abbrev pub invariant-loop-e : goal.invariant-loop-e

@@ -1,11 +1,7 @@
 -- `clear` meets its contract: it stores at rising places.
 use Prim.Native.Nat.{◌≤◌, ◌-◌}
-use native.Mathlib.Omega.{arith}
-use mathlib.Core.Path.{◌≡◌, refl, ap, ◌∙◌}
-use lib.ListN.{length}
+use mathlib.Core.Path.{◌≡◌}
 use Rattle.base_buffer.specs.Store.{remade}
-use Rattle.base_buffer.proofs.Laws.Store.{length_remade, remade_more, remade_end}
-use borrow.Author.Rules.{rules}
 use Rattle.winter_core.proofs.copies.clear.Given as goal
 
 abbrev pub invariant-loop-e : goal.invariant-loop-e

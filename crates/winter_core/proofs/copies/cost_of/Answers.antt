@@ -1,6 +1,5 @@
 -- `cost_of` meets its contract: an arm for each answer.
 use Rattle.winter_core.proofs.Laws.Call.{cost_finished, cost_refused}
-use borrow.Author.Rules.{rules}
 use Rattle.winter_core.proofs.copies.cost_of.Goals as goal
 
 pub returns-in-Finished : goal.returns-in-Finished

@@ -1,7 +1,6 @@
 -- `more` meets its contract: a kept track is copied more often.
 use borrow.Author.Tests.{eq-eqb, ne_eqb}
 use Rattle.winter_core.proofs.Laws.Call.{more_when, same_when}
-use borrow.Author.Rules.{rules}
 use Rattle.winter_core.proofs.copies.more.Goals as goal
 
 pub returns-then-mark-eq2 : goal.returns-then-mark-eq2

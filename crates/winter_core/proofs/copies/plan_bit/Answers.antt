@@ -41,5 +41,4 @@ pub returns : goal.returns
 returns c =
     let a = c.args in
     let zeros = replicate {A = ℕ} max_pairs 0 in
-    
     let s = survey_with a.groups.now a.firsts.now a.seconds.now a.weights.now a.owners.now a.others.now in record { result_value = figures_lent s a.strengths.now a.bit c.requires.survey_sound.few zeros zeros c.bit_groups-own.ensures c.bit_pairs-count.ensures.value c.bit_pairs-count.ensures.carriers_value c.bit_pairs-count.ensures.carried_value c.figures.ensures.result_value; marks_value = marks_lent s a.strengths.now a.bit c.requires.survey_sound.few zeros zeros c.bit_groups-own.ensures c.bit_pairs-count.ensures.value c.bit_pairs-count.ensures.carriers_value c.bit_pairs-count.ensures.carried_value a.marks.now c.figures.ensures.marks_value }

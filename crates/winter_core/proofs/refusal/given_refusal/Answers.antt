@@ -1,7 +1,6 @@
 -- `given_refusal` meets its contract: the survey's refusals, then those of the strengths.
 use Rattle.survey_core.specs.Survey.{survey_with}
 use Rattle.winter_core.proofs.Laws.Call.{unsound_stops, strengths_decide}
-use borrow.Author.Rules.{rules}
 use Rattle.winter_core.proofs.refusal.given_refusal.Goals as goal
 
 -- 1 to 6, 18

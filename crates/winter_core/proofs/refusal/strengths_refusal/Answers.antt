@@ -1,12 +1,9 @@
 -- `strengths_refusal` meets its contract: the length, then a scan of the strengths.
-use Prim.Native.Nat.{◌+◌, ◌-◌}
+use Prim.Native.Nat.{◌-◌}
 use mathlib.Core.Path.{sym}
-use lib.ListN.{get_or}
-use Rattle.base_limits.specs.Laws.Verdict.{Scanned, scan_start, scan_turn, scan_found, scan_end}
-use Rattle.winter_rule.specs.Winter.{strength_count, strength_refusal}
+use Rattle.base_limits.specs.Laws.Verdict.{scan_start, scan_turn, scan_found, scan_end}
 use Rattle.winter_rule.proofs.Laws.Refusal.{length_refused}
 use Rattle.winter_core.proofs.Laws.Call.{found_at, list_decided}
-use borrow.Author.Rules.{rules}
 use Rattle.winter_core.proofs.refusal.strengths_refusal.Goals as goal
 
 -- 24: another length

@@ -2,7 +2,6 @@
 use mathlib.Core.List.{[]}
 use Rattle.survey_core.specs.Survey.{survey_with}
 use Rattle.winter_core.proofs.Laws.Call.{given_stops, short_stops, groups_decide}
-use borrow.Author.Rules.{rules}
 use Rattle.winter_core.proofs.refusal.winter_refusal.Goals as goal
 
 -- 1 to 6, 18, 24
