@@ -6,8 +6,5 @@ ghost use Rattle.base_buffer.specs.Part.{at_most};
 pub fn at_most(wanted: usize, room: usize) -> usize
     ensures { result ≡ at_most wanted room }
 {
-    if room < wanted {
-        return room;
-    }
-    wanted
+    wanted.min(room)
 }

@@ -1,9 +1,12 @@
--- `at_most` meets its contract.
+-- `at_most` meets its contract: it is the smaller of the two.
+use Rattle.std.proofs.Common.{arith, ⊎_elim}
+use Rattle.base_finite.specs.Laws.Below.{lt_or_ge}
 use Rattle.base_buffer.proofs.Laws.Part.{most_room, most_wanted}
 use Rattle.base_buffer.proofs.part.at_most.Goals as goal
 
-pub returns-then-room-wanted : goal.returns-then-room-wanted
-returns-then-room-wanted c = most_room _ _ c.if-room-wanted.true
-
 pub returns : goal.returns
-returns c = most_wanted _ _ c.if-room-wanted.false
+returns c =
+    ⊎_elim
+    (λ b. let h = most_room c.args.wanted c.args.room b in omega arith)
+    (λ b. let h = most_wanted c.args.wanted c.args.room b in omega arith)
+    (lt_or_ge c.args.room c.args.wanted)
