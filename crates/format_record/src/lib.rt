@@ -8,7 +8,7 @@ ghost use Rattle.format_record.specs.Bits.{bit_at, with_bit, low_bytes};
 ghost use Rattle.format_record.specs.Record.{value_in, member_in, record_at};
 ghost use Rattle.format_record.specs.Record.{overwritten, with_value, with_member_in, started_as};
 
-use base_buffer::put8;
+use base_buffer::{at, put};
 use base_limits::{RECORD_BYTES, VALUE_BYTES};
 
 // Record i of a buffer of records, as a part of it; shorter or empty where the buffer ends before.
@@ -32,10 +32,8 @@ pub fn value(part: &[u8]) -> u64
     ensures { result ≡ value_in part.now }
 {
     let mut x: u64 = 0;
-    let mut i = VALUE_BYTES;
-    while 0 < i {
-        i -= 1;
-        x = base_buffer::wide8(base_buffer::at8(part, i)) + 256 * x;
+    for i in (0..VALUE_BYTES).rev() {
+        x = u64::from(at(part, i)) + 256 * x;
     }
     x
 }
@@ -54,7 +52,7 @@ fn bit(b: u8, k: usize) -> bool
 pub fn member(part: &[u8], v: usize) -> bool
     ensures { result ≡ member_in part.now v }
 {
-    bit(base_buffer::at8(part, VALUE_BYTES + v / 8), v % 8)
+    bit(at(part, VALUE_BYTES + v / 8), v % 8)
 }
 
 // Writes the lowest `count` bytes of x, lowest first.
@@ -62,11 +60,9 @@ fn write_low(s: &mut [u8], count: usize, x: u64)
     ensures { s.new ≡ overwritten s.old (low_bytes count x) }
 {
     let mut rest = x;
-    let mut i = 0;
-    while i < count {
-        put8(s, i, (rest % 256) as u8);
+    for i in 0..count {
+        put(s, i, (rest % 256) as u8);
         rest = rest / 256;
-        i += 1;
     }
 }
 
@@ -100,6 +96,6 @@ pub fn add_member(part: &mut [u8], v: usize)
     ensures { part.new ≡ with_member_in part.old v }
 {
     let at = VALUE_BYTES + v / 8;
-    let old = base_buffer::at8(part, at);
-    put8(part, at, with_bit(old, v));
+    let old = base_buffer::at(part, at);
+    put(part, at, with_bit(old, v));
 }

@@ -13,8 +13,8 @@ unfolding with_member_in with_member
 returns c =
     let a = c.args in
     let r = a.part.now in
-    c.put8.ensures
+    c.put.ensures
     ∙ ap (set r (8 + a.v / 8))
     (c.with_bit.ensures
-    ∙ ap (λ b. with_bit b (a.v % 8)) (c.at8-old.ensures ∙ sym (get_or-drop 8 r (a.v / 8) 0)))
+    ∙ ap (λ b. with_bit b (a.v % 8)) (c.at-old.ensures ∙ sym (get_or-drop 8 r (a.v / 8) 0)))
     ∙ set_past 8 (a.v / 8) (with_bit (get_or (drop 8 r) (a.v / 8) 0) (a.v % 8)) r

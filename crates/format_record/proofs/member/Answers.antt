@@ -11,4 +11,4 @@ unfolding member_in member_at
 returns c =
     let a = c.args in
     c.bit.ensures
-    ∙ ap (λ b. bit_at b (a.v % 8)) (c.at8.ensures ∙ sym (get_or-drop 8 a.part.now (a.v / 8) 0))
+    ∙ ap (λ b. bit_at b (a.v % 8)) (c.at.ensures ∙ sym (get_or-drop 8 a.part.now (a.v / 8) 0))

@@ -12,14 +12,14 @@ use Rattle.format_record.proofs.Laws.Bytes.{number_down, number_part_lt}
 use Rattle.format_record.proofs.value.Goals as goal
 
 -- At most seven bytes are read so far.
-small : (c : goal.After-wide8) → c.loop-i.x < 256 ^ 7
+small : (c : goal.After-from) → c.loop-i.x < 256 ^ 7
 small c =
     let l = c.loop-i in
     let part = c.args.part.now in
     let few : 8 - l.i ≤ 7 = omega arith in
     let p : 256 ^ (8 - l.i) ≤ 256 ^ 7 = pow-le-pow_right (lit< tt) few in
     let b : number_of (take (8 - l.i) (drop l.i part)) < 256 ^ (8 - l.i) =
-    number_part_lt (8 - l.i) l.i part (λ j. (c.shared_slice_known-1.given j).fits) in
+    number_part_lt (8 - l.i) l.i part (λ j. (c.type_inv.part j).fits) in
     omega arith
 
 pub loop-i-init : goal.loop-i-init
@@ -36,13 +36,13 @@ pub loop-i-preserved : goal.loop-i-preserved
 loop-i-preserved c =
     let l = c.loop-i in
     let part = c.args.part.now in
-    let read : c.wide8.result ≡ get_or part (l.i - 1) 0 = c.wide8.ensures ∙ c.at8.ensures in
-    let more = number_down 8 l.i part c.loop-i-test.true l.invariant.0 in
-    (omega arith, (cc))
+    let read : c.from.result ≡ get_or part (l.i - 1) 0 = c.from.ensures ∙ c.at.ensures in
+    let more = number_down 8 l.i part c.loop-i-test.true l.auto.i in
+    cc
 
 pub returns : goal.returns
 unfolding value_in
 returns c =
     let l = c.loop-i in
     let none : l.i ≡ 0 = omega arith in
-    l.invariant.1 ∙ ap (λ i. number_of (take (8 - i) (drop i c.args.part.now))) none
+    l.invariant ∙ ap (λ i. number_of (take (8 - i) (drop i c.args.part.now))) none

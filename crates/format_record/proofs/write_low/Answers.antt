@@ -1,28 +1,20 @@
 -- `write_low`: what is left to store, on what is stored, makes the whole.
 use Prim.Native.Nat.{◌+◌, ◌-◌, ◌/◌}
-use native.Mathlib.Nat.{sub-zero}
 use native.Mathlib.Omega.{arith}
-use mathlib.Core.Path.{◌≡◌, refl, ap, sym, ◌∙◌}
+use mathlib.Core.Path.{◌≡◌, ap, sym, ◌∙◌}
 use lib.Seq.{sets}
-use borrow.Author.Rules.{rules}
 use Rattle.format_record.specs.Bits.{low_bytes}
 use Rattle.format_record.specs.Record.{overwritten}
 use Rattle.format_record.proofs.Laws.Bytes.{store_low}
 use Rattle.format_record.proofs.write_low.Goals as goal
 
-pub loop-i-init : goal.loop-i-init
-loop-i-init c = (refl, rw (sub-zero c.args.count))
-
 pub loop-i-preserved : goal.loop-i-preserved
 loop-i-preserved c =
     let l = c.loop-i in
     let count = c.args.count in
-    let done = c.put8.ensures in (
-      search rules,
-      ap (λ s. sets s (l.i + 1) (low_bytes (count - (l.i + 1)) (l.rest / 256))) done
-          ∙ store_low l.s l.i count l.rest c.loop-i-test.true
-          ∙ l.invariant.1,
-    )
+    ap (λ s. sets s (l.i + 1) (low_bytes (count - (l.i + 1)) (l.rest / 256))) c.put.ensures
+    ∙ store_low l.s l.i count l.rest c.loop-i-test.true
+    ∙ l.invariant
 
 pub returns : goal.returns
 unfolding overwritten low_bytes
@@ -30,4 +22,4 @@ returns c =
     let a = c.args in
     let l = c.loop-i in
     let none : a.count - l.i ≡ 0 = omega arith in
-    sym (ap (λ n. sets l.s l.i (low_bytes n l.rest)) none) ∙ l.invariant.1
+    sym (ap (λ n. sets l.s l.i (low_bytes n l.rest)) none) ∙ l.invariant

@@ -1,13 +1,9 @@
 -- `write_low`: what is left to store, on what is stored, makes the whole.
 use Prim.Native.Nat.{◌-◌}
 use mathlib.Core.Path.{◌≡◌}
-use lib.ListN.{length}
 use lib.Seq.{sets}
 use Rattle.format_record.specs.Bits.{low_bytes}
 use Rattle.format_record.proofs.write_low.Given as goal
 
 abbrev pub invariant-loop-i : goal.invariant-loop-i
-invariant-loop-i l = (length l.s ≡ length l.initial.s) × (sets l.s l.i (low_bytes (l.count - l.i) l.rest) ≡ sets l.initial.s 0 (low_bytes l.count l.x))
-
-abbrev pub decreases-loop-i : goal.decreases-loop-i
-decreases-loop-i l = l.count - l.i
+invariant-loop-i l = sets l.s l.i (low_bytes (l.count - l.i) l.rest) ≡ sets l.initial.s 0 (low_bytes l.count l.x)
