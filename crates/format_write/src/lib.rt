@@ -64,7 +64,7 @@ const FARTHEST: usize = 9223372036854775808;
 pub fn put(out: &mut [u8], at: usize, b: u8) -> usize
     ensures { Wrote out.old at (b ∷ []) out.new result }
 {
-    base_buffer::put8(out, at, b);
+    base_buffer::put(out, at, b);
     if at < FARTHEST {
         return at + 1;
     }
@@ -76,10 +76,8 @@ pub fn put_bytes(out: &mut [u8], at: usize, bytes: &[u8]) -> usize
     ensures { Wrote out.old at bytes.now out.new result }
 {
     let mut next = at;
-    let mut i = 0;
-    while i < bytes.len() {
-        next = put(out, next, bytes[i]);
-        i += 1;
+    for b in bytes {
+        next = put(out, next, *b);
     }
     next
 }

@@ -9,10 +9,10 @@ pub fn put_item(out: &mut [u8], at: usize, first: bool, v: usize) -> usize
     ensures { Wrote out.old at (item_of first v) out.new result }
 {
     if first {
-        return put_number(out, at, base_buffer::wide(v));
+        return put_number(out, at, v as u64);
     }
     let next = put(out, at, b',');
-    put_number(out, next, base_buffer::wide(v))
+    put_number(out, next, v as u64)
 }
 
 // Writes numbers with commas between.
@@ -20,10 +20,8 @@ pub fn put_list(out: &mut [u8], at: usize, numbers: &[u32]) -> usize
     ensures { Wrote out.old at (listed numbers.now) out.new result }
 {
     let mut next = at;
-    let mut i = 0;
-    while i < numbers.len() {
-        next = put_item(out, next, i == 0, base_buffer::index32(numbers[i]));
-        i += 1;
+    for (i, number) in numbers.iter().enumerate() {
+        next = put_item(out, next, i == 0, *number as usize);
     }
     next
 }

@@ -1,7 +1,7 @@
 -- `put_list`: what is written so far are the first numbers.
-use Prim.Native.Nat.{◌-◌, ◌≤◌}
+use Prim.Native.Nat.{◌≤◌}
 use native.Mathlib.Omega.{arith}
-use mathlib.Core.Path.{ap, sym}
+use mathlib.Core.Path.{refl, ap, sym}
 use lib.ListN.{length}
 use lib.Seq.{take_all}
 use Rattle.format_write.specs.Text.{listed}
@@ -20,7 +20,7 @@ loop-i-preserved c =
     let small : length a.out.now ≤ farthest = omega arith in
     wrote_as
     (wrote_then small l.invariant c.put_item-next.ensures)
-    (list_next a.numbers.now l.i c.loop-i-test.true c.index32.ensures)
+    (list_next a.numbers.now l.i c.loop-i-test.true refl)
 
 pub returns : goal.returns
 returns c = wrote_as c.loop-i.invariant (ap listed (take_all c.loop-i.i _ c.loop-i-test.false))
