@@ -7,7 +7,6 @@ ghost use Rattle.format_read.specs.Answer.{number_step};
 
 use crate::classes::{class_from, class_of, is_digit};
 use crate::{Class, Cursor, Number};
-use base_buffer::at8;
 use base_limits::MAX_DIGITS;
 
 // Where the digits from at on end, of which at most limit are taken.
@@ -15,13 +14,11 @@ fn digits_end(text: &[u8], at: usize, limit: usize) -> usize
     ensures { result ≡ digits_end limit text.now at }
 {
     let mut end = at;
-    let mut taken = 0;
-    while taken < limit {
-        if !is_digit(class_of(at8(text, end))) {
+    for _ in 0..limit {
+        if !is_digit(class_of(base_buffer::at(text, end))) {
             return end;
         }
         end += 1;
-        taken += 1;
     }
     end
 }
@@ -47,45 +44,23 @@ fn digits(text: &[u8], at: usize, limit: usize) -> &[u8]
     &text[at..end]
 }
 
-fn digit(b: u8) -> u64
-    ensures { result ≡ b - 48 }
-{
-    let wide = b as u64;
-    if wide < 48 {
-        return 0;
-    }
-    wide - 48
-}
-
 // The number that decimal digits write.
 fn value(digits: &[u8]) -> u64
     requires { length digits.now ≤ max_digits }
     ensures { result ≡ spelled_after 0 digits.now }
 {
     let mut n: u64 = 0;
-    let mut i = 0;
-    while i < digits.len() {
-        n = n * 10 + digit(digits[i]);
-        i += 1;
+    for d in digits {
+        n = n * 10 + u64::from(d.saturating_sub(b'0'));
     }
     n
-}
-
-// A digit limit, with which a number fits.
-fn capped(limit: usize) -> usize
-    ensures { result ≡ min limit max_digits }
-{
-    if limit < MAX_DIGITS {
-        return limit;
-    }
-    MAX_DIGITS
 }
 
 // The number of at most limit digits at an offset.
 pub fn number_from(text: &[u8], at: usize, limit: usize) -> Number
     ensures { number_step result ≡ number_at (min limit max_digits) text.now at }
 {
-    let part = digits(text, at, capped(limit));
+    let part = digits(text, at, limit.min(MAX_DIGITS));
     let width = part.len();
     if width == 0 {
         return Number::Refused {

@@ -25,7 +25,7 @@ pub struct Cursor {
 
 // The classes of bytes that tell the parts of a line apart: the digit 0 and the others, what ends a line, what stands
 // between values and behind one, and the letters with which the line of a kept track and an also line begin.
-#[derive(Clone, Copy)]
+#[derive(Clone, Copy, PartialEq, Eq)]
 pub enum Class {
     Zero,
     Digit,
@@ -57,22 +57,14 @@ fn fixed_from(text: &[u8], from: usize, bytes: &[u8]) -> Number
     ensures { number_step result ≡ fixed_at bytes.now text.now from }
 {
     let mut at = from;
-    let mut i = 0;
-    while i < bytes.len() {
-        if text.len() <= at {
-            return Number::Refused {
-                number: 16,
-                place: at,
-            };
-        }
-        if text[at] != bytes[i] {
+    for b in bytes {
+        if text.len() <= at || text[at] != *b {
             return Number::Refused {
                 number: 16,
                 place: at,
             };
         }
         at += 1;
-        i += 1;
     }
     Number::Value {
         value: 0,

@@ -1,11 +1,8 @@
 -- `format_read::digits::digits_end` meets its contract: what is left of the digits ends where all of them end.
-use Prim.Native.Nat.{◌≤◌, ◌-◌}
+use Prim.Native.Nat.{◌-◌}
 use mathlib.Core.Path.{◌≡◌}
 use Rattle.format_read.specs.Number.{digits_end}
 use Rattle.format_read.proofs.digits.digits_end.Given as goal
 
-abbrev pub invariant-loop-taken : goal.invariant-loop-taken
-invariant-loop-taken l = (l.taken ≤ l.limit) × (digits_end (l.limit - l.taken) l.text l.end ≡ digits_end l.limit l.text l.at)
-
-abbrev pub decreases-loop-taken : goal.decreases-loop-taken
-decreases-loop-taken l = l.limit - l.taken
+abbrev pub invariant-loop : goal.invariant-loop
+invariant-loop l = digits_end (l.limit - l.counter) l.text l.end ≡ digits_end l.limit l.text l.at
