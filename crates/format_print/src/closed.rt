@@ -6,7 +6,6 @@ ghost use Rattle.format_print.specs.Print.{printed, printed_out};
 ghost use Rattle.format_print.specs.RowText.{pair_text, row_text, row_line, row_lines};
 
 use crate::Printed;
-use base_buffer::{at32, at64};
 use format_write::{put, put_bytes, put_number};
 
 // The key of a line, and the word of a refused row.
@@ -56,11 +55,11 @@ fn put_line_of(out: &mut [u8], at: usize, tracks: &[u32], res: &[u64], i: usize)
     requires { i < 2 ^ 61 }
     ensures { Wrote out.old at (row_line tracks.now res.now i) out.new result }
 {
-    let track = base_buffer::wide32(at32(tracks, i));
-    let number = at64(res, 4 * i);
-    let place = at64(res, 4 * i + 1);
-    let cost = at64(res, 4 * i + 2);
-    let bound = at64(res, 4 * i + 3);
+    let track = u64::from(base_buffer::at(tracks, i));
+    let number = base_buffer::at(res, 4 * i);
+    let place = base_buffer::at(res, 4 * i + 1);
+    let cost = base_buffer::at(res, 4 * i + 2);
+    let bound = base_buffer::at(res, 4 * i + 3);
     put_row(out, at, track, number, place, cost, bound)
 }
 
@@ -69,10 +68,8 @@ fn put_rows(out: &mut [u8], at: usize, tracks: &[u32], res: &[u64]) -> usize
     ensures { Wrote out.old at (row_lines tracks.now res.now) out.new result }
 {
     let mut next = at;
-    let mut i = 0;
-    while i < tracks.len() {
+    for i in 0..tracks.len() {
         next = put_line_of(out, next, tracks, res, i);
-        i += 1;
     }
     next
 }

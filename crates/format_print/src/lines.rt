@@ -22,7 +22,7 @@ fn put_refusal(out: &mut [u8], at: usize, number: u64, place: usize) -> usize
     ensures { Wrote out.old at (refusal_text number place) out.new result }
 {
     let next = put_line(out, at, &format_write::REFUSED, number);
-    put_line(out, next, &format_write::PLACE, base_buffer::wide(place))
+    put_line(out, next, &format_write::PLACE, place as u64)
 }
 
 // Prints the line of a dual record. Each print measures its text on an empty part of the buffer before it writes.

@@ -39,7 +39,7 @@ fn begins_zero(part: &[u8], v: usize) -> bool
     if 0 < v % 8 {
         return false;
     }
-    base_buffer::at8(part, base_limits::VALUE_BYTES + v / 8) == 0
+    base_buffer::at(part, base_limits::VALUE_BYTES + v / 8) == 0
 }
 
 // Writes the members of a record, rising. A byte without members is passed over whole.
@@ -48,6 +48,7 @@ fn put_members(out: &mut [u8], at: usize, part: &[u8]) -> usize
 {
     let mut list = Listing { at, first: true };
     let mut v = 0;
+    // Stays a while: the step is no constant, 8 past a byte without members and else 1.
     while v < 8 * base_limits::MEMBER_BYTES {
         if begins_zero(part, v) {
             v += 8;

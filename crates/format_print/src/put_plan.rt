@@ -12,7 +12,7 @@ fn put_mark(out: &mut [u8], at: usize, mark: u8, e: usize) -> usize
     match mark {
         0 => at,
         1 => at,
-        2 => put_line(out, at, &format_write::KEPT, base_buffer::wide(e)),
+        2 => put_line(out, at, &format_write::KEPT, e as u64),
         _ => at,
     }
 }
@@ -22,10 +22,8 @@ pub fn put_marks(out: &mut [u8], at: usize, marks: &[u8]) -> usize
     ensures { Wrote out.old at (kept_lines marks.now) out.new result }
 {
     let mut next = at;
-    let mut e = 0;
-    while e < marks.len() {
-        next = put_mark(out, next, marks[e], e);
-        e += 1;
+    for (e, mark) in marks.iter().enumerate() {
+        next = put_mark(out, next, *mark, e);
     }
     next
 }
@@ -35,10 +33,8 @@ pub fn put_duals(out: &mut [u8], at: usize, records: &[u8]) -> usize
     ensures { Wrote out.old at (dual_lines records.now) out.new result }
 {
     let mut next = at;
-    let mut i = 0;
-    while i < records.len() / base_limits::RECORD_BYTES {
+    for i in 0..records.len() / base_limits::RECORD_BYTES {
         next = put_dual(out, next, format_record::record(records, i));
-        i += 1;
     }
     next
 }

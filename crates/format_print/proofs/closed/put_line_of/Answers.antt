@@ -8,5 +8,5 @@ pub returns : goal.returns
 returns c =
     let a = c.args in
     wrote_as c.put_row.ensures
-    (row_read a.tracks.now a.res.now a.i (c.wide32-track.ensures ∙ c.at32.ensures) c.at64-number.ensures c.at64-place.ensures
-    c.at64-cost.ensures c.at64-bound.ensures)
+    (row_read a.tracks.now a.res.now a.i (c.from-track.ensures ∙ c.at.ensures) c.at-number.ensures c.at-place.ensures
+    c.at-cost.ensures c.at-bound.ensures)

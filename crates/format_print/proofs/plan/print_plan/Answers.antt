@@ -23,7 +23,7 @@ returns-then-holds_all c =
       rounds_fit = omega arith;
       marks_few = all.few_marks;
       records_few = all.few_records;
-      records_bytes = λ i. (c.shared_slice_known-2-1.given i).fits;
+      records_bytes = λ i. (c.type_inv.records i).fits;
     }) in
     let fits : length text ≤ length a.out.now = omega (arith, most, room) in
     let p = whole_prints text a.out.now (omega arith) fits c.put_plan.ensures in

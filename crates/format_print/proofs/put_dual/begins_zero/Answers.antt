@@ -12,4 +12,4 @@ pub returns : goal.returns
 returns c =
     let a = c.args in
     let begins : a.v % 8 ≡ 0 = omega arith in
-    begins_by_byte a.part.now a.v begins c.at8.ensures
+    begins_by_byte a.part.now a.v begins c.at.ensures

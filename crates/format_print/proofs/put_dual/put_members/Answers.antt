@@ -1,5 +1,5 @@
 -- `put_members`: what is written so far are the members below v; a byte that is passed over has none.
-use Prim.Native.Nat.{◌*◌, ◌-◌, ◌%◌, ◌≤◌}
+use Prim.Native.Nat.{◌*◌, ◌%◌, ◌≤◌}
 use native.Mathlib.Omega.{arith}
 use mathlib.Core.Path.{◌≡◌, ap, sym, ◌∙◌}
 use lib.ListN.{length}
