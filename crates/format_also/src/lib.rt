@@ -12,7 +12,7 @@ ghost use Rattle.format_also.specs.Answer.{pair_step};
 
 use crate::line::also_line;
 use crate::test::rank;
-use base_buffer::{put8, put32};
+use base_buffer::put;
 use base_limits::MAX_PAIRS;
 use format_read::{Class, Cursor, Number, is_class};
 
@@ -74,12 +74,11 @@ pub fn pair_lines(
 {
     let mut next = cursor;
     let mut low = 0;
-    let mut i = 0;
-    while i < ALSO_TURNS {
+    for i in 0..ALSO_TURNS {
         let at = next.at;
         if !is_class(text, at, Class::Also) {
             return Number::Value {
-                value: base_buffer::wide(i),
+                value: i as u64,
                 next,
             };
         }
@@ -92,11 +91,12 @@ pub fn pair_lines(
         else {
             return stopped_line(line);
         };
-        put32(owners, i, owner as u32);
-        put8(others, i, other as u8);
-        low = rank(owner as u32, other as u32);
+        let vertex = owner as u32;
+        let group = other as u8;
+        put(owners, i, vertex);
+        put(others, i, group);
+        low = rank(vertex, u32::from(group));
         next = after;
-        i += 1;
     }
     let place = next.at;
     Number::Refused { number: 16, place }

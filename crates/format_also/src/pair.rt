@@ -49,8 +49,5 @@ pub fn pair_at(text: &[u8], cursor: Cursor) -> PairLine
 pub fn pair_room(owners: usize, others: usize) -> usize
     ensures { result ≡ min owners others }
 {
-    if owners < others {
-        return owners;
-    }
-    others
+    owners.min(others)
 }

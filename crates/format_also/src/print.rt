@@ -3,7 +3,6 @@ ghost use Rattle.format_also.specs.Pair.{pair_of};
 ghost use Rattle.format_also.specs.Render.{pair_text, pairs_text, pairs_from};
 ghost use Rattle.format_write.specs.Wrote.{Wrote};
 
-use base_buffer::{at8, at32};
 use format_write::{put, put_bytes, put_number};
 
 // Writes the line of a pair.
@@ -22,12 +21,10 @@ pub fn put_pairs(out: &mut [u8], at: usize, owners: &[u32], others: &[u8]) -> us
     ensures { Wrote out.old at (pairs_text (pairs_from owners.now others.now)) out.new result }
 {
     let mut next = at;
-    let mut i = 0;
-    while i < owners.len() {
-        let owner = base_buffer::wide32(at32(owners, i));
-        let other = base_buffer::wide8(at8(others, i));
+    for (i, x) in owners.iter().enumerate() {
+        let owner = u64::from(*x);
+        let other = u64::from(base_buffer::at(others, i));
         next = put_pair(out, next, owner, other);
-        i += 1;
     }
     next
 }

@@ -2,7 +2,7 @@
 ghost use Rattle.std.specs.Prelude.{◌≡◌};
 ghost use Rattle.format_also.specs.Pair.{pair_of, rank, also_test};
 
-use base_buffer::at8;
+use base_buffer::at;
 use base_limits::{GROUP_NUMBERS, Verdict};
 
 // Group numbers lie below it.
@@ -20,7 +20,7 @@ pub fn pair_test(groups: &[u8], room: usize, low: u64, i: usize, owner: u32, oth
     ensures { result ≡ also_test groups.now room low i (pair_of owner other) }
 {
     let place = owner as usize;
-    let own = base_buffer::wide8(at8(groups, place));
+    let own = u64::from(at(groups, place));
     let above = rank(owner, other);
     if GROUPS <= other as u64 {
         return Verdict::Refused { number: 17, place };

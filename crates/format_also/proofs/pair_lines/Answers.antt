@@ -1,6 +1,6 @@
 -- `format_also::pair_lines` meets its contract: what is left to read, to store and to count is what the whole reads, stores and counts.
+use mathlib.Core.Path.{refl}
 use native.Mathlib.Omega.{arith}
-use Prim.Native.Nat.{◌-◌}
 use mathlib.Core.Path.{ap, sym, ◌∙◌}
 use mathlib.Core.Bool.{not}
 use Rattle.format_read.specs.Step.{stopped}
@@ -24,7 +24,7 @@ unfolding number_step also_reader
 returns-then-not-is_class c =
     let a = c.args in
     pairs_ended a.text.now a.groups.now a.owners.now a.others.now a.cursor.at a.room
-    (pairs_stop _ _ _ _ _ _ _ _ _ c.loop-i.invariant c.wide.ensures c.loop-i-test.true (ap not (sym (c.is_class.ensures ∙ is_also _ _) ∙ c.if-not-is_class.true)))
+    (pairs_stop _ _ _ _ _ _ _ _ _ c.loop-i.invariant refl c.loop-i-test.true (ap not (sym (c.is_class.ensures ∙ is_also _ _) ∙ c.if-not-is_class.true)))
 
 -- a line is refused
 pub returns-in_default : goal.returns-in_default
@@ -36,42 +36,26 @@ returns-in_default c =
     (pairs_refused _ _ _ _ _ _ _ _ _ c.loop-i.invariant c.loop-i-test.true (ap not (sym (c.is_class.ensures ∙ is_also _ _) ∙ c.if-not-is_class.false)) (sym c.also_line-line.ensures ∙ ap pair_step told)) in
     (c.stopped_line.ensures ∙ ap (λ x. stopped (pair_step x)) told ∙ done.0, done.1, done.2)
 
-pub overflow_cast-owner : goal.overflow_cast-owner
+pub overflow_cast-vertex : goal.overflow_cast-vertex
 unfolding pair_step
-overflow_cast-owner c =
+overflow_cast-vertex c =
     let a = c.args in
     let p = line_passed a.text.now a.groups.now a.room c.loop-i.low c.loop-i.i c.loop-i.next.at (sym c.also_line-line.ensures ∙ ap pair_step c.in-Pair.is) in
     let k = p.digits.owner in
     omega arith
 
-pub overflow_cast-other : goal.overflow_cast-other
+pub overflow_cast-group : goal.overflow_cast-group
 unfolding pair_step
-overflow_cast-other c =
+overflow_cast-group c =
     let a = c.args in
     let p = line_passed a.text.now a.groups.now a.room c.loop-i.low c.loop-i.i c.loop-i.next.at (sym c.also_line-line.ensures ∙ ap pair_step c.in-Pair.is) in
     let k = p.passes.group in
     omega arith
 
-pub overflow_cast-owner-in-loop-i : goal.overflow_cast-owner-in-loop-i
-unfolding pair_step
-overflow_cast-owner-in-loop-i c =
-    let a = c.args in
-    let p = line_passed a.text.now a.groups.now a.room c.loop-i.low c.loop-i.i c.loop-i.next.at (sym c.also_line-line.ensures ∙ ap pair_step c.in-Pair.is) in
-    let k = p.digits.owner in
-    omega arith
-
-pub overflow_cast-other-in-loop-i : goal.overflow_cast-other-in-loop-i
-unfolding pair_step
-overflow_cast-other-in-loop-i c =
-    let a = c.args in
-    let p = line_passed a.text.now a.groups.now a.room c.loop-i.low c.loop-i.i c.loop-i.next.at (sym c.also_line-line.ensures ∙ ap pair_step c.in-Pair.is) in
-    let k = p.digits.other in
-    omega arith
-
 pub loop-i-preserved : goal.loop-i-preserved
 unfolding pair_step also_reader
 loop-i-preserved c =
-    rw (c.put32.ensures, c.put8.ensures, c.rank-low.ensures)
+    rw (c.put.ensures, c.put-in-loop-i.ensures, c.rank-low.ensures, c.from.ensures)
     (pairs_more _ _ _ _ _ _ _ _ _ c.loop-i.invariant c.loop-i-test.true (ap not (sym (c.is_class.ensures ∙ is_also _ _) ∙ c.if-not-is_class.false)) (sym c.also_line-line.ensures ∙ ap pair_step c.in-Pair.is))
 
 -- 16: no turn left

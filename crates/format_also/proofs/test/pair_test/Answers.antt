@@ -28,14 +28,14 @@ returns-then-other-eq0 c =
 pub returns-then-other-own : goal.returns-then-other-own
 returns-then-other-own c =
     let a = c.args in
-    let own = c.wide8-own.ensures ∙ c.at8.ensures in
+    let own = c.from-own.ensures ∙ c.at.ensures in
     sym (also_own a.groups.now a.room a.low a.i (pair_of a.owner a.other) c.if-other-ge-GROUPS.false c.if-groups-place.false c.if-other-eq0.false (c.if-other-own.true ∙ own))
 
 -- 18: the pair does not rise
 pub returns-then-above-low : goal.returns-then-above-low
 returns-then-above-low c =
     let a = c.args in
-    let own = c.wide8-own.ensures ∙ c.at8.ensures in
+    let own = c.from-own.ensures ∙ c.at.ensures in
     let h = c.if-above-low.true in
     let e = c.rank-above.ensures in
     let falls : rank (pair_of a.owner a.other) ≤ a.low = omega arith in
@@ -45,12 +45,12 @@ returns-then-above-low c =
 pub returns-then-room-i : goal.returns-then-room-i
 returns-then-room-i c =
     let a = c.args in
-    let own = c.wide8-own.ensures ∙ c.at8.ensures in
+    let own = c.from-own.ensures ∙ c.at.ensures in
     sym (also_full a.groups.now a.room a.low a.i (pair_of a.owner a.other) c.if-other-ge-GROUPS.false c.if-groups-place.false c.if-other-eq0.false (λ e. c.if-other-own.false (e ∙ sym own)) (subst (λ (k : ℕ). a.low < k) c.rank-above.ensures c.if-above-low.false) c.if-room-i.true)
 
 -- the pair passes
 pub returns : goal.returns
 returns c =
     let a = c.args in
-    let own = c.wide8-own.ensures ∙ c.at8.ensures in
+    let own = c.from-own.ensures ∙ c.at.ensures in
     sym (also_fine a.groups.now a.room a.low a.i (pair_of a.owner a.other) c.if-other-ge-GROUPS.false c.if-groups-place.false c.if-other-eq0.false (λ e. c.if-other-own.false (e ∙ sym own)) (subst (λ (k : ℕ). a.low < k) c.rank-above.ensures c.if-above-low.false) c.if-room-i.false)
