@@ -1,21 +1,15 @@
 // Reads the lines `link=u,v,price` of a survey text.
-ghost use Rattle.std.specs.Prelude.{◌≡◌, ◌<◌, set};
+ghost use Rattle.std.specs.Prelude.{◌≡◌};
 ghost use Rattle.std.proofs.lemmas.List.Edits.{sets};
 ghost use Rattle.format_read.specs.Answer.{number_step};
 ghost use Rattle.format_read.specs.Step.{stopped};
-ghost use Rattle.format_survey.specs.Line.{edge_lines, firsts_of, seconds_of, weights_of, word_numbers};
+ghost use Rattle.format_survey.specs.Line.{edge_lines, firsts_of, seconds_of, weights_of};
 ghost use Rattle.format_survey.specs.LinesAnswer.{edge_step};
 
 use crate::EdgeLine;
 use crate::edge::edge_line;
+use base_buffer::put;
 use format_read::{Cursor, Number};
-
-fn store32(buffer: &mut [u32], at: usize, value: u64)
-    requires { value < word_numbers }
-    ensures { buffer.new ≡ set buffer.old at value }
-{
-    base_buffer::put32(buffer, at, value as u32);
-}
 
 // A refused line of an edge, as the answer of the lines.
 pub fn stopped_line(line: EdgeLine) -> Number
@@ -51,8 +45,7 @@ pub fn edge_lines(
         × (weights.new ≡ sets weights.old 0 (weights_of lines.values)) }
 {
     let mut next = cursor;
-    let mut edge = 0;
-    while edge < count {
+    for edge in 0..count {
         let line = edge_line(text, next, edge);
         let EdgeLine::Edge {
             first,
@@ -63,11 +56,10 @@ pub fn edge_lines(
         else {
             return stopped_line(line);
         };
-        store32(firsts, edge, first);
-        store32(seconds, edge, second);
-        store32(weights, edge, weight);
+        put(firsts, edge, first as u32);
+        put(seconds, edge, second as u32);
+        put(weights, edge, weight as u32);
         next = after;
-        edge += 1;
     }
     Number::Value { value: 0, next }
 }

@@ -1,10 +1,10 @@
 // Reads the lines `node=g` of a survey text.
-ghost use Rattle.std.specs.Prelude.{◌≡◌, ◌<◌, set};
+ghost use Rattle.std.specs.Prelude.{◌≡◌};
 ghost use Rattle.std.proofs.lemmas.List.Edits.{sets};
-ghost use Rattle.base_limits.specs.Limits.{group_numbers};
 ghost use Rattle.format_read.specs.Answer.{number_step};
 ghost use Rattle.format_survey.specs.Line.{group_lines, group_test, group_line};
 
+use base_buffer::put;
 use base_limits::{GROUP_DIGITS, GROUP_NUMBERS};
 use format_read::{Cursor, Number, number_line};
 
@@ -26,29 +26,19 @@ fn group_line(text: &[u8], cursor: Cursor, vertex: usize) -> Number
     step
 }
 
-// Stores where the buffer reaches.
-fn store8(buffer: &mut [u8], at: usize, value: u64)
-    requires { value < group_numbers }
-    ensures { buffer.new ≡ set buffer.old at value }
-{
-    base_buffer::put8(buffer, at, value as u8);
-}
-
 // So many lines `node=g`; the groups up to the first refusal go into the buffer, as far as it reaches.
 pub fn group_lines(text: &[u8], cursor: Cursor, count: usize, groups: &mut [u8]) -> Number
     ensures { let lines = group_lines group_test text.now count cursor.at in
         (number_step result ≡ lines.end) × (groups.new ≡ sets groups.old 0 lines.values) }
 {
     let mut next = cursor;
-    let mut vertex = 0;
-    while vertex < count {
+    for vertex in 0..count {
         let step = group_line(text, next, vertex);
         let Number::Value { value, next: after } = step else {
             return step;
         };
-        store8(groups, vertex, value);
+        put(groups, vertex, value as u8);
         next = after;
-        vertex += 1;
     }
     Number::Value { value: 0, next }
 }

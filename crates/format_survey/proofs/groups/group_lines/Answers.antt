@@ -1,5 +1,5 @@
 -- `format_survey::groups::group_lines` meets its contract: what is left to read and to store is what the whole reads and stores.
-use Prim.Native.Nat.{◌-◌}
+use native.Mathlib.Omega.{arith}
 use mathlib.Core.Path.{◌≡◌, ap, sym, ◌∙◌}
 use lib.Seq.{sets}
 use Rattle.format_read.specs.Step.{found}
@@ -26,10 +26,11 @@ returns-in_default c =
       stored_stop _ _ _ _ _ _ _ _ c.loop-vertex-test.true e c.loop-vertex.invariant.1 ∙ ap (sets a.groups.now 0) (map_same (group_lines group_test a.text.now a.count a.cursor.at).values),
     )
 
-pub store8-requires : goal.store8-requires
+pub overflow_cast-value : goal.overflow_cast-value
 unfolding number_step
-store8-requires c =
-    group_below c.args.text.now c.loop-vertex.vertex c.loop-vertex.next.at (sym c.group_line-step.ensures ∙ ap number_step c.in-Value.is)
+overflow_cast-value c =
+    let k = group_below c.args.text.now c.loop-vertex.vertex c.loop-vertex.next.at (sym c.group_line-step.ensures ∙ ap number_step c.in-Value.is) in
+    omega arith
 
 pub loop-vertex-preserved : goal.loop-vertex-preserved
 unfolding number_step
@@ -37,7 +38,7 @@ loop-vertex-preserved c =
     let a = c.args in
     let e : group_line group_test a.text.now c.loop-vertex.vertex c.loop-vertex.next.at ≡ found c.in-Value.value c.in-Value.after.at = sym c.group_line-step.ensures ∙ ap number_step c.in-Value.is in
     let h = c.loop-vertex-test.true in
-    (left_more _ _ _ _ _ h e c.loop-vertex.invariant.0, rw c.store8.ensures (stored_more _ _ _ _ _ (λ g. g) _ _ h e c.loop-vertex.invariant.1))
+    (left_more _ _ _ _ _ h e c.loop-vertex.invariant.0, rw c.put.ensures (stored_more _ _ _ _ _ (λ g. g) _ _ h e c.loop-vertex.invariant.1))
 
 -- all lines are read
 pub returns : goal.returns
