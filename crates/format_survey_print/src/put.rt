@@ -1,5 +1,5 @@
 // Writes the lines of the vertices and of the edges of a survey's text.
-ghost use Rattle.std.specs.Prelude.{◌≡◌, get_or};
+ghost use Rattle.std.specs.Prelude.{◌≡◌};
 ghost use Rattle.format_write.specs.Key.{node_key};
 ghost use Rattle.format_write.specs.Text.{line_of};
 ghost use Rattle.format_write.specs.Wrote.{Wrote};
@@ -9,13 +9,6 @@ ghost use Rattle.format_read.specs.Lines.{text_of};
 ghost use Rattle.format_survey_print.specs.Print.{edge_with, edges_from};
 
 use format_write::{put, put_bytes, put_line, put_number};
-
-// The number at i, or 0 past the end.
-fn wide_at(s: &[u32], i: usize) -> u64
-    ensures { result ≡ get_or s.now i 0 }
-{
-    base_buffer::wide32(base_buffer::at32(s, i))
-}
 
 // Writes a number and the byte behind it.
 fn put_field(out: &mut [u8], at: usize, x: u64, stop: u8) -> usize
@@ -39,7 +32,7 @@ fn put_edge(out: &mut [u8], at: usize, first: u64, second: u64, weight: u64) -> 
 fn put_group(out: &mut [u8], at: usize, group: u8) -> usize
     ensures { Wrote out.old at (line_of node_key group) out.new result }
 {
-    put_line(out, at, &format_write::NODE, base_buffer::wide8(group))
+    put_line(out, at, &format_write::NODE, u64::from(group))
 }
 
 // Writes the line of each vertex.
@@ -47,10 +40,8 @@ pub fn put_groups(out: &mut [u8], at: usize, groups: &[u8]) -> usize
     ensures { Wrote out.old at (text_of (line_of node_key) groups.now) out.new result }
 {
     let mut next = at;
-    let mut v = 0;
-    while v < groups.len() {
-        next = put_group(out, next, groups[v]);
-        v += 1;
+    for group in groups {
+        next = put_group(out, next, *group);
     }
     next
 }
@@ -67,13 +58,11 @@ pub fn put_edges(
         Wrote out.old at (text_of edge_text edges) out.new result }
 {
     let mut next = at;
-    let mut e = 0;
-    while e < firsts.len() {
-        let first = wide_at(firsts, e);
-        let second = wide_at(seconds, e);
-        let weight = wide_at(weights, e);
+    for (e, x) in firsts.iter().enumerate() {
+        let first = u64::from(*x);
+        let second = u64::from(base_buffer::at(seconds, e));
+        let weight = u64::from(base_buffer::at(weights, e));
         next = put_edge(out, next, first, second, weight);
-        e += 1;
     }
     next
 }

@@ -20,18 +20,8 @@ pub fn put_survey(
     ensures { let text = survey_text (survey_lent groups.now firsts.now seconds.now weights.now owners.now others.now) in
         Wrote out.old at text out.new result }
 {
-    let next = put_line(
-        out,
-        at,
-        &format_write::NODES,
-        base_buffer::wide(groups.len()),
-    );
-    let next = put_line(
-        out,
-        next,
-        &format_write::LINKS,
-        base_buffer::wide(firsts.len()),
-    );
+    let next = put_line(out, at, &format_write::NODES, groups.len() as u64);
+    let next = put_line(out, next, &format_write::LINKS, firsts.len() as u64);
     let next = put_groups(out, next, groups);
     let next = put_pairs(out, next, owners, others);
     put_edges(out, next, firsts, seconds, weights)

@@ -1,6 +1,4 @@
 -- `put_edges`: what is written so far are the lines of the edges below e.
-use Prim.Native.Nat.{◌≤◌, ◌-◌}
-use lib.ListN.{length}
 use Rattle.base_finite.specs.Below.{tabulate}
 use Rattle.format_write.specs.Wrote.{Wrote}
 use Rattle.format_survey.specs.LinesRender.{edge_text}
@@ -10,7 +8,4 @@ use Rattle.format_survey_print.proofs.put.put_edges.Given as goal
 
 abbrev pub invariant-loop-e : goal.invariant-loop-e
 invariant-loop-e l =
-    (l.e ≤ length l.firsts) × Wrote l.initial.out l.at (text_of edge_text (tabulate l.e (edge_at l.firsts l.seconds l.weights))) l.out l.next
-
-abbrev pub decreases-loop-e : goal.decreases-loop-e
-decreases-loop-e l = length l.firsts - l.e
+    Wrote l.initial.out l.at (text_of edge_text (tabulate l.e (edge_at l.firsts l.seconds l.weights))) l.out l.next

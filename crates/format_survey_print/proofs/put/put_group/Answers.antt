@@ -6,4 +6,4 @@ use Rattle.format_write.proofs.Laws.Wrote.{wrote_as}
 use Rattle.format_survey_print.proofs.put.put_group.Goals as goal
 
 pub returns : goal.returns
-returns c = wrote_as c.put_line.ensures (ap (line_of node_key) c.wide8.ensures)
+returns c = wrote_as c.put_line.ensures (ap (line_of node_key) c.from.ensures)

@@ -17,7 +17,7 @@ unfolding survey_text render
 returns c =
     let a = c.args in
     let small : length a.out.now ≤ farthest = omega arith in
-    let n = wrote_as c.put_line-next.ensures (ap (line_of nodes_key) c.wide.ensures) in
+    let n = c.put_line-next.ensures in
     let m = wrote_as c.put_line-next-2.ensures
-    (ap (line_of links_key) (c.wide-2.ensures ∙ sym (edges_count a.firsts.now a.seconds.now a.weights.now))) in
+    (ap (line_of links_key) (sym (edges_count a.firsts.now a.seconds.now a.weights.now))) in
     wrote_then small (wrote_then small (wrote_then small (wrote_then small n m) c.put_groups-next.ensures) c.put_pairs-next.ensures) c.put_edges.ensures
