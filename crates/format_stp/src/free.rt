@@ -1,18 +1,8 @@
 // Whether a number of an STP text is free, and whether the digits read so far can go on to one that is.
-ghost use Rattle.std.specs.Prelude.{◌≡◌, ◌-◌};
+ghost use Rattle.std.specs.Prelude.{◌≡◌};
 ghost use Rattle.format_stp.specs.StpNumber.{is_free, leads_to, reaches, opens};
 
-use base_buffer::at8;
-
-// One less, and 0 for 0.
-pub fn less(x: usize) -> usize
-    ensures { result ≡ x - 1 }
-{
-    if x == 0 {
-        return 0;
-    }
-    x - 1
-}
+use base_buffer::at;
 
 // From low to high, and of a junction that is in no group yet.
 pub fn is_free(groups: &[u8], low: usize, high: usize, x: usize) -> bool
@@ -24,7 +14,7 @@ pub fn is_free(groups: &[u8], low: usize, high: usize, x: usize) -> bool
     if high < x {
         return false;
     }
-    at8(groups, less(x)) == 0
+    at(groups, x.saturating_sub(1)) == 0
 }
 
 // The digits of v are those of x and at most so many more.
@@ -32,13 +22,11 @@ fn leads_to(more: usize, x: usize, v: usize) -> bool
     ensures { result ≡ leads_to more x v }
 {
     let mut rest = v;
-    let mut left = more;
-    while 0 < left {
+    for _left in (0..more).rev() {
         if x == rest {
             return true;
         }
-        rest = rest / 10;
-        left -= 1;
+        rest /= 10;
     }
     x == rest
 }
@@ -63,12 +51,10 @@ pub fn opens(groups: &[u8], low: usize, high: usize, more: usize, x: usize) -> b
     if reaches(groups, low, high, more, x, 0) {
         return true;
     }
-    let mut i = 0;
-    while i < high {
+    for i in 0..high {
         if reaches(groups, low, high, more, x, i + 1) {
             return true;
         }
-        i += 1;
     }
     false
 }

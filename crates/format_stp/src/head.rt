@@ -6,7 +6,6 @@ ghost use Rattle.format_read.specs.Answer.{number_step};
 ghost use Rattle.format_stp.specs.StpWord.{empty_lines, shown, comment_at};
 ghost use Rattle.format_stp.specs.StpReading.{stp_line, comment_section, graph_section, stp_head};
 
-use base_buffer::at8;
 use format_read::{Cursor, Number, fixed};
 
 // The fixed words of this part.
@@ -24,14 +23,14 @@ const GRAPH_REST: [u8; 5] = *b"raph\n";
 pub fn skip(text: &[u8], cursor: Cursor) -> Cursor
     ensures { result.at ≡ cursor.at + empty_lines (drop cursor.at text.now) }
 {
-    let mut at = cursor.at;
-    while at < text.len() {
+    for at in cursor.at..text.len() {
         if text[at] != b'\n' {
             return Cursor { at };
         }
-        at += 1;
     }
-    Cursor { at }
+    Cursor {
+        at: cursor.at.max(text.len()),
+    }
 }
 
 // A fixed line, behind empty lines.
@@ -74,9 +73,8 @@ fn shown_by(seen: usize, b: u8) -> usize
 fn comment(text: &[u8], cursor: Cursor) -> Number
     ensures { number_step result ≡ comment_at text.now cursor.at }
 {
-    let mut at = cursor.at;
     let mut seen = 0;
-    while at < text.len() {
+    for at in cursor.at..text.len() {
         let b = text[at];
         if is_pair(seen, b, 3, b'\n') {
             return Number::Value {
@@ -85,11 +83,10 @@ fn comment(text: &[u8], cursor: Cursor) -> Number
             };
         }
         seen = shown_by(seen, b);
-        at += 1;
     }
     Number::Refused {
         number: 16,
-        place: at,
+        place: cursor.at.max(text.len()),
     }
 }
 
@@ -113,7 +110,7 @@ fn graph_section(text: &[u8], cursor: Cursor) -> Number
     ensures { number_step result ≡ graph_section text.now cursor.at }
 {
     let at = cursor.at;
-    let letter = at8(text, at);
+    let letter = base_buffer::at(text, at);
     if letter == b'C' {
         return comment_section(text, Cursor { at: at + 1 });
     }

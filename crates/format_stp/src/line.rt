@@ -5,10 +5,8 @@ ghost use Rattle.format_survey.specs.LinesAnswer.{edge_step};
 ghost use Rattle.format_stp.specs.StpWord.{after_empty};
 ghost use Rattle.format_stp.specs.StpReading.{stp_end, stp_edge};
 
-use crate::free::less;
 use crate::head::skip;
 use crate::number::free_number;
-use base_buffer::wide;
 use base_limits::{ENDPOINT_DIGITS, WEIGHT_DIGITS};
 use format_read::{Cursor, Number, fixed, number_to};
 use format_survey::{EdgeLine, stopped_edge};
@@ -34,7 +32,7 @@ fn endpoint(text: &[u8], cursor: Cursor, vertices: usize) -> Number
 fn from_zero(x: u64) -> u64
     ensures { result ≡ x - 1 }
 {
-    wide(less(x as usize))
+    x.saturating_sub(1)
 }
 
 // `E u v price`.

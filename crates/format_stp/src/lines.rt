@@ -1,21 +1,14 @@
 // Reads the track lines of an STP text, and stores what they say.
-ghost use Rattle.std.specs.Prelude.{◌≡◌, ◌<◌, set};
+ghost use Rattle.std.specs.Prelude.{◌≡◌};
 ghost use Rattle.std.proofs.lemmas.List.Edits.{sets};
 ghost use Rattle.format_read.specs.Answer.{number_step};
-ghost use Rattle.format_survey.specs.Line.{firsts_of, seconds_of, weights_of, word_numbers};
+ghost use Rattle.format_survey.specs.Line.{firsts_of, seconds_of, weights_of};
 ghost use Rattle.format_stp.specs.StpReading.{stp_edges};
 
 use crate::line::edge_after;
+use base_buffer::put;
 use format_read::{Cursor, Number};
 use format_survey::{EdgeLine, stopped_line};
-
-// Stores where the buffer reaches.
-fn store32(buffer: &mut [u32], at: usize, value: u64)
-    requires { value < word_numbers }
-    ensures { buffer.new ≡ set buffer.old at value }
-{
-    base_buffer::put32(buffer, at, value as u32);
-}
 
 // So many track lines; the values up to the first refusal go into the buffers, as far as these reach.
 pub fn edge_lines(
@@ -34,8 +27,7 @@ pub fn edge_lines(
         × (weights.new ≡ sets weights.old 0 (weights_of lines.values)) }
 {
     let mut next = cursor;
-    let mut edge = 0;
-    while edge < count {
+    for edge in 0..count {
         let line = edge_after(text, next, vertices);
         let EdgeLine::Edge {
             first,
@@ -46,11 +38,10 @@ pub fn edge_lines(
         else {
             return stopped_line(line);
         };
-        store32(firsts, edge, first);
-        store32(seconds, edge, second);
-        store32(weights, edge, weight);
+        put(firsts, edge, first as u32);
+        put(seconds, edge, second as u32);
+        put(weights, edge, weight as u32);
         next = after;
-        edge += 1;
     }
     Number::Value { value: 0, next }
 }

@@ -6,8 +6,7 @@ ghost use Rattle.format_read.specs.Answer.{number_step};
 ghost use Rattle.format_read.specs.Number.{class_of, is_digit};
 ghost use Rattle.format_stp.specs.StpNumber.{is_free, with_digit, goes_on, digits_after, more_after, free_to, stop_byte};
 
-use crate::free::{is_free, less, opens};
-use base_buffer::{at8, wide};
+use crate::free::{is_free, opens};
 use base_limits::MAX_DIGITS;
 use format_read::{Class, Cursor, Number, is_class};
 
@@ -26,18 +25,7 @@ fn with_digit(x: usize, b: u8) -> usize
     requires { x * 10 ≤ 10 ^ max_digits }
     ensures { result ≡ with_digit x b }
 {
-    x * 10 + less_zero(b)
-}
-
-// A digit's value.
-fn less_zero(b: u8) -> usize
-    ensures { result ≡ b - 48 }
-{
-    let wide = b as usize;
-    if wide < 48 {
-        return 0;
-    }
-    wide - 48
+    x * 10 + usize::from(b.saturating_sub(b'0'))
 }
 
 // A digit stands at an offset with which a free number can go on.
@@ -54,7 +42,8 @@ fn goes_on(
     ensures { result ≡ goes_on (is_free groups.now low high) high more x (get_or text.now at 0) }
 {
     if is_digit(text, at) {
-        return opens(groups, low, high, more, with_digit(x, at8(text, at)));
+        let longer = with_digit(x, base_buffer::at(text, at));
+        return opens(groups, low, high, more, longer);
     }
     false
 }
@@ -81,10 +70,10 @@ fn free_end(
 ) -> Number
     ensures { number_step result ≡ digits_after (is_free groups.now low high) high (stop_byte spaced) 0 x text.now at }
 {
-    if at8(text, at) == stop_byte(spaced) {
+    if base_buffer::at(text, at) == stop_byte(spaced) {
         if is_free(groups, low, high, x) {
             return Number::Value {
-                value: wide(x),
+                value: x as u64,
                 next: Cursor { at: at + 1 },
             };
         }
@@ -112,13 +101,11 @@ fn digits_after(
 {
     let mut at = from;
     let mut x = first;
-    let mut more = most;
-    while 0 < more {
-        more -= 1;
+    for more in (0..most).rev() {
         if !goes_on(text, at, groups, low, high, more, x) {
             return free_end(text, at, groups, low, high, x, spaced);
         }
-        x = with_digit(x, at8(text, at));
+        x = with_digit(x, base_buffer::at(text, at));
         at += 1;
     }
     free_end(text, at, groups, low, high, x, spaced)
@@ -131,10 +118,7 @@ fn more_after(limit: usize, b: u8) -> usize
     if b == b'0' {
         return 0;
     }
-    if limit < MAX_DIGITS {
-        return less(limit);
-    }
-    MAX_DIGITS - 1
+    limit.min(MAX_DIGITS).saturating_sub(1)
 }
 
 // A free number of at most limit digits at the cursor, and the byte that ends it.
@@ -151,7 +135,7 @@ pub fn free_number(
         number_step result ≡ free_to free high (stop_byte spaced) (min limit max_digits) text.now cursor.at }
 {
     let at = cursor.at;
-    let b = at8(text, at);
+    let b = base_buffer::at(text, at);
     let more = more_after(limit, b);
     if goes_on(text, at, groups, low, high, more, 0) {
         return digits_after(

@@ -8,11 +8,10 @@ ghost use Rattle.format_stp.specs.TerminalsAnswer.{groups_step};
 ghost use Rattle.format_stp.specs.Terminals.{terminals_from};
 ghost use Rattle.format_stp.specs.Terminals.{terminals_to_end, groups_after};
 
-use crate::free::less;
 use crate::head::line;
 use crate::number::free_number;
 use crate::sections::{terminals_announced, terminals_closed};
-use base_buffer::put8;
+use base_buffer::put;
 use base_limits::{ENDPOINT_DIGITS, MAX_VERTICES};
 use format_read::{Cursor, Number};
 use format_write::put_bytes;
@@ -41,15 +40,13 @@ fn terminal_lines(
     ensures { groups_step result groups.new ≡ terminal_lines vertices count groups.old text.now cursor.at }
 {
     let mut next = cursor;
-    let mut left = count;
-    while 0 < left {
+    for _left in (0..count).rev() {
         let step = terminal_line(text, next, vertices, groups);
         let Number::Value { value, next: after } = step else {
             return step;
         };
-        put8(groups, less(value as usize), 1);
+        put(groups, (value as usize).saturating_sub(1), 1);
         next = after;
-        left -= 1;
     }
     Number::Value { value: 0, next }
 }

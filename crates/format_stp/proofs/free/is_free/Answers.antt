@@ -16,4 +16,4 @@ returns-then-high-x c =
 pub returns : goal.returns
 returns c =
     let a = c.args in
-    rw (c.at8.ensures, c.less.ensures) (sym (free_within a.groups.now a.low a.high a.x c.if-x-low.false c.if-high-x.false))
+    rw (c.at.ensures, c.saturating_sub.ensures) (sym (free_within a.groups.now a.low a.high a.x c.if-x-low.false c.if-high-x.false))

@@ -4,7 +4,4 @@ use Rattle.format_stp.specs.StpNumber.{leads_to}
 use Rattle.format_stp.proofs.free.leads_to.Given as goal
 
 abbrev pub invariant-loop-left : goal.invariant-loop-left
-invariant-loop-left l = leads_to l.left l.x l.rest ≡ leads_to l.more l.x l.v
-
-abbrev pub decreases-loop-left : goal.decreases-loop-left
-decreases-loop-left l = l.left
+invariant-loop-left l = leads_to l._left l.x l.rest ≡ leads_to l.more l.x l.v

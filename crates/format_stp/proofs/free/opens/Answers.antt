@@ -1,7 +1,6 @@
 -- `format_stp::free::opens` meets its contract: one of the numbers reaches, or none does.
 use native.Mathlib.Omega.{arith}
-use Prim.Native.Nat.{◌+◌, ◌-◌}
-use mathlib.Core.Bool.{false}
+use Prim.Native.Nat.{◌+◌}
 use mathlib.Core.Path.{◌∙◌, sym, refl}
 use Rattle.base_finite.specs.Below.{any_below}
 use Rattle.base_finite.specs.Laws.Count.{any_more, any_end}

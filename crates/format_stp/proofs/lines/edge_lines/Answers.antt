@@ -1,5 +1,6 @@
 -- `format_stp::lines::edge_lines` meets its contract: what is left to read and to store is what the whole reads and stores.
-use Prim.Native.Nat.{ℕ, ◌-◌}
+use native.Mathlib.Omega.{arith}
+use Prim.Native.Nat.{ℕ}
 use mathlib.Core.Path.{◌≡◌, ap, sym, ◌∙◌}
 use mathlib.Core.List.{List}
 use Rattle.format_read.specs.Step.{Step, stopped}
@@ -41,17 +42,17 @@ returns-in_default c =
       stored_stop _ _ _ _ _ _ _ _ h e c.loop-edge.invariant.three,
     )
 
-pub store32-requires : goal.store32-requires
+pub overflow_cast-first : goal.overflow_cast-first
 unfolding edge_step
-store32-requires c = (edge_words c.args.vertices c.args.text.now c.loop-edge.next.at (sym c.edge_after-line.ensures ∙ ap edge_step c.in-Edge.is)).first
+overflow_cast-first c = let k = (edge_words c.args.vertices c.args.text.now c.loop-edge.next.at (sym c.edge_after-line.ensures ∙ ap edge_step c.in-Edge.is)).first in omega arith
 
-pub store32-requires-in-loop-edge : goal.store32-requires-in-loop-edge
+pub overflow_cast-second : goal.overflow_cast-second
 unfolding edge_step
-store32-requires-in-loop-edge c = (edge_words c.args.vertices c.args.text.now c.loop-edge.next.at (sym c.edge_after-line.ensures ∙ ap edge_step c.in-Edge.is)).second
+overflow_cast-second c = let k = (edge_words c.args.vertices c.args.text.now c.loop-edge.next.at (sym c.edge_after-line.ensures ∙ ap edge_step c.in-Edge.is)).second in omega arith
 
-pub store32-requires-in-loop-edge-2 : goal.store32-requires-in-loop-edge-2
+pub overflow_cast-weight : goal.overflow_cast-weight
 unfolding edge_step
-store32-requires-in-loop-edge-2 c = (edge_words c.args.vertices c.args.text.now c.loop-edge.next.at (sym c.edge_after-line.ensures ∙ ap edge_step c.in-Edge.is)).weight
+overflow_cast-weight c = let k = (edge_words c.args.vertices c.args.text.now c.loop-edge.next.at (sym c.edge_after-line.ensures ∙ ap edge_step c.in-Edge.is)).weight in omega arith
 
 pub loop-edge-preserved : goal.loop-edge-preserved
 unfolding edge_step
@@ -60,9 +61,9 @@ loop-edge-preserved c =
     let e : line_at c.args.text.now c.args.vertices c.loop-edge.edge c.loop-edge.next.at ≡ _ = sym c.edge_after-line.ensures ∙ ap edge_step c.in-Edge.is in
     record {
       left = left_more _ _ _ _ _ h e c.loop-edge.invariant.left;
-      one = rw c.store32.ensures (stored_more _ _ _ _ _ (λ e. e.first) _ _ h e c.loop-edge.invariant.one);
-      two = rw c.store32-in-loop-edge.ensures (stored_more _ _ _ _ _ (λ e. e.second) _ _ h e c.loop-edge.invariant.two);
-      three = rw c.store32-in-loop-edge-2.ensures (stored_more _ _ _ _ _ (λ e. e.weight) _ _ h e c.loop-edge.invariant.three);
+      one = rw c.put.ensures (stored_more _ _ _ _ _ (λ e. e.first) _ _ h e c.loop-edge.invariant.one);
+      two = rw c.put-in-loop-edge.ensures (stored_more _ _ _ _ _ (λ e. e.second) _ _ h e c.loop-edge.invariant.two);
+      three = rw c.put-in-loop-edge-2.ensures (stored_more _ _ _ _ _ (λ e. e.weight) _ _ h e c.loop-edge.invariant.three);
     }
 
 -- all lines are read

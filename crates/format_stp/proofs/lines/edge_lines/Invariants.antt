@@ -1,5 +1,5 @@
 -- `format_stp::lines::edge_lines` meets its contract: what is left to read and to store is what the whole reads and stores.
-use Prim.Native.Nat.{ℕ, ◌-◌}
+use Prim.Native.Nat.{ℕ}
 use mathlib.Core.List.{List}
 use Rattle.format_read.specs.Step.{Step}
 use Rattle.format_survey.specs.Line.{Edge}
@@ -20,6 +20,3 @@ pub record Inv (text : List ℕ) (n count at₀ : ℕ) (firsts₀ seconds₀ wei
 
 abbrev pub invariant-loop-edge : goal.invariant-loop-edge
 invariant-loop-edge l = Inv l.text l.vertices l.count l.initial.next.at l.initial.firsts l.initial.seconds l.initial.weights l.firsts l.seconds l.weights l.next.at l.edge
-
-abbrev pub decreases-loop-edge : goal.decreases-loop-edge
-decreases-loop-edge l = l.count - l.edge

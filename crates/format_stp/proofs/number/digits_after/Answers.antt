@@ -36,8 +36,8 @@ loop-more-preserved c =
     let g = sym c.goes_on.ensures ∙ c.if-not-goes_on.false in
     let f = goes_facts (is_free a.groups.now a.low a.high) a.high (c.loop-more.more - 1) c.loop-more.x (get_or a.text.now c.loop-more.at 0) g in
     record {
-      room = rw (c.with_digit-x.ensures, c.at8.ensures) (digit_left c.loop-more.x (get_or a.text.now c.loop-more.at 0) c.loop-more.more h f.0 f.1 c.loop-more.invariant.room);
-      rest = rw (c.with_digit-x.ensures, c.at8.ensures) (sym (digits_on (is_free a.groups.now a.low a.high) a.high a.spaced c.loop-more.x a.text.now c.loop-more.at c.loop-more.more h g) ∙ c.loop-more.invariant.rest);
+      room = rw (c.with_digit-x.ensures, c.at.ensures) (digit_left c.loop-more.x (get_or a.text.now c.loop-more.at 0) c.loop-more.more h f.0 f.1 c.loop-more.invariant.room);
+      rest = rw (c.with_digit-x.ensures, c.at.ensures) (sym (digits_on (is_free a.groups.now a.low a.high) a.high a.spaced c.loop-more.x a.text.now c.loop-more.at c.loop-more.more h g) ∙ c.loop-more.invariant.rest);
     }
 
 -- no more digits may follow

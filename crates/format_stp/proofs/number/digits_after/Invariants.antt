@@ -1,5 +1,5 @@
 -- `format_stp::number::digits_after` meets its contract: what is left of the digits is what follows those before them.
-use Prim.Native.Nat.{ℕ, ◌+◌, ◌-◌, ◌*◌, ◌^◌, ◌≤◌}
+use Prim.Native.Nat.{ℕ, ◌+◌, ◌*◌, ◌^◌, ◌≤◌}
 use mathlib.Core.List.{List}
 use mathlib.Core.Bool.{Bool}
 use mathlib.Core.Path.{◌≡◌}
@@ -13,6 +13,3 @@ pub record Inv (text : List ℕ) (free : ℕ → Bool) (high stop most first fro
 
 abbrev pub invariant-loop-more : goal.invariant-loop-more
 invariant-loop-more l = Inv l.text (is_free l.groups l.low l.high) l.high (stop_byte l.spaced) l.most l.first l.from l.at l.x l.more
-
-abbrev pub decreases-loop-more : goal.decreases-loop-more
-decreases-loop-more l = l.more

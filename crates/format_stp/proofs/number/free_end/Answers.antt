@@ -11,7 +11,7 @@ use Rattle.format_stp.proofs.number.free_end.Goals as goal
 pub overflow_add-result : goal.overflow_add-result
 overflow_add-result c =
     let a = c.args in
-    let e : get_or a.text.now a.at 0 ≡ stop_byte a.spaced = sym c.at8.ensures ∙ c.if-at8-stop_byte.true ∙ c.stop_byte.ensures in
+    let e : get_or a.text.now a.at 0 ≡ stop_byte a.spaced = sym c.at.ensures ∙ c.if-at-stop_byte.true ∙ c.stop_byte.ensures in
     let s = stop_some a.spaced in
     omega (arith, read_inside a.text.now a.at (omega arith))
 
@@ -19,18 +19,18 @@ pub returns-then-is_free : goal.returns-then-is_free
 unfolding number_step
 returns-then-is_free c =
     let a = c.args in
-    let e : get_or a.text.now a.at 0 ≡ stop_byte a.spaced = sym c.at8.ensures ∙ c.if-at8-stop_byte.true ∙ c.stop_byte.ensures in
-    rw c.wide.ensures (sym (end_free (is_free a.groups.now a.low a.high) a.high a.spaced a.x a.text.now a.at e (sym c.is_free.ensures ∙ c.if-is_free.true)))
+    let e : get_or a.text.now a.at 0 ≡ stop_byte a.spaced = sym c.at.ensures ∙ c.if-at-stop_byte.true ∙ c.stop_byte.ensures in
+    sym (end_free (is_free a.groups.now a.low a.high) a.high a.spaced a.x a.text.now a.at e (sym c.is_free.ensures ∙ c.if-is_free.true))
 
 pub returns-else-is_free : goal.returns-else-is_free
 unfolding number_step
 returns-else-is_free c =
     let a = c.args in
-    let e : get_or a.text.now a.at 0 ≡ stop_byte a.spaced = sym c.at8.ensures ∙ c.if-at8-stop_byte.true ∙ c.stop_byte.ensures in
+    let e : get_or a.text.now a.at 0 ≡ stop_byte a.spaced = sym c.at.ensures ∙ c.if-at-stop_byte.true ∙ c.stop_byte.ensures in
     sym (end_taken (is_free a.groups.now a.low a.high) a.high a.spaced a.x a.text.now a.at e (sym c.is_free.ensures ∙ c.if-is_free.false))
 
-pub returns-else-at8-stop_byte : goal.returns-else-at8-stop_byte
+pub returns-else-at-stop_byte : goal.returns-else-at-stop_byte
 unfolding number_step
-returns-else-at8-stop_byte c =
+returns-else-at-stop_byte c =
     let a = c.args in
-    sym (end_other (is_free a.groups.now a.low a.high) a.high a.spaced a.x a.text.now a.at (λ q. c.if-at8-stop_byte.false (c.at8.ensures ∙ q ∙ sym c.stop_byte.ensures)))
+    sym (end_other (is_free a.groups.now a.low a.high) a.high a.spaced a.x a.text.now a.at (λ q. c.if-at-stop_byte.false (c.at.ensures ∙ q ∙ sym c.stop_byte.ensures)))

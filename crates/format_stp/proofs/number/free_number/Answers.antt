@@ -21,7 +21,7 @@ digits_after-requires c =
     let a = c.args in
     let g = sym c.goes_on.ensures ∙ c.if-goes_on.true in
     let f = goes_facts (is_free a.groups.now a.low a.high) a.high _ 0 (get_or a.text.now a.cursor.at 0) g in
-    rw (c.with_digit.ensures, c.more_after-more.ensures, c.at8-b.ensures) (first_fits a.limit (get_or a.text.now a.cursor.at 0) f.0 f.1)
+    rw (c.with_digit.ensures, c.more_after-more.ensures, c.at-b.ensures) (first_fits a.limit (get_or a.text.now a.cursor.at 0) f.0 f.1)
 
 pub returns-then-goes_on : goal.returns-then-goes_on
 returns-then-goes_on c =
@@ -29,8 +29,8 @@ returns-then-goes_on c =
     let free = is_free a.groups.now a.low a.high in
     let stop = stop_byte a.spaced in
     let b = get_or a.text.now a.cursor.at 0 in
-    let m = c.more_after-more.ensures ∙ ap (λ (k : ℕ). more_after (min a.limit max_digits) k) c.at8-b.ensures in
-    let x = c.with_digit.ensures ∙ ap (λ (k : ℕ). with_digit 0 k) c.at8-b.ensures in
+    let m = c.more_after-more.ensures ∙ ap (λ (k : ℕ). more_after (min a.limit max_digits) k) c.at-b.ensures in
+    let x = c.with_digit.ensures ∙ ap (λ (k : ℕ). with_digit 0 k) c.at-b.ensures in
     let g : goes_on free a.high (more_after (min a.limit max_digits) b) 0 b ≡ true =
     ap (λ (k : ℕ). goes_on free a.high k 0 b) (sym m) ∙ sym c.goes_on.ensures ∙ c.if-goes_on.true in
     c.digits_after.ensures
@@ -43,7 +43,7 @@ returns c =
     let a = c.args in
     let free = is_free a.groups.now a.low a.high in
     let b = get_or a.text.now a.cursor.at 0 in
-    let m = c.more_after-more.ensures ∙ ap (λ (k : ℕ). more_after (min a.limit max_digits) k) c.at8-b.ensures in
+    let m = c.more_after-more.ensures ∙ ap (λ (k : ℕ). more_after (min a.limit max_digits) k) c.at-b.ensures in
     sym
     (number_none free a.high a.spaced 0 a.text.now a.cursor.at (min a.limit max_digits)
     (ap (λ (k : ℕ). goes_on free a.high k 0 b) (sym m) ∙ sym c.goes_on.ensures ∙ c.if-goes_on.false))

@@ -6,15 +6,15 @@ use Rattle.format_stp.specs.StpNumber.{is_free, opens, with_digit}
 use Rattle.format_stp.proofs.Laws.NumberTurn.{goes_digit, goes_none}
 use Rattle.format_stp.proofs.number.goes_on.Goals as goal
 
-pub with_digit-requires : goal.with_digit-requires
-with_digit-requires c = c.requires
+pub with_digit-longer-requires : goal.with_digit-longer-requires
+with_digit-longer-requires c = c.requires
 
 pub returns-then-is_digit : goal.returns-then-is_digit
 returns-then-is_digit c =
     let a = c.args in
     let b = get_or a.text.now a.at 0 in
     c.opens.ensures
-    ∙ ap (λ (k : ℕ). opens (is_free a.groups.now a.low a.high) a.high a.more k) (c.with_digit.ensures ∙ ap (λ (k : ℕ). with_digit a.x k) c.at8.ensures)
+    ∙ ap (λ (k : ℕ). opens (is_free a.groups.now a.low a.high) a.high a.more k) (c.with_digit-longer.ensures ∙ ap (λ (k : ℕ). with_digit a.x k) c.at.ensures)
     ∙ sym (goes_digit (is_free a.groups.now a.low a.high) a.high a.more a.x b (sym c.is_digit.ensures ∙ c.if-is_digit.true))
 
 pub returns : goal.returns

@@ -16,17 +16,17 @@ returns-in_default c =
     let a = c.args in
     let told = c.in_default.is in
     ap (λ x. groups_step x c.loop-left.groups) told
-    ∙ sym (terminals_stop a.vertices c.loop-left.left c.loop-left.groups a.text.now c.loop-left.next.at c.loop-left-test.true (sym c.terminal_line-step.ensures ∙ ap number_step told))
+    ∙ sym (terminals_stop a.vertices c.loop-left._left c.loop-left.groups a.text.now c.loop-left.next.at c.loop-left-test.true (sym c.terminal_line-step.ensures ∙ ap number_step told))
     ∙ c.loop-left.invariant.rest
 
 pub loop-left-preserved : goal.loop-left-preserved
 unfolding number_step
 loop-left-preserved c =
     let a = c.args in
-    let on = terminals_on a.vertices c.loop-left.left c.loop-left.groups a.text.now c.loop-left.next.at c.loop-left-test.true (sym c.terminal_line-step.ensures ∙ ap number_step c.in-Value.is) in
+    let on = terminals_on a.vertices c.loop-left._left c.loop-left.groups a.text.now c.loop-left.next.at c.loop-left-test.true (sym c.terminal_line-step.ensures ∙ ap number_step c.in-Value.is) in
     record {
-      long = rw c.put8.ensures (length-set c.loop-left.groups c.less.result 1 ∙ c.loop-left.invariant.long);
-      rest = rw (c.put8.ensures, c.less.ensures) (sym on ∙ c.loop-left.invariant.rest);
+      long = rw c.put.ensures (length-set c.loop-left.groups c.saturating_sub.result 1 ∙ c.loop-left.invariant.long);
+      rest = rw (c.put.ensures, c.saturating_sub.ensures) (sym on ∙ c.loop-left.invariant.rest);
     }
 
 -- all lines are read
@@ -34,4 +34,4 @@ pub returns : goal.returns
 unfolding groups_step
 returns c =
     let a = c.args in
-    sym (terminals_done a.vertices c.loop-left.left c.loop-left.groups a.text.now c.loop-left.next.at c.loop-left-test.false) ∙ c.loop-left.invariant.rest
+    sym (terminals_done a.vertices c.loop-left._left c.loop-left.groups a.text.now c.loop-left.next.at c.loop-left-test.false) ∙ c.loop-left.invariant.rest

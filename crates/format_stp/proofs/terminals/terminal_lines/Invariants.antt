@@ -11,7 +11,4 @@ pub record Inv (text : List ℕ) (n count at₀ : ℕ) (groups₀ groups : List 
   pub rest : terminal_lines n left groups text at ≡ terminal_lines n count groups₀ text at₀
 
 abbrev pub invariant-loop-left : goal.invariant-loop-left
-invariant-loop-left l = Inv l.text l.vertices l.count l.initial.next.at l.initial.groups l.groups l.next.at l.left
-
-abbrev pub decreases-loop-left : goal.decreases-loop-left
-decreases-loop-left l = l.left
+invariant-loop-left l = Inv l.text l.vertices l.count l.initial.next.at l.initial.groups l.groups l.next.at l._left
