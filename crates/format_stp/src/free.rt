@@ -5,16 +5,11 @@ ghost use Rattle.format_stp.specs.StpNumber.{is_free, leads_to, reaches, opens};
 use base_buffer::at;
 
 // From low to high, and of a junction that is in no group yet.
+#[tactic(auto, unfolding(crate::specs::StpNumber::is_free))]
 pub fn is_free(groups: &[u8], low: usize, high: usize, x: usize) -> bool
     ensures { result ≡ is_free groups.now low high x }
 {
-    if x < low {
-        return false;
-    }
-    if high < x {
-        return false;
-    }
-    at(groups, x.saturating_sub(1)) == 0
+    low <= x && x <= high && at(groups, x.saturating_sub(1)) == 0
 }
 
 // The digits of v are those of x and at most so many more.
@@ -32,13 +27,11 @@ fn leads_to(more: usize, x: usize, v: usize) -> bool
 }
 
 // The number v is free, and begins with the digits of x.
+#[tactic(auto, unfolding(crate::specs::StpNumber::reaches))]
 fn reaches(groups: &[u8], low: usize, high: usize, more: usize, x: usize, v: usize) -> bool
     ensures { result ≡ reaches (is_free groups.now low high) more x v }
 {
-    if is_free(groups, low, high, v) {
-        return leads_to(more, x, v);
-    }
-    false
+    is_free(groups, low, high, v) && leads_to(more, x, v)
 }
 
 // One of the numbers from 0 to high does; where x is free itself there is no need to look for one.

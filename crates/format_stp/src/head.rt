@@ -44,10 +44,7 @@ pub fn line(text: &[u8], cursor: Cursor, bytes: &[u8]) -> Number
 fn is_pair(seen: usize, b: u8, wanted: usize, letter: u8) -> bool
     ensures { result ≡ (eqb seen wanted && eqb b letter) }
 {
-    if seen == wanted {
-        return b == letter;
-    }
-    false
+    seen == wanted && b == letter
 }
 
 // How much of END a comment's line has shown after one more byte, which may end it.

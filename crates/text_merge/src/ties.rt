@@ -7,7 +7,7 @@ ghost use Rattle.format_also.specs.Pair.{pairs_counted, owners_of, others_of};
 ghost use Rattle.format_also.specs.Answer.{pair_step};
 ghost use Rattle.text_merge.specs.Ties.{tie_at, tie_line, tie_lines};
 
-use base_buffer::put32;
+use base_buffer::put;
 use base_limits::{ENDPOINT_DIGITS, MAX_VERTICES};
 use format_also::PairLine;
 use format_read::{Cursor, Number, number_to};
@@ -96,12 +96,11 @@ pub fn tie_lines(text: &[u8], firsts: &mut [u32], seconds: &mut [u32]) -> Number
         × (seconds.new ≡ sets seconds.old 0 (others_of lines.values)) }
 {
     let mut next = Cursor { at: 0 };
-    let mut i = 0;
-    while i < TIE_TURNS {
+    for i in 0..TIE_TURNS {
         let at = next.at;
         if text.len() <= at {
             return Number::Value {
-                value: base_buffer::wide(i),
+                value: i as u64,
                 next,
             };
         }
@@ -114,10 +113,9 @@ pub fn tie_lines(text: &[u8], firsts: &mut [u32], seconds: &mut [u32]) -> Number
         else {
             return stopped_line(line);
         };
-        put32(firsts, i, owner as u32);
-        put32(seconds, i, other as u32);
+        put(firsts, i, owner as u32);
+        put(seconds, i, other as u32);
         next = after;
-        i += 1;
     }
     let place = next.at;
     Number::Refused { number: 16, place }

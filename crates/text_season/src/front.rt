@@ -11,9 +11,7 @@ pub fn to_front(bytes: &mut [u8], from: usize)
         return;
     }
     let rest = n - from;
-    let mut i = 0;
-    while i < rest {
+    for i in 0..rest {
         bytes[i] = bytes[from + i];
-        i += 1;
     }
 }

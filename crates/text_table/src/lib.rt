@@ -7,7 +7,7 @@ ghost use Rattle.format_print.specs.Print.{printed, printed_out};
 ghost use Rattle.text_table.specs.TrackTable.{track_table, text_table, table_printed, table_printed_out};
 
 use crate::row::track_byte;
-use base_buffer::put8;
+use base_buffer::put;
 use base_limits::{MAX_EDGES, MAX_PAIRS, MAX_VERTICES};
 use format_print::Printed;
 use format_survey::Reading;
@@ -30,10 +30,8 @@ fn put_table(firsts: &[u32], seconds: &[u32], weights: &[u32], out: &mut [u8]) -
         };
     }
     let long = TRACK_BYTES * firsts.len();
-    let mut k = 0;
-    while k < long {
-        put8(out, k, track_byte(firsts, seconds, weights, k));
-        k += 1;
+    for k in 0..long {
+        put(out, k, track_byte(firsts, seconds, weights, k));
     }
     Printed::Length(long)
 }

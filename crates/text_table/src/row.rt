@@ -3,7 +3,7 @@ ghost use Rattle.std.specs.Prelude.{◌≡◌, get_or};
 ghost use Rattle.format_record.specs.Bits.{low_bytes};
 ghost use Rattle.text_table.specs.TrackTable.{number_bytes, track_row, track_byte};
 
-use base_buffer::at32;
+use base_buffer::at;
 use format_table::TRACK_BYTES;
 
 // Bytes of an end or a price.
@@ -47,9 +47,9 @@ pub fn track_byte(firsts: &[u32], seconds: &[u32], weights: &[u32], k: usize) ->
 {
     let i = k / TRACK_BYTES;
     row_byte(
-        at32(firsts, i),
-        at32(seconds, i),
-        at32(weights, i),
+        at(firsts, i),
+        at(seconds, i),
+        at(weights, i),
         k % TRACK_BYTES,
     )
 }

@@ -28,7 +28,7 @@ pub fn why_survey(
         length (survey_lines s track) ≤ why_room }
 {
     let mut route = [0u32; MAX_ROUTE];
-    let asked = base_buffer::wide(track);
+    let asked = track as u64;
     let told = why_core::why(
         groups, firsts, seconds, weights, owners, others, track, &mut route,
     );

@@ -7,7 +7,7 @@ ghost use Rattle.text_winter.specs.Given.{given_of, given_at, given_test, given_
 ghost use Rattle.text_winter.specs.Given.{givens_at, put_strength, given_step};
 
 use crate::GivenLine;
-use base_buffer::put8;
+use base_buffer::put;
 use base_limits::Verdict;
 use format_read::{Cursor, Number, fixed, number_to};
 use winter_rule::{MAX_STRENGTH, STRENGTHS};
@@ -147,7 +147,7 @@ pub fn strength_lines(text: &[u8], cursor: Cursor, strengths: &mut [u8]) -> Numb
         else {
             return stopped_line(line);
         };
-        put8(strengths, (group - 1) as usize, strength as u8);
+        put(strengths, (group - 1) as usize, strength as u8);
         low = group;
         next = after;
         i += 1;

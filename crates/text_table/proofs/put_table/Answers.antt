@@ -20,7 +20,7 @@ loop-k-init c = storing_start _ _ _ _
 
 pub loop-k-preserved : goal.loop-k-preserved
 loop-k-preserved c =
-    storing_more _ _ _ _ c.if-out-firsts.false c.loop-k.invariant c.loop-k-test.true c.track_byte.ensures c.put8.ensures
+    storing_more _ _ _ _ c.if-out-firsts.false c.loop-k.invariant c.loop-k-test.true c.track_byte.ensures c.put.ensures
 
 -- the table
 pub returns : goal.returns

@@ -5,6 +5,3 @@ use Rattle.text_table.proofs.put_table.Given as goal
 
 abbrev pub invariant-loop-k : goal.invariant-loop-k
 invariant-loop-k l = StoringTable l.firsts l.seconds l.weights l.initial.out l.k l.out
-
-abbrev pub decreases-loop-k : goal.decreases-loop-k
-decreases-loop-k l = l.long - l.k

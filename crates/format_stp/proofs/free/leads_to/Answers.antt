@@ -3,9 +3,6 @@ use mathlib.Core.Path.{◌∙◌, sym, refl}
 use Rattle.format_stp.proofs.Laws.Turn.{leads_there, leads_on_law, leads_last}
 use Rattle.format_stp.proofs.free.leads_to.Goals as goal
 
-pub loop-left-init : goal.loop-left-init
-loop-left-init c = refl
-
 pub returns-then-x-rest : goal.returns-then-x-rest
 returns-then-x-rest c =
     sym (leads_there c.loop-left._left c.args.x c.loop-left.rest c.loop-left-test.true c.if-x-rest.true) ∙ c.loop-left.invariant

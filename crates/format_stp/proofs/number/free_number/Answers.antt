@@ -47,9 +47,3 @@ returns c =
     sym
     (number_none free a.high a.spaced 0 a.text.now a.cursor.at (min a.limit max_digits)
     (ap (λ (k : ℕ). goes_on free a.high k 0 b) (sym m) ∙ sym c.goes_on.ensures ∙ c.if-goes_on.false))
-
-pub goes_on-requires : goal.goes_on-requires
-goes_on-requires c = omega arith
-
-pub with_digit-requires : goal.with_digit-requires
-with_digit-requires c = omega arith

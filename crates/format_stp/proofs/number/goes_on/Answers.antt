@@ -6,9 +6,6 @@ use Rattle.format_stp.specs.StpNumber.{is_free, opens, with_digit}
 use Rattle.format_stp.proofs.Laws.NumberTurn.{goes_digit, goes_none}
 use Rattle.format_stp.proofs.number.goes_on.Goals as goal
 
-pub with_digit-longer-requires : goal.with_digit-longer-requires
-with_digit-longer-requires c = c.requires
-
 pub returns-then-is_digit : goal.returns-then-is_digit
 returns-then-is_digit c =
     let a = c.args in

@@ -1,4 +1,5 @@
 -- `tie_lines` meets its contract: what is left to read, to store and to count is what the whole reads, stores and counts.
+use mathlib.Core.Path.{refl}
 use native.Mathlib.Omega.{arith}
 use Prim.Native.Nat.{◌-◌}
 use mathlib.Core.Path.{ap, sym, ◌∙◌}
@@ -18,7 +19,7 @@ loop-i-init c = ties_start (tie_reader c.args.text.now) 0 c.args.firsts.now c.ar
 -- the lines end
 pub returns-then-text-at : goal.returns-then-text-at
 unfolding number_step tie_reader
-returns-then-text-at c = ties_ended c.args.text.now c.args.firsts.now c.args.seconds.now (ties_stop _ _ _ _ _ _ _ _ _ c.loop-i.invariant c.wide.ensures c.loop-i-test.true (le-leb _ _ c.if-text-at.true))
+returns-then-text-at c = ties_ended c.args.text.now c.args.firsts.now c.args.seconds.now (ties_stop _ _ _ _ _ _ _ _ _ c.loop-i.invariant refl c.loop-i-test.true (le-leb _ _ c.if-text-at.true))
 
 -- a line is refused
 pub returns-in_default : goal.returns-in_default
@@ -35,7 +36,7 @@ overflow_cast-other c = let p = line_digits c.args.text.now c.loop-i.i c.loop-i.
 
 pub loop-i-preserved : goal.loop-i-preserved
 unfolding pair_step tie_reader
-loop-i-preserved c = rw (c.put32.ensures, c.put32-in-loop-i.ensures) (ties_more _ _ _ _ _ _ _ _ _ c.loop-i.invariant c.loop-i-test.true (lt-leb _ _ c.if-text-at.false) (sym c.tie_line-line.ensures ∙ ap pair_step c.in-Pair.is))
+loop-i-preserved c = rw (c.put.ensures, c.put-in-loop-i.ensures) (ties_more _ _ _ _ _ _ _ _ _ c.loop-i.invariant c.loop-i-test.true (lt-leb _ _ c.if-text-at.false) (sym c.tie_line-line.ensures ∙ ap pair_step c.in-Pair.is))
 
 -- 16: no turn left
 pub returns : goal.returns

@@ -6,6 +6,3 @@ use Rattle.text_merge.proofs.ties.tie_lines.Given as goal
 
 abbrev pub invariant-loop-i : goal.invariant-loop-i
 invariant-loop-i l = TiesLeft (tie_reader l.text) (tie_lines l.text) l.initial.firsts l.initial.seconds 0 l.i l.next.at l.firsts l.seconds
-
-abbrev pub decreases-loop-i : goal.decreases-loop-i
-decreases-loop-i l = tie_turns - l.i

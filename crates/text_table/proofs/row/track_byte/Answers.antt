@@ -4,4 +4,4 @@ use Rattle.text_table.proofs.row.track_byte.Goals as goal
 
 pub returns : goal.returns
 unfolding track_byte
-returns c = rw (← c.at32.ensures, ← c.at32-2.ensures, ← c.at32-3.ensures) c.row_byte.ensures
+returns c = rw (← c.at.ensures, ← c.at-2.ensures, ← c.at-3.ensures) c.row_byte.ensures

@@ -47,7 +47,7 @@ overflow_cast-strength c =
 pub loop-i-preserved : goal.loop-i-preserved
 unfolding given_step given_reader
 loop-i-preserved c =
-    rw c.put8.ensures
+    rw c.put.ensures
     (left_more _ _ _ _ _ _ _ _ _ c.loop-i-test.true (lt-leb _ _ c.if-text-at.false) (sym c.given_line-line.ensures ∙ ap given_step c.in-Given.is) c.loop-i.invariant)
 
 -- 16: no turn left

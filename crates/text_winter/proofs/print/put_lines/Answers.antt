@@ -1,4 +1,5 @@
 -- `put_lines` meets its contract: what is written so far are the lines of the tracks below e.
+use mathlib.Core.Path.{refl}
 use Prim.Native.Nat.{◌≤◌, ◌-◌}
 use native.Mathlib.Omega.{arith}
 use mathlib.Core.Path.{◌≡◌, ap, sym}
@@ -15,16 +16,12 @@ pub loop-e-init : goal.loop-e-init
 loop-e-init c =
     (omega arith, wrote_as (wrote_none c.args.out.now c.args.at) (sym (text_none _)))
 
-pub loop-e-smaller : goal.loop-e-smaller
-loop-e-smaller c =
-    omega (arith, c.loop-e-test.true)
-
 pub loop-e-preserved : goal.loop-e-preserved
 loop-e-preserved c =
     let a = c.args in
     let small : length a.out.now ≤ farthest = omega arith in (
       omega (arith, c.loop-e-test.true),
-      wrote_as (wrote_then small c.loop-e.invariant.1 (wrote_as c.put_copies-next.ensures (line_read a.copies.now c.wide8.ensures c.at8.ensures c.wide.ensures)))
+      wrote_as (wrote_then small c.loop-e.invariant.1 (wrote_as c.put_copies-next.ensures (line_read a.copies.now c.from.ensures c.at.ensures refl)))
           (text_next (λ e. copies_line (get_or a.copies.now e 0) e) c.loop-e.e),
     )
 

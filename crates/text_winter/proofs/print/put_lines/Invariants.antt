@@ -9,6 +9,3 @@ use Rattle.text_winter.proofs.print.put_lines.Given as goal
 abbrev pub invariant-loop-e : goal.invariant-loop-e
 invariant-loop-e l =
     (l.e ≤ length l.copies) × Wrote l.initial.out l.at (text_below l.e (λ e. copies_line (get_or l.copies e 0) e)) l.out l.next
-
-abbrev pub decreases-loop-e : goal.decreases-loop-e
-decreases-loop-e l = length l.copies - l.e
