@@ -21,6 +21,7 @@ fn is_digit(text: &[u8], at: usize) -> bool
 }
 
 // The number with one more digit.
+#[tactic(auto, unfolding(crate::specs::StpNumber::with_digit))]
 fn with_digit(x: usize, b: u8) -> usize
     requires { x * 10 ≤ 10 ^ max_digits }
     ensures { result ≡ with_digit x b }
@@ -29,6 +30,7 @@ fn with_digit(x: usize, b: u8) -> usize
 }
 
 // A digit stands at an offset with which a free number can go on.
+#[tactic(auto, unfolding(crate::specs::StpNumber::goes_on))]
 fn goes_on(
     text: &[u8],
     at: usize,
@@ -41,14 +43,12 @@ fn goes_on(
     requires { x * 10 ≤ 10 ^ max_digits }
     ensures { result ≡ goes_on (is_free groups.now low high) high more x (get_or text.now at 0) }
 {
-    if is_digit(text, at) {
-        let longer = with_digit(x, base_buffer::at(text, at));
-        return opens(groups, low, high, more, longer);
-    }
-    false
+    let longer = with_digit(x, base_buffer::at(text, at));
+    is_digit(text, at) && opens(groups, low, high, more, longer)
 }
 
 // The byte that ends a number: a space or the end of the line.
+#[tactic(auto, unfolding(crate::specs::StpNumber::stop_byte))]
 fn stop_byte(spaced: bool) -> u8
     ensures { result ≡ stop_byte spaced }
 {
@@ -112,6 +112,7 @@ fn digits_after(
 }
 
 // How many digits may follow the first: none after a 0.
+#[tactic(auto, unfolding(crate::specs::StpNumber::more_after))]
 fn more_after(limit: usize, b: u8) -> usize
     ensures { result ≡ more_after (min limit max_digits) b }
 {
