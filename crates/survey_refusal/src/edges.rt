@@ -15,16 +15,14 @@ fn edges_fault(n: u32, firsts: &[u32], seconds: &[u32], weights: &[u32]) -> u32
         (λ e. faulty n (get_or firsts.now e 0) (get_or seconds.now e 0) (get_or weights.now e 0))) 1 }
 {
     let mut found = 0;
-    let mut e = 0;
-    while e < firsts.len() {
+    for e in 0..firsts.len() {
         found = found
             | crate::fault::edge_fault(
                 n,
-                base_buffer::at32(firsts, e),
-                base_buffer::at32(seconds, e),
-                base_buffer::at32(weights, e),
+                base_buffer::at(firsts, e),
+                base_buffer::at(seconds, e),
+                base_buffer::at(weights, e),
             );
-        e += 1;
     }
     found
 }
@@ -34,13 +32,11 @@ fn lowest_refusal(groups: &[u8], firsts: &[u32], seconds: &[u32], weights: &[u32
     ensures { let s = lent_survey groups.now firsts.now seconds.now weights.now in
         result ≡ lowest_below (edge_count s) (edge_refusal s) }
 {
-    let mut e = 0;
-    while e < firsts.len() {
+    for e in 0..firsts.len() {
         let found = crate::track::edge_refusal(groups, firsts, seconds, weights, e);
         let Verdict::Fine = found else {
             return found;
         };
-        e += 1;
     }
     Verdict::Fine
 }

@@ -3,7 +3,7 @@ ghost use Rattle.std.specs.Prelude.{◌≡◌};
 ghost use Rattle.survey_core.specs.Lists.{lent_lists};
 ghost use Rattle.survey_core.specs.Pairs.{is_rising, pair_refusal, pairs_refusal};
 
-use base_buffer::{at8, at32, index32};
+use base_buffer::at;
 use base_limits::{MAX_PAIRS, Verdict};
 
 // Whether pair i stands above the one before it, by vertex, then by group.
@@ -13,15 +13,15 @@ fn is_rising(owners: &[u32], others: &[u8], i: usize) -> bool
     if i == 0 {
         return true;
     }
-    let before = at32(owners, i - 1);
-    let owner = at32(owners, i);
+    let before = at(owners, i - 1);
+    let owner = at(owners, i);
     if before < owner {
         return true;
     }
     if owner < before {
         return false;
     }
-    if at8(others, i - 1) < at8(others, i) {
+    if at(others, i - 1) < at(others, i) {
         return true;
     }
     false
@@ -31,8 +31,8 @@ fn is_rising(owners: &[u32], others: &[u8], i: usize) -> bool
 fn pair_refusal(groups: &[u8], owners: &[u32], others: &[u8], i: usize) -> Verdict
     ensures { result ≡ pair_refusal (lent_lists groups.now owners.now others.now) i }
 {
-    let owner = index32(at32(owners, i));
-    let other = at8(others, i);
+    let owner = at(owners, i) as usize;
+    let other = at(others, i);
     if groups.len() <= owner {
         return Verdict::Refused {
             number: 18,
@@ -45,7 +45,7 @@ fn pair_refusal(groups: &[u8], owners: &[u32], others: &[u8], i: usize) -> Verdi
             place: i,
         };
     }
-    if other == at8(groups, owner) {
+    if other == at(groups, owner) {
         return Verdict::Refused {
             number: 18,
             place: i,
@@ -70,13 +70,11 @@ fn pair_refusal(groups: &[u8], owners: &[u32], others: &[u8], i: usize) -> Verdi
 pub fn pairs_refusal(groups: &[u8], owners: &[u32], others: &[u8]) -> Verdict
     ensures { result ≡ pairs_refusal (lent_lists groups.now owners.now others.now) }
 {
-    let mut i = 0;
-    while i < owners.len() {
+    for i in 0..owners.len() {
         let found = pair_refusal(groups, owners, others, i);
         let Verdict::Fine = found else {
             return found;
         };
-        i += 1;
     }
     Verdict::Fine
 }

@@ -15,15 +15,15 @@ pub fn edge_refusal(
 ) -> Verdict
     ensures { result ≡ edge_refusal (lent_survey groups.now firsts.now seconds.now weights.now) e }
 {
-    let first = base_buffer::at32(firsts, e);
-    let second = base_buffer::at32(seconds, e);
-    if groups.len() <= base_buffer::index32(first) {
+    let first = base_buffer::at(firsts, e);
+    let second = base_buffer::at(seconds, e);
+    if groups.len() <= first as usize {
         return Verdict::Refused {
             number: 4,
             place: e,
         };
     }
-    if groups.len() <= base_buffer::index32(second) {
+    if groups.len() <= second as usize {
         return Verdict::Refused {
             number: 4,
             place: e,
@@ -35,7 +35,7 @@ pub fn edge_refusal(
             place: e,
         };
     }
-    if MAX_WEIGHT < base_buffer::at32(weights, e) {
+    if MAX_WEIGHT < base_buffer::at(weights, e) {
         return Verdict::Refused {
             number: 6,
             place: e,

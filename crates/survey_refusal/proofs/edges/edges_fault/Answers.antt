@@ -10,14 +10,11 @@ pub loop-e-init : goal.loop-e-init
 unfolding counted any_below
 loop-e-init c = (omega arith, refl)
 
-pub loop-e-smaller : goal.loop-e-smaller
-loop-e-smaller c = omega arith
-
 pub loop-e-preserved : goal.loop-e-preserved
 loop-e-preserved c = (
   omega arith,
   faults_more _ _ c.loop-e.invariant.1
-      (rw (← c.at32.ensures, ← c.at32-in-loop-e.ensures, ← c.at32-in-loop-e-2.ensures) c.edge_fault-found.ensures),
+      (rw (← c.at.ensures, ← c.at-in-loop-e.ensures, ← c.at-in-loop-e-2.ensures) c.edge_fault-found.ensures),
 )
 
 pub returns : goal.returns

@@ -9,6 +9,3 @@ use Rattle.survey_refusal.proofs.edges.edges_fault.Given as goal
 abbrev pub invariant-loop-e : goal.invariant-loop-e
 invariant-loop-e l =
     (l.e ≤ length l.firsts) × (l.found ≡ counted (any_below l.e (λ i. faulty l.n (get_or l.firsts i 0) (get_or l.seconds i 0) (get_or l.weights i 0))) 1)
-
-abbrev pub decreases-loop-e : goal.decreases-loop-e
-decreases-loop-e l = length l.firsts - l.e

@@ -8,6 +8,3 @@ use Rattle.survey_refusal.proofs.edges.lowest_refusal.Given as goal
 
 abbrev pub invariant-loop-e : goal.invariant-loop-e
 invariant-loop-e l = Scanned (length l.firsts) (edge_refusal (survey_from l.groups l.firsts l.seconds l.weights)) l.e
-
-abbrev pub decreases-loop-e : goal.decreases-loop-e
-decreases-loop-e l = length l.firsts - l.e

@@ -17,8 +17,8 @@ pub returns-then-owner-before : goal.returns-then-owner-before
 returns-then-owner-before c = sym (falling_vertex _ _ _ c.if-i-eq0.false (omega arith))
 
 -- the same vertex and a higher group
-pub returns-then-at8 : goal.returns-then-at8
-returns-then-at8 c =
+pub returns-then-at : goal.returns-then-at
+returns-then-at c =
     sym (rising_group _ _ _ c.if-i-eq0.false (omega arith) (omega arith) (omega arith))
 
 -- the same vertex and no higher group

@@ -14,42 +14,42 @@ pub returns-then-other-eq0 : goal.returns-then-other-eq0
 returns-then-other-eq0 c = sym (pair_none (lists_from _ _ _) _ (omega arith) (omega arith))
 
 -- g is v's own group
-pub returns-then-other-at8 : goal.returns-then-other-at8
-returns-then-other-at8 c =
-    let own = own_read c.args.groups.now (c.index32-owner.ensures ∙ c.at32.ensures) c.at8.ensures in
+pub returns-then-other-at : goal.returns-then-other-at
+returns-then-other-at c =
+    let own = own_read c.args.groups.now (c.at-owner.ensures) c.at.ensures in
     sym
-    (pair_own (lists_from _ _ _) _ (omega arith) (λ e. c.if-other-eq0.false (c.at8-other.ensures ∙ e))
-    (sym c.at8-other.ensures ∙ c.if-other-at8.true ∙ own))
+    (pair_own (lists_from _ _ _) _ (omega arith) (λ e. c.if-other-eq0.false (c.at-other.ensures ∙ e))
+    (sym c.at-other.ensures ∙ c.if-other-at.true ∙ own))
 
 -- out of rising order
 pub returns-then-not-is_rising : goal.returns-then-not-is_rising
 returns-then-not-is_rising c =
-    let o = own_read c.args.groups.now (c.index32-owner.ensures ∙ c.at32.ensures) c.at8.ensures in
+    let o = own_read c.args.groups.now (c.at-owner.ensures) c.at.ensures in
     sym
-    (pair_falls (lists_from _ _ _) _ (omega arith) (λ e. c.if-other-eq0.false (c.at8-other.ensures ∙ e))
-    (λ e. c.if-other-at8.false (c.at8-other.ensures ∙ e ∙ sym o))
+    (pair_falls (lists_from _ _ _) _ (omega arith) (λ e. c.if-other-eq0.false (c.at-other.ensures ∙ e))
+    (λ e. c.if-other-at.false (c.at-other.ensures ∙ e ∙ sym o))
     (sym c.is_rising.ensures ∙ c.if-not-is_rising.true))
 
 -- past the last that may be
 pub returns-then-i-ge-MAX_PAIRS : goal.returns-then-i-ge-MAX_PAIRS
 returns-then-i-ge-MAX_PAIRS c =
-    let o = own_read c.args.groups.now (c.index32-owner.ensures ∙ c.at32.ensures) c.at8.ensures in
+    let o = own_read c.args.groups.now (c.at-owner.ensures) c.at.ensures in
     sym
-    (pair_past (lists_from _ _ _) _ (omega arith) (λ e. c.if-other-eq0.false (c.at8-other.ensures ∙ e))
-    (λ e. c.if-other-at8.false (c.at8-other.ensures ∙ e ∙ sym o))
+    (pair_past (lists_from _ _ _) _ (omega arith) (λ e. c.if-other-eq0.false (c.at-other.ensures ∙ e))
+    (λ e. c.if-other-at.false (c.at-other.ensures ∙ e ∙ sym o))
     (sym c.is_rising.ensures ∙ c.if-not-is_rising.false)
     c.if-i-ge-MAX_PAIRS.true)
 
 -- nothing wrong
 pub returns : goal.returns
 returns c =
-    let o = own_read c.args.groups.now (c.index32-owner.ensures ∙ c.at32.ensures) c.at8.ensures in
+    let o = own_read c.args.groups.now (c.at-owner.ensures) c.at.ensures in
     sym
     (pair_fine (lists_from _ _ _) _
     (record {
       below = omega arith;
-      some = λ e. c.if-other-eq0.false (c.at8-other.ensures ∙ e);
-      foreign = λ e. c.if-other-at8.false (c.at8-other.ensures ∙ e ∙ sym o);
+      some = λ e. c.if-other-eq0.false (c.at-other.ensures ∙ e);
+      foreign = λ e. c.if-other-at.false (c.at-other.ensures ∙ e ∙ sym o);
       rising = sym c.is_rising.ensures ∙ c.if-not-is_rising.false;
       few = c.if-i-ge-MAX_PAIRS.false;
     }))

@@ -8,6 +8,3 @@ use Rattle.survey_refusal.proofs.rising.pairs_refusal.Given as goal
 
 abbrev pub invariant-loop-i : goal.invariant-loop-i
 invariant-loop-i l = Scanned (length l.owners) (pair_refusal (lists_from l.groups l.owners l.others)) l.i
-
-abbrev pub decreases-loop-i : goal.decreases-loop-i
-decreases-loop-i l = length l.owners - l.i
