@@ -16,13 +16,12 @@ fn edges_fault(n: u32, firsts: &[u32], seconds: &[u32], weights: &[u32]) -> u32
 {
     let mut found = 0;
     for e in 0..firsts.len() {
-        found = found
-            | crate::fault::edge_fault(
-                n,
-                base_buffer::at(firsts, e),
-                base_buffer::at(seconds, e),
-                base_buffer::at(weights, e),
-            );
+        found |= crate::fault::edge_fault(
+            n,
+            base_buffer::at(firsts, e),
+            base_buffer::at(seconds, e),
+            base_buffer::at(weights, e),
+        );
     }
     found
 }

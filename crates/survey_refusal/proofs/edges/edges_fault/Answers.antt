@@ -1,5 +1,4 @@
 -- `edges_fault` meets its contract: one track more is tested at each turn.
-use Prim.Native.Nat.{◌-◌}
 use native.Mathlib.Omega.{arith}
 use mathlib.Core.Path.{refl}
 use Rattle.base_finite.specs.Below.{counted, any_below}

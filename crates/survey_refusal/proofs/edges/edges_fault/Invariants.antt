@@ -1,5 +1,5 @@
 -- `edges_fault` meets its contract: one track more is tested at each turn.
-use Prim.Native.Nat.{◌-◌, ◌≤◌}
+use Prim.Native.Nat.{◌≤◌}
 use mathlib.Core.Path.{◌≡◌}
 use lib.ListN.{length, get_or}
 use Rattle.base_finite.specs.Below.{counted, any_below}

@@ -1,5 +1,4 @@
 -- `lowest_refusal` meets its contract: a scan of the tracks.
-use Prim.Native.Nat.{◌-◌}
 use Rattle.base_limits.specs.Laws.Verdict.{scan_start, scan_turn, scan_found, scan_end}
 use Rattle.survey_core.specs.Survey.{edge_count}
 use Rattle.survey_refusal.proofs.edges.lowest_refusal.Goals as goal

@@ -1,5 +1,4 @@
 -- `lowest_refusal` meets its contract: a scan of the tracks.
-use Prim.Native.Nat.{◌-◌}
 use lib.ListN.{length}
 use Rattle.base_limits.specs.Laws.Verdict.{Scanned}
 use Rattle.survey_core.specs.Survey.{survey_from}

@@ -1,5 +1,4 @@
 -- `pairs_refusal` meets its contract: a scan of the pairs.
-use Prim.Native.Nat.{◌-◌}
 use Rattle.base_limits.specs.Laws.Verdict.{scan_start, scan_turn, scan_found, scan_end}
 use Rattle.survey_core.specs.Pairs.{pairs_refusal}
 use Rattle.survey_refusal.proofs.rising.pairs_refusal.Goals as goal

@@ -1,5 +1,4 @@
 -- `pairs_refusal` meets its contract: a scan of the pairs.
-use Prim.Native.Nat.{◌-◌}
 use lib.ListN.{length}
 use Rattle.base_limits.specs.Laws.Verdict.{Scanned}
 use Rattle.survey_core.specs.Lists.{lists_from}
