@@ -8,7 +8,7 @@ ghost use Rattle.base_limits.specs.Limits.{group_numbers};
 ghost use Rattle.survey_core.specs.Survey.{groups_alone};
 ghost use Rattle.survey_groups.specs.Spread.{noted, noted_in, spread};
 
-use base_buffer::{at64, put64};
+use base_buffer::{at, put};
 use base_limits::GROUP_NUMBERS;
 
 pub mod mates;
@@ -39,16 +39,16 @@ fn note(table: &mut [u64], group: u8, label: u64)
     if group == 0 {
         return;
     }
-    let g = base_buffer::index8(group);
-    let x = noted_label(at64(table, g), label);
-    put64(table, g, x);
+    let g = usize::from(group);
+    let x = noted_label(at(table, g), label);
+    put(table, g, x);
 }
 
 // The same with a label of a buffer, which always fits.
 pub fn note_label(table: &mut [u64], group: u8, label: u32)
     ensures { table.new ≡ noted_in table.old group label }
 {
-    note(table, group, base_buffer::wide32(label));
+    note(table, group, u64::from(label));
 }
 
 // The table of all groups under given labels.
@@ -58,14 +58,12 @@ pub fn spreads(groups: &[u8], labels: &[u32]) -> [u64; GROUP_NUMBERS]
         result ≡ tabulate group_numbers (λ g. spread s label g (length groups.now)) }
 {
     let mut table = [0u64; GROUP_NUMBERS];
-    let mut v = 0;
-    while v < groups.len() {
+    for v in 0..groups.len() {
         note(
             &mut table,
-            base_buffer::at8(groups, v),
-            base_buffer::wide32(base_buffer::at32(labels, v)),
+            base_buffer::at(groups, v),
+            u64::from(base_buffer::at(labels, v)),
         );
-        v += 1;
     }
     table
 }
@@ -76,14 +74,8 @@ pub fn own_spreads(groups: &[u8]) -> [u64; GROUP_NUMBERS]
         result ≡ tabulate group_numbers (λ g. spread s (λ v. v) g (length groups.now)) }
 {
     let mut table = [0u64; GROUP_NUMBERS];
-    let mut v = 0;
-    while v < groups.len() {
-        note(
-            &mut table,
-            base_buffer::at8(groups, v),
-            base_buffer::wide(v),
-        );
-        v += 1;
+    for (v, group) in groups.iter().enumerate() {
+        note(&mut table, *group, v as u64);
     }
     table
 }

@@ -4,7 +4,7 @@ ghost use Rattle.base_finite.specs.Below.{tabulate};
 ghost use Rattle.base_limits.specs.Limits.{max_vertices};
 ghost use Rattle.survey_groups.specs.Mate.{mate_by, mate_of, last_in};
 
-use base_buffer::{at32, index8, put32};
+use base_buffer::{at, put};
 use base_limits::{GROUP_NUMBERS, MAX_VERTICES};
 
 // The member that was noted last, or v where none was.
@@ -25,20 +25,14 @@ fn note_last(last: &mut [u32; GROUP_NUMBERS], group: u8, v: u32)
     if group == 0 {
         return;
     }
-    put32(last, index8(group), v + 1);
+    put(last, usize::from(group), v + 1);
 }
 
 // Each vertex at its place.
 fn own_mates() -> [u32; MAX_VERTICES]
     ensures { result ≡ tabulate max_vertices (λ v. v) }
 {
-    let mut mates = [0u32; MAX_VERTICES];
-    let mut v = 0;
-    while v < MAX_VERTICES {
-        mates[v] = v as u32;
-        v += 1;
-    }
-    mates
+    std::array::from_fn(|v| v as u32)
 }
 
 // The mates of all vertices; one that is the first of its group, or in none, is its own.
@@ -47,15 +41,10 @@ pub fn mates(groups: &[u8]) -> [u32; MAX_VERTICES]
 {
     let mut last = [0u32; GROUP_NUMBERS];
     let mut mates = own_mates();
-    let mut v = 0;
-    while v < MAX_VERTICES {
-        if groups.len() <= v {
-            return mates;
-        }
-        let group = base_buffer::at8(groups, v);
-        mates[v] = mate(at32(&last, index8(group)), v as u32);
+    for v in 0..groups.len().min(MAX_VERTICES) {
+        let group = base_buffer::at(groups, v);
+        mates[v] = mate(at(&last, usize::from(group)), v as u32);
         note_last(&mut last, group, v as u32);
-        v += 1;
     }
     mates
 }

@@ -7,19 +7,17 @@ ghost use Rattle.survey_core.specs.Survey.{groups_alone, group_joined, problem_o
 ghost use Rattle.survey_groups.specs.Spread.{Sides};
 
 use crate::spreads;
-use base_buffer::at64;
+use base_buffer::at;
 use base_limits::{GROUP_NUMBERS, Verdict};
 
 // The lowest group that a table says is split.
 pub fn first_split(table: &[u64], number: u64) -> Verdict
     ensures { result ≡ lowest_below group_numbers (λ g. refuse_if (eqb (get_or table.now g 0) 1) number g) }
 {
-    let mut g = 0;
-    while g < GROUP_NUMBERS {
-        if at64(table, g) == 1 {
+    for g in 0..GROUP_NUMBERS {
+        if at(table, g) == 1 {
             return Verdict::Refused { number, place: g };
         }
-        g += 1;
     }
     Verdict::Fine
 }

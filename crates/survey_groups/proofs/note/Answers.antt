@@ -9,4 +9,4 @@ returns-then-group-eq0 c = rw (eq-eqb c.args.group 0 c.if-group-eq0.true)
 
 pub returns : goal.returns
 unfolding noted_in
-returns c = rw (ne_eqb c.args.group 0 c.if-group-eq0.false, ← c.index8-g.ensures, ← c.at64.ensures, ← c.noted_label-x.ensures) c.put64.ensures
+returns c = rw (ne_eqb c.args.group 0 c.if-group-eq0.false, ← c.from-g.ensures, ← c.at.ensures, ← c.noted_label-x.ensures) c.put.ensures

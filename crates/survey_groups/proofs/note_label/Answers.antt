@@ -2,4 +2,4 @@
 use Rattle.survey_groups.proofs.note_label.Goals as goal
 
 pub returns : goal.returns
-returns c = rw (← c.wide32.ensures) c.note.ensures
+returns c = rw (← c.from.ensures) c.note.ensures

@@ -1,5 +1,4 @@
 -- `own_spreads` meets its contract: after v vertices the table holds the groups over the vertices below v.
-use Prim.Native.Nat.{◌-◌}
 use mathlib.Core.Path.{refl, ap, sym, ◌∙◌}
 use lib.ListN.{length}
 use Rattle.base_finite.specs.Laws.Below.{length_tabulate}
@@ -18,12 +17,9 @@ slice_bounds-note-end c = sym (ap length c.loop-v.invariant.1 ∙ length_tabulat
 pub note-requires : goal.note-requires
 note-requires c = omega arith
 
-pub loop-v-smaller : goal.loop-v-smaller
-loop-v-smaller c = omega arith
-
 pub loop-v-preserved : goal.loop-v-preserved
 loop-v-preserved c =
-    (omega arith, spread_step _ refl _ _ c.loop-v.invariant.1 c.note.ensures c.at8.ensures c.wide.ensures (omega arith))
+    (omega arith, spread_step _ refl _ _ c.loop-v.invariant.1 c.note.ensures refl refl (omega arith))
 
 pub returns : goal.returns
 returns c = c.loop-v.invariant.1 ∙ spread_end _ _ _ _ (omega arith) (omega arith)

@@ -1,5 +1,5 @@
 -- `own_spreads` meets its contract: after v vertices the table holds the groups over the vertices below v.
-use Prim.Native.Nat.{◌≤◌, ◌-◌}
+use Prim.Native.Nat.{◌≤◌}
 use mathlib.Core.Path.{◌≡◌}
 use lib.ListN.{length}
 use Rattle.base_finite.specs.Below.{tabulate}
@@ -11,6 +11,3 @@ use Rattle.survey_groups.proofs.own_spreads.Given as goal
 abbrev pub invariant-loop-v : goal.invariant-loop-v
 invariant-loop-v l =
     (l.v ≤ length l.groups) × (l.table ≡ tabulate group_numbers (λ g. spread (groups_alone l.groups) (λ v. v) g l.v))
-
-abbrev pub decreases-loop-v : goal.decreases-loop-v
-decreases-loop-v l = length l.groups - l.v

@@ -1,5 +1,4 @@
 -- `mates` meets its contract: before each turn the table holds the last members below v, and the mates below v are stored; from the end of the groups on each is its own.
-use Prim.Native.Nat.{◌-◌}
 use mathlib.Core.Path.{refl, ap, sym, ◌∙◌}
 use lib.ListN.{length}
 use native.Mathlib.Omega.{arith}
@@ -12,28 +11,22 @@ use Rattle.survey_groups.proofs.mates.mates.Goals as goal
 
 pub loop-v-init : goal.loop-v-init
 unfolding remade
-loop-v-init c = (omega arith, replicate_table group_numbers 0 ∙ last_none _, refl)
+loop-v-init c = (replicate_table group_numbers 0 ∙ last_none _, refl)
 
-pub slice_bounds-at32-end : goal.slice_bounds-at32-end
-slice_bounds-at32-end c = sym (ap length c.loop-v.invariant.1 ∙ length_tabulate group_numbers _)
+pub slice_bounds-at-end : goal.slice_bounds-at-end
+slice_bounds-at-end c = sym (ap length c.loop-v.invariant.0 ∙ length_tabulate group_numbers _)
 
 pub loop-v-preserved : goal.loop-v-preserved
 loop-v-preserved c =
-    let group = c.at8-group.ensures in
+    let group = c.at-group.ensures in
     let bytes = c.shared_slice_known-1.given c.loop-v.v in (
-      omega arith,
-      last_step _ _ c.loop-v.invariant.1 c.note_last.ensures group refl,
-      remade_more _ _ _ _ _ c.loop-v.invariant.2
-          (c.mate.ensures ∙ mate_read _ _ c.loop-v.invariant.1 c.at32.ensures (c.index8.ensures ∙ group) (omega (arith, bytes))),
+      last_step _ _ c.loop-v.invariant.0 c.note_last.ensures group refl,
+      remade_more _ _ _ _ _ c.loop-v.invariant.1
+          (c.mate.ensures ∙ mate_read _ _ c.loop-v.invariant.0 c.at.ensures (c.from.ensures ∙ group) (omega (arith, bytes))),
     )
-
--- past the groups
-pub returns-then-groups-v : goal.returns-then-groups-v
-returns-then-groups-v c =
-    mates_stored _ max_vertices c.loop-v.v c.own_mates-mates.ensures (omega arith)
-    (λ v b l. mate_past _ v (let out = c.if-groups-v.true in omega arith))
-    c.loop-v.invariant.2
 
 pub returns : goal.returns
 returns c =
-    mates_stored _ max_vertices c.loop-v.v c.own_mates-mates.ensures (omega arith) (λ v b l. absurd (omega arith)) c.loop-v.invariant.2
+    mates_stored _ max_vertices c.loop-v.v c.own_mates-mates.ensures (omega arith)
+    (λ v b l. mate_past _ v (omega arith))
+    c.loop-v.invariant.1

@@ -11,4 +11,4 @@ returns-then-group-eq0 c = rw (eq-eqb c.args.group 0 c.if-group-eq0.true)
 pub returns : goal.returns
 unfolding last_in
 returns c =
-    rw (ne_eqb c.args.group 0 c.if-group-eq0.false, ← c.index8.ensures) c.put32.ensures
+    rw (ne_eqb c.args.group 0 c.if-group-eq0.false, ← c.from.ensures) c.put.ensures
