@@ -14,9 +14,6 @@ loop-v-init c = (omega arith, replicate_table group_numbers 0 ∙ spread_none _ 
 pub slice_bounds-note-end : goal.slice_bounds-note-end
 slice_bounds-note-end c = sym (ap length c.loop-v.invariant.1 ∙ length_tabulate group_numbers _)
 
-pub note-requires : goal.note-requires
-note-requires c = omega arith
-
 pub loop-v-preserved : goal.loop-v-preserved
 loop-v-preserved c =
     (omega arith, spread_step _ refl _ _ c.loop-v.invariant.1 c.note.ensures c.at.ensures (c.from.ensures ∙ c.at-in-loop-v.ensures) (omega arith))

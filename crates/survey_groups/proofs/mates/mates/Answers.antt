@@ -19,7 +19,7 @@ slice_bounds-at-end c = sym (ap length c.loop-v.invariant.0 ∙ length_tabulate 
 pub loop-v-preserved : goal.loop-v-preserved
 loop-v-preserved c =
     let group = c.at-group.ensures in
-    let bytes = c.shared_slice_known-1.given c.loop-v.v in (
+    let bytes = c.type_inv.groups c.loop-v.v in (
       last_step _ _ c.loop-v.invariant.0 c.note_last.ensures group refl,
       remade_more _ _ _ _ _ c.loop-v.invariant.1
           (c.mate.ensures ∙ mate_read _ _ c.loop-v.invariant.0 c.at.ensures (c.from.ensures ∙ group) (omega (arith, bytes))),

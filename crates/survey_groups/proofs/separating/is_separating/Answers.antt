@@ -9,7 +9,7 @@ use Rattle.survey_groups.proofs.separating.is_separating.Goals as goal
 -- no group is split
 pub returns-in-Fine : goal.returns-in-Fine
 returns-in-Fine c S sides =
-    let bytes = c.shared_slice_known-1.given in
+    let bytes = c.type_inv.groups in
     sym
     (whole_separates_none (groups_alone c.args.groups.now) S _ sides 0 (plain_bytes _ _ _ _ (λ v. omega (arith, bytes v)))
     (sym c.split_refusal-split.ensures ∙ c.in-Fine.is))

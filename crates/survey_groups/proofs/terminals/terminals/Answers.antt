@@ -14,4 +14,4 @@ slice_bounds-count_split-end c = sym (ap length c.own_spreads-table.ensures ∙ 
 pub returns : goal.returns
 unfolding vertex_count
 returns c =
-    c.count_split.ensures ∙ split_terminals _ refl c.own_spreads-table.ensures (λ v. omega (arith, c.shared_slice_known-1.given v))
+    c.count_split.ensures ∙ split_terminals _ refl c.own_spreads-table.ensures (λ v. omega (arith, c.type_inv.groups v))
