@@ -30,8 +30,8 @@ fn join_picked(
     if is_picked(picked, e) {
         let linked = hang_ends(
             labels,
-            base_buffer::at32(firsts, e),
-            base_buffer::at32(seconds, e),
+            base_buffer::at(firsts, e),
+            base_buffer::at(seconds, e),
             firsts.len(),
         );
         if linked {
@@ -54,13 +54,11 @@ pub fn loop_refusal(groups: &[u8], firsts: &[u32], seconds: &[u32], picked: &[u8
 {
     let mut labels = [0u32; MAX_VERTICES];
     crate::labels::own_labels(&mut labels);
-    let mut e = 0;
-    while e < firsts.len() {
+    for e in 0..firsts.len() {
         let found = join_picked(firsts, seconds, picked, &mut labels[0..groups.len()], e);
         let Verdict::Fine = found else {
             return found;
         };
-        e += 1;
     }
     crate::level::level(&mut labels[0..groups.len()], firsts.len());
     survey_groups::split_refusal(groups, &labels, 14)

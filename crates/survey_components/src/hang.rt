@@ -3,7 +3,7 @@ ghost use Rattle.std.specs.Prelude.{◌≡◌};
 ghost use Rattle.survey_components.specs.Roots.{one_root, ends_hung};
 
 use crate::labels::climb;
-use base_buffer::{index32, put32};
+use base_buffer::put;
 
 // The components of two vertices become that of the first; answers whether they were one already.
 pub fn hang_ends(parents: &mut [u32], first: u32, second: u32, steps: usize) -> bool
@@ -12,6 +12,6 @@ pub fn hang_ends(parents: &mut [u32], first: u32, second: u32, steps: usize) -> 
 {
     let x = climb(parents, first, steps);
     let y = climb(parents, second, steps);
-    put32(parents, index32(y), x);
+    put(parents, y as usize, x);
     x == y
 }

@@ -7,17 +7,15 @@ ghost use Rattle.base_buffer.specs.Store.{remade};
 ghost use Rattle.survey_components.specs.Buffer.{relabelled};
 ghost use Rattle.survey_components.specs.Roots.{climbed};
 
-use base_buffer::{at32, index32, put32};
+use base_buffer::{at, put};
 use base_limits::MAX_VERTICES;
 
 // Each vertex is its own component.
 pub fn own_labels(labels: &mut [u32])
     ensures { labels.new ≡ remade (λ v x. v) max_vertices labels.old }
 {
-    let mut v = 0;
-    while v < MAX_VERTICES {
-        put32(labels, v, v as u32);
-        v += 1;
+    for v in 0..MAX_VERTICES {
+        put(labels, v, v as u32);
     }
 }
 
@@ -38,11 +36,8 @@ fn merged_label(label: u32, x: u32, y: u32, z: u32) -> u32
 pub fn relabel(labels: &mut [u32], x: u32, y: u32, z: u32)
     ensures { labels.new ≡ relabelled x y z labels.old }
 {
-    let mut v = 0;
-    while v < labels.len() {
-        let label = merged_label(at32(labels, v), x, y, z);
-        put32(labels, v, label);
-        v += 1;
+    for label in labels.iter_mut() {
+        *label = merged_label(*label, x, y, z);
     }
 }
 
@@ -50,8 +45,8 @@ pub fn relabel(labels: &mut [u32], x: u32, y: u32, z: u32)
 pub fn merge(labels: &mut [u32], first: u32, second: u32, z: u32)
     ensures { labels.new ≡ relabelled (get_or labels.old first 0) (get_or labels.old second 0) z labels.old }
 {
-    let x = at32(labels, index32(first));
-    let y = at32(labels, index32(second));
+    let x = at(labels, first as usize);
+    let y = at(labels, second as usize);
     relabel(labels, x, y, z);
 }
 
@@ -61,16 +56,14 @@ pub fn climb(parents: &mut [u32], v: u32, steps: usize) -> u32
     ensures left { parents.new ≡ (climbed steps parents.old v).parents }
 {
     let mut x = v;
-    let mut i = 0;
-    while i < steps {
-        let up = at32(parents, index32(x));
+    for _ in 0..steps {
+        let up = at(parents, x as usize);
         if up == x {
             return x;
         }
-        let above = at32(parents, index32(up));
-        put32(parents, index32(x), above);
+        let above = at(parents, up as usize);
+        put(parents, x as usize, above);
         x = above;
-        i += 1;
     }
     x
 }

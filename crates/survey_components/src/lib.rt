@@ -15,7 +15,7 @@ ghost use Rattle.survey_components.specs.Met.{ends_met};
 ghost use Rattle.survey_components.specs.Forest.{EndsBelow};
 
 use crate::join::{is_kept, join_ends};
-use base_buffer::at32;
+use base_buffer::at;
 use base_limits::{MAX_VERTICES, Verdict};
 
 mod forest;
@@ -47,12 +47,7 @@ fn is_chosen(set: Chosen, mark: u8) -> bool
 pub fn is_picked(marks: &[u8], e: usize) -> bool
     ensures { result ≡ picked_in marks.now e }
 {
-    match base_buffer::at8(marks, e) {
-        0 => false,
-        1 => true,
-        2 => true,
-        _ => true,
-    }
+    at(marks, e) != 0
 }
 
 // The ends of edge e come into one tree, if it is in the set.
@@ -68,8 +63,8 @@ fn join_edge(
         let met = ends_met (length firsts.now) first (get_or seconds.now e 0) labels.old in
         labels.new ≡ cond (chosen set marks.now e) met labels.old }
 {
-    if is_chosen(set, base_buffer::at8(marks, e)) {
-        join_ends(labels, at32(firsts, e), at32(seconds, e), firsts.len());
+    if is_chosen(set, at(marks, e)) {
+        join_ends(labels, at(firsts, e), at(seconds, e), firsts.len());
     }
 }
 
@@ -81,10 +76,8 @@ fn label_components(set: Chosen, firsts: &[u32], seconds: &[u32], marks: &[u8], 
         let label = components max_vertices first second (chosen set marks.now) (length firsts.now) in
         labels.new ≡ tabulate (length labels.old) label }
 {
-    let mut e = 0;
-    while e < firsts.len() {
+    for e in 0..firsts.len() {
         join_edge(set, firsts, seconds, marks, labels, e);
-        e += 1;
     }
     crate::level::level(labels, firsts.len());
 }

@@ -4,8 +4,8 @@ use Rattle.survey_components.proofs.join_edge.Goals as goal
 
 pub returns-then-is_chosen : goal.returns-then-is_chosen
 unfolding chosen
-returns-then-is_chosen c = rw (← c.at8.ensures, ← c.is_chosen.ensures, c.if-is_chosen.true) (rw (← c.at32.ensures, ← c.at32-then-is_chosen.ensures) c.join_ends.ensures)
+returns-then-is_chosen c = rw (← c.at.ensures, ← c.is_chosen.ensures, c.if-is_chosen.true) (rw (← c.at-then-is_chosen.ensures, ← c.at-then-is_chosen-2.ensures) c.join_ends.ensures)
 
 pub returns-else-is_chosen : goal.returns-else-is_chosen
 unfolding chosen
-returns-else-is_chosen c = rw (← c.at8.ensures, ← c.is_chosen.ensures, c.if-is_chosen.false)
+returns-else-is_chosen c = rw (← c.at.ensures, ← c.is_chosen.ensures, c.if-is_chosen.false)

@@ -9,9 +9,6 @@ use Rattle.survey_components.proofs.label_components.Goals as goal
 pub loop-e-init : goal.loop-e-init
 loop-e-init c = (omega arith, trees_none max_vertices _ _ _ _ c.requires.own)
 
-pub loop-e-smaller : goal.loop-e-smaller
-loop-e-smaller c = omega arith
-
 pub loop-e-preserved : goal.loop-e-preserved
 loop-e-preserved c =
     let ends = c.requires.ends in (

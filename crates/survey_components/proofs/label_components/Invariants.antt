@@ -11,6 +11,3 @@ abbrev pub invariant-loop-e : goal.invariant-loop-e
 invariant-loop-e l =
     (l.e ≤ length l.firsts)
     × Trees (length l.initial.labels) (components max_vertices (λ e. get_or l.firsts e 0) (λ e. get_or l.seconds e 0) (chosen l.set l.marks) l.e) l.e l.labels
-
-abbrev pub decreases-loop-e : goal.decreases-loop-e
-decreases-loop-e l = length l.firsts - l.e

@@ -7,13 +7,13 @@ use Rattle.survey_components.proofs.forest.join_picked.Goals as goal
 pub returns-then-linked : goal.returns-then-linked
 returns-then-linked c =
     let in_set = sym c.is_picked.ensures ∙ c.if-is_picked.true in
-    let linked = sym c.hang_ends-linked.ensures.one ∙ c.if-linked.true in record { closed = sym (refuse_true (rw (in_set, ← c.at32.ensures, ← c.at32-then-is_picked.ensures) linked) 21 _); joined = rw (in_set, ← c.at32.ensures, ← c.at32-then-is_picked.ensures) c.hang_ends-linked.ensures.hung }
+    let linked = sym c.hang_ends-linked.ensures.one ∙ c.if-linked.true in record { closed = sym (refuse_true (rw (in_set, ← c.at.ensures, ← c.at-then-is_picked.ensures) linked) 21 _); joined = rw (in_set, ← c.at.ensures, ← c.at-then-is_picked.ensures) c.hang_ends-linked.ensures.hung }
 
 -- picked, and no loop
 pub returns-then-is_picked : goal.returns-then-is_picked
 returns-then-is_picked c =
     let in_set = sym c.is_picked.ensures ∙ c.if-is_picked.true in
-    let apart = sym c.hang_ends-linked.ensures.one ∙ c.if-linked.false in record { closed = sym (refuse_false (rw (in_set, ← c.at32.ensures, ← c.at32-then-is_picked.ensures) apart) 21 _); joined = rw (in_set, ← c.at32.ensures, ← c.at32-then-is_picked.ensures) c.hang_ends-linked.ensures.hung }
+    let apart = sym c.hang_ends-linked.ensures.one ∙ c.if-linked.false in record { closed = sym (refuse_false (rw (in_set, ← c.at.ensures, ← c.at-then-is_picked.ensures) apart) 21 _); joined = rw (in_set, ← c.at.ensures, ← c.at-then-is_picked.ensures) c.hang_ends-linked.ensures.hung }
 
 -- not picked
 pub returns : goal.returns

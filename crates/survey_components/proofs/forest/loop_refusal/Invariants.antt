@@ -6,6 +6,3 @@ use Rattle.survey_components.proofs.forest.loop_refusal.Given as goal
 
 abbrev pub invariant-loop-e : goal.invariant-loop-e
 invariant-loop-e l = Joining l.groups l.firsts l.seconds l.picked l.labels l.e
-
-abbrev pub decreases-loop-e : goal.decreases-loop-e
-decreases-loop-e l = length l.firsts - l.e

@@ -6,4 +6,4 @@ pub returns : goal.returns
 unfolding climbed_twice ends_hung one_root
 returns c =
     let second = rw c.climb-x.ensures.left at c.climb-y.ensures in
-    let stored = c.put32.ensures in record { one = rw (← c.climb-x.ensures.root, ← second.root); hung = rw (stored, c.index32.ensures, ← c.climb-x.ensures.root, ← second.root, ← second.left) }
+    let stored = c.put.ensures in record { one = rw (← c.climb-x.ensures.root, ← second.root); hung = rw (stored, ← c.climb-x.ensures.root, ← second.root, ← second.left) }

@@ -13,14 +13,8 @@ loop-v-init c = (omega arith, refl)
 pub overflow_cast-v : goal.overflow_cast-v
 overflow_cast-v c = omega arith
 
-pub overflow_add-v : goal.overflow_add-v
-overflow_add-v c = omega arith
-
-pub loop-v-smaller : goal.loop-v-smaller
-loop-v-smaller c = omega arith
-
 pub loop-v-preserved : goal.loop-v-preserved
-loop-v-preserved c = (omega arith, c.put32.ensures ∙ remade_more (λ v x. v) _ _ _ _ c.loop-v.invariant.1 refl)
+loop-v-preserved c = (omega arith, c.put.ensures ∙ remade_more (λ v x. v) _ _ _ _ c.loop-v.invariant.1 refl)
 
 pub returns : goal.returns
 returns c = c.loop-v.invariant.1 ∙ remade_end _ _ _ _ (omega arith) (omega arith)

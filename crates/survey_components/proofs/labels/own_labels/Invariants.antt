@@ -7,6 +7,3 @@ use Rattle.survey_components.proofs.labels.own_labels.Given as goal
 
 abbrev pub invariant-loop-v : goal.invariant-loop-v
 invariant-loop-v l = (l.v ≤ max_vertices) × (l.labels ≡ remade (λ v x. v) l.v l.initial.labels)
-
-abbrev pub decreases-loop-v : goal.decreases-loop-v
-decreases-loop-v l = max_vertices - l.v

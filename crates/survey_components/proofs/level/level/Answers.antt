@@ -10,18 +10,12 @@ pub loop-v-init : goal.loop-v-init
 unfolding levelled
 loop-v-init c = (omega arith, refl, refl)
 
-pub overflow_add-v : goal.overflow_add-v
-overflow_add-v c = omega arith
-
-pub loop-v-smaller : goal.loop-v-smaller
-loop-v-smaller c = omega arith
-
 pub loop-v-preserved : goal.loop-v-preserved
 loop-v-preserved c =
-    let top = rw c.at32.ensures at c.climb-root.ensures in (
+    let top = rw c.at.ensures at c.climb-root.ensures in (
       omega arith,
       c.parents-in-loop-v-1.given ∙ c.parents-1.given ∙ c.loop-v.invariant.1,
-      rw (c.put32.ensures, top.root, top.left) (level_turn _ _ _ c.loop-v.invariant.2),
+      rw (c.put.ensures, top.root, top.left) (level_turn _ _ _ c.loop-v.invariant.2),
     )
 
 pub returns : goal.returns

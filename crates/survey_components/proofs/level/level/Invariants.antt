@@ -7,6 +7,3 @@ use Rattle.survey_components.proofs.level.level.Given as goal
 
 abbrev pub invariant-loop-v : goal.invariant-loop-v
 invariant-loop-v l = (l.v ≤ length l.initial.parents) × (length l.parents ≡ length l.initial.parents) × (l.parents ≡ levelled l.steps l.v l.initial.parents)
-
-abbrev pub decreases-loop-v : goal.decreases-loop-v
-decreases-loop-v l = length l.initial.parents - l.v
