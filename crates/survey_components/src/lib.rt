@@ -14,7 +14,7 @@ ghost use Rattle.survey_components.specs.Labels.{chosen_mark, chosen, picked_in,
 ghost use Rattle.survey_components.specs.Met.{ends_met};
 ghost use Rattle.survey_components.specs.Forest.{EndsBelow};
 
-use crate::join::{is_kept, join_ends};
+use crate::join::join_ends;
 use base_buffer::at;
 use base_limits::{MAX_VERTICES, Verdict};
 
@@ -39,7 +39,7 @@ fn is_chosen(set: Chosen, mark: u8) -> bool
 {
     match set {
         Chosen::All => true,
-        Chosen::Kept => is_kept(mark),
+        Chosen::Kept => mark == 2,
     }
 }
 

@@ -1,5 +1,4 @@
 -- `label_components` meets its contract: after e edges there are the trees of the edges below e.
-use Prim.Native.Nat.{◌-◌}
 use Rattle.base_limits.specs.Limits.{max_vertices}
 use Rattle.survey_components.specs.Laws.Roots.{trees_none, trees_labels}
 use Rattle.survey_components.specs.Laws.Met.{trees_met}

@@ -1,5 +1,5 @@
 -- `label_components` meets its contract: after e edges there are the trees of the edges below e.
-use Prim.Native.Nat.{◌≤◌, ◌-◌}
+use Prim.Native.Nat.{◌≤◌}
 use lib.ListN.{length, get_or}
 use Rattle.theory_graph.specs.Component.{components}
 use Rattle.base_limits.specs.Limits.{max_vertices}

@@ -1,5 +1,4 @@
 -- `loop_refusal` meets its contract: a scan of the picked tracks, which leaves the trees whose roots decide about the groups.
-use Prim.Native.Nat.{◌-◌}
 use mathlib.Core.Path.{refl, ◌∙◌}
 use Rattle.base_limits.specs.Limits.{max_vertices}
 use Rattle.base_buffer.proofs.Laws.Store.{remade_table}

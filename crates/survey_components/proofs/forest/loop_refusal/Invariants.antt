@@ -1,6 +1,4 @@
 -- `loop_refusal` meets its contract: a scan of the picked tracks, which leaves the trees whose roots decide about the groups.
-use Prim.Native.Nat.{◌-◌}
-use lib.ListN.{length}
 use Rattle.survey_components.specs.Laws.Forest.{Joining}
 use Rattle.survey_components.proofs.forest.loop_refusal.Given as goal
 

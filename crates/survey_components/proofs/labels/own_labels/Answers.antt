@@ -1,5 +1,4 @@
 -- `own_labels` meets its contract: it stores at rising places.
-use Prim.Native.Nat.{◌-◌}
 use mathlib.Core.Path.{refl, ◌∙◌}
 use Rattle.base_buffer.specs.Store.{remade}
 use Rattle.base_buffer.proofs.Laws.Store.{remade_more, remade_end}
@@ -8,13 +7,10 @@ use Rattle.survey_components.proofs.labels.own_labels.Goals as goal
 
 pub loop-v-init : goal.loop-v-init
 unfolding remade
-loop-v-init c = (omega arith, refl)
-
-pub overflow_cast-v : goal.overflow_cast-v
-overflow_cast-v c = omega arith
+loop-v-init c = refl
 
 pub loop-v-preserved : goal.loop-v-preserved
-loop-v-preserved c = (omega arith, c.put.ensures ∙ remade_more (λ v x. v) _ _ _ _ c.loop-v.invariant.1 refl)
+loop-v-preserved c = c.put.ensures ∙ remade_more (λ v x. v) _ _ _ _ c.loop-v.invariant refl
 
 pub returns : goal.returns
-returns c = c.loop-v.invariant.1 ∙ remade_end _ _ _ _ (omega arith) (omega arith)
+returns c = c.loop-v.invariant ∙ remade_end _ _ _ _ (omega arith) (omega arith)

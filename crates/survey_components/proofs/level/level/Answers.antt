@@ -1,5 +1,4 @@
 -- `level` meets its contract: before each turn the vertices below v hang on their roots.
-use Prim.Native.Nat.{◌-◌}
 use mathlib.Core.Path.{refl, ◌∙◌}
 use native.Mathlib.Omega.{arith}
 use Rattle.survey_components.specs.Roots.{levelled}
@@ -8,15 +7,12 @@ use Rattle.survey_components.proofs.level.level.Goals as goal
 
 pub loop-v-init : goal.loop-v-init
 unfolding levelled
-loop-v-init c = (omega arith, refl, refl)
+loop-v-init c = refl
 
 pub loop-v-preserved : goal.loop-v-preserved
 loop-v-preserved c =
-    let top = rw c.at.ensures at c.climb-root.ensures in (
-      omega arith,
-      c.parents-in-loop-v-1.given ∙ c.parents-1.given ∙ c.loop-v.invariant.1,
-      rw (c.put.ensures, top.root, top.left) (level_turn _ _ _ c.loop-v.invariant.2),
-    )
+    let top = rw c.at.ensures at c.climb-root.ensures in
+    rw (c.put.ensures, top.root, top.left) (level_turn _ _ _ c.loop-v.invariant)
 
 pub returns : goal.returns
-returns c = c.loop-v.invariant.2 ∙ level_end _ _ _ _ (omega arith) (omega arith)
+returns c = c.loop-v.invariant ∙ level_end _ _ _ _ (omega arith) (omega arith)

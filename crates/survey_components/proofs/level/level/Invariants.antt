@@ -1,9 +1,7 @@
 -- `level` meets its contract: before each turn the vertices below v hang on their roots.
-use Prim.Native.Nat.{◌≤◌, ◌-◌}
 use mathlib.Core.Path.{◌≡◌}
-use lib.ListN.{length}
 use Rattle.survey_components.specs.Roots.{levelled}
 use Rattle.survey_components.proofs.level.level.Given as goal
 
 abbrev pub invariant-loop-v : goal.invariant-loop-v
-invariant-loop-v l = (l.v ≤ length l.initial.parents) × (length l.parents ≡ length l.initial.parents) × (l.parents ≡ levelled l.steps l.v l.initial.parents)
+invariant-loop-v l = l.parents ≡ levelled l.steps l.v l.initial.parents
