@@ -50,10 +50,10 @@ pub fn settled(held: u64, flag: u8, time: u64) -> u64
 pub fn end_at(labels: &[u32], loads: &[u64], flags: &[u8], time: u64, v: usize) -> End
     ensures { result ≡ vertex_end labels.now loads.now flags.now time v }
 {
-    let label = base_buffer::at32(labels, v);
-    let c = base_buffer::index32(label);
-    let flag = base_buffer::at8(flags, c);
-    let load = settled(base_buffer::at64(loads, v), flag, time);
+    let label = base_buffer::at(labels, v);
+    let c = label as usize;
+    let flag = base_buffer::at(flags, c);
+    let load = settled(base_buffer::at(loads, v), flag, time);
     End { label, flag, load }
 }
 
@@ -61,7 +61,7 @@ pub fn end_at(labels: &[u32], loads: &[u64], flags: &[u8], time: u64, v: usize) 
 pub fn edge_slack(weight: u32, first_load: u64, second_load: u64) -> u64
     ensures { result ≡ 2 * weight - (first_load + second_load) }
 {
-    let whole = 2 * base_buffer::wide32(weight);
+    let whole = 2 * u64::from(weight);
     if whole <= first_load {
         return 0;
     }

@@ -4,13 +4,13 @@ ghost use Rattle.base_buffer.specs.Store.{remade};
 ghost use Rattle.plan_search.specs.Keys.{start_key, start_key_of};
 
 use crate::NO_KEY;
-use base_buffer::{at8, at32, index32};
+use base_buffer::at;
 
 // The key of an edge by the flags of its ends.
 fn start_key(first: u8, second: u8, weight: u32) -> u64
     ensures { result ≡ start_key first second weight }
 {
-    let whole = 2 * base_buffer::wide32(weight);
+    let whole = 2 * u64::from(weight);
     if first == 1 {
         if second == 1 {
             return whole;
@@ -28,12 +28,10 @@ pub fn start_keys(firsts: &[u32], seconds: &[u32], weights: &[u32], flags: &[u8]
     ensures { let key = start_key_of firsts.now seconds.now weights.now flags.now in
         keys.new ≡ remade (λ e x. key e) (length firsts.now) keys.old }
 {
-    let mut e = 0;
-    while e < firsts.len() {
-        let first = at8(flags, index32(at32(firsts, e)));
-        let second = at8(flags, index32(at32(seconds, e)));
-        let key = start_key(first, second, at32(weights, e));
-        base_buffer::put64(keys, e, key);
-        e += 1;
+    for e in 0..firsts.len() {
+        let first = at(flags, at(firsts, e) as usize);
+        let second = at(flags, at(seconds, e) as usize);
+        let key = start_key(first, second, at(weights, e));
+        base_buffer::put(keys, e, key);
     }
 }

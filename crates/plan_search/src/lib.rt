@@ -9,7 +9,7 @@ ghost use Rattle.plan_search.specs.Tables.{tables_in, on_by, pass_by, scan_from}
 ghost use Rattle.plan_search.specs.Between.{winner_in};
 
 use crate::limit::{limit_of, lower_of, next_block};
-use base_buffer::{at64, put64};
+use base_buffer::{at, put};
 use base_limits::MAX_EDGES;
 
 mod better;
@@ -66,16 +66,14 @@ fn scan_block(
     let mut winner = best;
     let mut limit = limit_of(time, best);
     let mut low = NO_KEY;
-    let mut e = from;
-    while e < to {
-        if at64(keys, e) < limit {
+    for e in from..to {
+        if at(keys, e) < limit {
             winner = crate::look::look(
                 firsts, seconds, weights, labels, loads, flags, time, keys, e, winner,
             );
             limit = limit_of(time, winner);
         }
-        low = lower_of(low, at64(keys, e));
-        e += 1;
+        low = lower_of(low, at(keys, e));
     }
     Passed { best: winner, low }
 }
@@ -122,7 +120,7 @@ fn pass_block(
     let passed = scan_block(
         firsts, seconds, weights, labels, loads, flags, time, keys, from, to, best,
     );
-    put64(floors, b, passed.low);
+    put(floors, b, passed.low);
     passed.best
 }
 

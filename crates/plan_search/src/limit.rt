@@ -6,7 +6,7 @@ ghost use Rattle.plan_search.specs.Between.{winner_in};
 
 use crate::delay::Winner;
 use crate::{NO_KEY, TIME_LIMIT};
-use base_buffer::at64;
+use base_buffer::at;
 
 const LAST_TIME: u64 = TIME_LIMIT - 1;
 
@@ -49,7 +49,7 @@ pub fn next_block(floors: &[u64], from: usize, to: usize, limit: u64) -> usize
 {
     let mut b = from;
     while b < to {
-        if at64(floors, b) < limit {
+        if at(floors, b) < limit {
             return b;
         }
         b += 1;

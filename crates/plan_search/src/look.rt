@@ -10,7 +10,7 @@ use crate::better::{better_of, delay_of};
 use crate::delay::{Delay, End, Winner, edge_slack, end_at};
 use crate::limit::capped_time;
 use crate::rest::{alone_at, rests_between};
-use base_buffer::put64;
+use base_buffer::put;
 
 // What has to be grown over of an edge of which so much remains: twice that where an end is idle and alone.
 fn reach_between(u: usize, v: usize, first: End, second: End, slack: u64) -> u64
@@ -43,15 +43,15 @@ fn note_edge(
     ensures keys_value { keys.new ≡ set keys.old e (key_between time u v first second weight) }
 {
     if first.label == second.label {
-        put64(keys, e, NO_KEY);
+        put(keys, e, NO_KEY);
         return better_of(best, e, Delay::Never);
     }
     if rests_between(u, v, first, second) {
-        put64(keys, e, NO_KEY);
+        put(keys, e, NO_KEY);
         return better_of(best, e, Delay::Never);
     }
     let slack = edge_slack(weight, first.load, second.load);
-    put64(
+    put(
         keys,
         e,
         2 * time + reach_between(u, v, first, second, slack),
@@ -78,15 +78,15 @@ pub fn look(
         keys.new ≡ set keys.old e (key_by t (capped_time time) e) }
 {
     let capped = capped_time(time);
-    let a = base_buffer::index32(base_buffer::at32(firsts, e));
-    let b = base_buffer::index32(base_buffer::at32(seconds, e));
+    let a = base_buffer::at(firsts, e) as usize;
+    let b = base_buffer::at(seconds, e) as usize;
     let first = end_at(labels, loads, flags, capped, a);
     let second = end_at(labels, loads, flags, capped, b);
     note_edge(
         keys,
         e,
         capped,
-        base_buffer::at32(weights, e),
+        base_buffer::at(weights, e),
         a,
         b,
         first,

@@ -11,7 +11,7 @@ pub fn alone_at(v: usize, end: End) -> bool
     if end.flag == 1 {
         return false;
     }
-    base_buffer::index32(end.label) == v
+    end.label as usize == v
 }
 
 // Whether an edge between vertices u and v rests.

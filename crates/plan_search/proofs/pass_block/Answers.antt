@@ -18,5 +18,5 @@ returns c =
     let z = size_is c.args.b c.block_size.ensures in
     let best = c.scan_block-passed.ensures.best_value in
     let keys = c.scan_block-passed.ensures.keys_value in
-    let floors = c.put64.ensures ∙ ap (λ x. set c.args.floors.now c.args.b x) c.scan_block-passed.ensures.low_value in
+    let floors = c.put.ensures ∙ ap (λ x. set c.args.floors.now c.args.b x) c.scan_block-passed.ensures.low_value in
     record { result_value = rw z at best; keys_value = rw z at keys; floors_value = rw z at floors }

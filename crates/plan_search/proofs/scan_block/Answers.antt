@@ -6,26 +6,23 @@ use Rattle.plan_search.proofs.Laws.Scan.{capped_is}
 use Rattle.plan_search.proofs.Laws.Loops.{scanning_start, scanning_look, scanning_pass, scanning_low, scanning_end}
 use native.Mathlib.Omega.{arith}
 use Rattle.plan_search.proofs.scan_block.Goals as goal
-use Rattle.plan_search.proofs.scan_block.Goals.{then-at64-limit, else-at64-limit}
+use Rattle.plan_search.proofs.scan_block.Goals.{then-at-limit, else-at-limit}
 
 pub loop-e-init : goal.loop-e-init
 loop-e-init c =
     let small = c.requires in
     scanning_start _ _ _ _ _ _ small (rw (capped_is _ small) at c.limit_of-limit.ensures)
 
-pub loop-e-smaller : goal.loop-e-smaller
-loop-e-smaller c = omega arith
-
 pub loop-e-preserved : goal.loop-e-preserved
 loop-e-preserved c =
     let taken = c.loop-e-test.true in
-    let read = c.at64.ensures in
-    let again = c.at64-in-loop-e.ensures in
+    let read = c.at.ensures in
+    let again = c.at-in-loop-e.ensures in
     let low = c.lower_of-low.ensures in
     let capped = capped_is _ c.loop-e.invariant.small in
-    elim c.if-at64-limit.branch [
-      | then-at64-limit w ↦ scanning_look c.loop-e.invariant taken read w.if-at64-limit.true w.look-winner.ensures.result_value w.look-winner.ensures.keys_value (ap winner_in w.winner-is) (w.limit-is ∙ rw capped at w.limit_of-limit-then-at64-limit.ensures) w.keys-is again low
-      | else-at64-limit w ↦ scanning_pass c.loop-e.invariant taken read w.if-at64-limit.false (ap winner_in w.winner-is) w.limit-is w.keys-is again low
+    elim c.if-at-limit.branch [
+      | then-at-limit w ↦ scanning_look c.loop-e.invariant taken read w.if-at-limit.true w.look-winner.ensures.result_value w.look-winner.ensures.keys_value (ap winner_in w.winner-is) (w.limit-is ∙ rw capped at w.limit_of-limit-then-at-limit.ensures) w.keys-is again low
+      | else-at-limit w ↦ scanning_pass c.loop-e.invariant taken read w.if-at-limit.false (ap winner_in w.winner-is) w.limit-is w.keys-is again low
     ]
 
 pub returns : goal.returns

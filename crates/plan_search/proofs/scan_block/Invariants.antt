@@ -8,7 +8,3 @@ use Rattle.plan_search.proofs.scan_block.Given as goal
 abbrev pub invariant-loop-e : goal.invariant-loop-e
 invariant-loop-e l =
     Scanning (tables_from l.firsts l.seconds l.weights l.labels l.loads l.flags) l.time (winner_in l.initial.winner) l.initial.keys l.from l.to l.e l.limit l.low (winner_in l.winner) l.keys
-
-abbrev pub decreases-loop-e : goal.decreases-loop-e
-decreases-loop-e l =
-    l.to - l.e

@@ -14,9 +14,9 @@ loop-e-init c = (omega arith, refl)
 pub loop-e-preserved : goal.loop-e-preserved
 loop-e-preserved c = (
   omega arith,
-  c.put64.ensures
+  c.put.ensures
       ∙ remade_more _ _ _ _ _ c.loop-e.invariant.1
-      (key_read _ _ _ _ _ c.at32.ensures c.index32.ensures c.at8-first.ensures c.at32-in-loop-e.ensures c.index32-in-loop-e.ensures c.at8-second.ensures c.at32-in-loop-e-2.ensures c.start_key-key.ensures),
+      (key_read _ _ _ _ _ c.at.ensures refl c.at-first.ensures c.at-in-loop-e.ensures refl c.at-second.ensures c.at-in-loop-e-2.ensures c.start_key-key.ensures),
 )
 
 pub returns : goal.returns

@@ -9,6 +9,3 @@ use Rattle.plan_search.proofs.keys.start_keys.Given as goal
 abbrev pub invariant-loop-e : goal.invariant-loop-e
 invariant-loop-e l =
     (l.e ≤ length l.firsts) × (l.keys ≡ remade (λ e x. start_key_of l.firsts l.seconds l.weights l.flags e) l.e l.initial.keys)
-
-abbrev pub decreases-loop-e : goal.decreases-loop-e
-decreases-loop-e l = length l.firsts - l.e

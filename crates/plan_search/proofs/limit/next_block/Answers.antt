@@ -8,10 +8,10 @@ use Rattle.plan_search.proofs.limit.next_block.Goals as goal
 pub loop-b-init : goal.loop-b-init
 loop-b-init c = refl
 
-pub returns-then-at64-limit : goal.returns-then-at64-limit
-returns-then-at64-limit c =
-    let below = c.if-at64-limit.true in
-    let read = c.at64.ensures in
+pub returns-then-at-limit : goal.returns-then-at-limit
+returns-then-at-limit c =
+    let below = c.if-at-limit.true in
+    let read = c.at.ensures in
     sym (c.loop-b.invariant ∙ next_here _ _ _ _ c.loop-b-test.true (omega arith))
 
 pub overflow_add-b : goal.overflow_add-b
@@ -22,8 +22,8 @@ loop-b-smaller c = omega arith
 
 pub loop-b-preserved : goal.loop-b-preserved
 loop-b-preserved c =
-    let above = c.if-at64-limit.false in
-    let read = c.at64.ensures in
+    let above = c.if-at-limit.false in
+    let read = c.at.ensures in
     c.loop-b.invariant ∙ next_on _ _ _ _ c.loop-b-test.true (omega arith)
 
 pub returns : goal.returns

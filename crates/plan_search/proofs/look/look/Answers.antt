@@ -13,9 +13,9 @@ returns c =
     let args = c.args in
     let tables = tables_from args.firsts.now args.seconds.now args.weights.now args.labels.now args.loads.now args.flags.now in
     let capped = c.capped_time-capped.ensures in
-    let u = c.index32-a.ensures ∙ c.at32.ensures in
-    let v = c.index32-b.ensures ∙ c.at32-2.ensures in
+    let u = c.at-a.ensures in
+    let v = c.at-b.ensures in
     let a = c.end_at-first.ensures in
     let b = c.end_at-second.ensures in
-    let w = c.at32-3.ensures in
+    let w = c.at.ensures in
     record { result_value = best_read tables _ _ capped u v a b w _ c.note_edge.ensures.result_value; keys_value = keys_read tables _ _ capped u v a b w args.keys.now c.note_edge.ensures.keys_value }
