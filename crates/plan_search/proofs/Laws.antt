@@ -5,3 +5,4 @@ pub mod Blocks
 pub mod Tables
 pub mod Loops
 pub mod Keys
+pub mod Min

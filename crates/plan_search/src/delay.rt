@@ -37,13 +37,10 @@ pub struct End {
 pub fn settled(held: u64, flag: u8, time: u64) -> u64
     ensures { result ≡ settled_by time (eqb flag 1) held }
 {
-    if flag != 1 {
-        return held;
+    if flag == 1 {
+        return time.saturating_sub(held);
     }
-    if held < time {
-        return time - held;
-    }
-    0
+    held
 }
 
 // The end at vertex v, whose load is held by time.
@@ -62,12 +59,5 @@ pub fn edge_slack(weight: u32, first_load: u64, second_load: u64) -> u64
     ensures { result ≡ 2 * weight - (first_load + second_load) }
 {
     let whole = 2 * u64::from(weight);
-    if whole <= first_load {
-        return 0;
-    }
-    let rest = whole - first_load;
-    if rest <= second_load {
-        return 0;
-    }
-    rest - second_load
+    whole.saturating_sub(first_load).saturating_sub(second_load)
 }

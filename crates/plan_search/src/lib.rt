@@ -8,7 +8,7 @@ ghost use Rattle.plan_search.specs.Scan.{time_limit, capped_time, block_edges, b
 ghost use Rattle.plan_search.specs.Tables.{tables_in, on_by, pass_by, scan_from};
 ghost use Rattle.plan_search.specs.Between.{winner_in};
 
-use crate::limit::{limit_of, lower_of, next_block};
+use crate::limit::{limit_of, next_block};
 use base_buffer::{at, put};
 use base_limits::MAX_EDGES;
 
@@ -73,7 +73,7 @@ fn scan_block(
             );
             limit = limit_of(time, winner);
         }
-        low = lower_of(low, at(keys, e));
+        low = low.min(at(keys, e));
     }
     Passed { best: winner, low }
 }
@@ -83,11 +83,7 @@ fn block_size(m: usize, b: usize) -> usize
     requires { block_edges * b ≤ m }
     ensures { result ≡ block_size m b }
 {
-    let left = m - BLOCK_EDGES * b;
-    if left < BLOCK_EDGES {
-        return left;
-    }
-    BLOCK_EDGES
+    (m - BLOCK_EDGES * b).min(BLOCK_EDGES)
 }
 
 // Looks through block b, and notes its floor.
@@ -152,6 +148,7 @@ pub fn find_winner(
     let mut limit = NO_KEY;
     let blocks = firsts.len() / BLOCK_EDGES + 1;
     let mut b = next_block(floors, 0, blocks, limit);
+    // Stays a while: the next block is the one that `next_block` finds, no fixed step on.
     while b < blocks {
         best = pass_block(
             firsts, seconds, weights, labels, loads, flags, capped, keys, floors, b, best,

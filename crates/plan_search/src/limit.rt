@@ -1,6 +1,6 @@
-// The limit below which the search looks: the time that it goes by, the lower of two keys, and the next block with a
-// floor below the limit. Definitions in specs/.
-ghost use Rattle.std.specs.Prelude.{◌≡◌, cond, ◌-◌, ltb};
+// The limit below which the search looks: the time that it goes by, and the next block with a floor below the
+// limit. Definitions in specs/.
+ghost use Rattle.std.specs.Prelude.{◌≡◌, ◌-◌};
 ghost use Rattle.plan_search.specs.Scan.{limit_of, capped_time, next_block};
 ghost use Rattle.plan_search.specs.Between.{winner_in};
 
@@ -14,10 +14,7 @@ const LAST_TIME: u64 = TIME_LIMIT - 1;
 pub fn capped_time(time: u64) -> u64
     ensures { result ≡ capped_time time }
 {
-    if time < TIME_LIMIT {
-        return time;
-    }
-    LAST_TIME
+    time.min(LAST_TIME)
 }
 
 // Twice the time of the best so far.
@@ -33,26 +30,14 @@ pub fn limit_of(time: u64, best: Winner) -> u64
     NO_KEY
 }
 
-// The lower of two keys.
-pub fn lower_of(x: u64, y: u64) -> u64
-    ensures { result ≡ cond (ltb y x) y x }
-{
-    if y < x {
-        return y;
-    }
-    x
-}
-
 // The first block from `from` on whose floor is below the limit.
 pub fn next_block(floors: &[u64], from: usize, to: usize, limit: u64) -> usize
     ensures { result ≡ next_block floors.now limit from (to - from) }
 {
-    let mut b = from;
-    while b < to {
+    for b in from..to {
         if at(floors, b) < limit {
             return b;
         }
-        b += 1;
     }
-    b
+    from.max(to)
 }

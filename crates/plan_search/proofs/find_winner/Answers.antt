@@ -1,5 +1,4 @@
 -- `find_winner` meets its contract: before block b it has what the passes have.
-use Prim.Native.Nat.{◌-◌}
 use mathlib.Core.Path.{refl}
 use Rattle.plan_search.specs.Scan.{blocks_of}
 use Rattle.plan_search.specs.Between.{winner_in}

@@ -1,5 +1,4 @@
 -- `scan_block` meets its contract: before edge e it has what the scan has.
-use Prim.Native.Nat.{◌-◌}
 use Rattle.plan_search.specs.Tables.{tables_from}
 use Rattle.plan_search.specs.Between.{winner_in}
 use Rattle.plan_search.proofs.Laws.Loops.{Scanning}

@@ -1,5 +1,4 @@
 -- `start_keys` meets its contract: it stores at rising places.
-use Prim.Native.Nat.{◌-◌}
 use mathlib.Core.Path.{refl, ◌∙◌}
 use Rattle.base_buffer.specs.Store.{remade}
 use Rattle.base_buffer.proofs.Laws.Store.{remade_more, remade_end}

@@ -1,5 +1,4 @@
 -- `look` meets its contract: what it reads of the edge is what the tables say of it.
-use mathlib.Core.Path.{◌∙◌}
 use Rattle.plan_search.specs.Tables.{tables_from}
 use Rattle.plan_search.proofs.Laws.Scan.{capped_small}
 use Rattle.plan_search.proofs.Laws.Tables.{best_read, keys_read}
