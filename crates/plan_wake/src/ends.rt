@@ -1,34 +1,22 @@
 // Waking the edges that end at a vertex, block by block. Definitions in specs/.
 ghost use Rattle.std.specs.Prelude.{◌≡◌, ◌-◌, ◌≤◌, get_or, length, eqb};
 ghost use Rattle.base_finite.specs.Below.{counted, any_below};
-ghost use Rattle.plan_wake.specs.Wake.{ends_at, notes_from, woken_key, woken_edge, woken_on, least_of, part_end};
+ghost use Rattle.plan_wake.specs.Wake.{ends_at, notes_from, woken_key, woken_edge, woken_on, part_end};
 
 use crate::key::{ends_at, lower_floor, woken_key};
-use base_buffer::{at32, put64};
+use base_buffer::put;
 use plan_search::BLOCK_EDGES;
 
 // So many edges are compared with a vertex at once (`wake_edges`).
 const WAKE_EDGES: usize = 16;
-
-// 1 if two numbers are the same.
-fn same_number(x: u32, c: u32) -> u32
-    ensures { result ≡ counted (eqb x c) 1 }
-{
-    if x == c {
-        return 1;
-    }
-    0
-}
 
 // 1 if some of these ends is c. The loop runs to its end, so that several are compared at once.
 fn has_end(ends: &[u32], c: u32) -> u32
     ensures { result ≡ counted (any_below (length ends.now) (λ i. eqb (get_or ends.now i 0) c)) 1 }
 {
     let mut found = 0;
-    let mut i = 0;
-    while i < ends.len() {
-        found = found | same_number(at32(ends, i), c);
-        i += 1;
+    for x in ends {
+        found |= u32::from(*x == c);
     }
     found
 }
@@ -50,7 +38,7 @@ fn wake_edge(
 {
     if ends_at(firsts, seconds, c, e) {
         let key = woken_key(weights, behind, e);
-        put64(keys, e, key);
+        put(keys, e, key);
         lower_floor(floors, e / BLOCK_EDGES, key);
     }
 }
@@ -71,10 +59,8 @@ fn wake_edges(
         let woken = woken_on (ends_at firsts.now seconds.now c) (woken_key weights.now behind) s from (to - from) in
         notes_from keys.new floors.new ≡ woken }
 {
-    let mut e = from;
-    while e < to {
+    for e in from..to {
         wake_edge(firsts, seconds, weights, c, behind, keys, floors, e);
-        e += 1;
     }
 }
 
@@ -103,25 +89,12 @@ fn wake_part(
     }
 }
 
-// The shorter of two lengths.
-fn least_of(m: usize, k: usize) -> usize
-    ensures { result ≡ least_of m k }
-{
-    if k < m {
-        return k;
-    }
-    m
-}
-
 // Where the part ends that begins at `from`.
 fn part_end(from: usize, least: usize) -> usize
     requires { from ≤ least }
     ensures { result ≡ part_end from least }
 {
-    if WAKE_EDGES < least - from {
-        return from + WAKE_EDGES;
-    }
-    least
+    from + WAKE_EDGES.min(least - from)
 }
 
 // All edges that end at c.
@@ -139,7 +112,7 @@ pub fn wake_ends(
         let woken = woken_on (ends_at firsts.now seconds.now c) (woken_key weights.now behind) s 0 m in
         notes_from keys.new floors.new ≡ woken }
 {
-    let least = least_of(firsts.len(), seconds.len());
+    let least = firsts.len().min(seconds.len());
     let mut from = 0;
     while from < least {
         let to = part_end(from, least);

@@ -6,7 +6,7 @@ ghost use Rattle.std.specs.Prelude.{◌≡◌};
 ghost use Rattle.plan_search.specs.Tables.{tables_in};
 ghost use Rattle.plan_wake.specs.Wake.{notes_from, behind_by, woken_at, woken_by};
 
-use base_buffer::{at32, index32};
+use base_buffer::at;
 
 mod ends;
 mod key;
@@ -15,11 +15,7 @@ mod key;
 fn behind_by(loads: &[u64], time: u64, c: usize) -> u64
     ensures { result ≡ behind_by loads.now time c }
 {
-    let load = base_buffer::at64(loads, c);
-    if load < time {
-        return time - load;
-    }
-    0
+    time.saturating_sub(at(loads, c))
 }
 
 // The edges at vertex c, if it is idle.
@@ -39,11 +35,11 @@ fn wake_vertex(
         let woken = woken_at firsts.now seconds.now weights.now loads.now flags.now time n c s in
         notes_from keys.new floors.new ≡ woken }
 {
-    let i = index32(c);
+    let i = c as usize;
     if n <= i {
         return;
     }
-    if base_buffer::at8(flags, i) == 1 {
+    if at(flags, i) == 1 {
         return;
     }
     let behind = behind_by(loads, time, i);
@@ -67,11 +63,11 @@ pub fn wake_joined(
     ensures { let t = tables_in firsts.now seconds.now weights.now labels.now loads.now flags.now in
         notes_from keys.new floors.new ≡ woken_by t time n e (notes_from keys.old floors.old) }
 {
-    let x = at32(labels, index32(at32(firsts, e)));
+    let x = at(labels, at(firsts, e) as usize);
     wake_vertex(
         firsts, seconds, weights, loads, flags, time, n, x, keys, floors,
     );
-    let y = at32(labels, index32(at32(seconds, e)));
+    let y = at(labels, at(seconds, e) as usize);
     wake_vertex(
         firsts, seconds, weights, loads, flags, time, n, y, keys, floors,
     );

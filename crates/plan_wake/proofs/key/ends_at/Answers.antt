@@ -2,8 +2,8 @@
 use Rattle.plan_wake.specs.Laws.Loops.{ends_first, ends_second}
 use Rattle.plan_wake.proofs.key.ends_at.Goals as goal
 
-pub returns-then-at32-c : goal.returns-then-at32-c
-returns-then-at32-c c = ends_first _ _ _ _ c.at32.ensures c.if-at32-c.true
+pub returns-then-at-c : goal.returns-then-at-c
+returns-then-at-c c = ends_first _ _ _ _ c.at.ensures c.if-at-c.true
 
 pub returns : goal.returns
-returns c = ends_second _ _ _ _ c.at32.ensures c.at32-2.ensures c.if-at32-c.false
+returns c = ends_second _ _ _ _ c.at.ensures c.at-2.ensures c.if-at-c.false
