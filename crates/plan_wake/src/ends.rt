@@ -113,11 +113,9 @@ pub fn wake_ends(
         notes_from keys.new floors.new ≡ woken }
 {
     let least = firsts.len().min(seconds.len());
-    let mut from = 0;
-    while from < least {
+    for from in (0..least).step_by(WAKE_EDGES) {
         let to = part_end(from, least);
         wake_part(firsts, seconds, weights, c, behind, keys, floors, from, to);
-        from = to;
     }
     wake_edges(
         firsts,
@@ -127,7 +125,7 @@ pub fn wake_ends(
         behind,
         keys,
         floors,
-        from,
+        least,
         firsts.len(),
     );
 }
