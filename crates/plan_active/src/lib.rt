@@ -7,7 +7,7 @@ ghost use Rattle.std.specs.Prelude.{◌≡◌};
 ghost use Rattle.plan_active.specs.Flags.{relabelled_first, merged_flags};
 
 use crate::relabel::relabel_first;
-use base_buffer::{index32, put8};
+use base_buffer::put;
 use base_limits::{MAX_DUALS, MAX_VERTICES};
 
 mod flags;
@@ -33,7 +33,7 @@ pub fn merge(
     ensures flags_value { flags.new ≡ merged_flags x y z flag flags.old }
 {
     relabel_first(labels, n, x, y, z);
-    put8(flags, index32(x), 0);
-    put8(flags, index32(y), 0);
-    put8(flags, index32(z), flag);
+    put(flags, x as usize, 0);
+    put(flags, y as usize, 0);
+    put(flags, z as usize, flag);
 }

@@ -3,7 +3,7 @@ ghost use Rattle.std.specs.Prelude.{◌≡◌, cond, ◌+◌, ◌<◌, ◌^◌, 
 ghost use Rattle.base_finite.specs.Below.{counted, count_below};
 ghost use Rattle.plan_active.specs.Flags.{has_mate, gathered};
 
-use base_buffer::{at32, index32, put32};
+use base_buffer::{at, put};
 use base_limits::MAX_VERTICES;
 
 // Vertex v is listed behind the others if it has a mate other than itself; answers how many are listed then.
@@ -17,10 +17,10 @@ fn list_vertex(
     ensures value { result ≡ count + counted (has_mate mates.now v) 1 }
     ensures members_value { members.new ≡ cond (has_mate mates.now v) (set members.old count v) members.old }
 {
-    if at32(mates, index32(v)) == v {
+    if at(mates, v as usize) == v {
         return count;
     }
-    put32(members, count, v);
+    put(members, count, v);
     count + 1
 }
 
@@ -30,10 +30,8 @@ pub fn list_members(mates: &[u32; MAX_VERTICES], members: &mut [u32; MAX_VERTICE
     ensures members_value { members.new ≡ gathered (has_mate mates.now) n members.old }
 {
     let mut count = 0;
-    let mut v = 0;
-    while v < n {
+    for v in 0..n {
         count = list_vertex(mates, members, count, v);
-        v += 1;
     }
     count
 }

@@ -3,7 +3,7 @@ ghost use Rattle.std.specs.Prelude.{◌≡◌, get_or};
 ghost use Rattle.base_finite.specs.Below.{counted, any_below};
 ghost use Rattle.plan_active.specs.Flags.{of_either, apart_from_mate, joined_active};
 
-use base_buffer::{at32, index32};
+use base_buffer::at;
 use base_limits::MAX_VERTICES;
 
 // Whether a label is x or y.
@@ -26,10 +26,10 @@ fn is_parted(
 ) -> bool
     ensures { result ≡ apart_from_mate mates.now labels.now x y v }
 {
-    let i = index32(v);
-    let mate = index32(at32(mates, i));
-    let own = is_either(at32(labels, i), x, y);
-    let other = is_either(at32(labels, mate), x, y);
+    let i = v as usize;
+    let mate = at(mates, i) as usize;
+    let own = is_either(at(labels, i), x, y);
+    let other = is_either(at(labels, mate), x, y);
     if own {
         return !other;
     }
@@ -47,12 +47,10 @@ fn is_any_parted(
 ) -> bool
     ensures { result ≡ any_below count (λ k. apart_from_mate mates.now labels.now x y (get_or members.now k 0)) }
 {
-    let mut k = 0;
-    while k < count {
-        if is_parted(mates, labels, x, y, at32(members, k)) {
+    for k in 0..count {
+        if is_parted(mates, labels, x, y, at(members, k)) {
             return true;
         }
-        k += 1;
     }
     false
 }
@@ -68,8 +66,8 @@ pub fn joined_flag(
 ) -> u8
     ensures { result ≡ counted (joined_active mates.now labels.now members.now count first second) 1 }
 {
-    let x = at32(labels, index32(first));
-    let y = at32(labels, index32(second));
+    let x = at(labels, first as usize);
+    let y = at(labels, second as usize);
     if is_parted(mates, labels, x, y, first) {
         return 1;
     }

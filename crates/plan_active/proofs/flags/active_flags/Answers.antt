@@ -1,5 +1,4 @@
 -- `active_flags` meets its contract: after v vertices the flags say which components those make active.
-use Prim.Native.Nat.{◌-◌}
 use mathlib.Core.Path.{refl, ap, sym, ◌∙◌}
 use lib.ListN.{length, get_or}
 use lib.Dec.{eqb}
@@ -16,11 +15,8 @@ use Rattle.plan_active.proofs.flags.active_flags.Goals as goal
 pub loop-v-init : goal.loop-v-init
 loop-v-init c = (omega arith, replicate_table max_duals 0 ∙ flags_none _ _)
 
-pub slice_bounds-at64-end : goal.slice_bounds-at64-end
-slice_bounds-at64-end c = sym (ap length c.spreads-table.ensures ∙ length_tabulate group_numbers _)
-
-pub loop-v-smaller : goal.loop-v-smaller
-loop-v-smaller c = omega arith
+pub slice_bounds-at-end : goal.slice_bounds-at-end
+slice_bounds-at-end c = sym (ap length c.spreads-table.ensures ∙ length_tabulate group_numbers _)
 
 pub loop-v-preserved : goal.loop-v-preserved
 unfolding vertex_count
@@ -34,9 +30,9 @@ loop-v-preserved c = (
       _
       c.loop-v.invariant.1
       c.flag_label.ensures
-      (ap (λ x. eqb x 1) (c.at64-summary.ensures ∙ ap (λ g. get_or c.spreads-table.result g 0) (c.index8.ensures ∙ c.at8.ensures))
-      ∙ split_read _ _ c.spreads-table.ensures _ (omega (arith, c.shared_slice_known-1.given c.loop-v.v)))
-      c.at32.ensures,
+      (ap (λ x. eqb x 1) (c.at-summary.ensures ∙ ap (λ g. get_or c.spreads-table.result g 0) (c.from.ensures ∙ c.at.ensures))
+      ∙ split_read _ _ c.spreads-table.ensures _ (omega arith))
+      c.at-in-loop-v.ensures,
 )
 
 pub returns : goal.returns

@@ -1,5 +1,4 @@
 -- `list_members` meets its contract: before each turn the members below v are listed and counted.
-use Prim.Native.Nat.{◌-◌}
 use mathlib.Core.Path.{refl}
 use native.Mathlib.Omega.{arith}
 use Rattle.base_finite.specs.Below.{sum_below, count_below}

@@ -1,7 +1,5 @@
 -- `is_any_parted` meets its contract: before each turn none of the first k listed is parted from its mate.
-use Prim.Native.Nat.{◌-◌}
 use mathlib.Core.Path.{refl, sym}
-use mathlib.Core.Bool.{false}
 use lib.ListN.{get_or}
 use native.Mathlib.Omega.{arith}
 use Rattle.base_finite.specs.Below.{any_below}
@@ -21,14 +19,14 @@ returns-then-is_parted c =
     let args = c.args in
     sym
     (any_intro args.count (λ k. apart_from_mate args.mates.now args.labels.now args.x args.y (get_or args.members.now k 0)) c.loop-k.k (omega arith)
-    (apart_by args.mates.now args.labels.now args.x args.y c.is_parted.ensures c.at32.ensures c.if-is_parted.true))
+    (apart_by args.mates.now args.labels.now args.x args.y c.is_parted.ensures c.at.ensures c.if-is_parted.true))
 
 pub loop-k-preserved : goal.loop-k-preserved
 loop-k-preserved c =
     let args = c.args in (
       omega arith,
       any_more c.loop-k.k (λ k. apart_from_mate args.mates.now args.labels.now args.x args.y (get_or args.members.now k 0)) c.loop-k.invariant.1
-          (apart_by args.mates.now args.labels.now args.x args.y c.is_parted.ensures c.at32.ensures c.if-is_parted.false),
+          (apart_by args.mates.now args.labels.now args.x args.y c.is_parted.ensures c.at.ensures c.if-is_parted.false),
     )
 
 -- none
