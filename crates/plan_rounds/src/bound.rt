@@ -4,7 +4,7 @@ ghost use Rattle.base_finite.specs.Below.{sum_below};
 ghost use Rattle.plan_rounds.specs.Tables.{settled_values};
 
 use crate::Grown;
-use base_buffer::at64;
+use base_buffer::at;
 use base_limits::MAX_DUALS;
 
 // The sum of the first `count` values, modulo 2^64.
@@ -12,10 +12,8 @@ fn sum_values(values: &[u64; MAX_DUALS], count: usize) -> u64
     ensures { result ≡ sum_below count (λ c. slice_index values.now c) % 2 ^ 64 }
 {
     let mut sum = 0;
-    let mut c = 0;
-    while c < count {
-        sum = std::num::wrapping_add_u64(sum, at64(values, c));
-        c += 1;
+    for c in 0..count {
+        sum = std::num::wrapping_add_u64(sum, at(values, c));
     }
     sum
 }

@@ -38,8 +38,8 @@ pub fn join(
         let part = turned_to flag flags.old labels.old n time x loads.old in
         loads.new ≡ turned_to flag flags.old labels.old n time y part }
 {
-    let x = base_buffer::at32(labels, base_buffer::index32(first));
-    let y = base_buffer::at32(labels, base_buffer::index32(second));
+    let x = base_buffer::at(labels, first as usize);
+    let y = base_buffer::at(labels, second as usize);
     let flag = plan_active::joined_flag(mates, labels, members, count, first, second);
     crate::both::turn_both(loads, flag, flags, labels, n, time, x, y);
     crate::both::settle_both(values, flags, x, y, time);

@@ -11,7 +11,7 @@ ghost use Rattle.survey_core.specs.Survey.{survey_from, lent_survey, problem_of}
 ghost use Rattle.plan_rounds.specs.Grown.{growth_from, GrownAfter};
 ghost use Rattle.survey_core.specs.Sound.{SurveySound};
 
-use base_buffer::{put8, put32};
+use base_buffer::put;
 use base_limits::{MAX_DUALS, MAX_EDGES, MAX_VERTICES, Verdict};
 use plan_search::{MAX_BLOCKS, Winner};
 
@@ -35,8 +35,8 @@ fn note_pick(picked: &mut [u8; MAX_EDGES], order: &mut [u32; MAX_VERTICES], e: u
     ensures picked_value { picked.new ≡ slice_set picked.old e 1 }
     ensures order_value { order.new ≡ slice_set order.old r e }
 {
-    put8(picked, e, 1);
-    put32(order, r, e as u32);
+    put(picked, e, 1);
+    put(order, r, e as u32);
 }
 
 // Rounds until no candidate is left, at most n - 1, of a survey that 1 to 6 do not refuse, from arrays that hold nothing
@@ -71,6 +71,7 @@ pub fn grow_rounds(
     let most = n - 1;
     let mut time = 0;
     let mut r = 0;
+    // Stays a while: r is read after the loop, which a round without a winner ends early.
     while r < most {
         let found = crate::round::round(
             firsts,

@@ -4,7 +4,7 @@ ghost use Rattle.plan_search.specs.Between.{winner_in};
 ghost use Rattle.plan_search.specs.Tables.{tables_in};
 ghost use Rattle.plan_rounds.specs.Round.{new_round_arrays, search_by, round_by};
 
-use base_buffer::at32;
+use base_buffer::at;
 use base_limits::{MAX_DUALS, MAX_EDGES, MAX_VERTICES};
 use plan_search::{MAX_BLOCKS, Winner};
 
@@ -43,8 +43,8 @@ pub fn round(
         firsts, seconds, weights, labels, loads, flags, time, n, e, keys, floors,
     );
     let later = std::num::wrapping_add_u64(time, d);
-    let first = at32(firsts, e);
-    let second = at32(seconds, e);
+    let first = at(firsts, e);
+    let second = at(seconds, e);
     crate::join::join(
         values, loads, labels, flags, mates, members, count, n, first, second, z, later,
     );

@@ -4,27 +4,25 @@ ghost use Rattle.plan_rounds.specs.Tables.{settled_at, settled_values};
 ghost use Rattle.plan_rounds.specs.Tables.{turned_members, turned_component, turned_to};
 
 use crate::turn::turn_load;
-use base_buffer::{at64, put64};
+use base_buffer::{at, put};
 use base_limits::{MAX_DUALS, MAX_VERTICES};
 
 // The value of component c in place of what is held for it, or the other way round.
 pub fn settle(values: &mut [u64; MAX_DUALS], flags: &[u8; MAX_DUALS], c: u32, time: u64)
     ensures { values.new ≡ settled_at flags.now time c values.old }
 {
-    let i = base_buffer::index32(c);
-    let x = plan_search::settled(at64(values, i), base_buffer::at8(flags, i), time);
-    put64(values, i, x);
+    let i = c as usize;
+    let x = plan_search::settled(at(values, i), at(flags, i), time);
+    put(values, i, x);
 }
 
 // And for the first components.
 pub fn settle_all(values: &mut [u64; MAX_DUALS], flags: &[u8; MAX_DUALS], count: usize, time: u64)
     ensures { values.new ≡ settled_values flags.now count time values.old }
 {
-    let mut c = 0;
-    while c < count {
-        let x = plan_search::settled(at64(values, c), base_buffer::at8(flags, c), time);
-        put64(values, c, x);
-        c += 1;
+    for c in 0..count {
+        let x = plan_search::settled(at(values, c), at(flags, c), time);
+        put(values, c, x);
     }
 }
 
@@ -38,12 +36,10 @@ fn turn_members(
 )
     ensures { loads.new ≡ turned_members labels.now n time c loads.old }
 {
-    let mut v = 0;
-    while v < n {
-        if base_buffer::at32(labels, v) == c {
+    for v in 0..n {
+        if at(labels, v) == c {
             turn_load(loads, v, time);
         }
-        v += 1;
     }
 }
 
@@ -57,7 +53,7 @@ fn turn_component(
 )
     ensures { loads.new ≡ turned_component labels.now n time c loads.old }
 {
-    let v = base_buffer::index32(c);
+    let v = c as usize;
     if v < n {
         turn_load(loads, v, time);
         return;
@@ -77,7 +73,7 @@ pub fn turn_loads(
 )
     ensures { loads.new ≡ turned_to flag flags.now labels.now n time c loads.old }
 {
-    let before = base_buffer::at8(flags, base_buffer::index32(c));
+    let before = at(flags, c as usize);
     if before == flag {
         return;
     }

@@ -1,5 +1,5 @@
 -- `grow_rounds` meets its contract: before each turn the arrays represent the state of the definition.
-use Rattle.std.proofs.Common.{◌-◌, refl, arith}
+use Rattle.std.proofs.Common.{refl, arith}
 use Rattle.plan_rounds.specs.Laws.Round.{going, merged_small, won_edge, round_over, round_won}
 use Rattle.plan_rounds.specs.Laws.Rounds.{represents_start, all_merged, time_fits, settled_left, grown_still}
 use Rattle.plan_rounds.proofs.grow_rounds.Goals as goal

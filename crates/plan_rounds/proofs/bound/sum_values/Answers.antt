@@ -1,5 +1,5 @@
 -- `sum_values` meets its contract: it sums upwards.
-use Rattle.std.proofs.Common.{◌≡◌, ℕ, ◌+◌, ◌-◌, ◌%◌, ◌^◌, get_or, sym, refl, ap, ◌∙◌, arith}
+use Rattle.std.proofs.Common.{◌≡◌, ℕ, ◌+◌, ◌%◌, ◌^◌, get_or, sym, refl, ap, ◌∙◌, arith}
 use Rattle.base_finite.specs.Below.{sum_below}
 use Rattle.base_finite.specs.Laws.Count.{sum_more}
 use Rattle.plan_rounds.proofs.bound.sum_values.Goals as goal
@@ -12,12 +12,9 @@ pub loop-c-init : goal.loop-c-init
 unfolding sum_below
 loop-c-init c = (omega arith, refl)
 
-pub loop-c-smaller : goal.loop-c-smaller
-loop-c-smaller c = omega arith
-
 pub loop-c-preserved : goal.loop-c-preserved
 loop-c-preserved c =
-    (omega arith, wrapped_more _ _ c.loop-c.invariant.1 c.at64.ensures c.wrapping_add_u64-sum.ensures.value)
+    (omega arith, wrapped_more _ _ c.loop-c.invariant.1 c.at.ensures c.wrapping_add_u64-sum.ensures.value)
 
 pub returns : goal.returns
 returns c =

@@ -12,8 +12,8 @@ pub returns : goal.returns
 returns c =
     let whole = arrays_won _ _ _ _ _ _ _ _ _ _ c.find_winner-found.ensures.result_value c.find_winner-found.ensures.keys_value c.find_winner-found.ensures.floors_value c.in-Edge.is
     c.wake_joined.ensures
-    c.at32-first.ensures
-    c.at32-second.ensures
+    c.at-first.ensures
+    c.at-second.ensures
     c.wrapping_add_u64-later.ensures.value
     c.join.ensures.fact
     c.join.ensures.values_value

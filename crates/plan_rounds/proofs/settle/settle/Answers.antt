@@ -5,4 +5,4 @@ use Rattle.plan_rounds.proofs.settle.settle.Goals as goal
 pub returns : goal.returns
 unfolding settled_at
 returns c =
-    rw (← c.index32-i.ensures, ← c.at64.ensures, ← c.at8.ensures, ← c.settled-x.ensures) c.put64.ensures
+    rw (← c.at.ensures, ← c.at-2.ensures, ← c.settled-x.ensures) c.put.ensures

@@ -6,9 +6,9 @@ use Rattle.plan_rounds.proofs.settle.turn_component.Goals as goal
 -- a single vertex
 pub returns-then-v-n : goal.returns-then-v-n
 unfolding turned_component
-returns-then-v-n c = rw (← c.index32-v.ensures, lt-ltb _ _ c.if-v-n.true) c.turn_load.ensures
+returns-then-v-n c = rw (lt-ltb _ _ c.if-v-n.true) c.turn_load.ensures
 
 -- a component that was joined
 pub returns : goal.returns
 unfolding turned_component
-returns c = rw (le-ltb _ _ (rw c.index32-v.ensures at c.if-v-n.false)) c.turn_members.ensures
+returns c = rw (le-ltb _ _ c.if-v-n.false) c.turn_members.ensures

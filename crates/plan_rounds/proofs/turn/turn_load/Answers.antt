@@ -4,4 +4,4 @@ use Rattle.plan_rounds.proofs.turn.turn_load.Goals as goal
 
 pub returns : goal.returns
 unfolding turned_at
-returns c = rw (← c.at64.ensures, ← c.settled-x.ensures) c.put64.ensures
+returns c = rw (← c.at.ensures, ← c.settled-x.ensures) c.put.ensures
