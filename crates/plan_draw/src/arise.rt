@@ -4,7 +4,6 @@ ghost use Rattle.plan_draw.specs.Members.{union_of, sets_kept};
 ghost use Rattle.plan_draw.specs.Trace.{end_of, part_of, hung_on};
 
 use crate::trees::{NUMBERS, part_of};
-use base_buffer::index32;
 use base_limits::RECORD_BYTES;
 
 // Component c arises; answers its members. Component n + r is made of those of the ends of round r's edge.
@@ -27,7 +26,7 @@ pub fn arise(
 {
     let x = part_of(ups, firsts, order, n, c);
     let y = part_of(ups, seconds, order, n, c);
-    let set = crate::members::union_of(sets, n, index32(x), index32(y));
+    let set = crate::members::union_of(sets, n, x as usize, y as usize);
     crate::trees::hang(ups, x, y, c);
     crate::sets::keep(sets, n, c, &set);
     set

@@ -3,6 +3,7 @@ ghost use Rattle.std.specs.Prelude.{◌≡◌};
 ghost use Rattle.base_finite.specs.Below.{all_below};
 ghost use Rattle.plan_draw.specs.Trace.{end_of, lent_trace, ends_fit, is_drawable};
 
+use base_buffer::at;
 use base_limits::{MAX_VERTICES, RECORD_BYTES};
 
 // Whether the ends of the edge of round r are vertices.
@@ -11,11 +12,11 @@ fn round_fits(firsts: &[u32], seconds: &[u32], order: &[u32], n: usize, r: usize
         let second = end_of seconds.now order.now in
         result ≡ ends_fit n first second r }
 {
-    let e = base_buffer::index32(base_buffer::at32(order, r));
-    if n <= base_buffer::index32(base_buffer::at32(firsts, e)) {
+    let e = at(order, r) as usize;
+    if n <= at(firsts, e) as usize {
         return false;
     }
-    if n <= base_buffer::index32(base_buffer::at32(seconds, e)) {
+    if n <= at(seconds, e) as usize {
         return false;
     }
     true
@@ -27,12 +28,10 @@ fn rounds_fit(firsts: &[u32], seconds: &[u32], order: &[u32], n: usize, rounds: 
         let second = end_of seconds.now order.now in
         result ≡ all_below rounds (ends_fit n first second) }
 {
-    let mut r = 0;
-    while r < rounds {
+    for r in 0..rounds {
         if !round_fits(firsts, seconds, order, n, r) {
             return false;
         }
-        r += 1;
     }
     true
 }

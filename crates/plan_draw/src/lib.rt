@@ -40,11 +40,9 @@ fn draw_trace(
     let mut sets = [none; MAX_VERTICES];
     let end = n + rounds;
     let mut count = 0;
-    let mut c = 0;
-    while c < end {
+    for c in 0..end {
         let set = arise(&mut ups, &mut sets, firsts, seconds, order, n, c as u32);
-        count = write_dual(records, count, base_buffer::at64(values, c), &set);
-        c += 1;
+        count = write_dual(records, count, base_buffer::at(values, c), &set);
     }
     count
 }

@@ -2,18 +2,15 @@
 ghost use Rattle.std.specs.Prelude.{◌≡◌};
 ghost use Rattle.plan_draw.specs.Members.{ored, with_part, union_of};
 
-use base_buffer::{at8, put8};
+use base_buffer::at;
 use base_limits::RECORD_BYTES;
 
 // Each byte of a record ored with the other's.
 fn or_record(part: &mut [u8; RECORD_BYTES], other: &[u8; RECORD_BYTES])
     ensures { part.new ≡ ored part.old other.now }
 {
-    let mut i = 0;
-    while i < RECORD_BYTES {
-        let b = at8(part, i) | at8(other, i);
-        put8(part, i, b);
-        i += 1;
+    for (i, byte) in part.iter_mut().enumerate() {
+        *byte |= at(other, i);
     }
 }
 

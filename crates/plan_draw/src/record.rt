@@ -3,17 +3,15 @@ ghost use Rattle.std.specs.Prelude.{◌≡◌};
 ghost use Rattle.format_record.specs.Record.{with_value};
 ghost use Rattle.plan_draw.specs.Members.{copied};
 
-use base_buffer::{at8, put8};
+use base_buffer::{at, put};
 use base_limits::RECORD_BYTES;
 
 // Copies the bytes of a record.
 fn copy_record(part: &mut [u8], set: &[u8])
     ensures { part.new ≡ copied set.now part.old }
 {
-    let mut i = 0;
-    while i < RECORD_BYTES {
-        put8(part, i, at8(set, i));
-        i += 1;
+    for i in 0..RECORD_BYTES {
+        put(part, i, at(set, i));
     }
 }
 

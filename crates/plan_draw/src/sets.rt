@@ -1,8 +1,8 @@
 // Members of merged components, a record of value 0 for each round.
-ghost use Rattle.std.specs.Prelude.{◌≡◌, get_or, set};
+ghost use Rattle.std.specs.Prelude.{◌≡◌, get_or};
 ghost use Rattle.plan_draw.specs.Members.{no_member, sets_kept};
 
-use base_buffer::index32;
+use base_buffer::put;
 use base_limits::RECORD_BYTES;
 
 // The record that round k left.
@@ -15,23 +15,13 @@ pub fn set_at(sets: &[[u8; RECORD_BYTES]], k: usize) -> [u8; RECORD_BYTES]
     [0u8; RECORD_BYTES]
 }
 
-// Puts the record of round k in its place.
-fn put_set(sets: &mut [[u8; RECORD_BYTES]], k: usize, part: &[u8; RECORD_BYTES])
-    ensures { sets.new ≡ set sets.old k part.now }
-{
-    if sets.len() <= k {
-        return;
-    }
-    sets[k] = *part;
-}
-
 // The record of component c is kept; a single vertex needs none.
 pub fn keep(sets: &mut [[u8; RECORD_BYTES]], n: usize, c: u32, part: &[u8; RECORD_BYTES])
     ensures { sets.new ≡ sets_kept n c part.now sets.old }
 {
-    let k = index32(c);
+    let k = c as usize;
     if k < n {
         return;
     }
-    put_set(sets, k - n, part);
+    put(sets, k - n, *part);
 }

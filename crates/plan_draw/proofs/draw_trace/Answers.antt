@@ -1,5 +1,5 @@
 -- `draw_trace` meets its contract: up to component number c, trees and members are the trace's and the duals stand in the buffer.
-use Prim.Native.Nat.{ℕ, ◌*◌, ◌-◌}
+use Prim.Native.Nat.{ℕ, ◌*◌}
 use mathlib.Core.Path.{sym}
 use mathlib.Core.List.{List}
 use lib.ListN.{length-replicate}
@@ -31,7 +31,7 @@ loop-c-preserved c =
           c.arise-set.ensures.set
           c.arise-set.ensures.ups
           c.arise-set.ensures.sets
-          c.at64.ensures
+          c.at.ensures
           c.write_dual-count.ensures.count
           c.write_dual-count.ensures.written,
     )

@@ -1,7 +1,5 @@
 -- `rounds_fit` meets its contract: a loop that stops at the first round that does not fit.
-use Prim.Native.Nat.{◌-◌}
 use mathlib.Core.Path.{sym, ◌∙◌}
-use mathlib.Core.Bool.{true}
 use native.Mathlib.Omega.{arith}
 use Rattle.plan_draw.proofs.Laws.Drawable.{all_none, all_more, all_fails, all_end}
 use Rattle.plan_draw.proofs.drawable.rounds_fit.Goals as goal

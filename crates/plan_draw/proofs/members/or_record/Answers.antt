@@ -1,6 +1,5 @@
 -- `or_record` meets its contract: it stores at rising places.
-use Prim.Native.Nat.{◌-◌}
-use mathlib.Core.Path.{refl, ap₂, ◌∙◌}
+use mathlib.Core.Path.{refl, ap, ◌∙◌}
 use lib.Bits.{bit_or}
 use lib.ListN.{get_or}
 use Rattle.base_buffer.specs.Store.{remade}
@@ -11,20 +10,13 @@ use Rattle.plan_draw.proofs.members.or_record.Goals as goal
 
 pub loop-i-init : goal.loop-i-init
 unfolding remade
-loop-i-init c = (omega arith, refl)
+loop-i-init c = refl
 
 pub loop-i-preserved : goal.loop-i-preserved
 loop-i-preserved c =
-    let a = c.args in
-    let byte = ap₂ bit_or c.at8.ensures c.at8-in-loop-i.ensures in
-    (omega arith, c.put8.ensures ∙ remade_more (λ j b. bit_or b (get_or a.other.now j 0)) _ a.part.now _ _ c.loop-i.invariant.1 byte)
+    let byte = ap (bit_or (get_or c.loop-i.part c.loop-i.i 0)) c.at.ensures in
+    remade_more (λ j b. bit_or b (get_or c.args.other.now j 0)) _ c.args.part.now _ _ c.loop-i.invariant byte
 
 pub returns : goal.returns
 unfolding ored
-returns c = c.loop-i.invariant.1 ∙ remade_end _ _ _ _ (omega arith) (omega arith)
-
-pub overflow_add-i : goal.overflow_add-i
-overflow_add-i c = omega arith
-
-pub loop-i-smaller : goal.loop-i-smaller
-loop-i-smaller c = omega arith
+returns c = c.loop-i.invariant ∙ remade_end _ _ _ _ (omega arith) (omega arith)

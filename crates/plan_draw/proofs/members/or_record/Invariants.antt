@@ -1,14 +1,9 @@
 -- `or_record` meets its contract: it stores at rising places.
-use Prim.Native.Nat.{◌≤◌, ◌-◌}
 use mathlib.Core.Path.{◌≡◌}
 use lib.Bits.{bit_or}
 use lib.ListN.{get_or}
-use Rattle.base_limits.specs.Limits.{record_bytes}
 use Rattle.base_buffer.specs.Store.{remade}
 use Rattle.plan_draw.proofs.members.or_record.Given as goal
 
 abbrev pub invariant-loop-i : goal.invariant-loop-i
-invariant-loop-i l = (l.i ≤ record_bytes) × (l.part ≡ remade (λ j b. bit_or b (get_or l.other j 0)) l.i l.initial.part)
-
-abbrev pub decreases-loop-i : goal.decreases-loop-i
-decreases-loop-i l = record_bytes - l.i
+invariant-loop-i l = l.part ≡ remade (λ j b. bit_or b (get_or l.other j 0)) l.i l.initial.part

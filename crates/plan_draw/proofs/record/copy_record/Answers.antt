@@ -1,5 +1,4 @@
 -- `copy_record` meets its contract: it stores at rising places.
-use Prim.Native.Nat.{◌-◌}
 use mathlib.Core.Path.{refl, ◌∙◌}
 use Rattle.base_buffer.specs.Store.{remade}
 use Rattle.base_buffer.proofs.Laws.Store.{remade_more, remade_end}
@@ -13,14 +12,8 @@ loop-i-init c = (omega arith, refl)
 
 pub loop-i-preserved : goal.loop-i-preserved
 loop-i-preserved c =
-    (omega arith, c.put8.ensures ∙ remade_more _ _ _ _ _ c.loop-i.invariant.1 c.at8.ensures)
+    (omega arith, c.put.ensures ∙ remade_more _ _ _ _ _ c.loop-i.invariant.1 c.at.ensures)
 
 pub returns : goal.returns
 unfolding copied
 returns c = c.loop-i.invariant.1 ∙ remade_end _ _ _ _ (omega arith) (omega arith)
-
-pub overflow_add-i : goal.overflow_add-i
-overflow_add-i c = omega arith
-
-pub loop-i-smaller : goal.loop-i-smaller
-loop-i-smaller c = omega arith

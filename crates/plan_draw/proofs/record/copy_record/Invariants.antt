@@ -1,5 +1,5 @@
 -- `copy_record` meets its contract: it stores at rising places.
-use Prim.Native.Nat.{◌≤◌, ◌-◌}
+use Prim.Native.Nat.{◌≤◌}
 use mathlib.Core.Path.{◌≡◌}
 use lib.ListN.{get_or}
 use Rattle.base_limits.specs.Limits.{record_bytes}
@@ -8,6 +8,3 @@ use Rattle.plan_draw.proofs.record.copy_record.Given as goal
 
 abbrev pub invariant-loop-i : goal.invariant-loop-i
 invariant-loop-i l = (l.i ≤ record_bytes) × (l.part ≡ remade (λ j b. get_or l.set j 0) l.i l.initial.part)
-
-abbrev pub decreases-loop-i : goal.decreases-loop-i
-decreases-loop-i l = record_bytes - l.i

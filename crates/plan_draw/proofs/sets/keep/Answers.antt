@@ -9,11 +9,11 @@ pub returns-then-k-n : goal.returns-then-k-n
 unfolding sets_kept
 returns-then-k-n c =
     let a = c.args in
-    rw (lt-ltb a.c a.n (rw (← c.index32-k.ensures) c.if-k-n.true)) refl
+    rw (lt-ltb a.c a.n c.if-k-n.true) refl
 
 -- a merged component
 pub returns : goal.returns
 unfolding sets_kept
 returns c =
     let a = c.args in
-    rw (le-ltb a.c a.n (rw (← c.index32-k.ensures) c.if-k-n.false), ← c.index32-k.ensures) c.put_set.ensures
+    rw (le-ltb a.c a.n c.if-k-n.false) c.put.ensures

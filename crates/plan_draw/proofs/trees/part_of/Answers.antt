@@ -9,7 +9,7 @@ pub returns-then-k-n : goal.returns-then-k-n
 unfolding part_of
 returns-then-k-n c =
     let a = c.args in
-    let single = lt-ltb a.c a.n (rw (← c.index32-k.ensures) c.if-k-n.true) in
+    let single = lt-ltb a.c a.n c.if-k-n.true in
     record { part = rw single refl; left = rw single refl }
 
 -- a merged component
@@ -17,5 +17,5 @@ pub returns : goal.returns
 unfolding part_of end_of
 returns c =
     let a = c.args in
-    let past = le-ltb a.c a.n (rw (← c.index32-k.ensures) c.if-k-n.false) in
-    rw (past, ← c.index32-k.ensures, ← c.at32.ensures, ← c.index32-e.ensures, ← c.at32-2.ensures) (record { part = c.climb.ensures.root; left = c.climb.ensures.left })
+    let past = le-ltb a.c a.n c.if-k-n.false in
+    rw (past, ← c.at-e.ensures, ← c.at.ensures) (record { part = c.climb.ensures.root; left = c.climb.ensures.left })
