@@ -2,7 +2,7 @@
 ghost use Rattle.std.specs.Prelude.{◌≡◌};
 ghost use Rattle.plan_drop.specs.Parted.{parted_below};
 
-use base_buffer::at64;
+use base_buffer::at;
 use base_limits::MAX_VERTICES;
 
 // The bits in which some vertex below n and its mate differ.
@@ -10,11 +10,9 @@ pub fn parted(words: &[u64; MAX_VERTICES], mates: &[u32; MAX_VERTICES], n: usize
     ensures { result ≡ parted_below words.now mates.now n }
 {
     let mut bits = 0;
-    let mut v = 0;
-    while v < n {
-        let mate = base_buffer::index32(base_buffer::at32(mates, v));
-        bits = bits | (at64(words, v) ^ at64(words, mate));
-        v += 1;
+    for v in 0..n {
+        let mate = at(mates, v) as usize;
+        bits = bits | (at(words, v) ^ at(words, mate));
     }
     bits
 }

@@ -7,7 +7,7 @@ ghost use Rattle.plan_drop.specs.Parted.{parted_below};
 ghost use Rattle.plan_drop.specs.Needed.{judged, raised, MarkStep};
 
 use crate::WORD_BITS;
-use base_buffer::put8;
+use base_buffer::put;
 use base_limits::MAX_VERTICES;
 use survey_components::is_picked;
 
@@ -31,7 +31,7 @@ fn judge_edge(bits: u64, picked: &[u8], base: usize, marks: &mut [u8], e: usize,
 {
     if is_picked(picked, e) {
         if is_needed(bits, base, i) {
-            put8(marks, e, 2);
+            put(marks, e, 2);
             return i + 1;
         }
         return i + 1;
@@ -54,9 +54,7 @@ pub fn judge_edges(
 {
     let bits = crate::bits::parted(words, mates, n);
     let mut i = 0;
-    let mut e = 0;
-    while e < m {
+    for e in 0..m {
         i = judge_edge(bits, picked, base, marks, e, i);
-        e += 1;
     }
 }

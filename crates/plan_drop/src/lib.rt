@@ -76,12 +76,10 @@ fn prune_forest(groups: &[u8], firsts: &[u32], seconds: &[u32], picked: &[u8], m
     let links = guess.marks;
     let hung = guess.count;
     let count = crate::dropped::count_picked(picked, firsts.len());
-    let mut base = 0;
-    while base < count {
+    for base in (0..count).step_by(WORD_BITS) {
         prune_batch(
             groups, firsts, seconds, picked, &mates, &order, &others, &links, hung, marks, base,
         );
-        base += crate::WORD_BITS;
     }
 }
 

@@ -8,7 +8,7 @@ ghost use Rattle.survey_components.specs.Labels.{picked_in};
 ghost use Rattle.plan_drop.specs.Peel.{ends_of, queue_of, peel_of, end_turned, edge_noted, edges_noted};
 ghost use Rattle.plan_drop.specs.Peel.{leaf_queued, leaves_queued, leaf_taken, peeled};
 
-use base_buffer::{at32, index32, put32};
+use base_buffer::{at, put};
 use base_limits::MAX_VERTICES;
 
 // One edge more or less at a vertex is one more, or 2^32 - 1 more: degrees are counted modulo 2^32.
@@ -37,13 +37,13 @@ fn turn_end(
     ensures { let before = ends_of degrees.old others.old marks.old in
         ends_of degrees.new others.new marks.new ≡ end_turned v w mark more before }
 {
-    let i = index32(v);
-    let degree = std::num::wrapping_add_u32(at32(degrees, i), more);
-    let other = at32(others, i) ^ w;
-    let sum = at32(marks, i) ^ mark;
-    put32(degrees, i, degree);
-    put32(others, i, other);
-    put32(marks, i, sum);
+    let i = v as usize;
+    let degree = std::num::wrapping_add_u32(at(degrees, i), more);
+    let other = at(others, i) ^ w;
+    let sum = at(marks, i) ^ mark;
+    put(degrees, i, degree);
+    put(others, i, other);
+    put(marks, i, sum);
 }
 
 // Edge e comes to both its ends, if it is picked; the answer is the next index.
@@ -65,8 +65,8 @@ fn note_edge(
         ends_of degrees.new others.new marks.new ≡ (if picked_in picked.now e then noted else before) }
 {
     if survey_components::is_picked(picked, e) {
-        let a = at32(firsts, e);
-        let b = at32(seconds, e);
+        let a = at(firsts, e);
+        let b = at(seconds, e);
         let mark = std::num::wrapping_add_u32(i, 1);
         turn_end(degrees, others, marks, a, b, mark, 1);
         turn_end(degrees, others, marks, b, a, mark, 1);
@@ -92,10 +92,8 @@ fn note_edges(
         ≡ edges_noted first second (picked_in picked.now) (length firsts.now) before }
 {
     let mut i = 0;
-    let mut e = 0;
-    while e < firsts.len() {
+    for e in 0..firsts.len() {
         i = note_edge(firsts, seconds, picked, degrees, others, marks, e, i);
-        e += 1;
     }
     i
 }
@@ -109,7 +107,7 @@ fn queue_leaf(
 ) -> usize
     ensures { queue_of order.new result ≡ leaf_queued max_vertices degrees.now v (queue_of order.old count) }
 {
-    if at32(degrees, index32(v)) != 1 {
+    if at(degrees, v as usize) != 1 {
         return count;
     }
     if count < MAX_VERTICES {
@@ -124,10 +122,8 @@ fn queue_leaves(degrees: &[u32; MAX_VERTICES], order: &mut [u32; MAX_VERTICES], 
     ensures { queue_of order.new result ≡ leaves_queued max_vertices degrees.now n (queue_of order.old 0) }
 {
     let mut count = 0;
-    let mut v = 0;
-    while v < n {
+    for v in 0..n {
         count = queue_leaf(degrees, order, v, count);
-        v += 1;
     }
     count
 }
@@ -145,12 +141,12 @@ fn take_leaf(
         let after = peel_of (ends_of degrees.new others.new marks.new) (queue_of order.new result) in
         after ≡ leaf_taken max_vertices k before }
 {
-    let v = at32(order, k);
-    if at32(degrees, index32(v)) != 1 {
+    let v = at(order, k);
+    if at(degrees, v as usize) != 1 {
         return count;
     }
-    let w = at32(others, index32(v));
-    let mark = at32(marks, index32(v));
+    let w = at(others, v as usize);
+    let mark = at(marks, v as usize);
     turn_end(degrees, others, marks, w, v, mark, ONE_LESS);
     queue_leaf(degrees, order, w, count)
 }

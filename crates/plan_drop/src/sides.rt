@@ -8,7 +8,7 @@ ghost use Rattle.plan_drop.specs.Tried.{tried_words};
 
 use crate::taken::taken_words;
 use crate::word::own_word;
-use base_buffer::{at64, put64};
+use base_buffer::{at, put};
 use base_limits::MAX_VERTICES;
 
 // Vertex v gets the word of the one that it hangs on, turned in the bit of the edge between them.
@@ -21,14 +21,14 @@ fn hang(
 )
     ensures { words.new ≡ hung_at others.now marks.now base v words.old }
 {
-    let i = base_buffer::index32(v);
-    let mark = base_buffer::at32(marks, i);
+    let i = v as usize;
+    let mark = at(marks, i);
     if mark == 0 {
         return;
     }
-    let up = base_buffer::index32(base_buffer::at32(others, i));
-    let word = at64(words, up) ^ own_word(base, base_buffer::index32(mark - 1));
-    put64(words, i, word);
+    let up = at(others, i) as usize;
+    let word = at(words, up) ^ own_word(base, (mark - 1) as usize);
+    put(words, i, word);
 }
 
 // The words of vertices that hang on one another in some order.
@@ -42,10 +42,8 @@ fn hung_words(
     ensures { result ≡ hung_from order.now others.now marks.now base count (replicate max_vertices 0) }
 {
     let mut words = [0u64; MAX_VERTICES];
-    let mut k = count;
-    while 0 < k {
-        k -= 1;
-        hang(others, marks, base, base_buffer::at32(order, k), &mut words);
+    for k in (0..count).rev() {
+        hang(others, marks, base, at(order, k), &mut words);
     }
     words
 }
@@ -65,9 +63,9 @@ fn is_own(
         result ≡ (not (picked_in picked.now e) || bit_xor first second == (own_word base i)) }
 {
     if survey_components::is_picked(picked, e) {
-        let a = base_buffer::index32(base_buffer::at32(firsts, e));
-        let b = base_buffer::index32(base_buffer::at32(seconds, e));
-        return at64(words, a) ^ at64(words, b) == own_word(base, i);
+        let a = at(firsts, e) as usize;
+        let b = at(seconds, e) as usize;
+        return at(words, a) ^ at(words, b) == own_word(base, i);
     }
     true
 }
@@ -96,13 +94,11 @@ fn is_alone(
         result ≡ are_alone first second (picked_in picked.now) base (length firsts.now) words.now }
 {
     let mut i = 0;
-    let mut e = 0;
-    while e < firsts.len() {
+    for e in 0..firsts.len() {
         if !is_own(firsts, seconds, picked, words, base, e, i) {
             return false;
         }
         i = index_after(picked, e, i);
-        e += 1;
     }
     true
 }

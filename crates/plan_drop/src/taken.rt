@@ -6,25 +6,15 @@ ghost use Rattle.survey_components.specs.Buffer.{ends_joined};
 ghost use Rattle.plan_drop.specs.Word.{turned_all, edge_taken};
 ghost use Rattle.plan_drop.specs.Taken.{EdgeStep, taken_below};
 
-use base_buffer::{at64, put64};
+use base_buffer::at;
 use base_limits::MAX_VERTICES;
 
 // What a new edge between the components x and y makes of all words.
 fn turn_all(x: u32, y: u32, delta: u64, own: u64, labels: &[u32], words: &mut [u64])
     ensures { words.new ≡ turned_all x y delta own labels.now words.old }
 {
-    let mut w = 0;
-    while w < words.len() {
-        let word = crate::word::turn(
-            x,
-            y,
-            delta,
-            own,
-            base_buffer::at32(labels, w),
-            at64(words, w),
-        );
-        put64(words, w, word);
-        w += 1;
+    for (w, word) in words.iter_mut().enumerate() {
+        *word = crate::word::turn(x, y, delta, own, at(labels, w), *word);
     }
 }
 
@@ -33,11 +23,11 @@ fn take_ends(a: u32, b: u32, own: u64, labels: &mut [u32], words: &mut [u64])
     ensures { (labels.new ≡ ends_joined a b labels.old)
         × (words.new ≡ edge_taken a b own labels.old words.old) }
 {
-    let u = base_buffer::index32(a);
-    let v = base_buffer::index32(b);
-    let x = base_buffer::at32(labels, u);
-    let y = base_buffer::at32(labels, v);
-    let delta = at64(words, u) ^ at64(words, v);
+    let u = a as usize;
+    let v = b as usize;
+    let x = at(labels, u);
+    let y = at(labels, v);
+    let delta = at(words, u) ^ at(words, v);
     turn_all(x, y, delta, own, labels, words);
     survey_components::relabel(labels, x, y, x);
 }
@@ -60,8 +50,8 @@ fn take_edge(
 {
     if survey_components::is_picked(picked, e) {
         take_ends(
-            base_buffer::at32(firsts, e),
-            base_buffer::at32(seconds, e),
+            at(firsts, e),
+            at(seconds, e),
             crate::word::own_word(base, i),
             labels,
             words,
@@ -86,10 +76,8 @@ pub fn taken_words(
     survey_components::own_labels(&mut labels);
     let mut words = [0u64; MAX_VERTICES];
     let mut i = 0;
-    let mut e = 0;
-    while e < firsts.len() {
+    for e in 0..firsts.len() {
         i = take_edge(firsts, seconds, picked, base, &mut labels, &mut words, e, i);
-        e += 1;
     }
     words
 }

@@ -1,5 +1,6 @@
 -- Laws of dropping every picked edge.
 use Rattle.std.specs.Prelude.{◌≡◌, ℕ, Bool, true, false, List, length, refl}
+use Rattle.std.specs.Int.{from_bool}
 use Rattle.base_finite.specs.Below.{counted}
 use Rattle.theory_steiner.specs.Pruning.{mark_of}
 use Rattle.base_buffer.proofs.Laws.Store.{length_remade}
@@ -19,6 +20,12 @@ pub dropped_counts_law : (in_set : Bool) → mark_of in_set false ≡ counted in
 unfolding mark_of counted
 dropped_counts_law true = refl
 dropped_counts_law false = refl
+
+-- A test as a number.
+pub bool_counts : (t : Bool) → from_bool t ≡ counted t 1
+unfolding counted
+bool_counts true = refl
+bool_counts false = refl
 
 -- ---- all of them
 

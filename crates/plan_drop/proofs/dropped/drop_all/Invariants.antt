@@ -2,13 +2,8 @@
 use Rattle.survey_components.specs.Labels.{picked_in}
 use Rattle.base_buffer.specs.Store.{remade}
 use Rattle.theory_steiner.specs.Pruning.{mark_of}
-use Rattle.std.proofs.Common.{◌≡◌, ◌-◌, ◌≤◌, false}
+use Rattle.std.proofs.Common.{◌≡◌, false}
 use Rattle.plan_drop.proofs.dropped.drop_all.Given as goal
 
 abbrev pub invariant-loop-e : goal.invariant-loop-e
-invariant-loop-e l =
-    (l.e ≤ l.m) × (l.marks ≡ remade (λ e mark. mark_of (picked_in l.picked e) false) l.e l.initial.marks)
-
-abbrev pub decreases-loop-e : goal.decreases-loop-e
-decreases-loop-e l =
-    l.m - l.e
+invariant-loop-e l = l.marks ≡ remade (λ e mark. mark_of (picked_in l.picked e) false) l.e l.initial.marks

@@ -5,7 +5,7 @@ use Rattle.plan_drop.proofs.judge.judge_edge.Goals as goal
 
 pub returns-then-is_needed : goal.returns-then-is_needed
 returns-then-is_needed c =
-    rw c.put8.ensures (mark_kept _ _ _ (sym c.is_picked.ensures ∙ c.if-is_picked.true) (sym c.is_needed.ensures ∙ c.if-is_needed.true))
+    rw c.put.ensures (mark_kept _ _ _ (sym c.is_picked.ensures ∙ c.if-is_picked.true) (sym c.is_needed.ensures ∙ c.if-is_needed.true))
 
 pub returns-then-is_picked : goal.returns-then-is_picked
 returns-then-is_picked c =

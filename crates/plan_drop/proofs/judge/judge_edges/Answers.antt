@@ -6,7 +6,7 @@ use Rattle.survey_components.specs.Labels.{picked_in}
 use Rattle.base_buffer.specs.Store.{remade}
 use Rattle.base_buffer.proofs.Laws.Store.{remade_end}
 use Rattle.base_finite.specs.Laws.Below.{count_le}
-use Rattle.std.proofs.Common.{◌-◌, refl, ◌∙◌, arith}
+use Rattle.std.proofs.Common.{refl, ◌∙◌, arith}
 use Rattle.plan_drop.proofs.judge.judge_edges.Goals as goal
 
 pub loop-e-init : goal.loop-e-init

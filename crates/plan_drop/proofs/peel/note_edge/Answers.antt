@@ -7,7 +7,7 @@ use Rattle.plan_drop.proofs.peel.note_edge.Goals as goal
 pub returns-then-is_picked : goal.returns-then-is_picked
 returns-then-is_picked c =
     let t = sym c.is_picked.ensures ∙ c.if-is_picked.true in
-    record { value = rw t c.wrapping_add_u32-mark.ensures.value; marks_value = noted_picked _ _ _ _ t c.at32-a.ensures c.at32-b.ensures c.wrapping_add_u32-mark.ensures.value c.turn_end.ensures c.turn_end-then-is_picked.ensures }
+    record { value = rw t c.wrapping_add_u32-mark.ensures.value; marks_value = noted_picked _ _ _ _ t c.at-a.ensures c.at-b.ensures c.wrapping_add_u32-mark.ensures.value c.turn_end.ensures c.turn_end-then-is_picked.ensures }
 
 -- not picked
 pub returns : goal.returns

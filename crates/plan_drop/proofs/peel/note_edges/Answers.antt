@@ -1,5 +1,5 @@
 -- `note_edges` meets its contract: it counts upwards, modulo 2^32, and after e edges the buffers are those of the definition.
-use Rattle.std.proofs.Common.{◌≡◌, ℕ, ◌+◌, ◌-◌, ◌%◌, ◌^◌, Bool, true, false, cond, length, sym, refl, ap, ◌∙◌, add-one, arith}
+use Rattle.std.proofs.Common.{◌≡◌, ℕ, ◌+◌, ◌%◌, ◌^◌, Bool, true, false, cond, length, sym, refl, ap, ◌∙◌, add-one, arith}
 use Rattle.base_finite.specs.Below.{counted, sum_below, count_below}
 use Rattle.base_finite.specs.Laws.Below.{sum_suc}
 use Rattle.survey_components.specs.Labels.{picked_in}

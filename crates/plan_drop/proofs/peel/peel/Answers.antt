@@ -1,5 +1,5 @@
 -- `peel` meets its contract: after k vertices the buffers are those of the definition, and behind the last nothing changes.
-use Rattle.std.proofs.Common.{◌-◌, ap, arith}
+use Rattle.std.proofs.Common.{ap, arith}
 use Rattle.base_limits.specs.Limits.{max_vertices}
 use Rattle.plan_drop.specs.Peel.{Peel}
 use Rattle.plan_drop.specs.Laws.Peel.{peel_more, peel_start, peel_few, peel_end}

@@ -6,6 +6,6 @@ pub returns : goal.returns
 returns c =
     let args = c.args in
     turned_by args.v args.w args.mark args.more args.degrees.now args.others.now args.marks.now
-    (rw (← c.index32-i.ensures, ← c.at32.ensures, ← c.wrapping_add_u32-degree.ensures.value) c.put32.ensures)
-    (rw (← c.index32-i.ensures, ← c.at32-2.ensures) c.put32-2.ensures)
-    (rw (← c.index32-i.ensures, ← c.at32-3.ensures) c.put32-3.ensures)
+    (rw (← c.at.ensures, ← c.wrapping_add_u32-degree.ensures.value) c.put.ensures)
+    (rw (← c.at-2.ensures) c.put-2.ensures)
+    (rw (← c.at-3.ensures) c.put-3.ensures)

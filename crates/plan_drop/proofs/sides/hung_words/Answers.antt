@@ -7,7 +7,7 @@ pub loop-k-init : goal.loop-k-init
 loop-k-init c = refl
 
 pub loop-k-preserved : goal.loop-k-preserved
-loop-k-preserved c = hung_less _ _ _ _ _ _ c.loop-k-test.true c.loop-k.invariant c.at32.ensures c.hang.ensures
+loop-k-preserved c = hung_less _ _ _ _ _ _ c.loop-k-test.true c.loop-k.invariant c.at.ensures c.hang.ensures
 
 pub returns : goal.returns
 returns c = hung_end _ _ _ _ _ _ (omega arith) ∙ c.loop-k.invariant

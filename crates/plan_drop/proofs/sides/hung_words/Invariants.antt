@@ -7,6 +7,3 @@ use Rattle.plan_drop.proofs.sides.hung_words.Given as goal
 abbrev pub invariant-loop-k : goal.invariant-loop-k
 invariant-loop-k l =
     hung_from l.order l.others l.marks l.base l.k l.words ≡ hung_from l.order l.others l.marks l.base l.count (replicate max_vertices 0)
-
-abbrev pub decreases-loop-k : goal.decreases-loop-k
-decreases-loop-k l = l.k

@@ -1,5 +1,5 @@
 -- `is_alone` meets its contract: before each turn the edges below e have passed.
-use Rattle.std.proofs.Common.{◌-◌, true, length, sym, ◌∙◌, arith}
+use Rattle.std.proofs.Common.{length, sym, ◌∙◌, arith}
 use Rattle.base_finite.specs.Laws.Below.{count_le}
 use Rattle.survey_components.specs.Labels.{picked_in}
 use Rattle.plan_drop.specs.Laws.Word.{count_start, next_index}

@@ -7,8 +7,8 @@ use Rattle.plan_drop.proofs.sides.is_own.Goals as goal
 pub returns-then-is_picked : goal.returns-then-is_picked
 returns-then-is_picked c =
     own_word_read _ _ c.args.words.now (sym c.is_picked.ensures ∙ c.if-is_picked.true)
-    (c.index32-a.ensures ∙ c.at32.ensures) (c.index32-b.ensures ∙ c.at32-then-is_picked.ensures)
-    c.at64.ensures c.at64-then-is_picked.ensures c.own_word.ensures
+    c.at-a.ensures c.at-b.ensures
+    c.at.ensures c.at-then-is_picked.ensures c.own_word.ensures
 
 -- not picked
 pub returns : goal.returns

@@ -7,8 +7,8 @@ pub returns-then-is_picked : goal.returns-then-is_picked
 returns-then-is_picked c =
     let args = c.args in
     step_taken _ _ _ _ (sym c.is_picked.ensures ∙ c.if-is_picked.true)
-    (c.take_ends.ensures.0 ∙ rw (c.at32.ensures, c.at32-then-is_picked.ensures))
-    (c.take_ends.ensures.1 ∙ rw (c.at32.ensures, c.at32-then-is_picked.ensures, c.own_word.ensures))
+    (c.take_ends.ensures.0 ∙ rw (c.at.ensures, c.at-then-is_picked.ensures))
+    (c.take_ends.ensures.1 ∙ rw (c.at.ensures, c.at-then-is_picked.ensures, c.own_word.ensures))
 
 pub returns : goal.returns
 returns c =

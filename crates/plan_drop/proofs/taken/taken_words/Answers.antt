@@ -1,5 +1,5 @@
 -- `taken_words` meets its contract: after e edges the buffers are those of the definition.
-use Rattle.std.proofs.Common.{ℕ, ◌-◌, sym, refl, ◌∙◌, arith}
+use Rattle.std.proofs.Common.{ℕ, sym, refl, ◌∙◌, arith}
 use lib.ListN.{length-replicate}
 use Rattle.base_finite.specs.Laws.Below.{count_le}
 use Rattle.base_limits.specs.Limits.{max_vertices}

@@ -1,5 +1,5 @@
 -- `taken_words` meets its contract: after e edges the buffers are those of the definition.
-use Rattle.std.proofs.Common.{◌≡◌, ◌-◌, ◌≤◌, length, get_or}
+use Rattle.std.proofs.Common.{◌≡◌, ◌≤◌, length, get_or}
 use Rattle.base_finite.specs.Below.{count_below}
 use Rattle.base_limits.specs.Limits.{max_vertices}
 use Rattle.survey_components.specs.Labels.{picked_in}
@@ -11,7 +11,3 @@ invariant-loop-e l =
     (l.e ≤ length l.firsts) × (l.i ≡ count_below l.e (picked_in l.picked))
     × (l.labels ≡ (taken_below max_vertices (λ e. get_or l.firsts e 0) (λ e. get_or l.seconds e 0) (picked_in l.picked) l.base l.e).labels)
     × (l.words ≡ (taken_below max_vertices (λ e. get_or l.firsts e 0) (λ e. get_or l.seconds e 0) (picked_in l.picked) l.base l.e).words)
-
-abbrev pub decreases-loop-e : goal.decreases-loop-e
-decreases-loop-e l =
-    length l.firsts - l.e
