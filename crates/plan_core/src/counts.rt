@@ -14,7 +14,7 @@ pub fn grown_counts(terminals: u64, bound: u64, rounds: usize, duals: usize) -> 
         terminals,
         cost: 0,
         bound,
-        rounds: base_buffer::wide(rounds),
-        duals: base_buffer::wide(duals),
+        rounds: rounds as u64,
+        duals: duals as u64,
     }
 }

@@ -43,7 +43,7 @@ fn poured_figures(
         terminals: survey_groups::terminals::terminals(groups),
         cost: check_core::kept_cost(firsts, weights, marks),
         bound: marked.bound,
-        rounds: base_buffer::wide(marked.rounds),
+        rounds: marked.rounds as u64,
     }
 }
 

@@ -32,13 +32,11 @@ fn mark_refusal(mark: u8, e: usize) -> Verdict
 fn marks_refusal(m: usize, marks: &[u8]) -> Verdict
     ensures { result ≡ lowest_below m (λ e. refuse_if (ltb 1 (get_or marks.now e 0)) 10 e) }
 {
-    let mut e = 0;
-    while e < m {
-        let found = mark_refusal(base_buffer::at8(marks, e), e);
+    for e in 0..m {
+        let found = mark_refusal(base_buffer::at(marks, e), e);
         let Verdict::Fine = found else {
             return found;
         };
-        e += 1;
     }
     Verdict::Fine
 }
@@ -83,10 +81,8 @@ pub fn kept_picks(marks: &[u8], m: usize) -> [u8; MAX_EDGES]
     ensures { result ≡ remade (λ e x. counted (picked_in marks.now e) 2) m (replicate max_edges 0) }
 {
     let mut picks = [0u8; MAX_EDGES];
-    let mut e = 0;
-    while e < m {
-        base_buffer::put8(&mut picks, e, kept_pick(marks, e));
-        e += 1;
+    for e in 0..m {
+        base_buffer::put(&mut picks, e, kept_pick(marks, e));
     }
     picks
 }

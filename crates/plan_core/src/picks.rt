@@ -6,9 +6,7 @@ ghost use Rattle.base_buffer.specs.Store.{remade};
 pub fn copy_picks(picked: &[u8], marks: &mut [u8], m: usize)
     ensures { marks.new ≡ remade (λ e mark. get_or picked.now e 0) m marks.old }
 {
-    let mut e = 0;
-    while e < m {
-        base_buffer::put8(marks, e, base_buffer::at8(picked, e));
-        e += 1;
+    for e in 0..m {
+        base_buffer::put(marks, e, base_buffer::at(picked, e));
     }
 }

@@ -60,8 +60,8 @@ fn poured_plan(
         terminals: survey_groups::terminals::terminals(groups),
         cost: check_core::kept_cost(firsts, weights, marks),
         bound: marked.bound,
-        rounds: base_buffer::wide(rounds),
-        duals: base_buffer::wide(duals),
+        rounds: rounds as u64,
+        duals: duals as u64,
     }
 }
 

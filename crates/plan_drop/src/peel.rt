@@ -173,6 +173,7 @@ pub fn peel(firsts: &[u32], seconds: &[u32], picked: &[u8], n: u32) -> Peeling
     );
     let mut count = queue_leaves(&degrees, &mut order, n);
     let mut k = 0;
+    // Stays a while: each turn may add to the queue, so that its end moves.
     while k < count {
         count = take_leaf(&mut degrees, &mut others, &mut marks, &mut order, k, count);
         k += 1;

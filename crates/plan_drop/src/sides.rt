@@ -1,6 +1,5 @@
 // One word for each vertex: its sides of up to 64 picked edges. Definitions in specs/.
-ghost use Rattle.std.specs.Prelude.{◌≡◌, ℕ, ◌+◌, ◌^◌, ◌<◌, not, ◌||◌, length, replicate, ◌==◌, bit_xor, slice_index, slice_index_or};
-ghost use Rattle.base_finite.specs.Below.{counted};
+ghost use Rattle.std.specs.Prelude.{◌≡◌, ℕ, not, ◌||◌, length, replicate, ◌==◌, bit_xor, slice_index, slice_index_or};
 ghost use Rattle.base_limits.specs.Limits.{max_vertices};
 ghost use Rattle.survey_components.specs.Labels.{picked_in};
 ghost use Rattle.plan_drop.specs.Word.{own_word, are_alone, hung_at, hung_from};
@@ -10,6 +9,7 @@ use crate::taken::taken_words;
 use crate::word::own_word;
 use base_buffer::{at, put};
 use base_limits::MAX_VERTICES;
+use survey_components::is_picked;
 
 // Vertex v gets the word of the one that it hangs on, turned in the bit of the edge between them.
 fn hang(
@@ -62,23 +62,12 @@ fn is_own(
         let second = slice_index_or words.now (slice_index seconds.now e) 0 in
         result ≡ (not (picked_in picked.now e) || bit_xor first second == (own_word base i)) }
 {
-    if survey_components::is_picked(picked, e) {
+    if is_picked(picked, e) {
         let a = at(firsts, e) as usize;
         let b = at(seconds, e) as usize;
         return at(words, a) ^ at(words, b) == own_word(base, i);
     }
     true
-}
-
-// The next index behind edge e.
-fn index_after(picked: &[u8], e: usize, i: usize) -> usize
-    requires { i + 1 < 2 ^ 64 }
-    ensures { result ≡ i + counted (picked_in picked.now e) 1 }
-{
-    if survey_components::is_picked(picked, e) {
-        return i + 1;
-    }
-    i
 }
 
 // Whether each picked edge is alone in its bit.
@@ -98,7 +87,7 @@ fn is_alone(
         if !is_own(firsts, seconds, picked, words, base, e, i) {
             return false;
         }
-        i = index_after(picked, e, i);
+        i += usize::from(is_picked(picked, e));
     }
     true
 }

@@ -1,7 +1,8 @@
 -- `grown_counts` meets its contract: the numbers as they are given.
+use mathlib.Core.Path.{refl}
 use Rattle.plan_rule.specs.Answer.{planned_outcome}
 use Rattle.plan_core.proofs.counts.grown_counts.Goals as goal
 
 pub returns : goal.returns
 unfolding planned_outcome
-returns c = rw (c.wide.ensures, c.wide-2.ensures)
+returns c = rw refl

@@ -11,7 +11,7 @@ use Rattle.plan_core.proofs.figures.poured_figures.Goals as goal
 pub grow_marks-marked-requires : goal.grow_marks-marked-requires
 grow_marks-marked-requires c =
     let few = c.requires.edges_few in
-    record { survey_sound = c.requires; values_value = (refl, refl); firsts_in_bounds = omega (arith, few, c.grow_marks-arg-1.given) }
+    record { survey_sound = c.requires; values_value = refl; firsts_in_bounds = omega (arith, few, c.grow_marks-arg-1.given) }
 
 -- 8
 pub returns-then-not-marked : goal.returns-then-not-marked
@@ -25,6 +25,6 @@ unfolding figured_outcome
 returns c =
     record {
       result_value = figures_joined_law _ _ c.grow_marks-marked.ensures (not-false _ c.if-not-marked.false) (c.terminals.ensures ∙ plan_terminals _ _ _ _)
-          (kept_cost_all _ _ _ c.requires.edges_few c.kept_cost.ensures) c.wide.ensures;
+          (kept_cost_all _ _ _ c.requires.edges_few c.kept_cost.ensures) refl;
       marks_value = c.grow_marks-marked.ensures.marks_are;
     }

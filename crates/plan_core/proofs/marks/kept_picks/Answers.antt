@@ -17,7 +17,7 @@ slice_bounds-put8-end c = sym (ap length c.loop-e.invariant.1 ∙ length_remade 
 
 pub loop-e-preserved : goal.loop-e-preserved
 loop-e-preserved c =
-    (omega arith, c.put8.ensures ∙ remade_more _ _ _ _ _ c.loop-e.invariant.1 c.kept_pick.ensures)
+    (omega arith, c.put.ensures ∙ remade_more _ _ _ _ _ c.loop-e.invariant.1 c.kept_pick.ensures)
 
 pub returns : goal.returns
 returns c = c.loop-e.invariant.1 ∙ remade_end _ _ _ _ (omega arith) (omega arith)

@@ -11,6 +11,3 @@ use Rattle.plan_core.proofs.marks.kept_picks.Given as goal
 abbrev pub invariant-loop-e : goal.invariant-loop-e
 invariant-loop-e l =
     (l.e ≤ l.m) × (l.picks ≡ remade (λ e x. counted (picked_in l.marks e) 2) l.e (replicate max_edges 0))
-
-abbrev pub decreases-loop-e : goal.decreases-loop-e
-decreases-loop-e l = l.m - l.e

@@ -8,6 +8,3 @@ use Rattle.plan_core.proofs.marks.marks_refusal.Given as goal
 
 abbrev pub invariant-loop-e : goal.invariant-loop-e
 invariant-loop-e l = Scanned l.m (λ e. refuse_if (ltb 1 (get_or l.marks e 0)) 10 e) l.e
-
-abbrev pub decreases-loop-e : goal.decreases-loop-e
-decreases-loop-e l = l.m - l.e

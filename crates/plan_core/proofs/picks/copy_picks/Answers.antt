@@ -13,7 +13,7 @@ loop-e-init c =
 
 pub loop-e-preserved : goal.loop-e-preserved
 loop-e-preserved c =
-    (omega arith, c.put8.ensures ∙ remade_more _ _ _ _ _ c.loop-e.invariant.1 c.at8.ensures)
+    (omega arith, c.put.ensures ∙ remade_more _ _ _ _ _ c.loop-e.invariant.1 c.at.ensures)
 
 pub returns : goal.returns
 returns c =

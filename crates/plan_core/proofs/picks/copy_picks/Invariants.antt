@@ -8,7 +8,3 @@ use Rattle.plan_core.proofs.picks.copy_picks.Given as goal
 abbrev pub invariant-loop-e : goal.invariant-loop-e
 invariant-loop-e l =
     (l.e ≤ l.m) × (l.marks ≡ remade (λ e mark. get_or l.picked e 0) l.e l.initial.marks)
-
-abbrev pub decreases-loop-e : goal.decreases-loop-e
-decreases-loop-e l =
-    l.m - l.e

@@ -13,7 +13,7 @@ use Rattle.plan_core.proofs.whole.poured_plan.Goals as goal
 
 pub grow_marks-marked-requires : goal.grow_marks-marked-requires
 unfolding edge_count
-grow_marks-marked-requires c = record { survey_sound = c.requires.survey; values_value = (refl, refl); firsts_in_bounds = c.requires.marks_fit }
+grow_marks-marked-requires c = record { survey_sound = c.requires.survey; values_value = refl; firsts_in_bounds = c.requires.marks_fit }
 
 -- 8
 pub returns-then-not-marked : goal.returns-then-not-marked
@@ -34,5 +34,5 @@ unfolding planned_outcome
 returns c =
     let joined =
     plan_joined _ _ _ c.requires c.grow_marks-marked.ensures (not-false _ c.if-not-marked.false) (c.terminals.ensures ∙ plan_terminals _ _ _ _)
-    (kept_cost_all _ _ _ c.requires.survey.edges_few c.kept_cost.ensures) c.wide.ensures c.draw-duals.ensures.count c.wide-2.ensures c.draw-duals.ensures.written in
+    (kept_cost_all _ _ _ c.requires.survey.edges_few c.kept_cost.ensures) refl c.draw-duals.ensures.count refl c.draw-duals.ensures.written in
     record { result_value = joined.0; marks_value = c.grow_marks-marked.ensures.marks_are; records_value = joined.1 }

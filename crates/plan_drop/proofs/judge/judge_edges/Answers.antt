@@ -12,7 +12,7 @@ use Rattle.plan_drop.proofs.judge.judge_edges.Goals as goal
 pub loop-e-init : goal.loop-e-init
 unfolding remade
 loop-e-init c =
-    (omega arith, count_start _, refl)
+    (count_start _, refl)
 
 pub judge_edge-i-requires : goal.judge_edge-i-requires
 judge_edge-i-requires c =
@@ -22,11 +22,10 @@ pub loop-e-preserved : goal.loop-e-preserved
 loop-e-preserved c =
     let args = c.args in
     let inv = c.loop-e.invariant in (
-      omega arith,
-      next_index _ _ inv.1 c.judge_edge-i.ensures.index,
-      marks_more (picked_in args.picked.now) (judged c.parted-bits.result args.base) _ _ _ inv.2 inv.1 c.judge_edge-i.ensures.marks_are,
+      next_index _ _ inv.0 c.judge_edge-i.ensures.index,
+      marks_more (picked_in args.picked.now) (judged c.parted-bits.result args.base) _ _ _ inv.1 inv.0 c.judge_edge-i.ensures.marks_are,
     )
 
 pub returns : goal.returns
 returns c =
-    rw (← c.parted-bits.ensures) (c.loop-e.invariant.2 ∙ remade_end _ _ _ _ (omega arith) (omega arith))
+    rw (← c.parted-bits.ensures) (c.loop-e.invariant.1 ∙ remade_end _ _ _ _ c.loop-e.auto.e-end c.loop-e-test.false)

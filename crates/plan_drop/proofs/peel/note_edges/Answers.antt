@@ -17,15 +17,15 @@ more e F h k = k ∙ rw h (counts (F e) _) ∙ ap (λ x. x % 2 ^ 32) (sym (ap (�
 
 pub loop-e-init : goal.loop-e-init
 unfolding count_below sum_below
-loop-e-init c = (omega arith, refl, sym (edges_none _ _ _ _))
+loop-e-init c = (refl, sym (edges_none _ _ _ _))
 
 pub loop-e-preserved : goal.loop-e-preserved
 loop-e-preserved c =
     let inv = c.loop-e.invariant in
-    (omega arith, more _ _ inv.1 c.note_edge-i.ensures.value, edges_more _ _ _ _ _ inv.1 inv.2 c.note_edge-i.ensures.marks_value)
+    (more _ _ inv.0 c.note_edge-i.ensures.value, edges_more _ _ _ _ _ inv.0 inv.1 c.note_edge-i.ensures.marks_value)
 
 pub returns : goal.returns
 returns c =
     let args = c.args in
     let last : c.loop-e.e ≡ length args.firsts.now = omega arith in
-    record { value = c.loop-e.invariant.1 ∙ ap (λ n. count_below n (picked_in args.picked.now) % 2 ^ 32) last; marks_value = edges_end _ _ _ _ _ _ (omega arith) (omega arith) c.loop-e.invariant.2 }
+    record { value = c.loop-e.invariant.0 ∙ ap (λ n. count_below n (picked_in args.picked.now) % 2 ^ 32) last; marks_value = edges_end _ _ _ _ _ _ c.loop-e.auto.e-end c.loop-e-test.false c.loop-e.invariant.1 }
