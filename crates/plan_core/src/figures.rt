@@ -1,14 +1,14 @@
 // Planning without its moats, for calls that plan in buffers of their own: the growth and the dropping, nothing drawn.
-ghost use Rattle.std.specs.Prelude.{◌≡◌, false};
+ghost use Rattle.std.specs.Prelude.{◌≡◌};
 ghost use Rattle.survey_core.specs.Survey.{survey_from, survey_with, lent_survey, lent_with};
 ghost use Rattle.survey_core.specs.Sound.{SurveySound};
 ghost use Rattle.plan_rule.specs.Figures.{figuring, marks_figured, figured_outcome};
-ghost use Rattle.plan_core.specs.Planned.{joinable, marks_joined, figures_joined};
+ghost use Rattle.plan_core.specs.Planned.{marks_joined, figures_joined};
 
 use crate::planned::grow_marks;
+use crate::unjoined::unjoined_place;
 use base_limits::{MAX_DUALS, MAX_EDGES, MAX_VERTICES, Verdict};
 use plan_rule::Figured;
-use survey_components::Chosen;
 
 // Figures and marks over poured lists.
 fn poured_figures(
@@ -47,42 +47,6 @@ fn poured_figures(
     }
 }
 
-// 8 for lists that cannot be joined: the lowest of them.
-fn unjoined_figures(
-    groups: &[u8],
-    firsts: &[u32],
-    seconds: &[u32],
-    weights: &[u32],
-    owners: &[u32],
-    others: &[u8],
-) -> Figured
-    requires survey_sound { SurveySound
-        (survey_with groups.now firsts.now seconds.now weights.now owners.now others.now) }
-    requires others_value { joinable
-        (survey_with groups.now firsts.now seconds.now weights.now owners.now others.now) ≡ false }
-    ensures { let s = lent_with groups.now firsts.now seconds.now weights.now owners.now others.now in
-        figured_outcome result ≡ figuring s }
-{
-    let found = survey_lists::unjoined_refusal(
-        groups,
-        firsts,
-        seconds,
-        weights,
-        owners,
-        others,
-        Chosen::All,
-        &[],
-        8,
-    );
-    match found {
-        Verdict::Fine => Figured::Refused {
-            number: 8,
-            place: 0,
-        },
-        Verdict::Refused { number, place } => Figured::Refused { number, place },
-    }
-}
-
 // The figures and marks of a survey that 1 to 6 and 18 do not refuse.
 pub fn sound_figures(
     groups: &[u8],
@@ -108,7 +72,8 @@ pub fn sound_figures(
         place: _,
     } = figured
     {
-        return unjoined_figures(groups, firsts, seconds, weights, owners, others);
+        let place = unjoined_place(groups, firsts, seconds, weights, owners, others);
+        return Figured::Refused { number: 8, place };
     }
     figured
 }

@@ -24,6 +24,7 @@ mod planned;
 mod poured;
 mod prune;
 mod refusal;
+mod unjoined;
 mod whole;
 
 pub use grow::grow_plan;

@@ -1,5 +1,5 @@
 // Lent marks before dropping: refusals 1 to 6, 18, 9 and 10, and the marks as if every picked track were kept.
-ghost use Rattle.std.specs.Prelude.{◌≡◌, get_or, replicate, ltb};
+ghost use Rattle.std.specs.Prelude.{◌≡◌, length, get_or, replicate, ltb};
 ghost use Rattle.base_finite.specs.Below.{counted};
 ghost use Rattle.base_buffer.specs.Store.{remade};
 ghost use Rattle.base_limits.specs.Limits.{max_edges};
@@ -8,7 +8,9 @@ ghost use Rattle.survey_core.specs.Survey.{lent_with};
 ghost use Rattle.survey_components.specs.Labels.{picked_in};
 ghost use Rattle.plan_core.specs.Picks.{marked_refusal};
 
+use base_buffer::put;
 use base_limits::{MAX_EDGES, Verdict};
+use survey_components::is_picked;
 
 // 10: a mark above 1.
 fn mark_refusal(mark: u8, e: usize) -> Verdict
@@ -28,12 +30,12 @@ fn mark_refusal(mark: u8, e: usize) -> Verdict
     }
 }
 
-// The lowest track below m with a mark above 1.
-fn marks_refusal(m: usize, marks: &[u8]) -> Verdict
-    ensures { result ≡ lowest_below m (λ e. refuse_if (ltb 1 (get_or marks.now e 0)) 10 e) }
+// The lowest track with a mark above 1.
+fn marks_refusal(marks: &[u8]) -> Verdict
+    ensures { result ≡ lowest_below (length marks.now) (λ e. refuse_if (ltb 1 (get_or marks.now e 0)) 10 e) }
 {
-    for e in 0..m {
-        let found = mark_refusal(base_buffer::at(marks, e), e);
+    for (e, mark) in marks.iter().enumerate() {
+        let found = mark_refusal(*mark, e);
         let Verdict::Fine = found else {
             return found;
         };
@@ -63,26 +65,16 @@ pub fn marked_refusal(
             place: 0,
         };
     }
-    marks_refusal(firsts.len(), marks)
+    marks_refusal(marks)
 }
 
-// 2 for a picked track, else 0.
-fn kept_pick(marks: &[u8], e: usize) -> u8
-    ensures { result ≡ counted (picked_in marks.now e) 2 }
-{
-    if survey_components::is_picked(marks, e) {
-        return 2;
-    }
-    0
-}
-
-// The first m marks, as if every picked track were kept.
+// The first m marks, as if every picked track were kept: 2 for a picked one, else 0.
 pub fn kept_picks(marks: &[u8], m: usize) -> [u8; MAX_EDGES]
     ensures { result ≡ remade (λ e x. counted (picked_in marks.now e) 2) m (replicate max_edges 0) }
 {
     let mut picks = [0u8; MAX_EDGES];
     for e in 0..m {
-        base_buffer::put(&mut picks, e, kept_pick(marks, e));
+        put(&mut picks, e, 2 * u8::from(is_picked(marks, e)));
     }
     picks
 }

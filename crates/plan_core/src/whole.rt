@@ -1,18 +1,15 @@
 // Planning a survey that 1 to 6, 18 and 7 do not refuse: the growth over the poured lists, the marks and the moats, or 8.
-ghost use Rattle.std.specs.Prelude.{◌≡◌, false, length};
-ghost use Rattle.base_limits.specs.Verdict.{outcome};
-ghost use Rattle.theory_steiner.specs.Problem.{all_usable};
-ghost use Rattle.survey_core.specs.Survey.{survey_from, survey_with, lent_survey, lent_with, problem_of};
+ghost use Rattle.std.specs.Prelude.{◌≡◌, length};
+ghost use Rattle.survey_core.specs.Survey.{survey_from, survey_with, lent_survey, lent_with};
 ghost use Rattle.survey_core.specs.Sound.{SurveySound};
-ghost use Rattle.survey_core.specs.Refusal.{group_refusal};
-ghost use Rattle.plan_rule.specs.Plan.{PlanCounts, counting, marks_after, records_after};
+ghost use Rattle.plan_rule.specs.Plan.{counting, marks_after, records_after};
 ghost use Rattle.plan_rule.specs.Answer.{planned_outcome};
-ghost use Rattle.plan_core.specs.Planned.{joinable, marks_joined, Fits, counts_joined, records_joined};
+ghost use Rattle.plan_core.specs.Planned.{marks_joined, Fits, counts_joined, records_joined};
 
 use crate::planned::grow_marks;
+use crate::unjoined::unjoined_place;
 use base_limits::{MAX_DUALS, MAX_VERTICES, Verdict};
 use plan_rule::Planned;
-use survey_components::Chosen;
 
 // Counts, marks and records over poured lists.
 fn poured_plan(
@@ -65,42 +62,6 @@ fn poured_plan(
     }
 }
 
-// 8 for lists that cannot be joined: the lowest of them.
-fn unjoined_plan(
-    groups: &[u8],
-    firsts: &[u32],
-    seconds: &[u32],
-    weights: &[u32],
-    owners: &[u32],
-    others: &[u8],
-) -> Planned
-    requires survey_sound { SurveySound
-        (survey_with groups.now firsts.now seconds.now weights.now owners.now others.now) }
-    requires others_value { joinable
-        (survey_with groups.now firsts.now seconds.now weights.now owners.now others.now) ≡ false }
-    ensures { let s = lent_with groups.now firsts.now seconds.now weights.now owners.now others.now in
-        ((c : PlanCounts) → planned_outcome result ≡ outcome (group_refusal s 8 (all_usable (problem_of s))) c) }
-{
-    let found = survey_lists::unjoined_refusal(
-        groups,
-        firsts,
-        seconds,
-        weights,
-        owners,
-        others,
-        Chosen::All,
-        &[],
-        8,
-    );
-    match found {
-        Verdict::Fine => Planned::Refused {
-            number: 8,
-            place: 0,
-        },
-        Verdict::Refused { number, place } => Planned::Refused { number, place },
-    }
-}
-
 // The plan of the lists.
 pub fn lent_plan(
     groups: &[u8],
@@ -129,7 +90,8 @@ pub fn lent_plan(
         place: _,
     } = planned
     {
-        return unjoined_plan(groups, firsts, seconds, weights, owners, others);
+        let place = unjoined_place(groups, firsts, seconds, weights, owners, others);
+        return Planned::Refused { number: 8, place };
     }
     planned
 }

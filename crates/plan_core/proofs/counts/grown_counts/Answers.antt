@@ -5,4 +5,4 @@ use Rattle.plan_core.proofs.counts.grown_counts.Goals as goal
 
 pub returns : goal.returns
 unfolding planned_outcome
-returns c = rw refl
+returns c = refl

@@ -11,7 +11,7 @@ use Rattle.plan_core.proofs.figures.poured_figures.Goals as goal
 pub grow_marks-marked-requires : goal.grow_marks-marked-requires
 grow_marks-marked-requires c =
     let few = c.requires.edges_few in
-    record { survey_sound = c.requires; values_value = refl; firsts_in_bounds = omega (arith, few, c.grow_marks-arg-1.given) }
+    record { survey_sound = c.requires; values_value = (refl, refl); firsts_in_bounds = omega (arith, few, c.grow_marks-arg-1.given) }
 
 -- 8
 pub returns-then-not-marked : goal.returns-then-not-marked

@@ -1,5 +1,4 @@
 -- `kept_picks` meets its contract: it stores at rising places.
-use Prim.Native.Nat.{◌≤◌, ◌-◌}
 use mathlib.Core.Path.{◌≡◌}
 use lib.ListN.{replicate}
 use Rattle.base_finite.specs.Below.{counted}
@@ -10,4 +9,4 @@ use Rattle.plan_core.proofs.marks.kept_picks.Given as goal
 
 abbrev pub invariant-loop-e : goal.invariant-loop-e
 invariant-loop-e l =
-    (l.e ≤ l.m) × (l.picks ≡ remade (λ e x. counted (picked_in l.marks e) 2) l.e (replicate max_edges 0))
+    l.picks ≡ remade (λ e x. counted (picked_in l.marks e) 2) l.e (replicate max_edges 0)

@@ -14,4 +14,4 @@ returns-then-marks-firsts c =
 -- 10, or nothing
 pub returns : goal.returns
 returns c =
-    marks_decide _ _ c.survey_refusal-unsound.ensures c.in-Fine.is c.if-marks-firsts.false c.marks_refusal.ensures
+    marks_decide _ _ c.survey_refusal-unsound.ensures c.in-Fine.is c.if-marks-firsts.false (rw (← c.if-marks-firsts.false) c.marks_refusal.ensures)

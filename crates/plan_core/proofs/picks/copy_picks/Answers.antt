@@ -1,20 +1,16 @@
--- `copy_picks` meets its contract: it stores at rising places.
+-- `copy_picks` meets its contract: the front is copied, and the rest stays.
+use Rattle.std.proofs.Common.{◌≡◌, ℕ, zero, suc, ◌≤◌, min, List, [], ◌∷◌, ◌++◌, length, get_or, take, drop, arith, ap}
+use native.Mathlib.Numerals.{unary_clauses}
 use Rattle.base_buffer.specs.Store.{remade}
-use Rattle.base_buffer.proofs.Laws.Store.{remade_more, remade_end}
-use mathlib.Core.Path.{refl, ◌∙◌}
-use Prim.Native.Nat.{◌-◌}
-use native.Mathlib.Omega.{arith}
 use Rattle.plan_core.proofs.picks.copy_picks.Goals as goal
 
-pub loop-e-init : goal.loop-e-init
+copied : (m : ℕ) (picked marks : List ℕ) → m ≤ length picked
+    → take (min m (length marks)) picked ++ drop (min m (length marks)) marks ≡ remade (λ e mark. get_or picked e 0) m marks
 unfolding remade
-loop-e-init c =
-    (omega arith, refl)
-
-pub loop-e-preserved : goal.loop-e-preserved
-loop-e-preserved c =
-    (omega arith, c.put.ensures ∙ remade_more _ _ _ _ _ c.loop-e.invariant.1 c.at.ensures)
+copied zero picked marks h = simp unary_clauses
+copied (suc m) picked [] h = simp unary_clauses
+copied (suc m) [] (x ∷ marks) h = absurd (omega arith)
+copied (suc m) (p ∷ picked) (x ∷ marks) h = simp unary_clauses (ap (λ l. p ∷ l) (copied m picked marks (omega arith)))
 
 pub returns : goal.returns
-returns c =
-    c.loop-e.invariant.1 ∙ remade_end _ _ _ _ (omega arith) (omega arith)
+returns c = rw (c.copy_from_slice.ensures.after, c.min-n.ensures) (copied _ _ _ c.requires)

@@ -13,7 +13,7 @@ use Rattle.plan_core.proofs.whole.poured_plan.Goals as goal
 
 pub grow_marks-marked-requires : goal.grow_marks-marked-requires
 unfolding edge_count
-grow_marks-marked-requires c = record { survey_sound = c.requires.survey; values_value = refl; firsts_in_bounds = c.requires.marks_fit }
+grow_marks-marked-requires c = record { survey_sound = c.requires.survey; values_value = (refl, refl); firsts_in_bounds = c.requires.marks_fit }
 
 -- 8
 pub returns-then-not-marked : goal.returns-then-not-marked
