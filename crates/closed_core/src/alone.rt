@@ -12,7 +12,7 @@ ghost use Rattle.closed_rule.specs.Closed.{closed_outcome};
 ghost use Rattle.closed_core.specs.LeftOut.{closed_of};
 ghost use Rattle.closed_core.specs.Alone.{listed};
 
-use base_buffer::{at32, put32};
+use base_buffer::{at, put};
 use base_limits::{MAX_EDGES, MAX_VERTICES, Verdict};
 use closed_rule::Closed;
 
@@ -47,15 +47,13 @@ fn list_picked(
         × (ones.new ≡ list (λ e. counted (picked_in picked.now e) 1) m ones.old) }
 {
     let mut count = 0;
-    let mut e = 0;
-    while e < firsts.len() {
-        put32(starts, count, at32(firsts, e));
-        put32(ends, count, at32(seconds, e));
-        put32(prices, count, at32(weights, e));
+    for e in 0..firsts.len() {
+        put(starts, count, at(firsts, e));
+        put(ends, count, at(seconds, e));
+        put(prices, count, at(weights, e));
         let one = pick_of(picked, e);
-        base_buffer::put8(ones, count, one);
-        count += base_buffer::index8(one);
-        e += 1;
+        base_buffer::put(ones, count, one);
+        count += usize::from(one);
     }
     count
 }

@@ -33,7 +33,7 @@ pub fn entry(
     ensures { let s = lent_with groups.now firsts.now seconds.now weights.now owners.now others.now in
         closed_outcome result ≡ closed_entry s track }
 {
-    let c = base_buffer::index32(track);
+    let c = track as usize;
     if firsts.len() <= c {
         return Closed::Refused {
             number: 19,

@@ -43,8 +43,7 @@ fn store_rows(
     let whole = plan_core::figures::sound_figures(
         groups, firsts, seconds, weights, owners, others, &mut marks,
     );
-    let mut i = 0;
-    while i < tracks.len() {
+    for i in 0..tracks.len() {
         let row = entry(
             groups,
             firsts,
@@ -54,10 +53,9 @@ fn store_rows(
             others,
             whole,
             &marks,
-            base_buffer::at32(tracks, i),
+            base_buffer::at(tracks, i),
         );
         store_row(res, ROW_FIGURES * i, row);
-        i += 1;
     }
 }
 

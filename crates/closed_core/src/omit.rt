@@ -17,10 +17,8 @@ fn copy_below(list: &[u32], c: usize, left: &mut [u32; MAX_EDGES])
     requires { (c < length list.now) × (length list.now ≤ max_edges) × (left.old ≡ replicate max_edges 0) }
     ensures { left.new ≡ remade (λ e x. get_or list.now (skipping c e) 0) c left.old }
 {
-    let mut e = 0;
-    while e < c {
+    for e in 0..c {
         left[e] = list[e];
-        e += 1;
     }
 }
 
@@ -30,10 +28,8 @@ fn copy_above(list: &[u32], c: usize, count: usize, left: &mut [u32; MAX_EDGES])
     requires left_value { left.old ≡ remade (λ e x. get_or list.now (skipping c e) 0) c (replicate max_edges 0) }
     ensures { left.new ≡ remade (λ e x. get_or list.now (skipping c e) 0) count (replicate max_edges 0) }
 {
-    let mut e = c;
-    while e < count {
+    for e in c..count {
         left[e] = list[e + 1];
-        e += 1;
     }
 }
 

@@ -30,7 +30,7 @@ pub loop-i-preserved : goal.loop-i-preserved
 loop-i-preserved c = (
   omega arith,
   c.store_row.ensures
-      ∙ rows_more _ _ _ c.requires.tracks_in_bounds _ c.loop-i-test.true c.loop-i.invariant.1 (row_asked _ c.at32.ensures c.entry-row.ensures),
+      ∙ rows_more _ _ _ c.requires.tracks_in_bounds _ c.loop-i-test.true c.loop-i.invariant.1 (row_asked _ c.at.ensures c.entry-row.ensures),
 )
 
 pub returns : goal.returns

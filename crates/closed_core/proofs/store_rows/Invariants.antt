@@ -9,6 +9,3 @@ use Rattle.closed_core.proofs.store_rows.Given as goal
 abbrev pub invariant-loop-i : goal.invariant-loop-i
 invariant-loop-i l =
     (l.i ≤ length l.tracks) × (l.res ≡ rows_over (survey_with l.groups l.firsts l.seconds l.weights l.owners l.others) l.tracks l.initial.res l.i)
-
-abbrev pub decreases-loop-i : goal.decreases-loop-i
-decreases-loop-i l = length l.tracks - l.i

@@ -13,16 +13,16 @@ unfolding count_below sum_below listed
 loop-e-init c = ((omega arith, refl), refl, refl, refl, refl)
 
 pub overflow_add-count : goal.overflow_add-count
-overflow_add-count c = let b = count_bound _ _ c.loop-e.invariant.0.1 (c.index8-count.ensures ∙ c.pick_of-one.ensures) in omega arith
+overflow_add-count c = let b = count_bound _ _ c.loop-e.invariant.0.1 (c.from-count.ensures ∙ c.pick_of-one.ensures) in omega arith
 
 pub loop-e-preserved : goal.loop-e-preserved
 loop-e-preserved c =
     let inv = c.loop-e.invariant in (
-      (omega arith, count_more _ _ inv.0.1 (c.index8-count.ensures ∙ c.pick_of-one.ensures)),
-      c.put32.ensures ∙ listed_more _ _ _ _ inv.1 inv.0.1 c.at32.ensures,
-      c.put32-in-loop-e.ensures ∙ listed_more _ _ _ _ inv.2 inv.0.1 c.at32-in-loop-e.ensures,
-      c.put32-in-loop-e-2.ensures ∙ listed_more _ _ _ _ inv.3 inv.0.1 c.at32-in-loop-e-2.ensures,
-      c.put8.ensures ∙ listed_more _ _ _ _ inv.4 inv.0.1 c.pick_of-one.ensures,
+      (omega arith, count_more _ _ inv.0.1 (c.from-count.ensures ∙ c.pick_of-one.ensures)),
+      c.put.ensures ∙ listed_more _ _ _ _ inv.1 inv.0.1 c.at.ensures,
+      c.put-in-loop-e.ensures ∙ listed_more _ _ _ _ inv.2 inv.0.1 c.at-in-loop-e.ensures,
+      c.put-in-loop-e-2.ensures ∙ listed_more _ _ _ _ inv.3 inv.0.1 c.at-in-loop-e-2.ensures,
+      c.put-in-loop-e-3.ensures ∙ listed_more _ _ _ _ inv.4 inv.0.1 c.pick_of-one.ensures,
     )
 
 pub returns : goal.returns

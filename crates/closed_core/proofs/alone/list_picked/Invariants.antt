@@ -14,6 +14,3 @@ invariant-loop-e l =
     × (l.ends ≡ listed (picked_in l.picked) (λ e. get_or l.seconds e 0) l.e l.initial.ends)
     × (l.prices ≡ listed (picked_in l.picked) (λ e. get_or l.weights e 0) l.e l.initial.prices)
     × (l.ones ≡ listed (picked_in l.picked) (λ e. counted (picked_in l.picked e) 1) l.e l.initial.ones)
-
-abbrev pub decreases-loop-e : goal.decreases-loop-e
-decreases-loop-e l = length l.firsts - l.e

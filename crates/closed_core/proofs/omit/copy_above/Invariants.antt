@@ -9,6 +9,3 @@ use Rattle.closed_core.proofs.omit.copy_above.Given as goal
 
 abbrev pub invariant-loop-e : goal.invariant-loop-e
 invariant-loop-e l = ((l.c ≤ l.e) × (l.e ≤ l.count)) × (l.left ≡ remade (λ e x. get_or l.list (skipping l.c e) 0) l.e (replicate max_edges 0))
-
-abbrev pub decreases-loop-e : goal.decreases-loop-e
-decreases-loop-e l = l.count - l.e

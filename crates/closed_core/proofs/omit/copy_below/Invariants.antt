@@ -8,6 +8,3 @@ use Rattle.closed_core.proofs.omit.copy_below.Given as goal
 
 abbrev pub invariant-loop-e : goal.invariant-loop-e
 invariant-loop-e l = (l.e ≤ l.c) × (l.left ≡ remade (λ e x. get_or l.list (skipping l.c e) 0) l.e l.initial.left)
-
-abbrev pub decreases-loop-e : goal.decreases-loop-e
-decreases-loop-e l = l.c - l.e
