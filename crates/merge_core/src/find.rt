@@ -6,12 +6,10 @@ ghost use Rattle.theory_route.specs.First.{first_below};
 pub fn find_in(list: &[u32], count: usize, x: usize) -> usize
     ensures { result ≡ first_below count (λ i. eqb (get_or list.now i 0) x) }
 {
-    let mut i = 0;
-    while i < count {
-        if base_buffer::index32(base_buffer::at32(list, i)) == x {
+    for i in 0..count {
+        if base_buffer::at(list, i) as usize == x {
             return i;
         }
-        i += 1;
     }
     count
 }

@@ -18,7 +18,7 @@ fn append_if(pairs: &mut [u32], count: usize, flag: u8, pair: u32) -> usize
     if flag == 0 {
         return count;
     }
-    base_buffer::put32(pairs, count, pair);
+    base_buffer::put(pairs, count, pair);
     count + 1
 }
 
@@ -30,15 +30,8 @@ fn append_row(pairs: &mut [u32], count: usize, row: &[u8; GROUP_NUMBERS], w: usi
     ensures pairs_value { pairs.new ≡ sets pairs.old count (row_pairs row.now w group_numbers) }
 {
     let mut next = count;
-    let mut g = 0;
-    while g < GROUP_NUMBERS {
-        next = append_if(
-            pairs,
-            next,
-            base_buffer::at8(row, g),
-            (w * GROUP_NUMBERS + g) as u32,
-        );
-        g += 1;
+    for (g, flag) in row.iter().enumerate() {
+        next = append_if(pairs, next, *flag, (w * GROUP_NUMBERS + g) as u32);
     }
     next
 }
@@ -65,8 +58,7 @@ pub fn collect_pairs(
         pairs.new ≡ sets pairs.old 0 all }
 {
     let mut count = 0;
-    let mut w = 0;
-    while w < vertices {
+    for w in 0..vertices {
         let v = find_in(places, second_groups.len(), w);
         let row = row_of(
             groups,
@@ -79,7 +71,6 @@ pub fn collect_pairs(
             v,
         );
         count = append_row(pairs, count, &row, w);
-        w += 1;
     }
     count
 }

@@ -14,7 +14,7 @@ fn place_at(firsts: &[u32], count: usize, i: usize, next: usize) -> u32
     ensures { result ≡ cond (ltb i count) (get_or firsts.now i 0) next }
 {
     if i < count {
-        return base_buffer::at32(firsts, i);
+        return base_buffer::at(firsts, i);
     }
     next as u32
 }
@@ -43,12 +43,10 @@ pub fn store_places(
     ensures places_value { places.new ≡ sets places.old 0 (tabulate m (placed n (ties_from firsts.now seconds.now))) }
 {
     let mut next = n;
-    let mut v = 0;
-    while v < m {
+    for v in 0..m {
         let i = find_in(seconds, seconds.len(), v);
-        base_buffer::put32(places, v, place_at(firsts, seconds.len(), i, next));
+        base_buffer::put(places, v, place_at(firsts, seconds.len(), i, next));
         next += one_if_past(i, seconds.len());
-        v += 1;
     }
     next
 }

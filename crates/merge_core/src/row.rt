@@ -5,15 +5,15 @@ ghost use Rattle.base_limits.specs.Limits.{group_numbers};
 ghost use Rattle.survey_core.specs.Lists.{lent_lists, is_paired, own};
 ghost use Rattle.merge_core.specs.Row.{marked, paired_below, further_with, own_with};
 
-use base_buffer::{at8, index8, put8};
+use base_buffer::{at, put};
 use base_limits::GROUP_NUMBERS;
 
 // The flag of a group, where the pair is v's.
 fn mark_if(flags: &mut [u8], owner: u32, other: u8, v: usize)
     ensures { flags.new ≡ cond (eqb owner v) (set flags.old other 1) flags.old }
 {
-    if base_buffer::index32(owner) == v {
-        put8(flags, index8(other), 1);
+    if owner as usize == v {
+        put(flags, usize::from(other), 1);
     }
 }
 
@@ -21,10 +21,8 @@ fn mark_if(flags: &mut [u8], owner: u32, other: u8, v: usize)
 fn mark_pairs(flags: &mut [u8], owners: &[u32], others: &[u8], v: usize)
     ensures { flags.new ≡ marked (λ g. paired_below owners.now others.now (length owners.now) g v) flags.old }
 {
-    let mut i = 0;
-    while i < owners.len() {
-        mark_if(flags, base_buffer::at32(owners, i), at8(others, i), v);
-        i += 1;
+    for i in 0..owners.len() {
+        mark_if(flags, base_buffer::at(owners, i), at(others, i), v);
     }
 }
 
@@ -34,16 +32,16 @@ fn mark_groups(flags: &mut [u8], groups: &[u8], owners: &[u32], others: &[u8], v
         flags.new ≡ marked (λ g. is_paired l g v || eqb (own l v) g) flags.old }
 {
     mark_pairs(flags, owners, others, v);
-    put8(flags, index8(at8(groups, v)), 1);
+    put(flags, usize::from(at(groups, v)), 1);
 }
 
 // The own group of a junction that is w of the first and v of the second: the first's, or the second's where that is 0.
 pub fn own_of(groups: &[u8], second_groups: &[u8], w: usize, v: usize) -> u8
     ensures { result ≡ own_with groups.now second_groups.now w v }
 {
-    let own = at8(groups, w);
+    let own = at(groups, w);
     if own == 0 {
-        return at8(second_groups, v);
+        return at(second_groups, v);
     }
     own
 }
@@ -65,7 +63,11 @@ pub fn row_of(
     let mut flags = [0u8; GROUP_NUMBERS];
     mark_groups(&mut flags, groups, owners, others, w);
     mark_groups(&mut flags, second_groups, second_owners, second_others, v);
-    put8(&mut flags, index8(own_of(groups, second_groups, w, v)), 0);
-    put8(&mut flags, 0, 0);
+    put(
+        &mut flags,
+        usize::from(own_of(groups, second_groups, w, v)),
+        0,
+    );
+    put(&mut flags, 0, 0);
     flags
 }

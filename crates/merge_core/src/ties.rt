@@ -4,15 +4,15 @@ ghost use Rattle.merge_rule.specs.Ties.{ties_from};
 ghost use Rattle.merge_rule.specs.Refusal.{tie_refusal, ties_refusal};
 
 use crate::find::find_in;
-use base_buffer::{at32, index32};
+use base_buffer::at;
 use base_limits::Verdict;
 
 // 22 at tie i: a junction out of range, or one that a lower tie names on the same side.
 fn tie_refusal(n: usize, m: usize, firsts: &[u32], seconds: &[u32], i: usize) -> Verdict
     ensures { result ≡ tie_refusal n m (ties_from firsts.now seconds.now) i }
 {
-    let first = index32(at32(firsts, i));
-    let second = index32(at32(seconds, i));
+    let first = at(firsts, i) as usize;
+    let second = at(seconds, i) as usize;
     if n <= first {
         return Verdict::Refused {
             number: 22,
@@ -50,13 +50,11 @@ pub fn ties_refusal(n: usize, m: usize, firsts: &[u32], seconds: &[u32]) -> Verd
             place: 0,
         };
     }
-    let mut i = 0;
-    while i < firsts.len() {
+    for i in 0..firsts.len() {
         let found = tie_refusal(n, m, firsts, seconds, i);
         let Verdict::Fine = found else {
             return found;
         };
-        i += 1;
     }
     Verdict::Fine
 }

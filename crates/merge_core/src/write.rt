@@ -9,7 +9,7 @@ ghost use Rattle.merge_core.specs.Pairs.{standing_in};
 
 use crate::find::find_in;
 use crate::row::own_of;
-use base_buffer::{at32, put32};
+use base_buffer::{at, put};
 use base_limits::GROUP_NUMBERS;
 
 // The own group of each junction.
@@ -23,11 +23,9 @@ pub fn write_groups(
     ensures { out.new ≡ sets out.old 0 (tabulate vertices (λ w. own_with groups.now second_groups.now w
         (standing_in places.now (length second_groups.now) w))) }
 {
-    let mut w = 0;
-    while w < vertices {
+    for w in 0..vertices {
         let v = find_in(places, second_groups.len(), w);
-        base_buffer::put8(out, w, own_of(groups, second_groups, w, v));
-        w += 1;
+        base_buffer::put(out, w, own_of(groups, second_groups, w, v));
     }
 }
 
@@ -37,10 +35,8 @@ fn copy_at(list: &[u32], at: usize, out: &mut [u32])
     requires list_len_bound { length list.now ≤ max_edges }
     ensures { out.new ≡ sets out.old at list.now }
 {
-    let mut i = 0;
-    while i < list.len() {
-        put32(out, at + i, at32(list, i));
-        i += 1;
+    for (i, x) in list.iter().enumerate() {
+        put(out, at + i, *x);
     }
 }
 
@@ -50,14 +46,8 @@ fn copy_places(list: &[u32], places: &[u32], at: usize, out: &mut [u32])
     requires list_len_bound { length list.now ≤ max_edges }
     ensures { out.new ≡ sets out.old at (map (λ v. get_or places.now v 0) list.now) }
 {
-    let mut i = 0;
-    while i < list.len() {
-        put32(
-            out,
-            at + i,
-            at32(places, base_buffer::index32(at32(list, i))),
-        );
-        i += 1;
+    for (i, v) in list.iter().enumerate() {
+        put(out, at + i, base_buffer::at(places, *v as usize));
     }
 }
 
@@ -87,11 +77,9 @@ pub fn write_pairs(pairs: &[u32], count: usize, owners: &mut [u32], others: &mut
     ensures owners_value { owners.new ≡ sets owners.old 0 (map pair_vertex (take count pairs.now)) }
     ensures others_value { others.new ≡ sets others.old 0 (map pair_group (take count pairs.now)) }
 {
-    let mut i = 0;
-    while i < count {
-        let pair = base_buffer::index32(at32(pairs, i));
-        put32(owners, i, (pair / GROUP_NUMBERS) as u32);
-        base_buffer::put8(others, i, (pair % GROUP_NUMBERS) as u8);
-        i += 1;
+    for i in 0..count {
+        let pair = at(pairs, i) as usize;
+        put(owners, i, (pair / GROUP_NUMBERS) as u32);
+        base_buffer::put(others, i, (pair % GROUP_NUMBERS) as u8);
     }
 }

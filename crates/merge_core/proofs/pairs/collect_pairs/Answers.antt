@@ -1,5 +1,4 @@
 -- `collect_pairs` meets its contract: one more row in each turn (`pairs_turn`).
-use Prim.Native.Nat.{◌-◌}
 use native.Mathlib.Omega.{arith}
 use Rattle.merge_core.specs.Laws.Pairs.{pairs_start, pairs_few, pairs_turn, pairs_end}
 use Rattle.merge_core.proofs.pairs.collect_pairs.Goals as goal

@@ -1,5 +1,5 @@
 -- `store_places` meets its contract: one more place in each turn (`head_more`).
-use Prim.Native.Nat.{◌+◌, ◌≤◌, ◌-◌}
+use Prim.Native.Nat.{◌+◌, ◌≤◌}
 use mathlib.Core.Path.{◌≡◌}
 use lib.ListN.{take}
 use lib.Seq.{sets}
@@ -9,6 +9,3 @@ use Rattle.merge_core.proofs.places.store_places.Given as goal
 
 abbrev pub invariant-loop-v : goal.invariant-loop-v
 invariant-loop-v l = (l.v ≤ l.m) × ((l.next ≡ l.n + count_below l.v (is_untied (ties_from l.firsts l.seconds))) × (l.places ≡ sets l.initial.places 0 (take l.v (tabulate l.m (placed l.n (ties_from l.firsts l.seconds))))))
-
-abbrev pub decreases-loop-v : goal.decreases-loop-v
-decreases-loop-v l = l.m - l.v

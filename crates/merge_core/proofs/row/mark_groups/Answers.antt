@@ -4,4 +4,4 @@ use Rattle.merge_core.specs.Laws.Row.{groups_marked}
 use Rattle.merge_core.proofs.row.mark_groups.Goals as goal
 
 pub returns : goal.returns
-returns c = groups_marked (lists_from c.args.groups.now c.args.owners.now c.args.others.now) _ _ c.mark_pairs.ensures c.at8.ensures c.index8.ensures c.put8.ensures
+returns c = groups_marked (lists_from c.args.groups.now c.args.owners.now c.args.others.now) _ _ c.mark_pairs.ensures c.at.ensures c.from.ensures c.put.ensures

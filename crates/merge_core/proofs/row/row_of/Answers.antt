@@ -7,12 +7,12 @@ use Rattle.merge_core.proofs.row.row_of.Goals as goal
 pub slice_bounds-mark_groups-end-2 : goal.slice_bounds-mark_groups-end-2
 slice_bounds-mark_groups-end-2 c = sym (one_long _ c.mark_groups.ensures)
 
-pub slice_bounds-put8-end : goal.slice_bounds-put8-end
-slice_bounds-put8-end c = sym (two_long _ _ c.mark_groups.ensures c.mark_groups-2.ensures)
+pub slice_bounds-put-end : goal.slice_bounds-put-end
+slice_bounds-put-end c = sym (two_long _ _ c.mark_groups.ensures c.mark_groups-2.ensures)
 
-pub slice_bounds-put8-end-2 : goal.slice_bounds-put8-end-2
-slice_bounds-put8-end-2 c = sym (three_long _ _ _ c.mark_groups.ensures c.mark_groups-2.ensures c.put8.ensures)
+pub slice_bounds-put-end-2 : goal.slice_bounds-put-end-2
+slice_bounds-put-end-2 c = sym (three_long _ _ _ c.mark_groups.ensures c.mark_groups-2.ensures c.put.ensures)
 
 pub returns : goal.returns
 returns c =
-    row_found (lists_from c.args.groups.now c.args.owners.now c.args.others.now) (lists_from c.args.second_groups.now c.args.second_owners.now c.args.second_others.now) _ _ c.mark_groups.ensures c.mark_groups-2.ensures c.own_of.ensures c.index8.ensures c.put8.ensures c.put8-2.ensures
+    row_found (lists_from c.args.groups.now c.args.owners.now c.args.others.now) (lists_from c.args.second_groups.now c.args.second_owners.now c.args.second_others.now) _ _ c.mark_groups.ensures c.mark_groups-2.ensures c.own_of.ensures c.from.ensures c.put.ensures c.put-2.ensures

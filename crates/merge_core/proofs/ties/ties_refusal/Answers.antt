@@ -1,5 +1,4 @@
 -- `ties_refusal` meets its contract: 2, or a scan of the ties.
-use Prim.Native.Nat.{◌-◌}
 use native.Mathlib.Omega.{arith}
 use Rattle.base_limits.specs.Laws.Verdict.{scan_start, scan_turn, scan_found, scan_end}
 use Rattle.merge_rule.specs.Ties.{ties_from}

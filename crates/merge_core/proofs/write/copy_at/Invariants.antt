@@ -1,5 +1,5 @@
 -- `copy_at` meets its contract: one more store in each turn (`run_more`).
-use Prim.Native.Nat.{◌≤◌, ◌-◌}
+use Prim.Native.Nat.{◌≤◌}
 use mathlib.Core.Path.{◌≡◌}
 use lib.Seq.{sets}
 use lib.ListN.{length, take}
@@ -7,6 +7,3 @@ use Rattle.merge_core.proofs.write.copy_at.Given as goal
 
 abbrev pub invariant-loop-i : goal.invariant-loop-i
 invariant-loop-i l = (l.i ≤ length l.list) × (l.out ≡ sets l.initial.out l.at (take l.i l.list))
-
-abbrev pub decreases-loop-i : goal.decreases-loop-i
-decreases-loop-i l = length l.list - l.i

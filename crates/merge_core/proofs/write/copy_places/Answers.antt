@@ -1,5 +1,4 @@
 -- `copy_places` meets its contract: one more store in each turn (`run_more`).
-use Prim.Native.Nat.{◌-◌}
 use native.Mathlib.Omega.{arith}
 use mathlib.Core.Path.{refl, ◌∙◌}
 use lib.ListN.{get_or}
@@ -11,7 +10,7 @@ pub loop-i-init : goal.loop-i-init
 loop-i-init c = (omega arith, refl)
 
 pub loop-i-preserved : goal.loop-i-preserved
-loop-i-preserved c = (omega arith, c.put32.ensures ∙ run_more _ _ _ _ c.loop-i.invariant.1 (mapped_below (λ v. get_or c.args.places.now v 0) c.args.list.now c.loop-i-test.true) (mapped_read c.args.places.now c.args.list.now c.loop-i-test.true c.at32.ensures c.index32.ensures c.at32-in-loop-i.ensures))
+loop-i-preserved c = (omega arith, c.put.ensures ∙ run_more _ _ _ _ c.loop-i.invariant.1 (mapped_below (λ v. get_or c.args.places.now v 0) c.args.list.now c.loop-i-test.true) (mapped_read c.args.places.now c.args.list.now c.loop-i-test.true refl refl c.at.ensures))
 
 pub returns : goal.returns
 returns c = run_end _ _ _ _ c.loop-i.invariant.1 (mapped_end (λ v. get_or c.args.places.now v 0) c.args.list.now c.loop-i-test.false)

@@ -1,5 +1,5 @@
 -- `write_groups` meets its contract: one more store in each turn (`head_more`).
-use Prim.Native.Nat.{◌≤◌, ◌-◌}
+use Prim.Native.Nat.{◌≤◌}
 use mathlib.Core.Path.{◌≡◌}
 use lib.ListN.{length, take}
 use lib.Seq.{sets}
@@ -10,6 +10,3 @@ use Rattle.merge_core.proofs.write.write_groups.Given as goal
 
 abbrev pub invariant-loop-w : goal.invariant-loop-w
 invariant-loop-w l = (l.w ≤ l.vertices) × (l.out ≡ sets l.initial.out 0 (take l.w (tabulate l.vertices (λ w. own_with l.groups l.second_groups w (standing_in l.places (length l.second_groups) w)))))
-
-abbrev pub decreases-loop-w : goal.decreases-loop-w
-decreases-loop-w l = l.vertices - l.w
