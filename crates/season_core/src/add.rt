@@ -8,7 +8,7 @@ ghost use Rattle.season_rule.specs.Report.{farther as farther_of};
 ghost use Rattle.season_core.specs.Room.{plan_refusal, count_refusal};
 
 use crate::wide::above;
-use base_buffer::{at64, put64};
+use base_buffer::put;
 use base_limits::Verdict;
 use plan_rule::Figured;
 use season_rule::{Added, Farthest, MAX_SURVEYS, REFUSAL_NUMBERS, Report};
@@ -179,7 +179,7 @@ pub fn add_refusal(report: Report, number: u64, place: usize) -> Added
 {
     let mut refused = report.refused;
     let at = number as usize;
-    let count = at64(&refused, at);
+    let count = base_buffer::at(&refused, at);
     let found = count_refusal(report.surveys, count);
     let Verdict::Fine = found else {
         return Added {
@@ -187,7 +187,7 @@ pub fn add_refusal(report: Report, number: u64, place: usize) -> Added
             report,
         };
     };
-    put64(&mut refused, at, count + 1);
+    put(&mut refused, at, count + 1);
     let farthest = report.farthest;
     let next = Report {
         surveys: report.surveys + 1,

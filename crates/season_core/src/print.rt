@@ -4,7 +4,6 @@ ghost use Rattle.format_write.specs.Wrote.{Wrote};
 ghost use Rattle.format_print.specs.Print.{printed, printed_out};
 ghost use Rattle.season_rule.specs.Text.{far_key, list_line, refused_line, refused_lines, far_line, report_text};
 
-use base_buffer::wide;
 use format_print::Printed;
 use format_write::{put, put_bytes, put_line, put_number};
 use season_rule::{Farthest, Report};
@@ -31,7 +30,7 @@ fn put_count(out: &mut [u8], at: usize, count: u64, number: usize) -> usize
     ensures { Wrote out.old at (refused_line count number) out.new result }
 {
     if 0 < count {
-        return put_pair(out, at, &format_write::REFUSED, wide(number), count);
+        return put_pair(out, at, &format_write::REFUSED, number as u64, count);
     }
     at
 }
@@ -41,10 +40,8 @@ fn put_counts(out: &mut [u8], at: usize, counts: &[u64]) -> usize
     ensures { Wrote out.old at (refused_lines counts.now) out.new result }
 {
     let mut next = at;
-    let mut k = 0;
-    while k < counts.len() {
-        next = put_count(out, next, counts[k], k);
-        k += 1;
+    for (k, count) in counts.iter().enumerate() {
+        next = put_count(out, next, *count, k);
     }
     next
 }

@@ -9,7 +9,7 @@ use Rattle.season_core.proofs.add.add_refusal.Goals as goal
 pub returns-in_default : goal.returns-in_default
 returns-in_default c =
     let r = c.args.report in
-    let found = c.count_refusal-found.ensures ∙ ap (count_refusal r.surveys) c.at64-count.ensures ∙ count_refusal_law _ _ _ in
+    let found = c.count_refusal-found.ensures ∙ ap (count_refusal r.surveys) c.at-count.ensures ∙ count_refusal_law _ _ _ in
     record { verdict_value = found; report_value = unchanged _ _ found c.in_default.is }
 
 pub overflow_add-count : goal.overflow_add-count
@@ -23,6 +23,6 @@ overflow_add-next c =
 pub returns : goal.returns
 returns c =
     let r = c.args.report in
-    let found = c.count_refusal-found.ensures ∙ ap (count_refusal r.surveys) c.at64-count.ensures ∙ count_refusal_law _ _ _ in
+    let found = c.count_refusal-found.ensures ∙ ap (count_refusal r.surveys) c.at-count.ensures ∙ count_refusal_law _ _ _ in
     let fine = c.in-Fine.is in
-    record { verdict_value = sym fine ∙ found; report_value = refusal_after _ _ _ found fine c.at64-count.ensures c.put64.ensures }
+    record { verdict_value = sym fine ∙ found; report_value = refusal_after _ _ _ found fine c.at-count.ensures c.put.ensures }

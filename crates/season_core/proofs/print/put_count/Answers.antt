@@ -9,7 +9,7 @@ pub returns-then-count-gt0 : goal.returns-then-count-gt0
 unfolding refused_key
 returns-then-count-gt0 c =
     let a = c.args in
-    wrote_as (rw c.wide.ensures at c.put_pair.ensures) (met_line a.count a.number c.if-count-gt0.true)
+    wrote_as c.put_pair.ensures (met_line a.count a.number c.if-count-gt0.true)
 
 -- not met
 pub returns : goal.returns

@@ -1,5 +1,5 @@
 -- `put_counts`: what is written so far are the lines of the numbers below k.
-use Prim.Native.Nat.{◌≤◌, ◌-◌}
+use Prim.Native.Nat.{◌≤◌}
 use native.Mathlib.Omega.{arith}
 use mathlib.Core.Path.{◌≡◌, ap, sym}
 use lib.ListN.{length, get_or}
@@ -30,9 +30,6 @@ returns c =
     let counts = c.args.counts.now in
     let all : c.loop-k.k ≡ length counts = omega arith in
     wrote_as c.loop-k.invariant.1 (ap (λ n. text_below n (λ i. refused_line (get_or counts i 0) i)) all)
-
-pub loop-k-smaller : goal.loop-k-smaller
-loop-k-smaller c = omega arith
 
 pub shape_of-out : goal.shape_of-out
 shape_of-out c = wrote_length c.loop-k.invariant.1
