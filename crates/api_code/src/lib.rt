@@ -27,7 +27,7 @@ const MOST_PLACE: u64 = MOST_CODE / PLACE_UNIT;
 pub fn code(number: u64, place: usize) -> u64
     ensures { result ≡ capped (number + place_unit * place) }
 {
-    let at = base_buffer::wide(place);
+    let at = place as u64;
     if MOST_PLACE < at {
         return MOST_CODE;
     }

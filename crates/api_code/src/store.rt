@@ -2,23 +2,23 @@
 ghost use Rattle.std.specs.Prelude.{◌≡◌, [], ◌∷◌};
 ghost use Rattle.std.proofs.lemmas.List.Edits.{sets};
 
-use base_buffer::put64;
+use base_buffer::put;
 
 // Two counts, at the beginning of a buffer.
 pub fn store_two(counts: &mut [u64], one: u64, two: u64)
     ensures { counts.new ≡ sets counts.old 0 (one ∷ two ∷ []) }
 {
-    put64(counts, 0, one);
-    put64(counts, 1, two);
+    put(counts, 0, one);
+    put(counts, 1, two);
 }
 
 // k, cost and bound.
 pub fn store_three(counts: &mut [u64], terminals: u64, cost: u64, bound: u64)
     ensures { counts.new ≡ sets counts.old 0 (terminals ∷ cost ∷ bound ∷ []) }
 {
-    put64(counts, 0, terminals);
-    put64(counts, 1, cost);
-    put64(counts, 2, bound);
+    put(counts, 0, terminals);
+    put(counts, 1, cost);
+    put(counts, 2, bound);
 }
 
 // The same with rounds and the number of moats behind them.
@@ -33,6 +33,6 @@ pub fn store_five(
     ensures { counts.new ≡ sets counts.old 0 (terminals ∷ cost ∷ bound ∷ rounds ∷ duals ∷ []) }
 {
     store_three(counts, terminals, cost, bound);
-    put64(counts, 3, rounds);
-    put64(counts, 4, duals);
+    put(counts, 3, rounds);
+    put(counts, 4, duals);
 }

@@ -6,4 +6,4 @@ use Rattle.api_code.proofs.store.store_two.Goals as goal
 pub returns : goal.returns
 returns c =
     let a = c.args in
-    c.put64-2.ensures ∙ ap (λ l. set l 1 a.two) c.put64.ensures
+    c.put-2.ensures ∙ ap (λ l. set l 1 a.two) c.put.ensures
