@@ -6,7 +6,7 @@ ghost use Rattle.std.specs.Prelude.{◌≡◌};
 ghost use Rattle.api_code.specs.Code.{code_of, capped};
 ghost use Rattle.api_print.specs.Call.{printed_code, printed_counts, dual_call, dual_out, dual_counts};
 
-use base_buffer::put64;
+use base_buffer::put;
 use format_print::{Printed, print_dual};
 
 mod plan;
@@ -27,7 +27,7 @@ pub fn printed_code(answer: Printed, counts: &mut [u64]) -> u64
 {
     match answer {
         Printed::Length(n) => {
-            put64(counts, 0, base_buffer::wide(n));
+            put(counts, 0, n as u64);
             0
         }
         Printed::Refused { number, place } => api_code::code(number, place),
