@@ -18,24 +18,12 @@ pub use store::{store_five, store_three, store_two};
 // A refusal's place counts this many times.
 const PLACE_UNIT: u64 = 256;
 
-// The largest number, and the largest place that goes into one.
-const MOST_CODE: u64 = 0xFFFF_FFFF_FFFF_FFFF;
-
-const MOST_PLACE: u64 = MOST_CODE / PLACE_UNIT;
-
 // A refusal as one number.
 pub fn code(number: u64, place: usize) -> u64
     ensures { result ≡ capped (number + place_unit * place) }
 {
-    let at = place as u64;
-    if MOST_PLACE < at {
-        return MOST_CODE;
-    }
-    let above = PLACE_UNIT * at;
-    if MOST_CODE - above < number {
-        return MOST_CODE;
-    }
-    number + above
+    let above = PLACE_UNIT.saturating_mul(place as u64);
+    number.saturating_add(above)
 }
 
 // The answer of a call whose counts do not fit: 1 to 6, 18, else 7.

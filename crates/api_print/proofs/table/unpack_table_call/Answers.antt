@@ -1,13 +1,14 @@
--- `unpack_table_call` meets its contract: the refusal's number, or 0.
-use Rattle.api_print.specs.Laws.Table.{table_refused, table_fine}
+-- `unpack_table_call` meets its contract: what was found goes into one number whole.
+use mathlib.Core.Path.{ap, ◌∙◌}
+use Rattle.base_limits.specs.declared.Verdict.{Verdict}
+use Rattle.api_code.specs.Code.{code_of, capped}
+use Rattle.api_code.specs.Laws.Encodable.{capped_code}
+use Rattle.api_print.specs.Laws.Table.{table_encodable}
 use Rattle.api_print.proofs.table.unpack_table_call.Goals as goal
 
--- refused
-pub returns-in-Refused : goal.returns-in-Refused
-returns-in-Refused c =
-    record { code = table_refused _ _ c.unpack_table-found.ensures.value c.in-Refused.is c.code.ensures; out = c.unpack_table-found.ensures.out_value }
-
--- the table
-pub returns-in-Fine : goal.returns-in-Fine
-returns-in-Fine c =
-    record { code = table_fine _ _ c.unpack_table-found.ensures.value c.in-Fine.is; out = c.unpack_table-found.ensures.out_value }
+pub returns : goal.returns
+returns c =
+    record {
+      code = c.told.ensures ∙ ap (λ (v : Verdict). capped (code_of v)) c.unpack_table.ensures.value ∙ capped_code _ (table_encodable _ _);
+      out = c.unpack_table.ensures.out_value;
+    }
