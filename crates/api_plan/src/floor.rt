@@ -5,7 +5,7 @@ ghost use Rattle.survey_core.specs.Survey.{lent_with};
 ghost use Rattle.api_code.specs.Code.{code_of};
 ghost use Rattle.api_plan.specs.FloorCall.{floor_call, floored_counts};
 
-use base_buffer::put64;
+use base_buffer::put;
 use floor_rule::Floored;
 
 // Entries of the counts of the floor.
@@ -14,10 +14,10 @@ pub const FLOOR_FIGURES: usize = 4;
 fn store_four(counts: &mut [u64], floor: u64, terminals: u64, cost: u64, bound: u64)
     ensures { counts.new ≡ sets counts.old 0 (floor ∷ terminals ∷ cost ∷ bound ∷ []) }
 {
-    put64(counts, 0, floor);
-    put64(counts, 1, terminals);
-    put64(counts, 2, cost);
-    put64(counts, 3, bound);
+    put(counts, 0, floor);
+    put(counts, 1, terminals);
+    put(counts, 2, cost);
+    put(counts, 3, bound);
 }
 
 // A floor under every set of tracks that joins every group. `counts` gets the floor, k, cost and bound.

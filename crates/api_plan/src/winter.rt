@@ -64,7 +64,7 @@ pub fn winter_call(
     );
     match answer {
         Winter::Finished { total } => {
-            base_buffer::put64(counts, 0, total);
+            base_buffer::put(counts, 0, total);
             0
         }
         Winter::Refused { number, place } => api_code::code(number, place),

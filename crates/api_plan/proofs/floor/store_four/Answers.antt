@@ -5,4 +5,4 @@ use Rattle.api_plan.proofs.floor.store_four.Goals as goal
 pub returns : goal.returns
 returns c =
     let a = c.args in
-    stored_four a.counts.now a.floor a.terminals a.cost a.bound c.put64.ensures c.put64-2.ensures c.put64-3.ensures c.put64-4.ensures
+    stored_four a.counts.now a.floor a.terminals a.cost a.bound c.put.ensures c.put-2.ensures c.put-3.ensures c.put-4.ensures

@@ -11,7 +11,7 @@ returns-then-counts-lt-WINTER_FIGURES c =
 -- finished
 pub returns-in-Finished : goal.returns-in-Finished
 returns-in-Finished c =
-    let long = c.if-counts-lt-WINTER_FIGURES.false in record { code = winter_finished _ _ _ _ long c.winter-answer.ensures.result_value _ c.in-Finished.is; copies = winter_copies_law _ _ _ _ long c.winter-answer.ensures.copies_value; counts = winter_stored _ _ _ _ long c.winter-answer.ensures.result_value _ c.in-Finished.is c.put64.ensures }
+    let long = c.if-counts-lt-WINTER_FIGURES.false in record { code = winter_finished _ _ _ _ long c.winter-answer.ensures.result_value _ c.in-Finished.is; copies = winter_copies_law _ _ _ _ long c.winter-answer.ensures.copies_value; counts = winter_stored _ _ _ _ long c.winter-answer.ensures.result_value _ c.in-Finished.is c.put.ensures }
 
 -- refused
 pub returns-in-Refused : goal.returns-in-Refused
