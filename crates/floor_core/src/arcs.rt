@@ -3,7 +3,7 @@
 ghost use Rattle.std.specs.Prelude.{◌≡◌};
 ghost use Rattle.floor_rule.specs.Ascent.{arc_count, edge_of, tail_of, head_of, prices};
 
-use base_buffer::{at32, index32, put32};
+use base_buffer::{at, put};
 use floor_rule::MAX_ARCS;
 
 // The track of arc a.
@@ -20,18 +20,18 @@ pub fn tail_of(firsts: &[u32], seconds: &[u32], a: usize) -> usize
     ensures { result ≡ tail_of firsts.now seconds.now a }
 {
     if a < firsts.len() {
-        return index32(at32(firsts, a));
+        return at(firsts, a) as usize;
     }
-    index32(at32(seconds, a - firsts.len()))
+    at(seconds, a - firsts.len()) as usize
 }
 
 pub fn head_of(firsts: &[u32], seconds: &[u32], a: usize) -> usize
     ensures { result ≡ head_of firsts.now seconds.now a }
 {
     if a < firsts.len() {
-        return index32(at32(seconds, a));
+        return at(seconds, a) as usize;
     }
-    index32(at32(firsts, a - firsts.len()))
+    at(firsts, a - firsts.len()) as usize
 }
 
 // What each arc can bear at first.
@@ -40,10 +40,8 @@ pub fn prices(firsts: &[u32], weights: &[u32], arcs: usize) -> [u32; MAX_ARCS]
     ensures { result ≡ prices firsts.now weights.now }
 {
     let mut rests = [0u32; MAX_ARCS];
-    let mut a = 0;
-    while a < arcs {
-        put32(&mut rests, a, at32(weights, edge_of(firsts, a)));
-        a += 1;
+    for a in 0..arcs {
+        put(&mut rests, a, at(weights, edge_of(firsts, a)));
     }
     rests
 }

@@ -8,7 +8,7 @@ ghost use Rattle.floor_core.specs.Done.{Done};
 use crate::arcs::prices;
 use crate::cut::raise_cut;
 use crate::shares::root_of;
-use base_buffer::{at8, at64, index8, put8, put64};
+use base_buffer::{at, put};
 use base_limits::{GROUP_NUMBERS, MAX_VERTICES};
 use floor_rule::MAX_ARCS;
 
@@ -16,8 +16,8 @@ use floor_rule::MAX_ARCS;
 fn missing(share: &[u64], got: &[u64], l: usize) -> u64
     ensures { result ≡ missing share.now got.now l }
 {
-    let whole = at64(share, l);
-    let part = at64(got, l);
+    let whole = at(share, l);
+    let part = at(got, l);
     if whole <= part {
         return 0;
     }
@@ -56,16 +56,16 @@ fn visit(
     if cap == 0 {
         return more;
     }
-    if at8(done, v) != 0 {
+    if at(done, v) != 0 {
         return more;
     }
     let raised = raise_cut(firsts, seconds, tops, links, rests, rim, n, root, v, cap);
     if raised.inside {
-        put8(done, v, 1);
+        put(done, v, 1);
         return more;
     }
-    let part = at64(got, l);
-    put64(got, l, part + raised.by);
+    let part = at(got, l);
+    put(got, l, part + raised.by);
     true
 }
 
@@ -96,7 +96,7 @@ fn visit_member(
         (more ≡ false) × (state_with rests.new got.new ≡ state_with rests.old got.old) }
     ensures done_2 { Done firsts.now seconds.now (length groups.now) root rests.new done.new }
 {
-    if index8(at8(groups, v)) != l {
+    if usize::from(at(groups, v)) != l {
         return more;
     }
     let n = groups.len();
@@ -131,12 +131,10 @@ fn visit_members(
     ensures done_2 { Done firsts.now seconds.now (length groups.now) root rests.new done.new }
 {
     let mut more = before;
-    let mut v = 0;
-    while v < groups.len() {
+    for v in 0..groups.len() {
         more = visit_member(
             groups, firsts, seconds, share, tops, links, rests, got, done, rim, root, l, v, more,
         );
-        v += 1;
     }
     more
 }
@@ -202,12 +200,10 @@ fn pass(
     ensures done_2 { Done firsts.now seconds.now (length groups.now) root rests.new done.new }
 {
     let mut more = false;
-    let mut l = 0;
-    while l < GROUP_NUMBERS {
+    for l in 0..GROUP_NUMBERS {
         more = visit_group(
             groups, firsts, seconds, share, tops, links, rests, got, done, rim, root, k, l, more,
         );
-        l += 1;
     }
     more
 }

@@ -5,7 +5,7 @@ ghost use Rattle.floor_rule.specs.Ascent.{arc_count};
 ghost use Rattle.floor_core.specs.Chain.{Ends, Chained};
 
 use crate::arcs::{head_of, tail_of};
-use base_buffer::{at32, put32};
+use base_buffer::{at, put};
 use base_limits::MAX_VERTICES;
 use floor_rule::MAX_ARCS;
 
@@ -23,10 +23,10 @@ fn chain_arc(
     ensures { Chained firsts.now seconds.now (a + 1) tops.new links.new }
 {
     let head = head_of(firsts, seconds, a);
-    let before = at32(tops, head);
+    let before = at(tops, head);
     let tail = tail_of(firsts, seconds, a);
-    put32(links, a, (tail as u32) + 512 * before);
-    put32(tops, head, (a as u32) + 1);
+    put(links, a, (tail as u32) + 512 * before);
+    put(tops, head, (a as u32) + 1);
 }
 
 // All arcs.
@@ -42,9 +42,7 @@ pub fn chain(
     requires tops_value { tops.old ≡ replicate max_vertices 0 }
     ensures { Chained firsts.now seconds.now (arc_count firsts.now) tops.new links.new }
 {
-    let mut a = 0;
-    while a < arcs {
+    for a in 0..arcs {
         chain_arc(firsts, seconds, a, tops, links);
-        a += 1;
     }
 }

@@ -6,7 +6,7 @@ ghost use Rattle.floor_core.specs.Walk.{Ground, arcs_in, LinkedIn, Cut, Narrow};
 ghost use Rattle.floor_core.specs.Laws.Rim.{Narrows};
 
 use crate::walk::walk;
-use base_buffer::{at8, at32, index32, put8, put32, wide32};
+use base_buffer::{at, put};
 use base_limits::MAX_VERTICES;
 use floor_rule::MAX_ARCS;
 
@@ -42,15 +42,15 @@ fn narrow_at(
         → Narrows links.now flags.now first arcs rests.now cap j least kept rim.old → j < arcs
         → Narrows links.now flags.now first arcs rests.now cap (j + 1) result.least result.arcs rim.new }
 {
-    let a = at32(rim, j);
-    let i = index32(a);
-    let tail = index32(at32(links, i) % 512);
-    if at8(flags, tail) != 0 {
+    let a = at(rim, j);
+    let i = a as usize;
+    let tail = (at(links, i) % 512) as usize;
+    if at(flags, tail) != 0 {
         return Narrowed { least, arcs: kept };
     }
-    put32(rim, kept, a);
+    put(rim, kept, a);
     Narrowed {
-        least: lesser(least, wide32(at32(rests, i))),
+        least: lesser(least, u64::from(at(rests, i))),
         arcs: kept + 1,
     }
 }
@@ -70,12 +70,10 @@ fn narrow(
 {
     let mut least = cap;
     let mut kept = 0;
-    let mut j = 0;
-    while j < arcs {
+    for j in 0..arcs {
         let found = narrow_at(links, rests, flags, rim, j, least, kept);
         least = found.least;
         kept = found.arcs;
-        j += 1;
     }
     Narrowed { least, arcs: kept }
 }
@@ -84,7 +82,7 @@ fn narrow(
 fn less(rest: u32, d: u64) -> u32
     ensures { result ≡ rest - d }
 {
-    if wide32(rest) <= d {
+    if u64::from(rest) <= d {
         return 0;
     }
     rest - (d as u32)
@@ -96,12 +94,10 @@ fn load(rim: &[u32; MAX_ARCS], arcs: usize, rests: &mut [u32], d: u64)
     ensures { (g : Ground) (flags : List ℕ) → Narrow g rests.old flags rim.now arcs
         → rests.new ≡ loaded g.firsts g.seconds flags d rests.old }
 {
-    let mut j = 0;
-    while j < arcs {
-        let a = index32(at32(rim, j));
-        let rest = less(at32(rests, a), d);
-        put32(rests, a, rest);
-        j += 1;
+    for j in 0..arcs {
+        let a = at(rim, j) as usize;
+        let rest = less(at(rests, a), d);
+        put(rests, a, rest);
     }
 }
 
@@ -133,9 +129,9 @@ pub fn raise_cut(
         firsts.now seconds.now n root v cap rests.old rests.new result.inside result.by }
 {
     let mut flags = [0u8; MAX_VERTICES];
-    put8(&mut flags, v, 1);
+    put(&mut flags, v, 1);
     let mut found = [0u32; MAX_VERTICES];
-    put32(&mut found, 0, v as u32);
+    put(&mut found, 0, v as u32);
     let walked = walk(tops, links, rests, &mut flags, &mut found, rim, root);
     if walked.inside {
         return Raised {

@@ -5,7 +5,7 @@ ghost use Rattle.base_limits.specs.Limits.{max_vertices, group_numbers};
 ghost use Rattle.floor_rule.specs.Number.{lower_number, number_of};
 ghost use Rattle.floor_core.specs.Tables.{OwnLows, PairedLows};
 
-use base_buffer::{at8, at32, index8, index32, put8};
+use base_buffer::{at, put};
 use base_limits::{GROUP_NUMBERS, MAX_VERTICES};
 
 // The lower of two numbers, where 0 is none.
@@ -28,8 +28,8 @@ fn lower_number(x: u8, y: u8) -> u8
 fn note(lows: &mut [u8; GROUP_NUMBERS], c: u8, number: u8)
     ensures { lows.new ≡ set lows.old c (lower_number (get_or lows.old c 0) number) }
 {
-    let low = lower_number(at8(lows, index8(c)), number);
-    put8(lows, index8(c), low);
+    let low = lower_number(at(lows, usize::from(c)), number);
+    put(lows, usize::from(c), low);
 }
 
 // The lowest own number of the members of each poured group.
@@ -37,10 +37,8 @@ fn own_lows(poured: &[u8], groups: &[u8], lows: &mut [u8; GROUP_NUMBERS])
     requires { lows.old ≡ replicate group_numbers 0 }
     ensures { OwnLows poured.now groups.now (length groups.now) lows.new }
 {
-    let mut v = 0;
-    while v < groups.len() {
-        note(lows, at8(poured, v), at8(groups, v));
-        v += 1;
+    for v in 0..groups.len() {
+        note(lows, at(poured, v), at(groups, v));
     }
 }
 
@@ -57,11 +55,9 @@ fn paired_lows(
         poured.now groups.now owners.now others.now (length owners.now) lows.new }
 {
     own_lows(poured, groups, lows);
-    let mut i = 0;
-    while i < owners.len() {
-        let v = index32(at32(owners, i));
-        note(lows, at8(poured, v), at8(others, i));
-        i += 1;
+    for i in 0..owners.len() {
+        let v = at(owners, i) as usize;
+        note(lows, at(poured, v), at(others, i));
     }
 }
 
@@ -72,7 +68,7 @@ fn number_of(lows: &[u8; GROUP_NUMBERS], c: u8) -> u8
     if c == 0 {
         return 0;
     }
-    at8(lows, index8(c))
+    at(lows, usize::from(c))
 }
 
 // The groups of the ascent, zeros behind the last.
@@ -84,10 +80,8 @@ pub fn numbered(poured: &[u8], groups: &[u8], owners: &[u32], others: &[u8]) -> 
     let mut lows = [0u8; GROUP_NUMBERS];
     paired_lows(poured, groups, owners, others, &mut lows);
     let mut room = [0u8; MAX_VERTICES];
-    let mut v = 0;
-    while v < groups.len() {
-        put8(&mut room, v, number_of(&lows, at8(poured, v)));
-        v += 1;
+    for v in 0..groups.len() {
+        put(&mut room, v, number_of(&lows, at(poured, v)));
     }
     room
 }

@@ -8,7 +8,7 @@ ghost use Rattle.floor_core.specs.Tables.{Counts};
 
 use crate::ascent::ascend;
 use crate::chain::chain;
-use base_buffer::{at8, at64, index8, put64};
+use base_buffer::{at, put};
 use base_limits::{GROUP_NUMBERS, MAX_VERTICES};
 use floor_rule::{MAX_ARCS, MAX_COST};
 
@@ -21,7 +21,7 @@ fn lower_in(groups: &[u8], l: usize, low: usize, v: usize) -> usize
     if low != v {
         return low;
     }
-    if index8(at8(groups, v)) == l {
+    if usize::from(at(groups, v)) == l {
         return low;
     }
     v + 1
@@ -32,10 +32,8 @@ pub fn root_of(groups: &[u8], l: usize) -> usize
     ensures { result ≡ root_of groups.now l }
 {
     let mut low = 0;
-    let mut v = 0;
-    while v < groups.len() {
+    for v in 0..groups.len() {
         low = lower_in(groups, l, low, v);
-        v += 1;
     }
     low
 }
@@ -45,8 +43,8 @@ fn note_member(counts: &mut [u64; GROUP_NUMBERS], l: u8)
     requires { get_or counts.old l 0 + 1 < 2 ^ 64 }
     ensures { counts.new ≡ set counts.old l (get_or counts.old l 0 + 1) }
 {
-    let count = at64(counts, index8(l));
-    put64(counts, index8(l), count + 1);
+    let count = at(counts, usize::from(l));
+    put(counts, usize::from(l), count + 1);
 }
 
 // How many members each group has.
@@ -54,10 +52,8 @@ fn count_members(groups: &[u8], counts: &mut [u64; GROUP_NUMBERS])
     requires { counts.old ≡ replicate group_numbers 0 }
     ensures { Counts groups.now (length groups.now) counts.new }
 {
-    let mut v = 0;
-    while v < groups.len() {
-        note_member(counts, at8(groups, v));
-        v += 1;
+    for v in 0..groups.len() {
+        note_member(counts, at(groups, v));
     }
 }
 
@@ -69,7 +65,7 @@ fn first_share(counts: &[u64; GROUP_NUMBERS], l: usize) -> u64
     if l == 0 {
         return 0;
     }
-    if at64(counts, l) <= 1 {
+    if at(counts, l) <= 1 {
         return 0;
     }
     MAX_COST
@@ -81,10 +77,8 @@ fn first_shares(groups: &[u8]) -> [u64; GROUP_NUMBERS]
     let mut counts = [0u64; GROUP_NUMBERS];
     count_members(groups, &mut counts);
     let mut share = [0u64; GROUP_NUMBERS];
-    let mut l = 0;
-    while l < GROUP_NUMBERS {
-        put64(&mut share, l, first_share(&counts, l));
-        l += 1;
+    for l in 0..GROUP_NUMBERS {
+        put(&mut share, l, first_share(&counts, l));
     }
     share
 }
@@ -96,7 +90,7 @@ fn kept_share(got: &[u64], k: usize, whole: u64, l: usize) -> u64
     if l < k {
         return whole;
     }
-    let part = at64(got, l);
+    let part = at(got, l);
     if part < whole {
         return part;
     }
@@ -106,11 +100,9 @@ fn kept_share(got: &[u64], k: usize, whole: u64, l: usize) -> u64
 fn lower(got: &[u64], k: usize, share: &mut [u64])
     ensures { share.new ≡ lowered got.now k share.old }
 {
-    let mut l = 0;
-    while l < GROUP_NUMBERS {
-        let whole = at64(share, l);
-        put64(share, l, kept_share(got, k, whole, l));
-        l += 1;
+    for l in 0..GROUP_NUMBERS {
+        let whole = at(share, l);
+        put(share, l, kept_share(got, k, whole, l));
     }
 }
 
@@ -130,7 +122,7 @@ fn after_list(
     ensures { share.new ≡ after_list
         groups.now firsts.now seconds.now weights.now k share.old }
 {
-    if at64(share, k) == 0 {
+    if at(share, k) == 0 {
         return;
     }
     let got = ascend(groups, firsts, seconds, weights, share, tops, links, k);
@@ -173,10 +165,8 @@ fn total(share: &[u64]) -> u64
     ensures { result ≡ sum_below group_numbers (λ l. get_or share.now l 0) }
 {
     let mut sum = 0;
-    let mut l = 0;
-    while l < GROUP_NUMBERS {
-        sum += at64(share, l);
-        l += 1;
+    for l in 0..GROUP_NUMBERS {
+        sum += at(share, l);
     }
     sum
 }

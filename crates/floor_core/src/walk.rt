@@ -5,7 +5,7 @@ ghost use Rattle.base_limits.specs.Limits.{max_vertices};
 ghost use Rattle.floor_rule.specs.Ascent.{max_arcs};
 ghost use Rattle.floor_core.specs.Walk.{Ground, arcs_in, tail_in, head_in, LinkedIn, ChainedIn, LeadsTo, Turn, Begun, Next, CutFound};
 
-use base_buffer::{at8, at32, index32, put8, put32};
+use base_buffer::{at, put};
 use base_limits::MAX_VERTICES;
 use floor_rule::MAX_ARCS;
 
@@ -40,18 +40,18 @@ fn look_arc(
         → Turn g rests.now i v (suc a) flags.old found.old rim.old vertices arcs
         → Turn g rests.now i v a flags.new found.new rim.new result.vertices result.arcs }
 {
-    if at8(flags, index32(tail)) != 0 {
+    if at(flags, tail as usize) != 0 {
         return Seen { vertices, arcs };
     }
-    if at32(rests, index32(a)) != 0 {
-        put32(rim, arcs, a);
+    if at(rests, a as usize) != 0 {
+        put(rim, arcs, a);
         return Seen {
             vertices,
             arcs: arcs + 1,
         };
     }
-    put8(flags, index32(tail), 1);
-    put32(found, vertices, tail);
+    put(flags, tail as usize, 1);
+    put(found, vertices, tail);
     Seen {
         vertices: vertices + 1,
         arcs,
@@ -78,7 +78,7 @@ fn look(
     let mut arcs = before.arcs;
     let mut x = last;
     while 0 < x {
-        let link = at32(links, index32(x - 1));
+        let link = at(links, (x - 1) as usize);
         let seen = look_arc(rests, flags, found, rim, x - 1, link % 512, vertices, arcs);
         vertices = seen.vertices;
         arcs = seen.arcs;
@@ -105,11 +105,11 @@ fn look_at(
         → Turn g rests.now i 0 0 flags.old found.old rim.old before.vertices before.arcs
         → Turn g rests.now (i + 1) 0 0 flags.new found.new rim.new result.vertices result.arcs }
 {
-    if at8(flags, v) == 2 {
+    if at(flags, v) == 2 {
         return before;
     }
-    put8(flags, v, 2);
-    look(links, rests, flags, found, rim, at32(tops, v), before)
+    put(flags, v, 2);
+    look(links, rests, flags, found, rim, at(tops, v), before)
 }
 
 // From one vertex on, which alone has a flag and stands in the queue.
@@ -131,10 +131,10 @@ pub fn walk(
     let mut arcs = 0;
     let mut i = 0;
     while i < vertices {
-        if at8(flags, root) != 0 {
+        if at(flags, root) != 0 {
             return Walked { inside: true, arcs };
         }
-        let v = index32(at32(found, i));
+        let v = at(found, i) as usize;
         let seen = look_at(
             tops,
             links,
@@ -149,7 +149,7 @@ pub fn walk(
         arcs = seen.arcs;
         i += 1;
     }
-    if at8(flags, root) != 0 {
+    if at(flags, root) != 0 {
         return Walked { inside: true, arcs };
     }
     Walked {

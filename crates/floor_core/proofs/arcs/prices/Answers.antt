@@ -14,14 +14,11 @@ pub loop-a-init : goal.loop-a-init
 unfolding remade
 loop-a-init c = (omega arith, refl)
 
-pub slice_bounds-put32-end : goal.slice_bounds-put32-end
-slice_bounds-put32-end c = sym (ap length c.loop-a.invariant.1 ∙ length_remade _ _ (replicate max_arcs 0) ∙ length-replicate {A = ℕ} max_arcs 0)
-
-pub loop-a-smaller : goal.loop-a-smaller
-loop-a-smaller c = omega arith
+pub slice_bounds-put-end : goal.slice_bounds-put-end
+slice_bounds-put-end c = sym (ap length c.loop-a.invariant.1 ∙ length_remade _ _ (replicate max_arcs 0) ∙ length-replicate {A = ℕ} max_arcs 0)
 
 pub loop-a-preserved : goal.loop-a-preserved
-loop-a-preserved c = (omega arith, c.put32.ensures ∙ remade_more _ _ _ _ _ c.loop-a.invariant.1 (own_read c.args.weights.now c.edge_of.ensures c.at32.ensures))
+loop-a-preserved c = (omega arith, c.put.ensures ∙ remade_more _ _ _ _ _ c.loop-a.invariant.1 (own_read c.args.weights.now c.edge_of.ensures c.at.ensures))
 
 pub returns : goal.returns
 returns c = prices_end _ _ _ _ c.loop-a.invariant.0 c.loop-a-test.false c.requires c.loop-a.invariant.1

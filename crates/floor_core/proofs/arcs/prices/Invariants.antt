@@ -8,6 +8,3 @@ use Rattle.floor_core.proofs.arcs.prices.Given as goal
 
 abbrev pub invariant-loop-a : goal.invariant-loop-a
 invariant-loop-a l = (l.a ≤ l.arcs) × (l.rests ≡ remade (λ b rest. get_or l.weights (edge_of l.firsts b) 0) l.a (replicate max_arcs 0))
-
-abbrev pub decreases-loop-a : goal.decreases-loop-a
-decreases-loop-a l = l.arcs - l.a

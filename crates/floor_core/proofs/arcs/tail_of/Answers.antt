@@ -4,7 +4,7 @@ use Rattle.floor_core.specs.Laws.Arcs.{tail_low, tail_high}
 use Rattle.floor_core.proofs.arcs.tail_of.Goals as goal
 
 pub returns-then-a-firsts : goal.returns-then-a-firsts
-returns-then-a-firsts c = c.index32.ensures ∙ c.at32.ensures ∙ tail_low _ _ _ c.if-a-firsts.true
+returns-then-a-firsts c = c.at.ensures ∙ tail_low _ _ _ c.if-a-firsts.true
 
 pub returns : goal.returns
-returns c = c.index32-2.ensures ∙ c.at32-2.ensures ∙ tail_high _ _ _ c.if-a-firsts.false
+returns c = c.at-2.ensures ∙ tail_high _ _ _ c.if-a-firsts.false

@@ -14,9 +14,6 @@ loop-l-init c = (omega arith, refl, λ h. refl, c.requires.done)
 pub visit_group-more-requires : goal.visit_group-more-requires
 visit_group-more-requires c = record { ends = c.requires.ends; chained = c.requires.chained; done = c.loop-l.invariant.3 }
 
-pub loop-l-smaller : goal.loop-l-smaller
-loop-l-smaller c = omega arith
-
 pub loop-l-preserved : goal.loop-l-preserved
 loop-l-preserved c = let inv = c.loop-l.invariant in (omega arith, groups_more _ _ _ _ _ _ _ _ inv.1 c.visit_group-more.ensures.got_value, λ h. let x = c.visit_group-more.ensures.more_value h in x.1 ∙ inv.2 x.0, c.visit_group-more.ensures.done_2)
 

@@ -10,6 +10,3 @@ use Rattle.floor_core.proofs.ascent.pass.Given as goal
 
 abbrev pub invariant-loop-l : goal.invariant-loop-l
 invariant-loop-l l = (l.l ≤ group_numbers) × (state_with l.rests l.got ≡ visit_groups l.groups l.firsts l.seconds l.share l.root l.k l.l (state_with l.initial.rests l.initial.got)) × (l.more ≡ false → state_with l.rests l.got ≡ state_with l.initial.rests l.initial.got) × Done l.firsts l.seconds (length l.groups) l.root l.rests l.done
-
-abbrev pub decreases-loop-l : goal.decreases-loop-l
-decreases-loop-l l = group_numbers - l.l

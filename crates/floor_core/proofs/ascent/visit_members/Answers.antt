@@ -14,9 +14,6 @@ loop-v-init c = (omega arith, refl, λ h. (h, refl), c.requires.done)
 pub visit_member-more-requires : goal.visit_member-more-requires
 visit_member-more-requires c = record { ends = c.requires.ends; chained = c.requires.chained; v_in_bounds = c.loop-v-test.true; done = c.loop-v.invariant.3 }
 
-pub loop-v-smaller : goal.loop-v-smaller
-loop-v-smaller c = omega arith
-
 pub loop-v-preserved : goal.loop-v-preserved
 loop-v-preserved c = let inv = c.loop-v.invariant in (omega arith, members_more _ _ _ _ _ _ _ _ inv.1 c.visit_member-more.ensures.got_value, λ h. let x = c.visit_member-more.ensures.more_value h in let y = inv.2 x.0 in (y.0, x.1 ∙ y.1), c.visit_member-more.ensures.done_2)
 

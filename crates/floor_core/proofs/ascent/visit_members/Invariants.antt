@@ -9,6 +9,3 @@ use Rattle.floor_core.proofs.ascent.visit_members.Given as goal
 
 abbrev pub invariant-loop-v : goal.invariant-loop-v
 invariant-loop-v l = (l.v ≤ length l.groups) × (state_with l.rests l.got ≡ visit_members l.groups l.firsts l.seconds l.share l.root l.l l.v (state_with l.initial.rests l.initial.got)) × (l.more ≡ false → (l.before ≡ false) × (state_with l.rests l.got ≡ state_with l.initial.rests l.initial.got)) × Done l.firsts l.seconds (length l.groups) l.root l.rests l.done
-
-abbrev pub decreases-loop-v : goal.decreases-loop-v
-decreases-loop-v l = length l.groups - l.v

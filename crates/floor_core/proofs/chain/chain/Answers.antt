@@ -10,9 +10,6 @@ loop-a-init c = (omega arith, chained_none _ _ _ c.requires.tops_value)
 pub chain_arc-requires : goal.chain_arc-requires
 chain_arc-requires c = let arcs_are = c.requires.arcs_value in record { ends = c.requires.ends; a_bound = omega (arith, arcs_are, c.loop-a-test.true); chained = c.loop-a.invariant.1 }
 
-pub loop-a-smaller : goal.loop-a-smaller
-loop-a-smaller c = omega arith
-
 pub loop-a-preserved : goal.loop-a-preserved
 loop-a-preserved c = (omega arith, c.chain_arc.ensures)
 

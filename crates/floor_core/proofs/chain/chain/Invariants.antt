@@ -5,6 +5,3 @@ use Rattle.floor_core.proofs.chain.chain.Given as goal
 
 abbrev pub invariant-loop-a : goal.invariant-loop-a
 invariant-loop-a l = (l.a ≤ l.arcs) × Chained l.firsts l.seconds l.a l.tops l.links
-
-abbrev pub decreases-loop-a : goal.decreases-loop-a
-decreases-loop-a l = l.arcs - l.a

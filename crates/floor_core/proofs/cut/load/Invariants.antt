@@ -7,6 +7,3 @@ use Rattle.floor_core.proofs.cut.load.Given as goal
 
 abbrev pub invariant-loop-j : goal.invariant-loop-j
 invariant-loop-j l = (l.j ≤ l.arcs) × (length l.rests ≡ length l.initial.rests) × Loads l.rim l.arcs l.initial.rests l.d l.j l.rests
-
-abbrev pub decreases-loop-j : goal.decreases-loop-j
-decreases-loop-j l = l.arcs - l.j

@@ -5,6 +5,3 @@ use Rattle.floor_core.proofs.cut.narrow.Given as goal
 
 abbrev pub invariant-loop-j : goal.invariant-loop-j
 invariant-loop-j l = (l.j ≤ l.arcs) × (l.kept ≤ l.j) × Narrows l.links l.flags l.initial.rim l.arcs l.rests l.cap l.j l.least l.kept l.rim
-
-abbrev pub decreases-loop-j : goal.decreases-loop-j
-decreases-loop-j l = l.arcs - l.j

@@ -7,20 +7,20 @@ use Rattle.floor_core.specs.Laws.Rim.{walk_begins, cut_inside, cut_outside}
 use borrow.Author.Rules.{rules}
 use Rattle.floor_core.proofs.cut.raise_cut.Goals as goal
 
-pub slice_bounds-put8-end : goal.slice_bounds-put8-end
-slice_bounds-put8-end c = sym (length-replicate {A = ℕ} max_vertices 0)
+pub slice_bounds-put-end : goal.slice_bounds-put-end
+slice_bounds-put-end c = sym (length-replicate {A = ℕ} max_vertices 0)
 
-pub slice_bounds-put32-end : goal.slice_bounds-put32-end
-slice_bounds-put32-end c = sym (length-replicate {A = ℕ} max_vertices 0)
+pub slice_bounds-put-end-2 : goal.slice_bounds-put-end-2
+slice_bounds-put-end-2 c = sym (length-replicate {A = ℕ} max_vertices 0)
 
 pub overflow_cast-v : goal.overflow_cast-v
 overflow_cast-v c = let low = c.requires.v_lt_n in let few = c.requires.ends.few in search (rules, low, few)
 
 pub walk-walked-requires : goal.walk-walked-requires
-walk-walked-requires c = walk_begins c.args.firsts.now c.args.seconds.now c.args.tops.now c.args.links.now c.args.n c.args.root c.args.v c.args.cap c.requires.ends c.requires.chained c.requires.v_lt_n c.args.rests.now _ c.put8.ensures c.put32.ensures
+walk-walked-requires c = walk_begins c.args.firsts.now c.args.seconds.now c.args.tops.now c.args.links.now c.args.n c.args.root c.args.v c.args.cap c.requires.ends c.requires.chained c.requires.v_lt_n c.args.rests.now _ c.put.ensures c.put-2.ensures
 
 pub returns-then-walked : goal.returns-then-walked
-returns-then-walked c = cut_inside c.args.firsts.now c.args.seconds.now c.args.tops.now c.args.links.now c.args.n c.args.root c.args.v c.args.cap c.requires.ends c.requires.chained c.requires.v_lt_n c.args.rests.now c.put8.ensures c.put32.ensures c.walk-walked.ensures c.if-walked.true _
+returns-then-walked c = cut_inside c.args.firsts.now c.args.seconds.now c.args.tops.now c.args.links.now c.args.n c.args.root c.args.v c.args.cap c.requires.ends c.requires.chained c.requires.v_lt_n c.args.rests.now c.put.ensures c.put-2.ensures c.walk-walked.ensures c.if-walked.true _
 
 pub returns : goal.returns
-returns c = cut_outside c.args.firsts.now c.args.seconds.now c.args.tops.now c.args.links.now c.args.n c.args.root c.args.v c.args.cap c.requires.ends c.requires.chained c.requires.v_lt_n c.args.rests.now c.put8.ensures c.put32.ensures c.walk-walked.ensures c.if-walked.false c.narrow-found.ensures c.load.ensures
+returns c = cut_outside c.args.firsts.now c.args.seconds.now c.args.tops.now c.args.links.now c.args.n c.args.root c.args.v c.args.cap c.requires.ends c.requires.chained c.requires.v_lt_n c.args.rests.now c.put.ensures c.put-2.ensures c.walk-walked.ensures c.if-walked.false c.narrow-found.ensures c.load.ensures

@@ -6,4 +6,4 @@ pub returns-then-c-eq0 : goal.returns-then-c-eq0
 returns-then-c-eq0 c = number_none c.args.lows.now _ c.if-c-eq0.true
 
 pub returns : goal.returns
-returns c = number_some c.args.lows.now _ c.if-c-eq0.false c.index8.ensures c.at8.ensures
+returns c = number_some c.args.lows.now _ c.if-c-eq0.false c.from.ensures c.at.ensures

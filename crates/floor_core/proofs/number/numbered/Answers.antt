@@ -15,16 +15,13 @@ pub loop-v-init : goal.loop-v-init
 unfolding remade
 loop-v-init c = (omega arith, refl)
 
-pub slice_bounds-put8-end : goal.slice_bounds-put8-end
-slice_bounds-put8-end c = sym (ap length c.loop-v.invariant.1 ∙ length_remade _ _ (replicate max_vertices 0) ∙ length-replicate {A = ℕ} max_vertices 0)
-
-pub loop-v-smaller : goal.loop-v-smaller
-loop-v-smaller c = omega arith
+pub slice_bounds-put-end : goal.slice_bounds-put-end
+slice_bounds-put-end c = sym (ap length c.loop-v.invariant.1 ∙ length_remade _ _ (replicate max_vertices 0) ∙ length-replicate {A = ℕ} max_vertices 0)
 
 pub loop-v-preserved : goal.loop-v-preserved
 loop-v-preserved c =
-    let low : c.at8.result < group_numbers = search rules in
-    (omega arith, c.put8.ensures ∙ remade_more _ _ _ _ _ c.loop-v.invariant.1 (number_is c.args.poured.now c.args.groups.now c.args.owners.now c.args.others.now c.paired_lows.ensures _ c.at8.ensures low c.number_of.ensures))
+    let low : c.at.result < group_numbers = search rules in
+    (omega arith, c.put.ensures ∙ remade_more _ _ _ _ _ c.loop-v.invariant.1 (number_is c.args.poured.now c.args.groups.now c.args.owners.now c.args.others.now c.paired_lows.ensures _ c.at.ensures low c.number_of.ensures))
 
 pub returns : goal.returns
 returns c =

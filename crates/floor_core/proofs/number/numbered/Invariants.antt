@@ -10,6 +10,3 @@ use Rattle.floor_core.proofs.number.numbered.Given as goal
 abbrev pub invariant-loop-v : goal.invariant-loop-v
 invariant-loop-v l =
     (l.v ≤ length l.groups) × (l.room ≡ remade (λ u x. number_of l.poured l.groups l.owners l.others (get_or l.poured u 0)) l.v (replicate max_vertices 0))
-
-abbrev pub decreases-loop-v : goal.decreases-loop-v
-decreases-loop-v l = length l.groups - l.v

@@ -6,6 +6,3 @@ use Rattle.floor_core.proofs.number.own_lows.Given as goal
 
 abbrev pub invariant-loop-v : goal.invariant-loop-v
 invariant-loop-v l = (l.v ≤ length l.groups) × OwnLows l.poured l.groups l.v l.lows
-
-abbrev pub decreases-loop-v : goal.decreases-loop-v
-decreases-loop-v l = length l.groups - l.v

@@ -11,11 +11,8 @@ own_lows-requires c = c.requires
 pub loop-i-init : goal.loop-i-init
 loop-i-init c = (omega arith, paired_start _ _ _ _ c.own_lows.ensures)
 
-pub loop-i-smaller : goal.loop-i-smaller
-loop-i-smaller c = omega arith
-
 pub loop-i-preserved : goal.loop-i-preserved
-loop-i-preserved c = (omega arith, paired_more _ _ _ _ _ c.loop-i.invariant.1 (c.index32-v.ensures ∙ c.at32.ensures) c.at8.ensures c.at8-in-loop-i.ensures c.note.ensures)
+loop-i-preserved c = (omega arith, paired_more _ _ _ _ _ c.loop-i.invariant.1 (c.at-v.ensures) c.at.ensures c.at-in-loop-i.ensures c.note.ensures)
 
 pub returns : goal.returns
 returns c = paired_end _ _ _ _ _ _ c.loop-i.invariant.0 c.loop-i-test.false c.loop-i.invariant.1

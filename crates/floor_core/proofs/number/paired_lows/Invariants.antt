@@ -6,6 +6,3 @@ use Rattle.floor_core.proofs.number.paired_lows.Given as goal
 
 abbrev pub invariant-loop-i : goal.invariant-loop-i
 invariant-loop-i l = (l.i ≤ length l.owners) × PairedLows l.poured l.groups l.owners l.others l.i l.lows
-
-abbrev pub decreases-loop-i : goal.decreases-loop-i
-decreases-loop-i l = length l.owners - l.i

@@ -11,15 +11,12 @@ loop-v-init c = (omega arith, counts_start _ c.requires)
 
 pub note_member-requires : goal.note_member-requires
 note_member-requires c =
-    let low : c.at8.result < group_numbers = search rules in
+    let low : c.at.result < group_numbers = search rules in
     let few = count_fits _ _ c.loop-v.invariant.1 low in
     search (rules, few)
 
-pub loop-v-smaller : goal.loop-v-smaller
-loop-v-smaller c = omega arith
-
 pub loop-v-preserved : goal.loop-v-preserved
-loop-v-preserved c = (omega arith, counts_more _ _ c.loop-v.invariant.1 c.at8.ensures c.note_member.ensures)
+loop-v-preserved c = (omega arith, counts_more _ _ c.loop-v.invariant.1 c.at.ensures c.note_member.ensures)
 
 pub returns : goal.returns
 returns c = counts_end _ _ _ c.loop-v.invariant.0 c.loop-v-test.false c.loop-v.invariant.1

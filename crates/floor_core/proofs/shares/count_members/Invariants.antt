@@ -6,6 +6,3 @@ use Rattle.floor_core.proofs.shares.count_members.Given as goal
 
 abbrev pub invariant-loop-v : goal.invariant-loop-v
 invariant-loop-v l = (l.v ≤ length l.groups) × Counts l.groups l.v l.counts
-
-abbrev pub decreases-loop-v : goal.decreases-loop-v
-decreases-loop-v l = length l.groups - l.v

@@ -13,15 +13,12 @@ pub loop-l-init : goal.loop-l-init
 unfolding remade
 loop-l-init c = (omega arith, refl)
 
-pub slice_bounds-put64-end : goal.slice_bounds-put64-end
-slice_bounds-put64-end c = sym (ap length c.loop-l.invariant.1 ∙ length_remade _ _ (replicate group_numbers 0) ∙ length-replicate {A = ℕ} group_numbers 0)
-
-pub loop-l-smaller : goal.loop-l-smaller
-loop-l-smaller c = omega arith
+pub slice_bounds-put-end : goal.slice_bounds-put-end
+slice_bounds-put-end c = sym (ap length c.loop-l.invariant.1 ∙ length_remade _ _ (replicate group_numbers 0) ∙ length-replicate {A = ℕ} group_numbers 0)
 
 pub loop-l-preserved : goal.loop-l-preserved
 loop-l-preserved c =
-    (omega arith, c.put64.ensures ∙ remade_more _ _ _ _ _ c.loop-l.invariant.1 (c.first_share.ensures _ c.count_members.ensures c.loop-l-test.true))
+    (omega arith, c.put.ensures ∙ remade_more _ _ _ _ _ c.loop-l.invariant.1 (c.first_share.ensures _ c.count_members.ensures c.loop-l-test.true))
 
 pub returns : goal.returns
 returns c = first_shares_end _ _ c.loop-l.invariant.0 c.loop-l-test.false c.loop-l.invariant.1

@@ -10,6 +10,3 @@ use Rattle.floor_core.proofs.shares.first_shares.Given as goal
 
 abbrev pub invariant-loop-l : goal.invariant-loop-l
 invariant-loop-l l = (l.l ≤ group_numbers) × (l.share ≡ remade (λ g x. counted (in_company l.groups g) max_cost) l.l (replicate group_numbers 0))
-
-abbrev pub decreases-loop-l : goal.decreases-loop-l
-decreases-loop-l l = group_numbers - l.l

@@ -6,7 +6,7 @@ pub returns-then-l-k : goal.returns-then-l-k
 returns-then-l-k c = share_below c.args.got.now c.args.k c.args.whole c.args.l c.if-l-k.true
 
 pub returns-then-part-whole : goal.returns-then-part-whole
-returns-then-part-whole c = share_less c.args.got.now c.args.k c.args.whole c.args.l c.if-l-k.false c.at64-part.ensures c.if-part-whole.true
+returns-then-part-whole c = share_less c.args.got.now c.args.k c.args.whole c.args.l c.if-l-k.false c.at-part.ensures c.if-part-whole.true
 
 pub returns : goal.returns
-returns c = share_whole c.args.got.now c.args.k c.args.whole c.args.l c.if-l-k.false c.at64-part.ensures c.if-part-whole.false
+returns c = share_whole c.args.got.now c.args.k c.args.whole c.args.l c.if-l-k.false c.at-part.ensures c.if-part-whole.false

@@ -11,11 +11,8 @@ pub loop-l-init : goal.loop-l-init
 unfolding remade
 loop-l-init c = (omega arith, refl)
 
-pub loop-l-smaller : goal.loop-l-smaller
-loop-l-smaller c = omega arith
-
 pub loop-l-preserved : goal.loop-l-preserved
-loop-l-preserved c = (omega arith, c.put64.ensures ∙ remade_more _ _ _ _ _ c.loop-l.invariant.1 (share_kept c.args.got.now c.args.k c.loop-l.l c.at64-whole.ensures c.kept_share.ensures))
+loop-l-preserved c = (omega arith, c.put.ensures ∙ remade_more _ _ _ _ _ c.loop-l.invariant.1 (share_kept c.args.got.now c.args.k c.loop-l.l c.at-whole.ensures c.kept_share.ensures))
 
 pub returns : goal.returns
 returns c = lowered_end _ _ _ _ c.loop-l.invariant.0 c.loop-l-test.false c.loop-l.invariant.1

@@ -11,6 +11,3 @@ use Rattle.floor_core.proofs.shares.lower.Given as goal
 
 abbrev pub invariant-loop-l : goal.invariant-loop-l
 invariant-loop-l l = (l.l ≤ group_numbers) × (l.share ≡ remade (λ g x. cond (ltb g l.k) x (lesser x (get_or l.got g 0))) l.l l.initial.share)
-
-abbrev pub decreases-loop-l : goal.decreases-loop-l
-decreases-loop-l l = group_numbers - l.l

@@ -7,11 +7,11 @@ use Rattle.floor_core.proofs.shares.lower_in.Goals as goal
 pub returns-then-low-v : goal.returns-then-low-v
 returns-then-low-v c = lowest_stays _ _ _ c.requires.low_value c.if-low-v.true
 
-pub returns-then-index8-l : goal.returns-then-index8-l
-returns-then-index8-l c = lowest_found _ _ _ c.requires.low_value c.if-low-v.false (c.index8.ensures ∙ c.at8.ensures) c.if-index8-l.true
+pub returns-then-from-l : goal.returns-then-from-l
+returns-then-from-l c = lowest_found _ _ _ c.requires.low_value c.if-low-v.false (c.from.ensures ∙ c.at.ensures) c.if-from-l.true
 
 pub overflow_add-result : goal.overflow_add-result
 overflow_add-result c = let below = c.requires.v_in_bounds in search (rules, below)
 
 pub returns : goal.returns
-returns c = lowest_past _ _ _ c.requires.low_value c.if-low-v.false (c.index8.ensures ∙ c.at8.ensures) c.if-index8-l.false
+returns c = lowest_past _ _ _ c.requires.low_value c.if-low-v.false (c.from.ensures ∙ c.at.ensures) c.if-from-l.false

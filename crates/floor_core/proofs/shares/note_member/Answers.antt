@@ -5,8 +5,8 @@ use Rattle.floor_core.proofs.shares.note_member.Goals as goal
 
 pub overflow_add-count : goal.overflow_add-count
 overflow_add-count c =
-    let fits = noted_fits c.args.counts.now _ c.requires c.index8.ensures c.at64-count.ensures in
+    let fits = noted_fits c.args.counts.now _ c.requires c.from.ensures c.at-count.ensures in
     search (rules, fits)
 
 pub returns : goal.returns
-returns c = noted_member c.args.counts.now _ c.index8.ensures c.at64-count.ensures c.index8-2.ensures c.put64.ensures
+returns c = noted_member c.args.counts.now _ c.from.ensures c.at-count.ensures c.from-2.ensures c.put.ensures

@@ -13,9 +13,6 @@ loop-v-init c = (omega arith, refl)
 pub lower_in-low-requires : goal.lower_in-low-requires
 lower_in-low-requires c = record { v_in_bounds = c.loop-v-test.true; low_value = c.loop-v.invariant.1 }
 
-pub loop-v-smaller : goal.loop-v-smaller
-loop-v-smaller c = omega arith
-
 pub loop-v-preserved : goal.loop-v-preserved
 loop-v-preserved c = (omega arith, lowest_more _ _ _ c.lower_in-low.ensures)
 

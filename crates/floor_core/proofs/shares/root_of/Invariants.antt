@@ -7,6 +7,3 @@ use Rattle.floor_core.proofs.shares.root_of.Given as goal
 
 abbrev pub invariant-loop-v : goal.invariant-loop-v
 invariant-loop-v l = (l.v ≤ length l.groups) × (l.low ≡ lowest_in l.groups l.l l.v)
-
-abbrev pub decreases-loop-v : goal.decreases-loop-v
-decreases-loop-v l = length l.groups - l.v

@@ -13,13 +13,10 @@ unfolding sum_below
 loop-l-init c = (omega arith, refl)
 
 pub overflow_add-sum : goal.overflow_add-sum
-overflow_add-sum c = let fits = total_fits c.args.share.now c.loop-l.l c.requires c.loop-l-test.true c.loop-l.invariant.1 c.at64-sum.ensures in search (rules, fits)
-
-pub loop-l-smaller : goal.loop-l-smaller
-loop-l-smaller c = omega arith
+overflow_add-sum c = let fits = total_fits c.args.share.now c.loop-l.l c.requires c.loop-l-test.true c.loop-l.invariant.1 c.at-sum.ensures in search (rules, fits)
 
 pub loop-l-preserved : goal.loop-l-preserved
-loop-l-preserved c = (omega arith, sum_more _ _ c.loop-l.invariant.1 c.at64-sum.ensures)
+loop-l-preserved c = (omega arith, sum_more _ _ c.loop-l.invariant.1 c.at-sum.ensures)
 
 pub returns : goal.returns
 returns c = sum_end _ _ _ c.loop-l.invariant.0 c.loop-l-test.false c.loop-l.invariant.1

@@ -8,6 +8,3 @@ use Rattle.floor_core.proofs.shares.total.Given as goal
 
 abbrev pub invariant-loop-l : goal.invariant-loop-l
 invariant-loop-l l = (l.l ≤ group_numbers) × (l.sum ≡ sum_below l.l (λ i. get_or l.share i 0))
-
-abbrev pub decreases-loop-l : goal.decreases-loop-l
-decreases-loop-l l = group_numbers - l.l

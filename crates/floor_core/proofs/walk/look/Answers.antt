@@ -1,4 +1,5 @@
 -- `look` meets its contract: one arc after the other, from the last on.
+use mathlib.Core.Path.{refl}
 use native.Mathlib.Omega.{arith}
 use Rattle.floor_core.specs.Laws.Walk.{falls, turns_start, turns_more, turns_end}
 use Rattle.floor_core.proofs.walk.look.Goals as goal
@@ -10,17 +11,17 @@ pub look_arc-seen-requires : goal.look_arc-seen-requires
 look_arc-seen-requires c = (omega arith, omega arith)
 
 pub loop-x-smaller : goal.loop-x-smaller
-loop-x-smaller c = falls c.args.links.now _ c.requires.by_index c.loop-x-test.true c.loop-x.invariant.0 c.index32.ensures c.at32-link.ensures
+loop-x-smaller c = falls c.args.links.now _ c.requires.by_index c.loop-x-test.true c.loop-x.invariant.0 refl c.at-link.ensures
 
 pub loop-x-preserved : goal.loop-x-preserved
 loop-x-preserved c =
-    let low = falls c.args.links.now _ c.requires.by_index c.loop-x-test.true c.loop-x.invariant.0 c.index32.ensures c.at32-link.ensures in
+    let low = falls c.args.links.now _ c.requires.by_index c.loop-x-test.true c.loop-x.invariant.0 refl c.at-link.ensures in
     let seen = c.look_arc-seen.ensures.vertices_bound in
     let inv = c.loop-x.invariant in (
       omega (arith, low, inv.0),
       omega (arith, low, seen.0, inv.1),
       omega (arith, low, seen.1, inv.2),
-      turns_more _ _ _ _ _ _ _ _ inv.3 c.loop-x-test.true c.index32.ensures c.at32-link.ensures c.look_arc-seen.ensures.turn,
+      turns_more _ _ _ _ _ _ _ _ inv.3 c.loop-x-test.true refl c.at-link.ensures c.look_arc-seen.ensures.turn,
     )
 
 pub returns : goal.returns
