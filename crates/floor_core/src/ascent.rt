@@ -16,12 +16,7 @@ use floor_rule::MAX_ARCS;
 fn missing(share: &[u64], got: &[u64], l: usize) -> u64
     ensures { result ≡ missing share.now got.now l }
 {
-    let whole = at(share, l);
-    let part = at(got, l);
-    if whole <= part {
-        return 0;
-    }
-    whole - part
+    at(share, l).saturating_sub(at(got, l))
 }
 
 // A visit to member v of group l, unless the group has its share or v is done; n is the number of vertices. True if the
@@ -230,14 +225,12 @@ fn passes(
     ensures { state_with rests.new got.new ≡ passes
         groups.now firsts.now seconds.now share.now root k limit (state_with rests.old got.old) }
 {
-    let mut i = 0;
-    while i < limit {
+    for _ in 0..limit {
         if !pass(
             groups, firsts, seconds, share, tops, links, rests, got, done, rim, root, k,
         ) {
             return;
         }
-        i += 1;
     }
 }
 

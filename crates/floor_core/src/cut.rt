@@ -1,6 +1,6 @@
 // The cut round a vertex, and what the arcs that enter it bear.
 ghost use Rattle.std.specs.Prelude.{◌≡◌, ℕ, ◌+◌, ◌-◌, ◌^◌, ◌≤◌, ◌<◌, List, length};
-ghost use Rattle.floor_rule.specs.Ascent.{max_arcs, arc_count, lesser, least_rest, loaded};
+ghost use Rattle.floor_rule.specs.Ascent.{max_arcs, arc_count, least_rest, loaded};
 ghost use Rattle.floor_core.specs.Chain.{Ends, Chained, CutRaised};
 ghost use Rattle.floor_core.specs.Walk.{Ground, arcs_in, LinkedIn, Cut, Narrow};
 ghost use Rattle.floor_core.specs.Laws.Rim.{Narrows};
@@ -15,15 +15,6 @@ use floor_rule::MAX_ARCS;
 struct Narrowed {
     least: u64,
     arcs: usize,
-}
-
-fn lesser(x: u64, y: u64) -> u64
-    ensures { result ≡ lesser x y }
-{
-    if y < x {
-        return y;
-    }
-    x
 }
 
 // The arc at place j of the rim: if it comes from outside it is kept in front, and its rest may be the least.
@@ -50,7 +41,7 @@ fn narrow_at(
     }
     put(rim, kept, a);
     Narrowed {
-        least: lesser(least, u64::from(at(rests, i))),
+        least: least.min(u64::from(at(rests, i))),
         arcs: kept + 1,
     }
 }
@@ -82,10 +73,7 @@ fn narrow(
 fn less(rest: u32, d: u64) -> u32
     ensures { result ≡ rest - d }
 {
-    if u64::from(rest) <= d {
-        return 0;
-    }
-    rest - (d as u32)
+    u64::from(rest).saturating_sub(d) as u32
 }
 
 // A cut of value d on the arcs that enter.

@@ -46,11 +46,7 @@ fn ascent_of(
 fn greater_half(ascent: u64, bound: u64) -> u64
     ensures { result ≡ greater ascent (half_up bound) }
 {
-    let half = bound / 2 + bound % 2;
-    if ascent < half {
-        return half;
-    }
-    ascent
+    ascent.max(bound.div_ceil(2))
 }
 
 // The floor, k, cost and bound; or planning's refusals but 7, in its order. No set of tracks that joins every group

@@ -12,16 +12,10 @@ use base_limits::{GROUP_NUMBERS, MAX_VERTICES};
 fn lower_number(x: u8, y: u8) -> u8
     ensures { result ≡ lower_number x y }
 {
-    if y == 0 {
-        return x;
+    match (x, y) {
+        (low, 0) | (0, low) => low,
+        _ => x.min(y),
     }
-    if x == 0 {
-        return y;
-    }
-    if y < x {
-        return y;
-    }
-    x
 }
 
 // One list more of poured group c.
@@ -37,8 +31,8 @@ fn own_lows(poured: &[u8], groups: &[u8], lows: &mut [u8; GROUP_NUMBERS])
     requires { lows.old ≡ replicate group_numbers 0 }
     ensures { OwnLows poured.now groups.now (length groups.now) lows.new }
 {
-    for v in 0..groups.len() {
-        note(lows, at(poured, v), at(groups, v));
+    for (v, number) in groups.iter().enumerate() {
+        note(lows, at(poured, v), *number);
     }
 }
 
@@ -55,9 +49,8 @@ fn paired_lows(
         poured.now groups.now owners.now others.now (length owners.now) lows.new }
 {
     own_lows(poured, groups, lows);
-    for i in 0..owners.len() {
-        let v = at(owners, i) as usize;
-        note(lows, at(poured, v), at(others, i));
+    for (i, v) in owners.iter().enumerate() {
+        note(lows, at(poured, *v as usize), at(others, i));
     }
 }
 

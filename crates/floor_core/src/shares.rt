@@ -1,8 +1,8 @@
 // The shares of the groups: lists of cuts, from the last group to the first.
-ghost use Rattle.std.specs.Prelude.{◌≡◌, cond, ℕ, suc, ◌+◌, ◌^◌, ◌≤◌, ◌<◌, List, length, get_or, set, replicate, ltb};
+ghost use Rattle.std.specs.Prelude.{◌≡◌, ℕ, ◌+◌, ◌^◌, ◌≤◌, ◌<◌, List, length, get_or, set, replicate};
 ghost use Rattle.base_finite.specs.Below.{counted, sum_below};
 ghost use Rattle.base_limits.specs.Limits.{group_numbers};
-ghost use Rattle.floor_rule.specs.Ascent.{max_cost, arc_count, lesser, lowest_in, root_of, in_company, first_shares, lowered, after_list, shares_after, ascent_floor};
+ghost use Rattle.floor_rule.specs.Ascent.{max_cost, arc_count, root_of, in_company, first_shares, lowered, after_list, shares_after, ascent_floor};
 ghost use Rattle.floor_core.specs.Chain.{Ends, Chained};
 ghost use Rattle.floor_core.specs.Tables.{Counts};
 
@@ -12,30 +12,12 @@ use base_buffer::{at, put};
 use base_limits::{GROUP_NUMBERS, MAX_VERTICES};
 use floor_rule::{MAX_ARCS, MAX_COST};
 
-// The lowest so far, or the one behind v, if v is the lowest so far and no member.
-fn lower_in(groups: &[u8], l: usize, low: usize, v: usize) -> usize
-    requires v_in_bounds { v < length groups.now }
-    requires low_value { low ≡ lowest_in groups.now l v }
-    ensures { result ≡ lowest_in groups.now l (suc v) }
-{
-    if low != v {
-        return low;
-    }
-    if usize::from(at(groups, v)) == l {
-        return low;
-    }
-    v + 1
-}
-
 // The lowest member of group l.
 pub fn root_of(groups: &[u8], l: usize) -> usize
     ensures { result ≡ root_of groups.now l }
 {
-    let mut low = 0;
-    for v in 0..groups.len() {
-        low = lower_in(groups, l, low, v);
-    }
-    low
+    let first = groups.iter().position(|g| *g as usize == l);
+    first.unwrap_or(groups.len())
 }
 
 // One member more of group l.
@@ -52,8 +34,8 @@ fn count_members(groups: &[u8], counts: &mut [u64; GROUP_NUMBERS])
     requires { counts.old ≡ replicate group_numbers 0 }
     ensures { Counts groups.now (length groups.now) counts.new }
 {
-    for v in 0..groups.len() {
-        note_member(counts, at(groups, v));
+    for l in groups {
+        note_member(counts, *l);
     }
 }
 
@@ -83,26 +65,14 @@ fn first_shares(groups: &[u8]) -> [u64; GROUP_NUMBERS]
     share
 }
 
-// What group l keeps of its share.
-fn kept_share(got: &[u64], k: usize, whole: u64, l: usize) -> u64
-    ensures { result ≡ cond (ltb l k) whole (lesser whole (get_or got.now l 0)) }
-{
-    if l < k {
-        return whole;
-    }
-    let part = at(got, l);
-    if part < whole {
-        return part;
-    }
-    whole
-}
-
+// From group k up each keeps as much of its share as it got.
 fn lower(got: &[u64], k: usize, share: &mut [u64])
+    requires { k < group_numbers }
     ensures { share.new ≡ lowered got.now k share.old }
 {
-    for l in 0..GROUP_NUMBERS {
-        let whole = at(share, l);
-        put(share, l, kept_share(got, k, whole, l));
+    for l in k..GROUP_NUMBERS {
+        let kept = at(share, l).min(at(got, l));
+        put(share, l, kept);
     }
 }
 
@@ -119,6 +89,7 @@ fn after_list(
 )
     requires ends { Ends (length groups.now) firsts.now seconds.now }
     requires chained { Chained firsts.now seconds.now (arc_count firsts.now) tops.now links.now }
+    requires k_in { k < group_numbers }
     ensures { share.new ≡ after_list
         groups.now firsts.now seconds.now weights.now k share.old }
 {
@@ -143,32 +114,17 @@ fn shares(
     ensures { result ≡ shares_after groups.now firsts.now seconds.now weights.now group_numbers }
 {
     let mut share = first_shares(groups);
-    let mut j = 0;
-    while j < GROUP_NUMBERS {
-        j += 1;
-        after_list(
-            groups,
-            firsts,
-            seconds,
-            weights,
-            &mut share,
-            tops,
-            links,
-            GROUP_NUMBERS - j,
-        );
+    for k in (0..GROUP_NUMBERS).rev() {
+        after_list(groups, firsts, seconds, weights, &mut share, tops, links, k);
     }
     share
 }
 
-fn total(share: &[u64]) -> u64
+fn total(share: &[u64; GROUP_NUMBERS]) -> u64
     requires { (l : ℕ) → l < group_numbers → get_or share.now l 0 ≤ max_cost }
     ensures { result ≡ sum_below group_numbers (λ l. get_or share.now l 0) }
 {
-    let mut sum = 0;
-    for l in 0..GROUP_NUMBERS {
-        sum += at(share, l);
-    }
-    sum
+    share.iter().sum()
 }
 
 // The floor of the ascent.

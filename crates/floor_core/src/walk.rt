@@ -77,6 +77,7 @@ fn look(
     let mut vertices = before.vertices;
     let mut arcs = before.arcs;
     let mut x = last;
+    // Stays a while: the next x is read from the arc's link, no constant step.
     while 0 < x {
         let link = at(links, (x - 1) as usize);
         let seen = look_arc(rests, flags, found, rim, x - 1, link % 512, vertices, arcs);
@@ -130,6 +131,7 @@ pub fn walk(
     let mut vertices = 1;
     let mut arcs = 0;
     let mut i = 0;
+    // Stays a while: the queue grows as it is walked, so its end is no bound known at the start.
     while i < vertices {
         if at(flags, root) != 0 {
             return Walked { inside: true, arcs };

@@ -2,7 +2,7 @@
 use native.Mathlib.Omega.{arith}
 use Rattle.survey_core.specs.Survey.{survey_with}
 use Rattle.floor_rule.specs.Floor.{floored_outcome}
-use Rattle.floor_core.specs.Laws.Floor.{greater_half, figured_sound, floor_finished, floor_refused, floor_promised}
+use Rattle.floor_core.specs.Laws.Floor.{figured_sound, floor_finished, floor_refused, floor_promised}
 use Rattle.floor_core.proofs.floor.Goals as goal
 
 pub ascent_of-ascent-requires : goal.ascent_of-ascent-requires

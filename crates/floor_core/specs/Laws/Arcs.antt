@@ -1,10 +1,11 @@
 -- What is read of an arc, case by case, and how long the flags of sweeps are.
 use Prim.Native.Nat.{ℕ, zero, suc, ◌-◌, ◌≤◌, ◌<◌}
-use Rattle.std.proofs.Common.{arith, ◌∙◌, true≢false, lt-ltb, le-ltb}
-use Rattle.std.specs.Prelude.{◌≡◌, Bool, ◌&&◌, cond, List, get_or, set, replicate, eqb}
+use Rattle.std.proofs.Common.{arith, ◌∙◌, inl, inr, true≢false, lt-ltb, le-ltb}
+use Rattle.std.specs.Prelude.{◌≡◌, ◌⊎◌, Bool, ◌&&◌, cond, List, get_or, set, replicate, eqb, min}
 use Rattle.std.proofs.Math.Path.{refl}
 use Rattle.std.proofs.Math.Bool.{true, false}
 use Rattle.std.proofs.Math.ListN.{length, length-set}
+use Rattle.base_finite.specs.Laws.Below.{lt_or_ge}
 use Rattle.base_buffer.specs.Store.{remade}
 use Rattle.base_buffer.proofs.Laws.Store.{remade_end}
 use Rattle.floor_rule.specs.Ascent.{max_arcs, lesser, arc_count, edge_of, tail_of, head_of, enters_at, flag_at, sweep, sweeps, prices}
@@ -16,6 +17,13 @@ lesser_taken x y r_is h = let b : y < x = omega (arith, r_is, h) in rw (lt-ltb y
 pub lesser_kept : (x y : ℕ) {r : ℕ} → r ≡ y → x ≤ r → x ≡ lesser x y
 unfolding lesser
 lesser_kept x y r_is h = let b : x ≤ y = omega (arith, r_is, h) in rw (le-ltb y x b)
+
+pub lesser_min : (x y : ℕ) → min x y ≡ lesser x y
+lesser_min x y = by (lt_or_ge y x)
+  where
+    by : (y < x) ⊎ (x ≤ y) → min x y ≡ lesser x y
+    by (inl h) = let e : min x y ≡ y = omega arith in e ∙ lesser_taken x y refl h
+    by (inr h) = let e : min x y ≡ x = omega arith in e ∙ lesser_kept x y refl h
 
 pub edge_low : (firsts : List ℕ) (a : ℕ) → a < length firsts → a ≡ edge_of firsts a
 unfolding edge_of

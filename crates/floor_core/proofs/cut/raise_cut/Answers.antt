@@ -1,17 +1,7 @@
 -- `raise_cut` meets its contract: a walk finds the cut, and the arcs at its rim bear it.
-use Prim.Native.Nat.{ℕ}
-use mathlib.Core.Path.{sym}
-use lib.ListN.{length-replicate}
-use Rattle.base_limits.specs.Limits.{max_vertices}
 use Rattle.floor_core.specs.Laws.Rim.{walk_begins, cut_inside, cut_outside}
 use borrow.Author.Rules.{rules}
 use Rattle.floor_core.proofs.cut.raise_cut.Goals as goal
-
-pub slice_bounds-put-end : goal.slice_bounds-put-end
-slice_bounds-put-end c = sym (length-replicate {A = ℕ} max_vertices 0)
-
-pub slice_bounds-put-end-2 : goal.slice_bounds-put-end-2
-slice_bounds-put-end-2 c = sym (length-replicate {A = ℕ} max_vertices 0)
 
 pub overflow_cast-v : goal.overflow_cast-v
 overflow_cast-v c = let low = c.requires.v_lt_n in let few = c.requires.ends.few in search (rules, low, few)

@@ -1,8 +1,6 @@
 -- `own_lows` meets its contract: one vertex after the other.
-use Prim.Native.Nat.{◌≤◌, ◌-◌}
-use lib.ListN.{length}
 use Rattle.floor_core.specs.Tables.{OwnLows}
 use Rattle.floor_core.proofs.number.own_lows.Given as goal
 
 abbrev pub invariant-loop-v : goal.invariant-loop-v
-invariant-loop-v l = (l.v ≤ length l.groups) × OwnLows l.poured l.groups l.v l.lows
+invariant-loop-v l = OwnLows l.poured l.groups l.v l.lows

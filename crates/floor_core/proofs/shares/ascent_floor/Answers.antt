@@ -1,7 +1,7 @@
 -- `ascent_floor` meets its contract: the sum of the shares, with the arcs linked once.
 use mathlib.Core.Path.{refl}
 use Rattle.floor_core.specs.Laws.Chain.{ends_room}
-use Rattle.floor_core.specs.Laws.Shares.{shares_long, shares_fit, floor_total}
+use Rattle.floor_core.specs.Laws.Shares.{shares_fit, floor_total}
 use borrow.Author.Rules.{rules}
 use Rattle.floor_core.proofs.shares.ascent_floor.Goals as goal
 
@@ -13,9 +13,6 @@ chain-requires c = record { arcs_value = refl; ends = ends_room _ _ c.requires; 
 
 pub shares-share-requires : goal.shares-share-requires
 shares-share-requires c = record { ends = c.requires; chained = c.chain.ensures }
-
-pub slice_bounds-total-end : goal.slice_bounds-total-end
-slice_bounds-total-end c = shares_long _ _ _ _ _ c.shares-share.ensures
 
 pub total-requires : goal.total-requires
 total-requires c = shares_fit _ _ _ _ c.requires.few c.requires.short _ c.shares-share.ensures

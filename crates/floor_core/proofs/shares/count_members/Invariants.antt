@@ -1,8 +1,6 @@
 -- `count_members` meets its contract: one vertex after the other.
-use Prim.Native.Nat.{◌≤◌, ◌-◌}
-use lib.ListN.{length}
 use Rattle.floor_core.specs.Tables.{Counts}
 use Rattle.floor_core.proofs.shares.count_members.Given as goal
 
-abbrev pub invariant-loop-v : goal.invariant-loop-v
-invariant-loop-v l = (l.v ≤ length l.groups) × Counts l.groups l.v l.counts
+abbrev pub invariant-loop-l : goal.invariant-loop-l
+invariant-loop-l l = Counts l.groups l.l-index l.counts

@@ -1,5 +1,4 @@
 -- `first_shares` meets its contract: it stores at rising places.
-use Prim.Native.Nat.{◌≤◌, ◌-◌}
 use mathlib.Core.Path.{◌≡◌}
 use lib.ListN.{replicate}
 use Rattle.base_finite.specs.Below.{counted}
@@ -9,4 +8,4 @@ use Rattle.floor_rule.specs.Ascent.{max_cost, in_company}
 use Rattle.floor_core.proofs.shares.first_shares.Given as goal
 
 abbrev pub invariant-loop-l : goal.invariant-loop-l
-invariant-loop-l l = (l.l ≤ group_numbers) × (l.share ≡ remade (λ g x. counted (in_company l.groups g) max_cost) l.l (replicate group_numbers 0))
+invariant-loop-l l = l.share ≡ remade (λ g x. counted (in_company l.groups g) max_cost) l.l (replicate group_numbers 0)

@@ -1,6 +1,5 @@
 -- `walk` meets its contract: one vertex of the queue after the other, until the root is found or none is left.
 use mathlib.Core.Path.{refl}
-use Prim.Native.Nat.{◌-◌}
 use native.Mathlib.Omega.{arith}
 use Rattle.floor_core.specs.Laws.Walk.{walks_start, walks_next, walks_few, walks_more, walked_inside, walked_outside}
 use Rattle.floor_core.proofs.walk.walk.Goals as goal
