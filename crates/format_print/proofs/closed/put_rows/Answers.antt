@@ -19,7 +19,9 @@ pub loop-i-preserved : goal.loop-i-preserved
 loop-i-preserved c =
     let a = c.args in
     let small : length a.out.now ≤ farthest = omega arith in
-    wrote_as (wrote_then small c.loop-i.invariant c.put_line_of-next.ensures) (text_next (row_line a.tracks.now a.res.now) c.loop-i.i)
+    wrote_as
+    (wrote_then small c.loop-i.invariant c.put_line_of-next.ensures)
+    (text_next (row_line a.tracks.now a.res.now) c.loop-i.i)
 
 pub returns : goal.returns
 unfolding row_lines

@@ -18,7 +18,9 @@ pub loop-e-preserved : goal.loop-e-preserved
 loop-e-preserved c =
     let a = c.args in
     let small : length a.out.now ≤ farthest = omega arith in
-    wrote_as (wrote_then small c.loop-e.invariant c.put_mark-next.ensures) (text_next (λ i. kept_line (get_or a.marks.now i 0) i) c.loop-e.e)
+    wrote_as
+    (wrote_then small c.loop-e.invariant c.put_mark-next.ensures)
+    (text_next (λ i. kept_line (get_or a.marks.now i 0) i) c.loop-e.e)
 
 pub returns : goal.returns
 unfolding kept_lines

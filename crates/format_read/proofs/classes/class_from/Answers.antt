@@ -1,4 +1,5 @@
--- `format_read::classes::class_from` meets its contract: past the end no byte stands, and equal classes have equal numbers.
+-- `format_read::classes::class_from` meets its contract: past the end no byte stands, and equal
+-- classes have equal numbers.
 use mathlib.Core.Path.{◌≡◌, refl, sym, ap, ap₂, ◌∙◌}
 use lib.Dec.{eqb}
 use denote.Enum.Declared.{tag_of}
