@@ -21,7 +21,9 @@ loop-i-preserved c =
     let a = c.args in
     let small : length a.out.now ≤ farthest = omega arith in
     let line = wrote_as c.put_dual-next.ensures (ap dual_line c.«record».ensures) in
-    wrote_as (wrote_then small c.loop-i.invariant line) (text_next (λ k. dual_line (record_at a.records.now k)) c.loop-i.i)
+    wrote_as
+    (wrote_then small c.loop-i.invariant line)
+    (text_next (λ k. dual_line (record_at a.records.now k)) c.loop-i.i)
 
 pub returns : goal.returns
 unfolding dual_lines

@@ -23,7 +23,8 @@ loop-preserved c =
     let a = c.args in
     let l = c.loop in
     let d = c.is_digit.ensures ∙ ap is_digit (c.class_of.ensures ∙ ap class_of c.at.ensures) in
-    sym (digits_more a.text.now a.limit l.counter l.end c.loop-test.true (sym d ∙ c.if-not-is_digit.false)) ∙ l.invariant
+    let more = digits_more a.text.now a.limit l.counter l.end c.loop-test.true (sym d ∙ c.if-not-is_digit.false) in
+    sym more ∙ l.invariant
 
 pub returns : goal.returns
 returns c =
