@@ -34,10 +34,8 @@ fn turn_column(table: &[u8], rows: usize, columns: usize, j: usize, out: &mut [u
     requires { HoldsColumn rows columns j table.now out.old }
     ensures { out.new ≡ column_stored rows columns table.now j rows out.old }
 {
-    let mut i = 0;
-    while i < rows {
+    for i in 0..rows {
         out[j * rows + i] = table[i * columns + j];
-        i += 1;
     }
 }
 
@@ -46,10 +44,8 @@ fn turn(table: &[u8], rows: usize, columns: usize, out: &mut [u8])
     requires { Holds rows columns table.now out.old }
     ensures { out.new ≡ turned rows columns table.now ++ drop (rows * columns) out.old }
 {
-    let mut j = 0;
-    while j < columns {
+    for j in 0..columns {
         turn_column(table, rows, columns, j, out);
-        j += 1;
     }
 }
 

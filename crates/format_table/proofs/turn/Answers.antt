@@ -1,5 +1,4 @@
 -- `turn` meets its contract: one column more at a time.
-use Prim.Native.Nat.{◌-◌}
 use Rattle.format_table.proofs.Laws.Turning.{storing_start, storing_holds, storing_more, storing_end}
 use Rattle.format_table.proofs.turn.Goals as goal
 

@@ -1,5 +1,4 @@
 -- `turn_column` meets its contract: one byte more at a time, within the table and the buffer (`places`).
-use Prim.Native.Nat.{◌-◌}
 use mathlib.Core.Path.{refl}
 use borrow.Author.Rules.{rules}
 use Rattle.format_table.proofs.Laws.Turning.{column_start, column_more, column_end, places}
