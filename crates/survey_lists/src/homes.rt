@@ -5,15 +5,15 @@ ghost use Rattle.base_limits.specs.Limits.{max_vertices};
 ghost use Rattle.survey_core.specs.Lists.{lent_lists};
 ghost use Rattle.survey_lists.specs.Pouring.{home, room_of};
 
-use base_buffer::{at8, at32, index32, put8};
+use base_buffer::{at, put};
 use base_limits::MAX_VERTICES;
 
 // The group of pair i, if it is a pair of v.
 fn pair_of(owners: &[u32], others: &[u8], v: usize, i: usize) -> u8
     ensures { result ≡ cond (eqb (get_or owners.now i 0) v) (get_or others.now i 0) 0 }
 {
-    if index32(at32(owners, i)) == v {
-        return at8(others, i);
+    if at(owners, i) as usize == v {
+        return at(others, i);
     }
     0
 }
@@ -22,17 +22,15 @@ fn pair_of(owners: &[u32], others: &[u8], v: usize, i: usize) -> u8
 pub fn home(groups: &[u8], owners: &[u32], others: &[u8], v: usize) -> u8
     ensures { result ≡ home (lent_lists groups.now owners.now others.now) v }
 {
-    let own = at8(groups, v);
+    let own = at(groups, v);
     if own != 0 {
         return own;
     }
-    let mut i = 0;
-    while i < owners.len() {
+    for i in 0..owners.len() {
         let found = pair_of(owners, others, v, i);
         if found != 0 {
             return found;
         }
-        i += 1;
     }
     0
 }
@@ -42,10 +40,8 @@ pub fn own_groups(groups: &[u8]) -> [u8; MAX_VERTICES]
     ensures { result ≡ room_of (length groups.now) (λ v. get_or groups.now v 0) }
 {
     let mut room = [0u8; MAX_VERTICES];
-    let mut v = 0;
-    while v < groups.len() {
-        put8(&mut room, v, at8(groups, v));
-        v += 1;
+    for (v, group) in groups.iter().enumerate() {
+        put(&mut room, v, *group);
     }
     room
 }
@@ -58,10 +54,10 @@ fn note_home(homes: &mut [u8], v: usize, group: u8)
     if MAX_VERTICES <= v {
         return;
     }
-    if at8(homes, v) != 0 {
+    if at(homes, v) != 0 {
         return;
     }
-    put8(homes, v, group);
+    put(homes, v, group);
 }
 
 // The homes of all vertices that a survey may have, in one pass over the pairs.
@@ -69,10 +65,8 @@ pub fn homes(groups: &[u8], owners: &[u32], others: &[u8]) -> [u8; MAX_VERTICES]
     ensures { result ≡ tabulate max_vertices (home (lent_lists groups.now owners.now others.now)) }
 {
     let mut housed = own_groups(groups);
-    let mut i = 0;
-    while i < owners.len() {
-        note_home(&mut housed, index32(at32(owners, i)), at8(others, i));
-        i += 1;
+    for i in 0..owners.len() {
+        note_home(&mut housed, at(owners, i) as usize, at(others, i));
     }
     housed
 }

@@ -7,7 +7,7 @@ ghost use Rattle.survey_core.specs.Lists.{lists_from, lent_lists};
 ghost use Rattle.survey_lists.specs.Pouring.{home, poured_label, poured, room_of};
 
 use crate::homes::{home, homes, own_groups};
-use base_buffer::{at8, at32, index8, index32, put8};
+use base_buffer::{at, put};
 use base_limits::{GROUP_NUMBERS, MAX_VERTICES};
 
 // The home of any vertex, from the table where that reaches.
@@ -16,7 +16,7 @@ fn home_at(homes: &[u8], groups: &[u8], owners: &[u32], others: &[u8], v: usize)
     ensures { result ≡ home (lent_lists groups.now owners.now others.now) v }
 {
     if v < MAX_VERTICES {
-        return at8(homes, v);
+        return at(homes, v);
     }
     home(groups, owners, others, v)
 }
@@ -34,9 +34,9 @@ fn join_pair(
     ensures { let first = home (lent_lists groups.now owners.now others.now) (get_or owners.now i 0) in
         labels.new ≡ ends_joined first (get_or others.now i 0) labels.old }
 {
-    let first = home_at(homes, groups, owners, others, index32(at32(owners, i)));
-    let second = at8(others, i);
-    let z = at32(labels, index8(first));
+    let first = home_at(homes, groups, owners, others, at(owners, i) as usize);
+    let second = at(others, i);
+    let z = at(labels, usize::from(first));
     survey_components::merge(labels, first as u32, second as u32, z);
 }
 
@@ -47,10 +47,8 @@ fn label_lists(homes: &[u8], groups: &[u8], owners: &[u32], others: &[u8]) -> [u
 {
     let mut labels = [0u32; GROUP_NUMBERS];
     survey_components::own_labels(&mut labels);
-    let mut i = 0;
-    while i < owners.len() {
+    for i in 0..owners.len() {
         join_pair(homes, groups, owners, others, &mut labels, i);
-        i += 1;
     }
     labels
 }
@@ -69,7 +67,7 @@ fn poured_group(
     ensures { result ≡ poured (lent_lists groups.now owners.now others.now) v }
 {
     let list = home_at(homes, groups, owners, others, v);
-    at32(labels, index8(list)) as u8
+    at(labels, usize::from(list)) as u8
 }
 
 // The poured groups of a survey with pairs.
@@ -79,14 +77,12 @@ fn poured_groups(groups: &[u8], owners: &[u32], others: &[u8]) -> [u8; MAX_VERTI
     let housed = homes(groups, owners, others);
     let labels = label_lists(&housed, groups, owners, others);
     let mut room = [0u8; MAX_VERTICES];
-    let mut v = 0;
-    while v < groups.len() {
-        put8(
+    for v in 0..groups.len() {
+        put(
             &mut room,
             v,
             poured_group(&housed, groups, owners, others, &labels, v),
         );
-        v += 1;
     }
     room
 }

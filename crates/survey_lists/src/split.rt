@@ -11,7 +11,7 @@ ghost use Rattle.survey_groups.specs.Spread.{noted_in, spread};
 ghost use Rattle.survey_components.specs.Labels.{chosen};
 ghost use Rattle.survey_lists.specs.Split.{split_list, pair_group, entry_vertex, entries};
 
-use base_buffer::{at8, at32, index32};
+use base_buffer::at;
 use base_limits::{GROUP_NUMBERS, Verdict};
 use survey_components::Chosen;
 
@@ -19,8 +19,8 @@ use survey_components::Chosen;
 fn pair_group(groups: &[u8], owners: &[u32], others: &[u8], i: usize) -> u8
     ensures { result ≡ pair_group (lent_lists groups.now owners.now others.now) i }
 {
-    if index32(at32(owners, i)) < groups.len() {
-        return at8(others, i);
+    if (at(owners, i) as usize) < groups.len() {
+        return at(others, i);
     }
     0
 }
@@ -38,7 +38,7 @@ fn note_pair(
         table.new ≡ noted_in table.old (pair_group (lent_lists groups.now owners.now others.now) i) label }
 {
     let group = pair_group(groups, owners, others, i);
-    let label = at32(labels, index32(at32(owners, i)));
+    let label = at(labels, at(owners, i) as usize);
     survey_groups::note_label(table, group, label);
 }
 
@@ -55,10 +55,8 @@ fn list_spreads(
         result ≡ tabulate group_numbers (λ g. spread (groups_alone (entries l)) label g count) }
 {
     let mut table = survey_groups::spreads(groups, labels);
-    let mut i = 0;
-    while i < owners.len() {
+    for i in 0..owners.len() {
         note_pair(groups, owners, others, labels, &mut table, i);
-        i += 1;
     }
     table
 }

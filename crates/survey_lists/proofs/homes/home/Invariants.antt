@@ -1,12 +1,7 @@
 -- `home` meets its contract: the own group, or the first pair that the search finds.
-use Prim.Native.Nat.{◌-◌}
-use lib.ListN.{length}
 use Rattle.survey_core.specs.Lists.{lists_from}
 use Rattle.survey_lists.proofs.Laws.Home.{Homeless}
 use Rattle.survey_lists.proofs.homes.home.Given as goal
 
 abbrev pub invariant-loop-i : goal.invariant-loop-i
 invariant-loop-i l = Homeless (lists_from l.groups l.owners l.others) l.v l.i
-
-abbrev pub decreases-loop-i : goal.decreases-loop-i
-decreases-loop-i l = length l.owners - l.i

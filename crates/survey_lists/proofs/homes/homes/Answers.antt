@@ -1,6 +1,4 @@
 -- `homes` meets its contract: after i pairs the homes are those by the pairs below i.
-use Prim.Native.Nat.{◌-◌}
-use native.Mathlib.Omega.{arith}
 use mathlib.Core.Path.{ap, sym, ◌∙◌}
 use lib.ListN.{length}
 use Rattle.base_finite.specs.Laws.Below.{length_tabulate}
@@ -14,12 +12,9 @@ loop-i-init c = housed_start _ c.own_groups-housed.ensures
 pub slice_bounds-note_home-end : goal.slice_bounds-note_home-end
 slice_bounds-note_home-end c = sym (ap length c.loop-i.invariant.made ∙ length_tabulate max_vertices _)
 
-pub loop-i-smaller : goal.loop-i-smaller
-loop-i-smaller c = omega arith
-
 pub loop-i-preserved : goal.loop-i-preserved
 loop-i-preserved c =
-    housed_turn _ c.loop-i.invariant c.loop-i-test.true (c.index32.ensures ∙ c.at32.ensures) c.at8.ensures c.note_home.ensures
+    housed_turn _ c.loop-i.invariant c.loop-i-test.true c.at.ensures c.at-in-loop-i.ensures c.note_home.ensures
 
 pub returns : goal.returns
 returns c = housed_end _ c.loop-i.invariant c.loop-i-test.false

@@ -3,8 +3,8 @@ use mathlib.Core.Path.{sym, ◌∙◌}
 use Rattle.survey_lists.proofs.Laws.Home.{pair_taken, pair_passed}
 use Rattle.survey_lists.proofs.homes.pair_of.Goals as goal
 
-pub returns-then-index32-v : goal.returns-then-index32-v
-returns-then-index32-v c = pair_taken (sym (c.index32.ensures ∙ c.at32.ensures) ∙ c.if-index32-v.true) c.at8.ensures
+pub returns-then-at-v : goal.returns-then-at-v
+returns-then-at-v c = pair_taken (sym c.at.ensures ∙ c.if-at-v.true) c.at-then-at-v.ensures
 
 pub returns : goal.returns
-returns c = pair_passed _ (λ e. c.if-index32-v.false (c.index32.ensures ∙ c.at32.ensures ∙ e))
+returns c = pair_passed _ (λ e. c.if-at-v.false (c.at.ensures ∙ e))

@@ -14,7 +14,7 @@ returns c =
     let args = c.args in
     joined_by_merge
     args.labels.now
-    (c.home_at-first.ensures ∙ ap (home (lists_from args.groups.now args.owners.now args.others.now)) (c.index32.ensures ∙ c.at32.ensures))
-    c.at8-second.ensures
-    (own_read args.labels.now c.index8.ensures c.at32-z.ensures)
+    (c.home_at-first.ensures ∙ ap (home (lists_from args.groups.now args.owners.now args.others.now)) (c.at.ensures))
+    c.at-second.ensures
+    (own_read args.labels.now c.from.ensures c.at-z.ensures)
     c.merge.ensures

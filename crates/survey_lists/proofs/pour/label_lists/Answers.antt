@@ -1,5 +1,5 @@
 -- `label_lists` meets its contract: after i pairs the labels are those of the pairs below i.
-use Prim.Native.Nat.{ℕ, ◌-◌}
+use Prim.Native.Nat.{ℕ}
 use native.Mathlib.Omega.{arith}
 use mathlib.Core.Path.{ap, sym, ◌∙◌}
 use lib.ListN.{length, replicate, length-replicate}
@@ -17,15 +17,12 @@ slice_bounds-join_pair-end c = sym (ap length c.loop-i.invariant.made ∙ length
 pub join_pair-requires : goal.join_pair-requires
 join_pair-requires c = c.requires
 
-pub loop-i-smaller : goal.loop-i-smaller
-loop-i-smaller c = omega arith
-
 pub loop-i-preserved : goal.loop-i-preserved
 loop-i-preserved c =
     labelled_turn
     _
-    (λ v. omega (arith, c.shared_slice_known-2-1.given v))
-    (λ i. omega (arith, c.shared_slice_known-4-1.given i))
+    (λ v. omega (arith, c.type_inv.groups v))
+    (λ i. omega (arith, c.type_inv.others i))
     c.loop-i.invariant
     c.loop-i-test.true
     c.join_pair.ensures

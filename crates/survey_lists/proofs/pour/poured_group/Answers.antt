@@ -9,13 +9,13 @@ use Rattle.survey_lists.proofs.Laws.Room.{label_read}
 use Rattle.survey_lists.proofs.pour.poured_group.Goals as goal
 
 -- The label that was read.
-read : (c : goal.After-at32) → c.at32.result ≡ poured (lists_from c.args.groups.now c.args.owners.now c.args.others.now) c.args.v
+read : (c : goal.After-at) → c.at.result ≡ poured (lists_from c.args.groups.now c.args.owners.now c.args.others.now) c.args.v
 read c =
-    own_read c.args.labels.now (c.index8.ensures ∙ c.home_at-list.ensures) c.at32.ensures
+    own_read c.args.labels.now (c.from.ensures ∙ c.home_at-list.ensures) c.at.ensures
     ∙ label_read
     (lists_from c.args.groups.now c.args.owners.now c.args.others.now)
-    (λ v. omega (arith, c.shared_slice_known-2-1.given v))
-    (λ i. omega (arith, c.shared_slice_known-4-1.given i))
+    (λ v. omega (arith, c.type_inv.groups v))
+    (λ i. omega (arith, c.type_inv.others i))
     c.requires.labels_value
     c.args.v
 
@@ -27,8 +27,8 @@ overflow_cast-result c =
     let b =
     poured_below
     (lists_from c.args.groups.now c.args.owners.now c.args.others.now)
-    (λ v. omega (arith, c.shared_slice_known-2-1.given v))
-    (λ i. omega (arith, c.shared_slice_known-4-1.given i))
+    (λ v. omega (arith, c.type_inv.groups v))
+    (λ i. omega (arith, c.type_inv.others i))
     c.args.v in
     let e = read c in
     omega arith

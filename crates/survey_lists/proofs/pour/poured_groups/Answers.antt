@@ -1,6 +1,4 @@
 -- `poured_groups` meets its contract: it stores at rising places.
-use Prim.Native.Nat.{◌-◌}
-use native.Mathlib.Omega.{arith}
 use mathlib.Core.Path.{ap, sym, ◌∙◌}
 use lib.ListN.{length}
 use Rattle.base_finite.specs.Laws.Below.{length_tabulate}
@@ -17,8 +15,8 @@ label_lists-labels-requires c = c.homes-housed.ensures
 pub loop-v-init : goal.loop-v-init
 loop-v-init c = filled_start _ _
 
-pub slice_bounds-put8-end : goal.slice_bounds-put8-end
-slice_bounds-put8-end c = sym (ap length c.loop-v.invariant.made ∙ length_room _ _)
+pub slice_bounds-put-end : goal.slice_bounds-put-end
+slice_bounds-put-end c = sym (ap length c.loop-v.invariant.made ∙ length_room _ _)
 
 pub slice_bounds-poured_group-end : goal.slice_bounds-poured_group-end
 slice_bounds-poured_group-end c = sym (ap length c.homes-housed.ensures ∙ length_tabulate max_vertices _)
@@ -29,11 +27,8 @@ slice_bounds-poured_group-end-in-loop-v c = sym (ap length c.label_lists-labels.
 pub poured_group-requires : goal.poured_group-requires
 poured_group-requires c = record { homes_value = c.homes-housed.ensures; labels_value = c.label_lists-labels.ensures }
 
-pub loop-v-smaller : goal.loop-v-smaller
-loop-v-smaller c = omega arith
-
 pub loop-v-preserved : goal.loop-v-preserved
-loop-v-preserved c = filled_turn _ _ c.loop-v.invariant c.loop-v-test.true c.poured_group.ensures c.put8.ensures
+loop-v-preserved c = filled_turn _ _ c.loop-v.invariant c.loop-v-test.true c.poured_group.ensures c.put.ensures
 
 pub returns : goal.returns
 returns c = filled_end _ _ c.loop-v.invariant c.loop-v-test.false

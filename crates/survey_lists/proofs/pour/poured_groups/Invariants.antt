@@ -1,5 +1,4 @@
 -- `poured_groups` meets its contract: it stores at rising places.
-use Prim.Native.Nat.{◌-◌}
 use lib.ListN.{length}
 use Rattle.survey_core.specs.Lists.{lists_from}
 use Rattle.survey_lists.specs.Pouring.{poured}
@@ -8,6 +7,3 @@ use Rattle.survey_lists.proofs.pour.poured_groups.Given as goal
 
 abbrev pub invariant-loop-v : goal.invariant-loop-v
 invariant-loop-v l = Filled (poured (lists_from l.groups l.owners l.others)) (length l.groups) l.v l.room
-
-abbrev pub decreases-loop-v : goal.decreases-loop-v
-decreases-loop-v l = length l.groups - l.v

@@ -1,5 +1,4 @@
 -- `list_spreads` meets its contract: after i pairs the table holds the own groups and the pairs below i.
-use Prim.Native.Nat.{◌-◌}
 use native.Mathlib.Omega.{arith}
 use mathlib.Core.Path.{ap, sym, ◌∙◌}
 use lib.ListN.{length, get_or}
@@ -17,15 +16,12 @@ loop-i-init c =
 pub slice_bounds-note_pair-end : goal.slice_bounds-note_pair-end
 slice_bounds-note_pair-end c = sym (ap length c.loop-i.invariant.made ∙ length_tabulate group_numbers _)
 
-pub loop-i-smaller : goal.loop-i-smaller
-loop-i-smaller c = omega arith
-
 pub loop-i-preserved : goal.loop-i-preserved
 loop-i-preserved c =
     noted_turn
     _
     _
-    (λ i. omega (arith, c.shared_slice_known-3-1.given i))
+    (λ i. omega (arith, c.type_inv.others i))
     c.loop-i.invariant
     c.loop-i-test.true
     c.note_pair.ensures
