@@ -35,7 +35,7 @@ pub fn why_call(
     if counts.len() < WHY_FIGURES {
         return api_code::short_counts(groups, firsts, seconds, weights, owners, others);
     }
-    let asked = base_buffer::index32(track);
+    let asked = track as usize;
     let answer = why_core::why(
         groups, firsts, seconds, weights, owners, others, asked, route,
     );

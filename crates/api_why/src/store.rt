@@ -19,7 +19,7 @@ fn store_six(
     ensures { counts.new ≡ sets counts.old 0 (kind ∷ group ∷ smaller ∷ larger ∷ entries ∷ round ∷ []) }
 {
     api_code::store_five(counts, kind, group, smaller, larger, entries);
-    base_buffer::put64(counts, 5, round);
+    base_buffer::put(counts, 5, round);
 }
 
 // Stores the numbers of a reason and answers 0; or answers a refusal's code, and stores nothing.

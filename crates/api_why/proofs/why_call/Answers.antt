@@ -17,4 +17,4 @@ returns c =
     let a = c.args in
     let s = survey_with a.groups.now a.firsts.now a.seconds.now a.weights.now a.owners.now a.others.now in
     let long = c.if-counts-lt-WHY_FIGURES.false in
-    let asked = rw c.index32-asked.ensures at c.why-answer.ensures in record { code = why_coded s a.track a.route.now a.counts.now long _ asked.result_value (omega arith) c.store_answer.ensures.value; route = why_route_law s a.track a.route.now a.counts.now long asked.route_value; counts = why_counted s a.track a.route.now a.counts.now long _ asked.result_value c.store_answer.ensures.counts_value }
+    let asked = c.why-answer.ensures in record { code = why_coded s a.track a.route.now a.counts.now long _ asked.result_value (omega arith) c.store_answer.ensures.value; route = why_route_law s a.track a.route.now a.counts.now long asked.route_value; counts = why_counted s a.track a.route.now a.counts.now long _ asked.result_value c.store_answer.ensures.counts_value }

@@ -4,4 +4,4 @@ use lib.ListN.{set}
 use Rattle.api_why.proofs.store.store_six.Goals as goal
 
 pub returns : goal.returns
-returns c = c.put64.ensures ∙ ap (λ l. set l 5 c.args.round) c.store_five.ensures
+returns c = c.put.ensures ∙ ap (λ l. set l 5 c.args.round) c.store_five.ensures
