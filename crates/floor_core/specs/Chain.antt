@@ -1,5 +1,5 @@
 -- The arcs of a survey by the vertex that they lead to: each is linked to the one before it that leads there too.
-use Rattle.std.specs.Prelude.{ℕ, zero, suc, ◌+◌, ◌*◌, ◌≤◌, ◌<◌, ◌≡◌, Bool, true, false, cond, List, length, get_or, eqb}
+use Rattle.std.specs.Prelude.{ℕ, zero, suc, ◌+◌, ◌*◌, ◌≤◌, ◌<◌, ◌≡◌, Option, Some, None, true, false, cond, List, length, get_or, eqb}
 use Rattle.base_limits.specs.Limits.{max_vertices, max_edges}
 use Rattle.floor_rule.specs.Ascent.{arc_count, tail_of, head_of, flagged, reaching, least_rest, loaded}
 
@@ -24,10 +24,10 @@ pub record Chained (firsts seconds : List ℕ) (n : ℕ) (tops links : List ℕ)
   pub tops_are : (v : ℕ) → v < max_vertices → get_or tops v 0 ≡ last_into firsts seconds v n
   pub links_are : (a : ℕ) → a < n → get_or links a 0 ≡ link_of firsts seconds a
 
--- The cut round v, raised by as much as the arcs bear and no more than the cap, unless the root is inside.
-pub record CutRaised (firsts seconds : List ℕ) (n root v cap : ℕ) (rests after : List ℕ) (inside : Bool) (by : ℕ) : Type 0 where
-  pub root_inside : inside ≡ true → (flagged (reaching firsts seconds rests n v) root ≡ true) × (after ≡ rests)
-  pub root_outside : inside ≡ false →
+-- The cut round v, raised by as much as the arcs bear and no more than the cap, unless the root is inside, where there is none.
+pub record CutRaised (firsts seconds : List ℕ) (n root v cap : ℕ) (rests after : List ℕ) (raised : Option ℕ) : Type 0 where
+  pub root_inside : raised ≡ None → (flagged (reaching firsts seconds rests n v) root ≡ true) × (after ≡ rests)
+  pub root_outside : (by : ℕ) → raised ≡ Some by →
       (flagged (reaching firsts seconds rests n v) root ≡ false)
       × (by ≡ least_rest firsts seconds rests (reaching firsts seconds rests n v) cap (arc_count firsts))
       × (after ≡ loaded firsts seconds (reaching firsts seconds rests n v) by rests)

@@ -1,5 +1,5 @@
 -- What holds while the cut round a vertex is looked for, and of the cut that was found. A vertex has flag 1 when it is found and 2 when the arcs that lead to it are looked at.
-use Rattle.std.specs.Prelude.{ℕ, suc, ◌≤◌, ◌<◌, ◌≡◌, ◌⊎◌, ◌↔◌, Bool, true, false, List, length, get_or, eqb}
+use Rattle.std.specs.Prelude.{ℕ, suc, ◌≤◌, ◌<◌, ◌≡◌, ◌⊎◌, ◌↔◌, Option, Some, None, Bool, true, false, List, length, get_or, eqb}
 use Rattle.base_finite.specs.Below.{count_below}
 use Rattle.base_limits.specs.Limits.{max_vertices}
 use Rattle.floor_rule.specs.Ascent.{arc_count, tail_of, head_of, flagged}
@@ -91,11 +91,11 @@ pub record Cut (g : Ground) (rests flags rim : List ℕ) (arcs : ℕ) : Type 0 w
   pub rim_heads : (j : ℕ) → j < arcs → flagged flags (head_in g (get_or rim j 0)) ≡ true
   pub distinct : (j k : ℕ) → j < arcs → k < arcs → get_or rim j 0 ≡ get_or rim k 0 → j ≡ k
 
--- What a walk finds: that arcs without rest lead from the root, or the cut, with the root outside.
-pub record CutFound (g : Ground) (rests flags rim : List ℕ) (root : ℕ) (inside : Bool) (arcs : ℕ) : Type 0 where
-  pub led : inside ≡ true → LeadsIn g rests root
-  pub cut : inside ≡ false → Cut g rests flags rim arcs
-  pub outside : inside ≡ false → flagged flags root ≡ false
+-- What a walk finds: that arcs without rest lead from the root, where it answers none, or the cut, with the root outside.
+pub record CutFound (g : Ground) (rests flags rim : List ℕ) (root : ℕ) (walked : Option ℕ) : Type 0 where
+  pub led : walked ≡ None → LeadsIn g rests root
+  pub cut : (arcs : ℕ) → walked ≡ Some arcs → Cut g rests flags rim arcs
+  pub outside : (arcs : ℕ) → walked ≡ Some arcs → flagged flags root ≡ false
 
 -- At the rim there are the arcs that enter alone.
 pub record Narrow (g : Ground) (rests flags rim : List ℕ) (arcs : ℕ) : Type 0 where

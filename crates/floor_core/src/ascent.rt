@@ -54,14 +54,17 @@ fn visit(
     if at(done, v) != 0 {
         return more;
     }
-    let raised = raise_cut(firsts, seconds, tops, links, rests, rim, n, root, v, cap);
-    if raised.inside {
-        put(done, v, 1);
-        return more;
+    match raise_cut(firsts, seconds, tops, links, rests, rim, n, root, v, cap) {
+        None => {
+            put(done, v, 1);
+            more
+        }
+        Some(by) => {
+            let part = at(got, l);
+            put(got, l, part + by);
+            true
+        }
     }
-    let part = at(got, l);
-    put(got, l, part + raised.by);
-    true
 }
 
 // A visit to v, if it is a member of group l.

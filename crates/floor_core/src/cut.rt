@@ -89,15 +89,8 @@ fn load(rim: &[u32; MAX_ARCS], arcs: usize, rests: &mut [u32], d: u64)
     }
 }
 
-// Whether the root is inside, and if not by how much a cut was raised.
-#[derive(Drop)]
-pub struct Raised {
-    pub inside: bool,
-    pub by: u64,
-}
-
-// The cut round v, raised by as much as the arcs bear and no more than the cap, unless the root is inside. Of n
-// vertices and the arcs by the vertex that they lead to; what the rim holds afterwards is of no use.
+// The cut round v, raised by as much as the arcs bear and no more than the cap: by how much, or None where the root is
+// inside. Of n vertices and the arcs by the vertex that they lead to; what the rim holds afterwards is of no use.
 pub fn raise_cut(
     firsts: &[u32],
     seconds: &[u32],
@@ -109,28 +102,19 @@ pub fn raise_cut(
     root: usize,
     v: usize,
     cap: u64,
-) -> Raised
+) -> Option<u64>
     requires ends { Ends n firsts.now seconds.now }
     requires chained { Chained firsts.now seconds.now (arc_count firsts.now) tops.now links.now }
     requires v_lt_n { v < n }
     ensures { CutRaised
-        firsts.now seconds.now n root v cap rests.old rests.new result.inside result.by }
+        firsts.now seconds.now n root v cap rests.old rests.new result }
 {
     let mut flags = [0u8; MAX_VERTICES];
     put(&mut flags, v, 1);
     let mut found = [0u32; MAX_VERTICES];
     put(&mut found, 0, v as u32);
-    let walked = walk(tops, links, rests, &mut flags, &mut found, rim, root);
-    if walked.inside {
-        return Raised {
-            inside: true,
-            by: 0,
-        };
-    }
-    let found = narrow(links, rests, &flags, rim, walked.arcs, cap);
+    let arcs = walk(tops, links, rests, &mut flags, &mut found, rim, root)?;
+    let found = narrow(links, rests, &flags, rim, arcs, cap);
     load(rim, found.arcs, rests, found.least);
-    Raised {
-        inside: false,
-        by: found.least,
-    }
+    Some(found.least)
 }

@@ -16,13 +16,6 @@ struct Seen {
     arcs: usize,
 }
 
-// What a walk finds: whether the root is inside, and if not how many arcs are at the rim.
-#[derive(Drop)]
-pub struct Walked {
-    pub inside: bool,
-    pub arcs: usize,
-}
-
 // Arc a, which comes from `tail`: that is found, if the arc has no rest; else the arc is at the rim.
 fn look_arc(
     rests: &[u32; MAX_ARCS],
@@ -113,7 +106,8 @@ fn look_at(
     look(links, rests, flags, found, rim, at(tops, v), before)
 }
 
-// From one vertex on, which alone has a flag and stands in the queue.
+// From one vertex on, which alone has a flag and stands in the queue: how many arcs are at the rim, or None where the
+// root is found.
 pub fn walk(
     tops: &[u32; MAX_VERTICES],
     links: &[u32; MAX_ARCS],
@@ -122,11 +116,11 @@ pub fn walk(
     found: &mut [u32; MAX_VERTICES],
     rim: &mut [u32; MAX_ARCS],
     root: usize,
-) -> Walked
+) -> Option<usize>
     requires { Begun tops.now links.now rests.now flags.old found.old rim.old }
     ensures { (g : Ground) → ChainedIn g tops.now links.now
         → Turn g rests.now 0 0 0 flags.old found.old rim.old 1 0
-        → CutFound g rests.now flags.new rim.new root result.inside result.arcs }
+        → CutFound g rests.now flags.new rim.new root result }
 {
     let mut vertices = 1;
     let mut arcs = 0;
@@ -134,7 +128,7 @@ pub fn walk(
     // Stays a while: the queue grows as it is walked, so its end is no bound known at the start.
     while i < vertices {
         if at(flags, root) != 0 {
-            return Walked { inside: true, arcs };
+            return None;
         }
         let v = at(found, i) as usize;
         let seen = look_at(
@@ -152,10 +146,7 @@ pub fn walk(
         i += 1;
     }
     if at(flags, root) != 0 {
-        return Walked { inside: true, arcs };
+        return None;
     }
-    Walked {
-        inside: false,
-        arcs,
-    }
+    Some(arcs)
 }

@@ -1,5 +1,5 @@
 -- A vertex whose cut has the root inside keeps it there: rests never rise, so what leads to it leads to it ever after.
-use Rattle.std.specs.Prelude.{ℕ, ◌-◌, ◌≤◌, ◌<◌, ◌≡◌, Bool, true, false, List, length, get_or, set, replicate}
+use Rattle.std.specs.Prelude.{ℕ, ◌-◌, ◌≤◌, ◌<◌, ◌≡◌, Option, Some, None, true, List, length, get_or, set, replicate}
 use Rattle.std.proofs.Common.{arith, ap, sym, ◌∙◌, subst, get_or-set_other}
 use Rattle.std.proofs.Math.Decide.{ℕ_discrete}
 use Rattle.std.proofs.Math.Logic.{⊎_elim}
@@ -57,10 +57,10 @@ module _ (firsts seconds : List ℕ) where
         }
 
     -- After a visit.
-    module _ (v : ℕ) {cap by : ℕ} {inside : Bool} (rests done : List ℕ) {after : List ℕ} (cut : CutRaised firsts seconds n root v cap rests after inside by) (h : Done firsts seconds n root rests done) where
-      pub done_inside : {next : List ℕ} → inside ≡ true → next ≡ set done v 1 → Done firsts seconds n root after next
+    module _ (v : ℕ) {cap : ℕ} {raised : Option ℕ} (rests done : List ℕ) {after : List ℕ} (cut : CutRaised firsts seconds n root v cap rests after raised) (h : Done firsts seconds n root rests done) where
+      pub done_inside : {next : List ℕ} → raised ≡ None → next ≡ set done v 1 → Done firsts seconds n root after next
       done_inside {next} told next_is =
           subst (λ (r : List ℕ). Done firsts seconds n root r next) (sym (cut.root_inside told).1) (done_more v rests done h (cut.root_inside told).0 next_is)
 
-      pub done_raised : Ends n firsts seconds → inside ≡ false → Done firsts seconds n root after done
-      done_raised ends told = done_loaded ends (reaching firsts seconds rests n v) by rests done (cut.root_outside told).2 h
+      pub done_raised : Ends n firsts seconds → {by : ℕ} → raised ≡ Some by → Done firsts seconds n root after done
+      done_raised ends {by} told = done_loaded ends (reaching firsts seconds rests n v) by rests done (cut.root_outside by told).2 h

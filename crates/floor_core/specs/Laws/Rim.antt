@@ -2,11 +2,10 @@
 use Prim.Native.Nat.{ℕ, zero, suc, ◌+◌, ◌-◌, ◌%◌, ◌≤◌, ◌<◌}
 use native.Mathlib.Omega.{arith}
 use Rattle.std.proofs.Math.Decide.{ℕ_discrete}
-use Rattle.std.specs.Prelude.{◌≡◌, ◌⊎◌, Bool, true, false, not, List, length, set, replicate}
+use Rattle.std.specs.Prelude.{◌≡◌, ◌⊎◌, Option, Some, None, Bool, true, false, not, List, length, set, replicate}
 use Rattle.std.proofs.Math.Path.{refl, ap, sym, subst}
-use Rattle.std.proofs.Common.{◌∙◌, inl, inr, true≢false, length-set, get_or-set_same, get_or-set_other}
+use Rattle.std.proofs.Common.{◌∙◌, inl, inr, length-set, get_or-set_same, get_or-set_other}
 use Rattle.std.proofs.Math.Logic.{⊎_elim}
-use Rattle.std.proofs.lemmas.Bool.{false≢true}
 use Rattle.std.proofs.Math.ListN.{get_or}
 use Rattle.std.proofs.Math.Seq.{ext_get_or}
 use borrow.Author.Tests.{not-true, lt-ltb, le-ltb, eq-eqb, ne_eqb}
@@ -372,34 +371,37 @@ module _ (firsts seconds tops links : List ℕ) (n root v cap : ℕ) (ends : End
   unfolding graph
   walk_begins {flags} {found} rim flags_are found_are = record { graph = graph; chained = chained; turn = turn_start graph rests flags found rim flags_are found_are }
 
-  module _ {flags found rim flags_after rim_after : List ℕ} {inside : Bool} {arcs : ℕ} (flags_are : flags ≡ set (replicate max_vertices 0) v 1) (found_are : found ≡ set (replicate max_vertices 0) 0 v)
-      (walked : (g : Ground) → ChainedIn g tops links → Turn g rests 0 0 0 flags found rim 1 0 → CutFound g rests flags_after rim_after root inside arcs) where
-    what : CutFound graph rests flags_after rim_after root inside arcs
+  module _ {flags found rim flags_after rim_after : List ℕ} {walked : Option ℕ} (flags_are : flags ≡ set (replicate max_vertices 0) v 1) (found_are : found ≡ set (replicate max_vertices 0) 0 v)
+      (found_cut : (g : Ground) → ChainedIn g tops links → Turn g rests 0 0 0 flags found rim 1 0 → CutFound g rests flags_after rim_after root walked) where
+    what : CutFound graph rests flags_after rim_after root walked
     unfolding graph
-    what = walked graph chained (turn_start graph rests flags found rim flags_are found_are)
+    what = found_cut graph chained (turn_start graph rests flags found rim flags_are found_are)
 
-    pub cut_inside : inside ≡ true → (by : ℕ) → CutRaised firsts seconds n root v cap rests rests true by
+    pub cut_inside : walked ≡ None → CutRaised firsts seconds n root v cap rests rests None
     unfolding graph what
-    cut_inside on by = record {
+    cut_inside on = record {
       root_inside = λ h. ((reaching_iff firsts seconds rests n ends.few ends.tails_below v low root).1 (what.led on), refl);
-      root_outside = λ h. absurd (true≢false h);
+      root_outside = λ by h. cc;
     }
 
-    pub cut_outside : inside ≡ false → {by kept : ℕ} {after narrowed : List ℕ}
+    pub cut_outside : {arcs : ℕ} → walked ≡ Some arcs → {by kept : ℕ} {after narrowed : List ℕ}
         → ((g : Ground) → LinkedIn g links → Cut g rests flags_after rim_after arcs → (by ≡ least_rest g.firsts g.seconds rests flags_after cap (arcs_in g)) × Narrow g rests flags_after narrowed kept)
         → ((g : Ground) (flags : List ℕ) → Narrow g rests flags narrowed kept → after ≡ loaded g.firsts g.seconds flags by rests)
-        → CutRaised firsts seconds n root v cap rests after false by
+        → CutRaised firsts seconds n root v cap rests after (Some by)
     unfolding graph what
-    cut_outside off {by} narrow load =
-        let k = what.cut off in
+    cut_outside {arcs} off {by} {after = after} narrow load =
+        let k = what.cut arcs off in
         let found = narrow graph chained.links_are k in
         record {
-          root_inside = λ h. absurd (false≢true h);
-          root_outside = λ h. (
-            sym (same_flag graph rests flags_after rim_after arcs k root) ∙ what.outside off,
-            found.0 ∙ least_cut graph rests flags_after rim_after arcs k cap (arc_count firsts),
-            load graph flags_after found.1 ∙ loaded_cut graph rests flags_after rim_after arcs k by,
-          );
+          root_inside = λ h. cc;
+          root_outside = λ d h.
+              let same : by ≡ d = cc in
+              subst (λ e. (flagged (reaching firsts seconds rests n v) root ≡ false) × (e ≡ least_rest firsts seconds rests (reaching firsts seconds rests n v) cap (arc_count firsts))
+              × (after ≡ loaded firsts seconds (reaching firsts seconds rests n v) e rests)) same (
+                sym (same_flag graph rests flags_after rim_after arcs k root) ∙ what.outside arcs off,
+                found.0 ∙ least_cut graph rests flags_after rim_after arcs k cap (arc_count firsts),
+                load graph flags_after found.1 ∙ loaded_cut graph rests flags_after rim_after arcs k by,
+              );
         }
 
 -- ---- an arc's tail, as the code finds it

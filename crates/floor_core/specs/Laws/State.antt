@@ -2,7 +2,7 @@
 use Prim.Native.Nat.{ℕ, zero, suc, ◌+◌, ◌-◌, ◌^◌, ◌≤◌, ◌<◌}
 use native.Mathlib.Omega.{arith}
 use Rattle.std.proofs.Common.{add-one, sym, ◌∙◌}
-use Rattle.std.specs.Prelude.{◌≡◌, Bool, ◌||◌, length, replicate, ltb}
+use Rattle.std.specs.Prelude.{◌≡◌, Option, Some, None, Bool, ◌||◌, length, replicate, ltb}
 use Rattle.std.proofs.Math.Path.{refl, ap}
 use Rattle.std.proofs.Math.Bool.{true, false, cond}
 use mathlib.Core.List.{List}
@@ -68,15 +68,15 @@ module _ (firsts seconds : List ℕ) where
         cond_long (eqb (missing share s.got l) 0) s s _ (as_long s) (by_long (reaching firsts seconds s.rests n v) share root l s)
 
   -- A visit by the cut that it raises.
-  module _ (share : List ℕ) (n root l v : ℕ) (rests got : List ℕ) {cap by : ℕ} {inside : Bool} {after : List ℕ} (cut : CutRaised firsts seconds n root v cap rests after inside by) where
-    pub same_inside : inside ≡ true → state_with after got ≡ state_with rests got
+  module _ (share : List ℕ) (n root l v : ℕ) (rests got : List ℕ) {cap : ℕ} {raised : Option ℕ} {after : List ℕ} (cut : CutRaised firsts seconds n root v cap rests after raised) where
+    pub same_inside : raised ≡ None → state_with after got ≡ state_with rests got
     same_inside told = ap (λ (r : List ℕ). state_with r got) (cut.root_inside told).1
 
-    module _ (told : inside ≡ false) (cap_is : cap ≡ missing share got l) where
+    module _ {by : ℕ} (told : raised ≡ Some by) (cap_is : cap ≡ missing share got l) where
       -- What a cut adds to what a group has got fits where its share does.
       pub cut_fits : {x : ℕ} → x ≡ get_or got l 0 → get_or share l 0 < 2 ^ 64 → x < 2 ^ 64 → x + by < 2 ^ 64
       cut_fits x_is whole part =
-          omega (arith, cap_is, (cut.root_outside told).1, whole, part, x_is, least_cap firsts seconds rests (reaching firsts seconds rests n v) cap (arc_count firsts))
+          omega (arith, cap_is, (cut.root_outside by told).1, whole, part, x_is, least_cap firsts seconds rests (reaching firsts seconds rests n v) cap (arc_count firsts))
 
       pub visit_raised : {x y : ℕ} {got_after : List ℕ} → (cap ≡ 0 → ⊥) → x ≡ get_or got l 0 → y ≡ x + by → got_after ≡ set got l y
           → state_with after got_after ≡ visit firsts seconds share n root l v (state_with rests got)
@@ -84,12 +84,12 @@ module _ (firsts seconds : List ℕ) where
       visit_raised {got_after = got_after} some x_is y_is got_is =
           let flags : List ℕ = reaching firsts seconds rests n v in
           let by_is : by ≡ least_rest firsts seconds rests flags (missing share got l) (arc_count firsts) =
-          (cut.root_outside told).1 ∙ ap (λ c. least_rest firsts seconds rests flags c (arc_count firsts)) cap_is in
+          (cut.root_outside by told).1 ∙ ap (λ c. least_rest firsts seconds rests flags c (arc_count firsts)) cap_is in
           let first : after ≡ loaded firsts seconds flags (least_rest firsts seconds rests flags (missing share got l) (arc_count firsts)) rests =
-          (cut.root_outside told).2 ∙ ap (λ d. loaded firsts seconds flags d rests) by_is in
+          (cut.root_outside by told).2 ∙ ap (λ d. loaded firsts seconds flags d rests) by_is in
           let second : got_after ≡ set got l (get_or got l 0 + least_rest firsts seconds rests flags (missing share got l) (arc_count firsts)) =
           got_is ∙ ap (set got l) (y_is ∙ ap (λ z. z + by) x_is ∙ ap (λ z. get_or got l 0 + z) by_is) in
-          rw (ne_eqb (missing share got l) 0 (λ z. some (cap_is ∙ z)), (cut.root_outside told).0) (λ i. record { rests = first i; got = second i })
+          rw (ne_eqb (missing share got l) 0 (λ z. some (cap_is ∙ z)), (cut.root_outside by told).0) (λ i. record { rests = first i; got = second i })
 
   module _ (groups share : List ℕ) (root : ℕ) where
     module _ (l v : ℕ) (s : State) where

@@ -2,12 +2,11 @@
 use Prim.Native.Nat.{ℕ, zero, suc, ◌+◌, ◌-◌, ◌/◌, ◌%◌, ◌≤◌, ◌<◌}
 use native.Mathlib.Omega.{arith}
 use Rattle.std.proofs.Math.Decide.{ℕ_discrete}
-use Rattle.std.specs.Prelude.{◌≡◌, refl, ◌⊎◌, Bool, true, not, List, length, set, replicate}
+use Rattle.std.specs.Prelude.{◌≡◌, refl, ◌⊎◌, Some, None, Bool, true, not, List, length, set, replicate}
 use Rattle.std.proofs.Math.Path.{ap, sym, subst}
-use Rattle.std.proofs.Common.{◌∙◌, inl, inr, true≢false, get_or-set_same, get_or-set_other, eqb-true, eq-eqb, ne_eqb}
+use Rattle.std.proofs.Common.{◌∙◌, inl, inr, get_or-set_same, get_or-set_other, eqb-true, eq-eqb, ne_eqb}
 use Rattle.std.proofs.Math.Logic.{⊎_elim}
 use Rattle.std.proofs.Math.Bool.{false}
-use Rattle.std.proofs.lemmas.Bool.{false≢true}
 use Rattle.std.proofs.Math.ListN.{get_or, length-set, get_or-eq_default}
 use Rattle.std.proofs.lemmas.List.{length-replicate, get_or-replicate}
 use Rattle.std.proofs.Math.Dec.{eqb}
@@ -713,17 +712,17 @@ module _ (tops links rests flags₀ found₀ rim₀ : List ℕ) where
         → Walks (i + 1) flags_after found_after rim_after vertices_after arcs_after
     walks_more more x_is v_is step g chained w = step g i chained more (v_is ∙ x_is) (h g chained w)
 
-    pub walked_inside : (root : ℕ) {x : ℕ} → x ≡ get_or flags root 0 → (x ≡ 0 → ⊥) → (g : Ground) → ChainedIn g tops links → Turn g rests 0 0 0 flags₀ found₀ rim₀ 1 0 → CutFound g rests flags rim root true arcs
+    pub walked_inside : (root : ℕ) {x : ℕ} → x ≡ get_or flags root 0 → (x ≡ 0 → ⊥) → (g : Ground) → ChainedIn g tops links → Turn g rests 0 0 0 flags₀ found₀ rim₀ 1 0 → CutFound g rests flags rim root None
     walked_inside root x_is some g chained w = record {
       led = λ e. (h g chained w).sound root (flag_on flags root _ some (sym x_is));
-      cut = λ e. absurd (true≢false e);
-      outside = λ e. absurd (true≢false e);
+      cut = λ n e. cc;
+      outside = λ n e. cc;
     }
 
     pub walked_outside : vertices ≤ i → (root : ℕ) {x : ℕ} → x ≡ get_or flags root 0 → x ≡ 0 → (g : Ground) → ChainedIn g tops links → Turn g rests 0 0 0 flags₀ found₀ rim₀ 1 0
-        → CutFound g rests flags rim root false arcs
+        → CutFound g rests flags rim root (Some arcs)
     walked_outside all root x_is none g chained w = record {
-      led = λ e. absurd (false≢true e);
-      cut = λ e. turn_end g rests (h g chained w) all;
-      outside = λ e. flag_off flags root (sym x_is ∙ none);
+      led = λ e. cc;
+      cut = λ n e. let same : arcs ≡ n = cc in subst (λ k. Cut g rests flags rim k) same (turn_end g rests (h g chained w) all);
+      outside = λ n e. flag_off flags root (sym x_is ∙ none);
     }

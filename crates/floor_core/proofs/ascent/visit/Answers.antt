@@ -17,15 +17,15 @@ returns-then-cap-eq0 c = record { got_value = visit_passed _ _ _ _ _ _ _ _ c.mis
 pub returns-then-at-ne0 : goal.returns-then-at-ne0
 returns-then-at-ne0 c = record { got_value = visit_inside _ _ _ _ _ _ _ _ (c.requires.done.root_inside _ c.requires.v_lt_n (λ z. c.if-at-ne0.true (c.at.ensures ∙ z))); more_value = λ h. (h, refl); done_2 = c.requires.done }
 
-pub raise_cut-raised-requires : goal.raise_cut-raised-requires
-raise_cut-raised-requires c = record { ends = c.requires.ends; chained = c.requires.chained; v_lt_n = c.requires.v_lt_n }
+pub raise_cut-requires : goal.raise_cut-requires
+raise_cut-requires c = record { ends = c.requires.ends; chained = c.requires.chained; v_lt_n = c.requires.v_lt_n }
 
 -- the root is inside
-pub returns-then-raised : goal.returns-then-raised
-returns-then-raised c = let a = c.args in let told = c.if-raised.true in let same = same_inside _ _ a.share.now _ _ a.l _ _ a.got.now c.raise_cut-raised.ensures told in record { got_value = same ∙ visit_inside _ _ _ _ _ _ _ _ (c.raise_cut-raised.ensures.root_inside told).0; more_value = λ h. (h, same); done_2 = done_inside _ _ _ _ _ _ _ c.raise_cut-raised.ensures c.requires.done told c.put.ensures }
+pub returns-in-None : goal.returns-in-None
+returns-in-None c = let a = c.args in let same = same_inside _ _ a.share.now _ _ a.l _ _ a.got.now c.raise_cut.ensures c.in-None.is in record { got_value = same ∙ visit_inside _ _ _ _ _ _ _ _ (c.raise_cut.ensures.root_inside c.in-None.is).0; more_value = λ h. (h, same); done_2 = done_inside _ _ _ _ _ _ _ c.raise_cut.ensures c.requires.done c.in-None.is c.put.ensures }
 
 pub overflow_add-part : goal.overflow_add-part
-overflow_add-part c = let a = c.args in let whole : get_or a.share.now a.l 0 < 2 ^ 64 = omega (arith, c.shared_slice_known-3-1.given a.l) in let fits = cut_fits _ _ a.share.now _ _ a.l _ _ a.got.now c.raise_cut-raised.ensures c.if-raised.false c.missing-cap.ensures c.at-part.ensures whole in search (rules, fits)
+overflow_add-part c = let a = c.args in let whole : get_or a.share.now a.l 0 < 2 ^ 64 = omega (arith, c.type_inv.share a.l) in let fits = cut_fits _ _ a.share.now _ _ a.l _ _ a.got.now c.raise_cut.ensures c.in-Some.is c.missing-cap.ensures c.at-part.ensures whole in search (rules, fits)
 
-pub returns : goal.returns
-returns c = let told = c.if-raised.false in record { got_value = visit_raised _ _ _ _ _ _ _ _ _ c.raise_cut-raised.ensures told c.missing-cap.ensures c.if-cap-eq0.false c.at-part.ensures refl c.put-2.ensures; more_value = λ h. more_false h; done_2 = done_raised _ _ _ _ _ _ _ c.raise_cut-raised.ensures c.requires.done c.requires.ends told }
+pub returns-in-Some : goal.returns-in-Some
+returns-in-Some c = record { got_value = visit_raised _ _ _ _ _ _ _ _ _ c.raise_cut.ensures c.in-Some.is c.missing-cap.ensures c.if-cap-eq0.false c.at-part.ensures refl c.put-in-Some.ensures; more_value = λ h. more_false h; done_2 = done_raised _ _ _ _ _ _ _ c.raise_cut.ensures c.requires.done c.requires.ends c.in-Some.is }

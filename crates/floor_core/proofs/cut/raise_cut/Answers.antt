@@ -6,11 +6,11 @@ use Rattle.floor_core.proofs.cut.raise_cut.Goals as goal
 pub overflow_cast-v : goal.overflow_cast-v
 overflow_cast-v c = let low = c.requires.v_lt_n in let few = c.requires.ends.few in search (rules, low, few)
 
-pub walk-walked-requires : goal.walk-walked-requires
-walk-walked-requires c = walk_begins c.args.firsts.now c.args.seconds.now c.args.tops.now c.args.links.now c.args.n c.args.root c.args.v c.args.cap c.requires.ends c.requires.chained c.requires.v_lt_n c.args.rests.now _ c.put.ensures c.put-2.ensures
+pub walk-requires : goal.walk-requires
+walk-requires c = walk_begins c.args.firsts.now c.args.seconds.now c.args.tops.now c.args.links.now c.args.n c.args.root c.args.v c.args.cap c.requires.ends c.requires.chained c.requires.v_lt_n c.args.rests.now _ c.put.ensures c.put-2.ensures
 
-pub returns-then-walked : goal.returns-then-walked
-returns-then-walked c = cut_inside c.args.firsts.now c.args.seconds.now c.args.tops.now c.args.links.now c.args.n c.args.root c.args.v c.args.cap c.requires.ends c.requires.chained c.requires.v_lt_n c.args.rests.now c.put.ensures c.put-2.ensures c.walk-walked.ensures c.if-walked.true _
+pub returns-in_err-arcs : goal.returns-in_err-arcs
+returns-in_err-arcs c = rw c.from_residual.ensures (cut_inside c.args.firsts.now c.args.seconds.now c.args.tops.now c.args.links.now c.args.n c.args.root c.args.v c.args.cap c.requires.ends c.requires.chained c.requires.v_lt_n c.args.rests.now c.put.ensures c.put-2.ensures c.walk.ensures c.in_err-arcs.was)
 
 pub returns : goal.returns
-returns c = cut_outside c.args.firsts.now c.args.seconds.now c.args.tops.now c.args.links.now c.args.n c.args.root c.args.v c.args.cap c.requires.ends c.requires.chained c.requires.v_lt_n c.args.rests.now c.put.ensures c.put-2.ensures c.walk-walked.ensures c.if-walked.false c.narrow-found.ensures c.load.ensures
+returns c = cut_outside c.args.firsts.now c.args.seconds.now c.args.tops.now c.args.links.now c.args.n c.args.root c.args.v c.args.cap c.requires.ends c.requires.chained c.requires.v_lt_n c.args.rests.now c.put.ensures c.put-2.ensures c.walk.ensures c.in_ok-arcs.was c.narrow-found.ensures c.load.ensures
