@@ -22,12 +22,7 @@ fn merge_code(answer: Merged, counts: &mut [u64]) -> u64
             edges,
             pairs,
         } => {
-            api_code::store_three(
-                counts,
-                base_buffer::wide(vertices),
-                base_buffer::wide(edges),
-                base_buffer::wide(pairs),
-            );
+            api_code::store_three(counts, vertices as u64, edges as u64, pairs as u64);
             0
         }
         Merged::Refused { number, place } => api_code::code(number, place),

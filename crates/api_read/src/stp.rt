@@ -19,11 +19,7 @@ fn stp_code(answer: StpRead, counts: &mut [u64]) -> u64
 {
     match answer {
         StpRead::Survey { vertices, edges } => {
-            api_code::store_two(
-                counts,
-                base_buffer::wide(vertices),
-                base_buffer::wide(edges),
-            );
+            api_code::store_two(counts, vertices as u64, edges as u64);
             0
         }
         StpRead::Refused { number, place } => api_code::code(number, place),

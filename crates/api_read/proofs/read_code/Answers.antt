@@ -1,4 +1,5 @@
 -- `read_code` meets its contract: n, m and the number of pairs are stored, or the refusal is answered.
+use mathlib.Core.Path.{refl}
 use Rattle.api_read.specs.Laws.Call.{read_refused_answers, read_answers}
 use Rattle.api_read.proofs.read_code.Goals as goal
 
@@ -6,9 +7,9 @@ use Rattle.api_read.proofs.read_code.Goals as goal
 pub returns-in-Survey : goal.returns-in-Survey
 returns-in-Survey c =
     let whole = read_answers c.args.counts.now c.in-Survey.is
-    c.wide.ensures
-    c.wide-in-Survey.ensures
-    c.wide-in-Survey-2.ensures
+    refl
+    refl
+    refl
     c.store_three.ensures in record { value = whole.0; counts_value = whole.1 }
 
 -- refused
