@@ -5,15 +5,6 @@ use Rattle.floor_core.specs.Laws.Done.{none_done}
 use borrow.Author.Rules.{rules}
 use Rattle.floor_core.proofs.ascent.ascend.Goals as goal
 
-pub overflow_add-arcs : goal.overflow_add-arcs
-overflow_add-arcs c = let short = c.requires.ends.short in search (rules, short)
-
-pub prices-rests-requires : goal.prices-rests-requires
-prices-rests-requires c = refl
-
-pub overflow_add-arcs-2 : goal.overflow_add-arcs-2
-overflow_add-arcs-2 c = let few = c.requires.ends.few in let short = c.requires.ends.short in search (rules, few, short)
-
 pub passes-requires : goal.passes-requires
 passes-requires c = record { ends = c.requires.ends; chained = c.requires.chained; done = none_done _ _ _ _ _ c.requires.ends.few refl }
 

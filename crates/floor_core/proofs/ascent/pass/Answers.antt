@@ -8,9 +8,6 @@ pub loop-l-init : goal.loop-l-init
 unfolding visit_groups
 loop-l-init c = (refl, λ h. refl, c.requires.done)
 
-pub visit_group-more-requires : goal.visit_group-more-requires
-visit_group-more-requires c = record { ends = c.requires.ends; chained = c.requires.chained; done = c.loop-l.invariant.2 }
-
 pub loop-l-preserved : goal.loop-l-preserved
 loop-l-preserved c = let inv = c.loop-l.invariant in (groups_more _ _ _ _ _ _ _ _ inv.0 c.visit_group-more.ensures.got_value, λ h. let x = c.visit_group-more.ensures.more_value h in x.1 ∙ inv.1 x.0, c.visit_group-more.ensures.done_2)
 

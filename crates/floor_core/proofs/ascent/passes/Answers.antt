@@ -8,9 +8,6 @@ pub loop-init : goal.loop-init
 unfolding passes
 loop-init c = (refl, c.requires.done)
 
-pub pass-requires : goal.pass-requires
-pass-requires c = record { ends = c.requires.ends; chained = c.requires.chained; done = c.loop.invariant.1 }
-
 pub returns-then-not-pass : goal.returns-then-not-pass
 returns-then-not-pass c = passes_ended _ _ _ _ _ _ _ _ _ c.loop.auto.counter-end c.loop.invariant.0 c.pass.ensures.got_value (c.pass.ensures.got_value_2 c.if-not-pass.true)
 

@@ -17,9 +17,6 @@ returns-then-cap-eq0 c = record { got_value = visit_passed _ _ _ _ _ _ _ _ c.mis
 pub returns-then-at-ne0 : goal.returns-then-at-ne0
 returns-then-at-ne0 c = record { got_value = visit_inside _ _ _ _ _ _ _ _ (c.requires.done.root_inside _ c.requires.v_lt_n (λ z. c.if-at-ne0.true (c.at.ensures ∙ z))); more_value = λ h. (h, refl); done_2 = c.requires.done }
 
-pub raise_cut-requires : goal.raise_cut-requires
-raise_cut-requires c = record { ends = c.requires.ends; chained = c.requires.chained; v_lt_n = c.requires.v_lt_n }
-
 -- the root is inside
 pub returns-in-None : goal.returns-in-None
 returns-in-None c = let a = c.args in let same = same_inside _ _ a.share.now _ _ a.l _ _ a.got.now c.raise_cut.ensures c.in-None.is in record { got_value = same ∙ visit_inside _ _ _ _ _ _ _ _ (c.raise_cut.ensures.root_inside c.in-None.is).0; more_value = λ h. (h, same); done_2 = done_inside _ _ _ _ _ _ _ c.raise_cut.ensures c.requires.done c.in-None.is c.put.ensures }

@@ -9,8 +9,5 @@ returns-then-l-k c = record { got_value = group_below _ _ _ _ _ _ _ _ c.if-l-k.t
 pub returns-then-missing-eq0 : goal.returns-then-missing-eq0
 returns-then-missing-eq0 c = record { got_value = group_passed _ _ _ _ _ _ _ _ c.if-l-k.false c.missing.ensures c.if-missing-eq0.true; more_value = λ h. (h, refl); done_2 = c.requires.done }
 
-pub visit_members-requires : goal.visit_members-requires
-visit_members-requires c = record { ends = c.requires.ends; chained = c.requires.chained; done = c.requires.done }
-
 pub returns : goal.returns
 returns c = record { got_value = group_visited _ _ _ _ _ _ _ _ c.if-l-k.false c.missing.ensures c.if-missing-eq0.false c.visit_members.ensures.got_value; more_value = c.visit_members.ensures.before_value; done_2 = c.visit_members.ensures.done_2 }

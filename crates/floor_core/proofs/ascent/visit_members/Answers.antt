@@ -8,9 +8,6 @@ pub loop-v-init : goal.loop-v-init
 unfolding visit_members
 loop-v-init c = (refl, λ h. (h, refl), c.requires.done)
 
-pub visit_member-more-requires : goal.visit_member-more-requires
-visit_member-more-requires c = record { ends = c.requires.ends; chained = c.requires.chained; v_in_bounds = c.loop-v-test.true; done = c.loop-v.invariant.2 }
-
 pub loop-v-preserved : goal.loop-v-preserved
 loop-v-preserved c = let inv = c.loop-v.invariant in (members_more _ _ _ _ _ _ _ _ inv.0 c.visit_member-more.ensures.got_value, λ h. let x = c.visit_member-more.ensures.more_value h in let y = inv.1 x.0 in (y.0, x.1 ∙ y.1), c.visit_member-more.ensures.done_2)
 

@@ -6,9 +6,6 @@ use Rattle.floor_core.proofs.chain.chain.Goals as goal
 pub loop-a-init : goal.loop-a-init
 loop-a-init c = chained_none _ _ _ c.requires.tops_value
 
-pub chain_arc-requires : goal.chain_arc-requires
-chain_arc-requires c = let arcs_are = c.requires.arcs_value in record { ends = c.requires.ends; a_bound = omega (arith, arcs_are, c.loop-a-test.true); chained = c.loop-a.invariant }
-
 pub loop-a-preserved : goal.loop-a-preserved
 loop-a-preserved c = c.chain_arc.ensures
 

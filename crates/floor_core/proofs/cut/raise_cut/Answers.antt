@@ -3,9 +3,6 @@ use Rattle.floor_core.specs.Laws.Rim.{walk_begins, cut_inside, cut_outside}
 use borrow.Author.Rules.{rules}
 use Rattle.floor_core.proofs.cut.raise_cut.Goals as goal
 
-pub overflow_cast-v : goal.overflow_cast-v
-overflow_cast-v c = let low = c.requires.v_lt_n in let few = c.requires.ends.few in search (rules, low, few)
-
 pub walk-requires : goal.walk-requires
 walk-requires c = walk_begins c.args.firsts.now c.args.seconds.now c.args.tops.now c.args.links.now c.args.n c.args.root c.args.v c.args.cap c.requires.ends c.requires.chained c.requires.v_lt_n c.args.rests.now _ c.put.ensures c.put-2.ensures
 

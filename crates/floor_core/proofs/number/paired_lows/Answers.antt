@@ -3,9 +3,6 @@ use mathlib.Core.Path.{refl}
 use Rattle.floor_core.specs.Laws.Number.{paired_start, paired_more, paired_end}
 use Rattle.floor_core.proofs.number.paired_lows.Goals as goal
 
-pub own_lows-requires : goal.own_lows-requires
-own_lows-requires c = c.requires
-
 pub loop-i-init : goal.loop-i-init
 loop-i-init c = paired_start _ _ _ _ c.own_lows.ensures
 

@@ -5,8 +5,5 @@ use Rattle.floor_core.proofs.shares.after_list.Goals as goal
 pub returns-then-at-eq0 : goal.returns-then-at-eq0
 returns-then-at-eq0 c = list_none _ _ _ _ _ _ c.at.ensures c.if-at-eq0.true
 
-pub ascend-got-requires : goal.ascend-got-requires
-ascend-got-requires c = record { ends = c.requires.ends; chained = c.requires.chained }
-
 pub returns : goal.returns
 returns c = list_some _ _ _ _ _ _ c.at.ensures c.if-at-eq0.false c.ascend-got.ensures c.lower.ensures

@@ -5,14 +5,8 @@ use Rattle.floor_core.specs.Laws.Shares.{shares_fit, floor_total}
 use borrow.Author.Rules.{rules}
 use Rattle.floor_core.proofs.shares.ascent_floor.Goals as goal
 
-pub overflow_add-arcs : goal.overflow_add-arcs
-overflow_add-arcs c = let short = c.requires.short in search (rules, short)
-
 pub chain-requires : goal.chain-requires
 chain-requires c = record { arcs_value = refl; ends = ends_room _ _ c.requires; tops_value = refl }
-
-pub shares-share-requires : goal.shares-share-requires
-shares-share-requires c = record { ends = c.requires; chained = c.chain.ensures }
 
 pub total-requires : goal.total-requires
 total-requires c = shares_fit _ _ _ _ c.requires.few c.requires.short _ c.shares-share.ensures

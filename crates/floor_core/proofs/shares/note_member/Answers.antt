@@ -3,10 +3,5 @@ use Rattle.floor_core.specs.Laws.Shares.{noted_member, noted_fits}
 use borrow.Author.Rules.{rules}
 use Rattle.floor_core.proofs.shares.note_member.Goals as goal
 
-pub overflow_add-count : goal.overflow_add-count
-overflow_add-count c =
-    let fits = noted_fits c.args.counts.now _ c.requires c.from.ensures c.at-count.ensures in
-    search (rules, fits)
-
 pub returns : goal.returns
 returns c = noted_member c.args.counts.now _ c.from.ensures c.at-count.ensures c.from-2.ensures c.put.ensures

@@ -7,9 +7,6 @@ use Rattle.floor_core.proofs.walk.look.Goals as goal
 pub loop-x-init : goal.loop-x-init
 loop-x-init c = (omega arith, omega arith, omega arith, turns_start _ _ _ _ _ _ _ _)
 
-pub look_arc-seen-requires : goal.look_arc-seen-requires
-look_arc-seen-requires c = (omega arith, omega arith)
-
 pub loop-x-smaller : goal.loop-x-smaller
 loop-x-smaller c = falls c.args.links.now _ c.requires.by_index c.loop-x-test.true c.loop-x.invariant.0 refl c.at-link.ensures
 
