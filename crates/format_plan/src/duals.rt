@@ -104,12 +104,11 @@ pub fn dual_lines(text: &[u8], cursor: Cursor, records: &mut [u8]) -> Number
     ensures { Ends put_dual (duals_at text.now cursor.at) records.old (number_step result) records.new }
 {
     let mut next = cursor;
-    let mut i = 0;
-    while i < text.len() {
+    for i in 0..text.len() {
         let at = next.at;
         if text.len() <= at {
             return Number::Value {
-                value: base_buffer::wide(i),
+                value: i as u64,
                 next,
             };
         }
@@ -122,7 +121,6 @@ pub fn dual_lines(text: &[u8], cursor: Cursor, records: &mut [u8]) -> Number
             return step;
         };
         next = after;
-        i += 1;
     }
     let place = next.at;
     Number::Refused { number: 16, place }

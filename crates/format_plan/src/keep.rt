@@ -36,8 +36,7 @@ pub fn keep_lines(text: &[u8], cursor: Cursor, edges: usize, marks: &mut [u8]) -
 {
     let mut next = cursor;
     let mut low = 0;
-    let mut i = 0;
-    while i < text.len() {
+    for i in 0..text.len() {
         let at = next.at;
         if !format_read::is_class(text, at, Class::Keep) {
             return Number::Value { value: low, next };
@@ -46,10 +45,9 @@ pub fn keep_lines(text: &[u8], cursor: Cursor, edges: usize, marks: &mut [u8]) -
         let Number::Value { value, next: after } = step else {
             return step;
         };
-        base_buffer::put8(marks, value as usize, 2);
+        base_buffer::put(marks, value as usize, 2);
         low = value + 1;
         next = after;
-        i += 1;
     }
     let place = next.at;
     Number::Refused { number: 16, place }

@@ -55,17 +55,6 @@ pub enum PlanText {
     },
 }
 
-// Sets the first marks to 0.
-fn clear(marks: &mut [u8], count: usize)
-    ensures { marks.new ≡ cleared count marks.old }
-{
-    let mut e = 0;
-    while e < count {
-        base_buffer::put8(marks, e, 0);
-        e += 1;
-    }
-}
-
 // The lines after the counts; marks and records are stored up to the first refusal, as far as the buffers reach.
 fn plan_body(
     text: &[u8],
@@ -121,7 +110,7 @@ fn plan_lines(
             place: 0,
         };
     }
-    clear(marks, edges);
+    marks[0..edges].fill(0);
     plan_body(text, cursor, edges, marks, records)
 }
 

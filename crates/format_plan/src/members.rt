@@ -45,8 +45,7 @@ pub fn members(text: &[u8], cursor: Cursor, part: &mut [u8]) -> Number
 {
     let mut next = cursor;
     let mut low = 0;
-    let mut i = 0;
-    while i < text.len() {
+    for i in 0..text.len() {
         let at = next.at;
         if format_read::is_class(text, at, Class::LineEnd) {
             return Number::Value { value: low, next };
@@ -58,7 +57,6 @@ pub fn members(text: &[u8], cursor: Cursor, part: &mut [u8]) -> Number
         format_record::add_member(part, value as usize);
         low = risen_after(low, value);
         next = after;
-        i += 1;
     }
     let place = next.at;
     Number::Refused { number: 16, place }

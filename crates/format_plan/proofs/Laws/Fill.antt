@@ -1,9 +1,10 @@
 -- What the stores of a whole plan leave in the lent buffers: the marks and the records that the definition draws.
-use Rattle.std.specs.Prelude.{ℕ, zero, suc, ◌+◌, ◌*◌, ◌-◌, ◌/◌, ◌≤◌, ◌<◌, ◌≡◌, refl, Bool, true, false, ◌||◌, cond, List, [], ◌∷◌, ◌++◌, length, get_or, set, drop, eqb, ltb}
-use Rattle.std.proofs.Common.{arith, add-one, ap, sym, ◌∙◌, append_assoc, length-set, length-append, length-drop, ext_get_or, get_or-set_same, get_or-set_other, take_at, drop-drop, get_or-append-add, get_or-drop, ltb-true, ltb-false, eqb-true, ne_eqb, lt-ltb, le-ltb}
+use Rattle.std.specs.Prelude.{ℕ, zero, suc, ◌+◌, ◌*◌, ◌-◌, ◌/◌, ◌≤◌, ◌<◌, ◌≡◌, refl, Bool, true, false, ◌||◌, cond, List, [], ◌∷◌, ◌++◌, length, get_or, set, drop, replicate, eqb, ltb}
+use Rattle.std.proofs.Common.{arith, add-one, ap, sym, subst, ◌∙◌, append_assoc, length-set, length-append, length-drop, ext_get_or, get_or-set_same, get_or-set_other, take_at, drop-drop, get_or-append-add, get_or-drop, ltb-true, ltb-false, eqb-true, ne_eqb, lt-ltb, le-ltb}
 use Rattle.std.proofs.Math.ListN.{get_or-append}
 use Rattle.std.proofs.Math.Seq.{drop-append-add}
 use Rattle.std.proofs.lemmas.Bool.{eqb-false}
+use Rattle.std.proofs.lemmas.List.Edits.{fill_more}
 use Rattle.base_finite.specs.Below.{tabulate}
 use Rattle.base_finite.specs.Laws.Below.{length_tabulate, get_d_tabulate}
 use Rattle.base_limits.specs.Limits.{record_bytes}
@@ -62,6 +63,19 @@ cleared_length (suc m) marks = length-set (cleared m marks) m 0 ∙ cleared_leng
 pub cleared_next : (marks : List ℕ) (m : ℕ) → set (cleared m marks) m 0 ≡ cleared (m + 1) marks
 unfolding cleared
 cleared_next marks m = rw (add-one m)
+
+-- The first marks filled with 0.
+pub cleared_filled : (m : ℕ) (marks : List ℕ) → m ≤ length marks → replicate m 0 ++ drop m marks ≡ cleared m marks
+unfolding cleared
+cleared_filled zero marks h = refl
+cleared_filled (suc m) marks h =
+    subst (λ (n : ℕ). replicate n 0 ++ drop n marks ≡ cleared n marks) (add-one m)
+    (sym (fill_more m 0 marks h) ∙ ap (λ l. set l m 0) (cleared_filled m marks (omega arith)) ∙ cleared_next marks m)
+
+-- The same of a part of the marks, as a caller of `fill` has it.
+pub cleared_part : (m k : ℕ) (marks part : List ℕ) → k ≡ m → m ≤ length marks → part ≡ replicate k 0 → part ++ drop (m - 0) (drop 0 marks) ≡ cleared m marks
+cleared_part m k marks part same h filled =
+    ap (λ l. l ++ drop (m - 0) (drop 0 marks)) (filled ∙ ap (λ n. replicate n 0) same) ∙ ap (λ n. replicate m 0 ++ drop n marks) (omega arith) ∙ cleared_filled m marks h
 
 marks_at : (marks : List ℕ) (i : ℕ) (es : List ℕ) → Each (λ e. e < length marks) es → (e : ℕ) → get_or (puts put_mark marks i es) e 0 ≡ cond (is_in es e) 2 (get_or marks e 0)
 unfolding puts is_in

@@ -1,12 +1,15 @@
 -- `format_plan::plan_lines` meets its contract: the first pass stores nothing, and the second stores where nothing is refused.
+use native.Mathlib.Omega.{arith}
+use Prim.Native.Nat.{ℕ}
 use mathlib.Core.Path.{ap, sym, ◌∙◌}
-use lib.ListN.{length}
+use lib.ListN.{length, length-take, length-drop}
 use Rattle.format_read.specs.Step.{stored_if}
 use Rattle.format_read.proofs.Laws.Items.{empty_pass}
 use Rattle.format_plan.specs.Lines.{put_mark, put_dual}
 use Rattle.format_plan.proofs.Laws.Puts.{mark_length, dual_length}
 use Rattle.format_read.specs.Answer.{number_step}
 use Rattle.format_plan.specs.Plan.{plan_lines_at}
+use Rattle.format_plan.proofs.Laws.Fill.{cleared_part}
 use Rattle.format_plan.proofs.Laws.Reading.{roomed_refused, short_marks, short_records, roomed_found, marks_stored, records_stored}
 use Rattle.format_plan.proofs.plan_lines.Goals as goal
 
@@ -59,6 +62,6 @@ returns c =
     let k = c.if-records-count.false in
     let s = c.plan_body.ensures.0 ∙ e in (
       s ∙ sym (roomed_found a.text.now a.edges a.cursor.at a.marks.now a.records.now m r e h k),
-      marks_stored a.text.now a.edges a.cursor.at a.marks.now a.records.now m r e h s c.clear.ensures c.plan_body.ensures.1,
+      marks_stored a.text.now a.edges a.cursor.at a.marks.now a.records.now m r e h s (cleared_part a.edges _ _ _ (omega (arith, length-take {A = ℕ}, length-drop {A = ℕ})) h (c.fill.ensures.after (λ y e. e))) c.plan_body.ensures.1,
       records_stored a.text.now a.edges a.cursor.at a.marks.now a.records.now m r e k s c.plan_body.ensures.2,
     )

@@ -1,5 +1,4 @@
 -- `format_plan::duals::dual_lines` meets its contract: what is left to read and to store is what the whole reads and stores.
-use Prim.Native.Nat.{◌-◌}
 use mathlib.Core.Path.{ap, sym, ◌∙◌}
 use lib.ListN.{length}
 use borrow.Author.Tests.{le-leb}
@@ -18,7 +17,7 @@ loop-i-init c =
 -- the items end
 pub returns-then-text-at : goal.returns-then-text-at
 unfolding number_step dual_reader
-returns-then-text-at c = rw c.wide.ensures (left_stop _ _ _ _ _ _ _ _ _ c.loop-i-test.true (le-leb _ _ c.if-text-at.true) c.loop-i.invariant)
+returns-then-text-at c = left_stop _ _ _ _ _ _ _ _ _ c.loop-i-test.true (le-leb _ _ c.if-text-at.true) c.loop-i.invariant
 
 -- a dual is refused
 pub returns-in_default : goal.returns-in_default

@@ -1,6 +1,5 @@
 -- `format_plan::keep::keep_lines` meets its contract: what is left to read and to store is what the whole reads and stores.
 use native.Mathlib.Omega.{arith}
-use Prim.Native.Nat.{◌-◌}
 use mathlib.Core.Path.{ap, sym, ◌∙◌}
 use mathlib.Core.Bool.{not}
 use lib.ListN.{length}
@@ -39,7 +38,7 @@ overflow_add-low c =
 pub loop-i-preserved : goal.loop-i-preserved
 unfolding number_step keep_reader
 loop-i-preserved c =
-    rw c.put8.ensures
+    rw c.put.ensures
     (left_more _ put_mark _ _ _ _ _ _ _ c.loop-i-test.true (ap not (sym (c.is_class.ensures ∙ is_keep _ _) ∙ c.if-not-is_class.false)) (sym c.keep_line-step.ensures ∙ ap number_step c.in-Value.is) c.loop-i.invariant)
 
 -- 16: no fuel left

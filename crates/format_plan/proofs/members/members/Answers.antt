@@ -1,5 +1,4 @@
 -- `format_plan::members::members` meets its contract: what is left to read and to store is what the whole reads and stores.
-use Prim.Native.Nat.{◌-◌}
 use mathlib.Core.Path.{ap, sym, ◌∙◌}
 use lib.ListN.{length}
 use Rattle.format_read.specs.Answer.{number_step}
