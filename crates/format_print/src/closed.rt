@@ -14,7 +14,7 @@ pub const CLOSED: [u8; 7] = *b"closed=";
 pub const REFUSED_WORD: [u8; 8] = *b"refused,";
 
 // Writes a number and the byte behind it.
-fn put_field(out: &mut [u8], at: usize, x: u64, stop: u8) -> usize
+pub fn put_field(out: &mut [u8], at: usize, x: u64, stop: u8) -> usize
     ensures { Wrote out.old at (number_text stop x) out.new result }
 {
     let next = put_number(out, at, x);

@@ -8,7 +8,7 @@ mod plan;
 mod put_dual;
 mod put_plan;
 
-pub use closed::print_rows;
+pub use closed::{print_rows, put_field};
 pub use lines::{print_dual, print_refusal};
 pub use plan::{plan_buffer, print_plan};
 

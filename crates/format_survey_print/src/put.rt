@@ -3,20 +3,12 @@ ghost use Rattle.std.specs.Prelude.{◌≡◌};
 ghost use Rattle.format_write.specs.Key.{node_key};
 ghost use Rattle.format_write.specs.Text.{line_of};
 ghost use Rattle.format_write.specs.Wrote.{Wrote};
-ghost use Rattle.format_read.specs.Number.{number_text};
 ghost use Rattle.format_survey.specs.LinesRender.{edge_text};
 ghost use Rattle.format_read.specs.Lines.{text_of};
 ghost use Rattle.format_survey_print.specs.Print.{edge_with, edges_from};
 
-use format_write::{put, put_bytes, put_line, put_number};
-
-// Writes a number and the byte behind it.
-fn put_field(out: &mut [u8], at: usize, x: u64, stop: u8) -> usize
-    ensures { Wrote out.old at (number_text stop x) out.new result }
-{
-    let next = put_number(out, at, x);
-    put(out, next, stop)
-}
+use format_print::put_field;
+use format_write::{put_bytes, put_line};
 
 // Writes the line of an edge.
 fn put_edge(out: &mut [u8], at: usize, first: u64, second: u64, weight: u64) -> usize
