@@ -2,20 +2,16 @@
 ghost use Rattle.std.specs.Prelude.{◌≡◌};
 ghost use Rattle.text_merge.specs.Output.{reached, moved_place};
 
-// The largest place.
-const MOST_PLACE: usize = 0xFFFF_FFFF_FFFF_FFFF;
-
 // The sum of two offsets, as far as it goes.
+#[tactic(auto, unfolding(crate::specs::Output::reached))]
 pub fn reach(at: usize, next: usize) -> usize
     ensures { result ≡ reached at next }
 {
-    if MOST_PLACE - at < next {
-        return MOST_PLACE;
-    }
-    at + next
+    at.saturating_add(next)
 }
 
 // The place of a refusal of what begins at an offset: 16's moves, the others' stay.
+#[tactic(auto, unfolding(crate::specs::Output::moved_place))]
 pub fn moved_place(number: u64, place: usize, at: usize) -> usize
     ensures { result ≡ moved_place number place at }
 {

@@ -132,8 +132,7 @@ pub fn strength_lines(text: &[u8], cursor: Cursor, strengths: &mut [u8]) -> Numb
 {
     let mut next = cursor;
     let mut low = 0;
-    let mut i = 0;
-    while i < GIVEN_TURNS {
+    for _i in 0..GIVEN_TURNS {
         let at = next.at;
         if text.len() <= at {
             return Number::Value { value: low, next };
@@ -150,7 +149,6 @@ pub fn strength_lines(text: &[u8], cursor: Cursor, strengths: &mut [u8]) -> Numb
         put(strengths, (group - 1) as usize, strength as u8);
         low = group;
         next = after;
-        i += 1;
     }
     let place = next.at;
     Number::Refused { number: 16, place }

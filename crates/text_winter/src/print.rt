@@ -4,7 +4,6 @@ ghost use Rattle.format_write.specs.Wrote.{Wrote};
 ghost use Rattle.format_print.specs.Print.{printed, printed_out};
 ghost use Rattle.text_winter.specs.Output.{copies_line, copies_lines, copies_text};
 
-use base_buffer::at;
 use format_print::Printed;
 use format_write::{put, put_bytes, put_line, put_number};
 
@@ -29,8 +28,8 @@ fn put_lines(out: &mut [u8], at: usize, copies: &[u8]) -> usize
     ensures { Wrote out.old at (copies_lines copies.now) out.new result }
 {
     let mut next = at;
-    for e in 0..copies.len() {
-        next = put_copies(out, next, u64::from(at(copies, e)), e as u64);
+    for (e, x) in copies.iter().enumerate() {
+        next = put_copies(out, next, u64::from(*x), e as u64);
     }
     next
 }

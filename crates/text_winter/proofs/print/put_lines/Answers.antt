@@ -21,7 +21,7 @@ loop-e-preserved c =
     let a = c.args in
     let small : length a.out.now ≤ farthest = omega arith in (
       omega (arith, c.loop-e-test.true),
-      wrote_as (wrote_then small c.loop-e.invariant.1 (wrote_as c.put_copies-next.ensures (line_read a.copies.now c.from.ensures c.at.ensures refl)))
+      wrote_as (wrote_then small c.loop-e.invariant.1 (wrote_as c.put_copies-next.ensures (line_read a.copies.now c.from.ensures refl refl)))
           (text_next (λ e. copies_line (get_or a.copies.now e 0) e) c.loop-e.e),
     )
 
