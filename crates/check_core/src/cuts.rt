@@ -10,25 +10,13 @@ ghost use Rattle.check_rule.specs.Check.{dual_at};
 
 use base_limits::{MAX_VERTICES, RECORD_BYTES, Verdict};
 
-// 1 for a member, else 0.
-fn side(part: &[u8], v: usize) -> u32
-    ensures { result ≡ counted (member_in part.now v) 1 }
-{
-    if format_record::member(part, v) {
-        return 1;
-    }
-    0
-}
-
 // The sides of a cut as labels.
 fn sides(part: &[u8]) -> [u32; MAX_VERTICES]
     ensures { result ≡ tabulate max_vertices (λ v. counted (member_in part.now v) 1) }
 {
     let mut labels = [0u32; MAX_VERTICES];
-    let mut v = 0;
-    while v < MAX_VERTICES {
-        labels[v] = side(part, v);
-        v += 1;
+    for (v, label) in labels.iter_mut().enumerate() {
+        *label = u32::from(format_record::member(part, v));
     }
     labels
 }
@@ -55,13 +43,11 @@ pub fn cuts_refusal(groups: &[u8], records: &[u8]) -> Verdict
         let cut : ℕ → ℕ → Bool = λ i. (dual_at records.now i).holds in
         result ≡ lowest_below (length records.now / record_bytes) (λ i. refuse_if (not (separates p (cut i))) 12 i) }
 {
-    let mut i = 0;
-    while i < records.len() / RECORD_BYTES {
+    for i in 0..records.len() / RECORD_BYTES {
         let found = cut_refusal(groups, format_record::record(records, i), i);
         let Verdict::Fine = found else {
             return found;
         };
-        i += 1;
     }
     Verdict::Fine
 }

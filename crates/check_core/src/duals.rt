@@ -12,10 +12,8 @@ pub fn bound(records: &[u8]) -> u64
     ensures { result ≡ total (duals_in records.now) }
 {
     let mut sum: u64 = 0;
-    let mut i = 0;
-    while i < records.len() / RECORD_BYTES {
+    for i in 0..records.len() / RECORD_BYTES {
         sum += format_record::value(format_record::record(records, i));
-        i += 1;
     }
     sum
 }

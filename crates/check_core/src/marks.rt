@@ -35,28 +35,24 @@ pub fn shape_refusal(firsts: &[u32], marks: &[u8], records: &[u8]) -> Verdict
 fn mark_refusal(mark: u8, e: usize) -> Verdict
     ensures { result ≡ refuse_if (ltb 2 mark) 10 e }
 {
-    match mark {
-        0 => Verdict::Fine,
-        1 => Verdict::Fine,
-        2 => Verdict::Fine,
-        _ => Verdict::Refused {
+    if 2 < mark {
+        return Verdict::Refused {
             number: 10,
             place: e,
-        },
+        };
     }
+    Verdict::Fine
 }
 
 // The lowest edge below m with a mark above 2.
 pub fn marks_refusal(m: usize, marks: &[u8]) -> Verdict
     ensures { result ≡ lowest_below m (λ e. refuse_if (ltb 2 (get_or marks.now e 0)) 10 e) }
 {
-    let mut e = 0;
-    while e < m {
-        let found = mark_refusal(base_buffer::at8(marks, e), e);
+    for e in 0..m {
+        let found = mark_refusal(base_buffer::at(marks, e), e);
         let Verdict::Fine = found else {
             return found;
         };
-        e += 1;
     }
     Verdict::Fine
 }

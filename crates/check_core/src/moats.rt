@@ -27,10 +27,8 @@ fn load_between(records: &[u8], u: usize, v: usize) -> u64
     ensures { result ≡ load_between records.now u v }
 {
     let mut sum: u64 = 0;
-    let mut i = 0;
-    while i < records.len() / RECORD_BYTES {
+    for i in 0..records.len() / RECORD_BYTES {
         sum += crossing_value(format_record::record(records, i), u, v);
-        i += 1;
     }
     sum
 }
@@ -40,12 +38,8 @@ fn load_refusal(records: &[u8], first: u32, second: u32, weight: u32, e: usize) 
     requires { DualsFit records.now }
     ensures { result ≡ refuse_if (ltb (2 * weight) (load_between records.now first second)) 13 e }
 {
-    let load = load_between(
-        records,
-        base_buffer::index32(first),
-        base_buffer::index32(second),
-    );
-    if 2 * base_buffer::wide32(weight) < load {
+    let load = load_between(records, first as usize, second as usize);
+    if 2 * u64::from(weight) < load {
         return Verdict::Refused {
             number: 13,
             place: e,
@@ -61,19 +55,17 @@ fn loads_refusal(firsts: &[u32], seconds: &[u32], weights: &[u32], records: &[u8
         let overtight : ℕ → Bool = λ e. ltb (2 * get_or weights.now e 0) (dual_load p (duals_in records.now) e) in
         result ≡ lowest_below (length firsts.now) (λ e. refuse_if (overtight e) 13 e) }
 {
-    let mut e = 0;
-    while e < firsts.len() {
+    for e in 0..firsts.len() {
         let found = load_refusal(
             records,
-            base_buffer::at32(firsts, e),
-            base_buffer::at32(seconds, e),
-            base_buffer::at32(weights, e),
+            base_buffer::at(firsts, e),
+            base_buffer::at(seconds, e),
+            base_buffer::at(weights, e),
             e,
         );
         let Verdict::Fine = found else {
             return found;
         };
-        e += 1;
     }
     Verdict::Fine
 }

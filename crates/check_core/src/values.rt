@@ -24,12 +24,10 @@ fn is_stray(part: &[u8], n: usize, v: usize) -> bool
 fn has_stray(part: &[u8], n: usize) -> bool
     ensures { result ≡ any_below (8 * member_bytes) (λ v. leb n v && member_in part.now v) }
 {
-    let mut v = 0;
-    while v < 8 * MEMBER_BYTES {
+    for v in 0..8 * MEMBER_BYTES {
         if is_stray(part, n, v) {
             return true;
         }
-        v += 1;
     }
     false
 }
@@ -65,13 +63,11 @@ pub fn values_refusal(groups: &[u8], records: &[u8]) -> Verdict
     ensures { let s = groups_alone groups.now in
         result ≡ lowest_below (length records.now / record_bytes) (λ i. dual_refusal s (dual_at records.now i) i) }
 {
-    let mut i = 0;
-    while i < records.len() / RECORD_BYTES {
+    for i in 0..records.len() / RECORD_BYTES {
         let found = dual_refusal(groups, format_record::record(records, i), i);
         let Verdict::Fine = found else {
             return found;
         };
-        i += 1;
     }
     Verdict::Fine
 }

@@ -1,5 +1,5 @@
 -- `kept_cost` meets its contract: while it runs, the sum is that of the kept edges below e.
-use Prim.Native.Nat.{◌*◌, ◌≤◌, ◌-◌}
+use Prim.Native.Nat.{◌*◌, ◌≤◌}
 use native.Mathlib.Omega.{arith}
 use mathlib.Core.Path.{ap, ap₂, ◌≡◌, refl, sym, ◌∙◌}
 use lib.Dec.{eqb}
@@ -21,18 +21,18 @@ loop-e-init c = (omega arith, refl)
 pub overflow_add-cost : goal.overflow_add-cost
 overflow_add-cost c = let args = c.args in
     let small : c.loop-e.cost ≤ c.loop-e.e * 4294967295 =
-    rw c.loop-e.invariant.1 (sum_limit c.loop-e.e 4294967295 (λ e. counted (kept_by args.marks.now e) (get_or args.weights.now e 0)) (λ i b. omega (arith, counted_le (kept_by args.marks.now i) (get_or args.weights.now i 0), c.shared_slice_known-2-1.given i))) in
-    let few : c.edges_within-m.result ≤ max_edges = rw c.edges_within-m.ensures (omega arith) in
-    omega (arith, counted_le (eqb c.at8.result 2) c.at32.result, c.kept_weight-cost.ensures)
+    rw c.loop-e.invariant.1 (sum_limit c.loop-e.e 4294967295 (λ e. counted (kept_by args.marks.now e) (get_or args.weights.now e 0)) (λ i b. omega (arith, counted_le (kept_by args.marks.now i) (get_or args.weights.now i 0), c.type_inv.weights i))) in
+    let few : c.min-m.result ≤ max_edges = rw c.min-m.ensures (omega arith) in
+    omega (arith, counted_le (eqb c.at.result 2) c.at-in-loop-e.result, c.kept_weight-cost.ensures)
 
 pub loop-e-preserved : goal.loop-e-preserved
 unfolding kept_by
-loop-e-preserved c = (omega arith, sum_more _ _ c.loop-e.invariant.1 (c.kept_weight-cost.ensures ∙ ap₂ (λ m w. counted (eqb m 2) w) c.at8.ensures c.at32.ensures))
+loop-e-preserved c = (omega arith, sum_more _ _ c.loop-e.invariant.1 (c.kept_weight-cost.ensures ∙ ap₂ (λ m w. counted (eqb m 2) w) c.at.ensures c.at-in-loop-e.ensures))
 
 pub returns : goal.returns
 unfolding kept_cost cost problem_of edge_count
 returns c =
     let firsts = c.args.firsts.now in
     let e = c.loop-e.e in
-    let end : e ≡ c.edges_within-m.result = omega arith in
-    c.loop-e.invariant.1 ∙ ap (λ k. sum_below k (λ e. counted (kept_by c.args.marks.now e) (get_or c.args.weights.now e 0))) (end ∙ c.edges_within-m.ensures ∙ sym (length-take max_edges firsts))
+    let end : e ≡ c.min-m.result = omega arith in
+    c.loop-e.invariant.1 ∙ ap (λ k. sum_below k (λ e. counted (kept_by c.args.marks.now e) (get_or c.args.weights.now e 0))) (end ∙ c.min-m.ensures ∙ sym (length-take max_edges firsts))

@@ -1,5 +1,4 @@
 -- `cuts_refusal` meets its contract: a scan of the records for 12.
-use Prim.Native.Nat.{◌-◌}
 use mathlib.Core.Path.{ap, ◌∙◌}
 use mathlib.Core.Bool.{not}
 use Rattle.base_limits.specs.Verdict.{refuse_if}

@@ -1,5 +1,5 @@
 -- `cuts_refusal` meets its contract: a scan of the records for 12.
-use Prim.Native.Nat.{◌-◌, ◌/◌}
+use Prim.Native.Nat.{◌/◌}
 use mathlib.Core.Bool.{not}
 use lib.ListN.{length}
 use Rattle.base_limits.specs.Limits.{record_bytes}
@@ -12,6 +12,3 @@ use Rattle.check_core.proofs.cuts.cuts_refusal.Given as goal
 
 abbrev pub invariant-loop-i : goal.invariant-loop-i
 invariant-loop-i l = Scanned (length l.records / record_bytes) (λ i. refuse_if (not (separates (problem_of (groups_alone l.groups)) (dual_at l.records i).holds)) 12 i) l.i
-
-abbrev pub decreases-loop-i : goal.decreases-loop-i
-decreases-loop-i l = length l.records / record_bytes - l.i

@@ -1,5 +1,4 @@
 -- `bound` meets its contract: while it runs, the sum is that of the records below i.
-use Prim.Native.Nat.{◌-◌}
 use native.Mathlib.Omega.{arith}
 use mathlib.Core.Bool.{true}
 use mathlib.Core.Path.{refl, ap, ◌∙◌}

@@ -1,5 +1,5 @@
 -- `load_between` meets its contract: while it runs, the sum is that of the records below i.
-use Prim.Native.Nat.{◌≤◌, ◌-◌, ◌/◌}
+use Prim.Native.Nat.{◌≤◌, ◌/◌}
 use mathlib.Core.Bool.{xor}
 use mathlib.Core.Path.{◌≡◌}
 use lib.ListN.{length}
@@ -10,6 +10,3 @@ use Rattle.check_core.proofs.moats.load_between.Given as goal
 
 abbrev pub invariant-loop-i : goal.invariant-loop-i
 invariant-loop-i l = (l.i ≤ length l.records / record_bytes) × (l.sum ≡ sum_below l.i (weighed_at l.records (λ S. xor (S l.u) (S l.v))))
-
-abbrev pub decreases-loop-i : goal.decreases-loop-i
-decreases-loop-i l = length l.records / record_bytes - l.i

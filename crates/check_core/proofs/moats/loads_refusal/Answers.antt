@@ -1,5 +1,4 @@
 -- `loads_refusal` meets its contract: a scan of the edges for 13.
-use Prim.Native.Nat.{◌-◌}
 use mathlib.Core.Path.{sym}
 use mathlib.Core.List.{[]}
 use Rattle.survey_core.specs.Survey.{survey_from}
@@ -20,7 +19,7 @@ returns-in_default c =
     let s = survey_from [] args.firsts.now args.seconds.now args.weights.now in
     let is =
     sym
-    (load_item s _ c.loop-e.e c.at32.ensures c.at32-in-loop-e.ensures c.at32-in-loop-e-2.ensures
+    (load_item s _ c.loop-e.e c.at.ensures c.at-in-loop-e.ensures c.at-in-loop-e-2.ensures
     c.load_refusal-found.ensures) in
     scan_found c.loop-e.invariant c.loop-e-test.true is c.in_default.is
 
@@ -30,7 +29,7 @@ loop-e-preserved c =
     let s = survey_from [] args.firsts.now args.seconds.now args.weights.now in
     let is =
     sym
-    (load_item s _ c.loop-e.e c.at32.ensures c.at32-in-loop-e.ensures c.at32-in-loop-e-2.ensures
+    (load_item s _ c.loop-e.e c.at.ensures c.at-in-loop-e.ensures c.at-in-loop-e-2.ensures
     c.load_refusal-found.ensures) in
     scan_turn c.loop-e.invariant c.loop-e-test.true is c.in-Fine.is
 

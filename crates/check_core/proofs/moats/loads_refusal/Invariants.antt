@@ -1,5 +1,5 @@
 -- `loads_refusal` meets its contract: a scan of the edges for 13.
-use Prim.Native.Nat.{◌-◌, ◌*◌}
+use Prim.Native.Nat.{◌*◌}
 use mathlib.Core.List.{[]}
 use lib.Dec.{ltb}
 use lib.ListN.{length, get_or}
@@ -12,6 +12,3 @@ use Rattle.check_core.proofs.moats.loads_refusal.Given as goal
 
 abbrev pub invariant-loop-e : goal.invariant-loop-e
 invariant-loop-e l = Scanned (length l.firsts) (λ e. refuse_if (ltb (2 * get_or l.weights e 0) (dual_load (problem_of (survey_from [] l.firsts l.seconds l.weights)) (duals_in l.records) e)) 13 e) l.e
-
-abbrev pub decreases-loop-e : goal.decreases-loop-e
-decreases-loop-e l = length l.firsts - l.e

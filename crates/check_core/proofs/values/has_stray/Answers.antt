@@ -1,8 +1,6 @@
 -- `has_stray` meets its contract: while it runs, nothing below v is stray.
-use Prim.Native.Nat.{◌-◌}
 use native.Mathlib.Omega.{arith}
 use mathlib.Core.Path.{refl, sym, ◌∙◌}
-use mathlib.Core.Bool.{false}
 use Rattle.base_finite.specs.Below.{any_below}
 use Rattle.base_finite.specs.Laws.Below.{any_intro}
 use Rattle.base_finite.specs.Laws.Count.{any_more, any_end}

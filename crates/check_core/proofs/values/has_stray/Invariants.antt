@@ -1,5 +1,5 @@
 -- `has_stray` meets its contract: while it runs, nothing below v is stray.
-use Prim.Native.Nat.{◌≤◌, ◌-◌, ◌*◌}
+use Prim.Native.Nat.{◌≤◌, ◌*◌}
 use mathlib.Core.Path.{◌≡◌}
 use mathlib.Core.Bool.{◌&&◌, false}
 use lib.Dec.{leb}
@@ -10,6 +10,3 @@ use Rattle.check_core.proofs.values.has_stray.Given as goal
 
 abbrev pub invariant-loop-v : goal.invariant-loop-v
 invariant-loop-v l = (l.v ≤ 8 * member_bytes) × (any_below l.v (λ v. leb l.n v && member_in l.part v) ≡ false)
-
-abbrev pub decreases-loop-v : goal.decreases-loop-v
-decreases-loop-v l = 8 * member_bytes - l.v

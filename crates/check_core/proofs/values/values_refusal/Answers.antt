@@ -1,5 +1,4 @@
 -- `values_refusal` meets its contract: a scan of the records for 11.
-use Prim.Native.Nat.{◌-◌}
 use mathlib.Core.Path.{ap, ◌∙◌}
 use Rattle.survey_core.specs.Survey.{groups_alone}
 use Rattle.check_rule.specs.Check.{dual_at, dual_refusal}
