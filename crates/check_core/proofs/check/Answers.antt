@@ -15,7 +15,7 @@ use Rattle.check_core.proofs.check.Goals as goal
 pub returns-in-Refused : goal.returns-in-Refused
 unfolding checked_outcome
 returns-in-Refused c =
-    let whole = promises _ _ _ _ (record { own_byte = λ v. omega (arith, c.shared_slice_known-1.given v); other_byte = λ i. omega (arith, c.shared_slice_known-6-1.given i) })
+    let whole = promises _ _ _ _ (record { own_byte = λ v. omega (arith, c.type_inv.groups v); other_byte = λ i. omega (arith, c.type_inv.others i) })
     (sym (input_stops _ _ _ (sym c.input_refusal-unfit.ensures ∙ c.in-Refused.is))) in record { result_value = whole.0; passed = whole.1.0; accurate = whole.1.1.0; bounded = whole.1.1.1 }
 
 pub slice_bounds-duals_refusal-end : goal.slice_bounds-duals_refusal-end
@@ -29,7 +29,7 @@ unfolding checked_outcome
 returns-in-Refused-unsound c =
     let input = sym c.input_refusal-unfit.ensures ∙ c.in_default.is in
     let sound = input_sound _ _ _ input in
-    let whole = promises _ _ _ _ (record { own_byte = λ v. omega (arith, c.shared_slice_known-1.given v); other_byte = λ i. omega (arith, c.shared_slice_known-6-1.given i) })
+    let whole = promises _ _ _ _ (record { own_byte = λ v. omega (arith, c.type_inv.groups v); other_byte = λ i. omega (arith, c.type_inv.others i) })
     (sym (duals_stop _ _ _ input (sym (duals_poured _ sound (part_poured _ sound.few c.pour-poured.ensures) _) ∙ sym (c.duals_refusal-unsound.ensures ∙ few_duals _ _ (input_few _ _ _ input)) ∙ c.in-Refused-unsound.is))) in record { result_value = whole.0; passed = whole.1.0; accurate = whole.1.1.0; bounded = whole.1.1.1 }
 
 -- 14
@@ -38,7 +38,7 @@ unfolding checked_outcome
 returns-in-Refused-apart c =
     let input = sym c.input_refusal-unfit.ensures ∙ c.in_default.is in
     let sound = input_sound _ _ _ input in
-    let whole = promises _ _ _ _ (record { own_byte = λ v. omega (arith, c.shared_slice_known-1.given v); other_byte = λ i. omega (arith, c.shared_slice_known-6-1.given i) })
+    let whole = promises _ _ _ _ (record { own_byte = λ v. omega (arith, c.type_inv.groups v); other_byte = λ i. omega (arith, c.type_inv.others i) })
     (sym
     (groups_stop _ _ _ input
     (sym (duals_poured _ sound (part_poured _ sound.few c.pour-poured.ensures) _) ∙ sym (c.duals_refusal-unsound.ensures ∙ few_duals _ _ (input_few _ _ _ input)) ∙ c.in_default-unsound.is)
@@ -61,7 +61,7 @@ returns c =
     let input = sym c.input_refusal-unfit.ensures ∙ c.in_default.is in
     let sound = input_sound _ _ _ input in
     let part = part_poured _ sound.few c.pour-poured.ensures in
-    let whole = promises _ _ _ _ (record { own_byte = λ v. omega (arith, c.shared_slice_known-1.given v); other_byte = λ i. omega (arith, c.shared_slice_known-6-1.given i) })
+    let whole = promises _ _ _ _ (record { own_byte = λ v. omega (arith, c.type_inv.groups v); other_byte = λ i. omega (arith, c.type_inv.others i) })
     (c.judge.ensures
     ∙ ap (λ counts. outcome (rule_refusal counts) counts) (checked_poured _ sound part _ _)
     ∙ sym
