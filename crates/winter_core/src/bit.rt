@@ -7,7 +7,7 @@ ghost use Rattle.theory_steiner.specs.Strength.{strength_bits, has_bit};
 ghost use Rattle.winter_rule.specs.Winter.{strength_of};
 ghost use Rattle.winter_core.specs.Bit.{carries, bit_group, pair_carries, passed};
 
-use base_buffer::{at8, at32, index8, put8, put32};
+use base_buffer::{at, put};
 use base_limits::MAX_VERTICES;
 
 // How often a track that is kept for this bit counts.
@@ -31,10 +31,7 @@ fn has_bit(strength: u8, bit: usize) -> bool
     requires { bit < strength_bits }
     ensures { result ≡ has_bit strength bit }
 {
-    if strength / power(bit) % 2 == 1 {
-        return true;
-    }
-    false
+    strength / power(bit) % 2 == 1
 }
 
 // The strength of a group, in a list that begins with that of group 1.
@@ -42,9 +39,9 @@ fn strength_of(strengths: &[u8], group: u8) -> u8
     ensures { result ≡ strength_of strengths.now group }
 {
     if group < 1 {
-        return at8(strengths, 0);
+        return at(strengths, 0);
     }
-    at8(strengths, index8(group) - 1)
+    at(strengths, usize::from(group) - 1)
 }
 
 // Whether the strength of a group has the bit.
@@ -72,40 +69,19 @@ pub fn bit_groups(groups: &[u8], strengths: &[u8], bit: usize) -> [u8; MAX_VERTI
         (length groups.now) (replicate max_vertices 0) }
 {
     let mut room = [0u8; MAX_VERTICES];
-    let mut v = 0;
-    while v < groups.len() {
-        put8(&mut room, v, bit_group(strengths, bit, at8(groups, v)));
-        v += 1;
+    for (v, group) in groups.iter().enumerate() {
+        put(&mut room, v, bit_group(strengths, bit, *group));
     }
     room
 }
 
-// x at a place, if it is to be kept.
-fn keep32(room: &mut [u32], at: usize, x: u32, keep: bool)
-    ensures { room.new ≡ cond keep (set room.old at x) room.old }
+// x at place i, if it is to be kept.
+fn put_if<T: Copy>(room: &mut [T], i: usize, x: T, keep: bool)
+    ensures { room.new ≡ cond keep (set room.old i x) room.old }
 {
     if keep {
-        put32(room, at, x);
+        put(room, i, x);
     }
-}
-
-fn keep8(room: &mut [u8], at: usize, x: u8, keep: bool)
-    ensures { room.new ≡ cond keep (set room.old at x) room.old }
-{
-    if keep {
-        put8(room, at, x);
-    }
-}
-
-// One more, if it is kept.
-fn next(count: usize, keep: bool) -> usize
-    requires { count < max_pairs }
-    ensures { result ≡ count + counted keep 1 }
-{
-    if keep {
-        return count + 1;
-    }
-    count
 }
 
 // The pairs of groups with the bit, in their order; answers how many.
@@ -128,14 +104,12 @@ pub fn bit_pairs(
         ≡ passed (pair_carries strengths.now others.now bit) others.now carried.old (length owners.now) }
 {
     let mut count = 0;
-    let mut i = 0;
-    while i < owners.len() {
-        let other = at8(others, i);
+    for i in 0..owners.len() {
+        let other = at(others, i);
         let keep = carries(strengths, bit, other);
-        keep32(carriers, count, at32(owners, i), keep);
-        keep8(carried, count, other, keep);
-        count = next(count, keep);
-        i += 1;
+        put_if(carriers, count, at(owners, i), keep);
+        put_if(carried, count, other, keep);
+        count += usize::from(keep);
     }
     count
 }

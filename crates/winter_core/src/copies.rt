@@ -9,7 +9,7 @@ ghost use Rattle.plan_rule.specs.Figures.{figuring, marks_figured, figured_outco
 ghost use Rattle.winter_core.specs.Bit.{bit_survey, figured_cost, Room};
 
 use crate::bit::{bit_groups, bit_pairs, power};
-use base_buffer::{at8, put8};
+use base_buffer::{at, put};
 use base_limits::{MAX_EDGES, MAX_PAIRS};
 use plan_rule::Figured;
 
@@ -17,11 +17,8 @@ use plan_rule::Figured;
 pub fn clear(copies: &mut [u8], m: usize)
     ensures { copies.new ≡ remade (λ e x. 0) m copies.old }
 {
-    let mut e = 0;
-    while e < m {
-        put8(copies, e, 0);
-        e += 1;
-    }
+    let n = m.min(copies.len());
+    copies[..n].fill(0);
 }
 
 // The copies of a track, with those of a bit if its mark is that of a kept one.
@@ -40,10 +37,8 @@ pub fn add_kept(marks: &[u8], copies: &mut [u8], m: usize, power: u8)
     requires { Room copies.old m power }
     ensures { copies.new ≡ remade (λ e x. x + counted (eqb (get_or marks.now e 0) 2) power) m copies.old }
 {
-    let mut e = 0;
-    while e < m {
-        put8(copies, e, more(at8(copies, e), at8(marks, e), power));
-        e += 1;
+    for e in 0..m {
+        put(copies, e, more(at(copies, e), at(marks, e), power));
     }
 }
 

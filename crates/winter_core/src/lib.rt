@@ -54,7 +54,7 @@ fn add_bit(
     );
     let times = power(bit);
     add_kept(&marks, copies, firsts.len(), times);
-    base_buffer::wide8(times) * cost_of(figures)
+    u64::from(times) * cost_of(figures)
 }
 
 // The copies for all bits, and what they cost.
@@ -80,12 +80,10 @@ fn add_bits(
 {
     clear(copies, firsts.len());
     let mut total = 0;
-    let mut bit = 0;
-    while bit < STRENGTH_BITS {
+    for bit in 0..STRENGTH_BITS {
         total += add_bit(
             groups, firsts, seconds, weights, owners, others, strengths, bit, copies,
         );
-        bit += 1;
     }
     total
 }

@@ -36,13 +36,11 @@ fn strengths_refusal(strengths: &[u8]) -> Verdict
             place: 0,
         };
     }
-    let mut i = 0;
-    while i < STRENGTHS {
-        let found = strength_refusal(base_buffer::at8(strengths, i), i + 1);
+    for (i, strength) in strengths.iter().enumerate() {
+        let found = strength_refusal(*strength, i + 1);
         let Verdict::Fine = found else {
             return found;
         };
-        i += 1;
     }
     Verdict::Fine
 }

@@ -33,11 +33,11 @@ pub overflow_mul-result : goal.overflow_mul-result
 overflow_mul-result c =
     let a = c.args in
     let s = survey_with a.groups.now a.firsts.now a.seconds.now a.weights.now a.owners.now a.others.now in
-    let few = times_few s c.requires.byte_groups a.strengths.now c.requires.winter_ready a.bit c.requires.bit_lt_strength_bits (c.wide8.ensures ∙ c.power-times.ensures) (c.cost_of.ensures ∙ bit_cost s c.requires.byte_groups a.strengths.now c.requires.winter_ready a.bit c.plan_bit-figures.ensures.result_value) in
+    let few = times_few s c.requires.byte_groups a.strengths.now c.requires.winter_ready a.bit c.requires.bit_lt_strength_bits (c.from.ensures ∙ c.power-times.ensures) (c.cost_of.ensures ∙ bit_cost s c.requires.byte_groups a.strengths.now c.requires.winter_ready a.bit c.plan_bit-figures.ensures.result_value) in
     search (rules, few)
 
 pub returns : goal.returns
 unfolding edge_count
 returns c =
     let a = c.args in
-    let s = survey_with a.groups.now a.firsts.now a.seconds.now a.weights.now a.owners.now a.others.now in record { result_value = bit_price_law s c.requires.byte_groups a.strengths.now c.requires.winter_ready a.bit (c.wide8.ensures ∙ c.power-times.ensures) (c.cost_of.ensures ∙ bit_cost s c.requires.byte_groups a.strengths.now c.requires.winter_ready a.bit c.plan_bit-figures.ensures.result_value) refl; copies_value = copies_more s c.requires.byte_groups a.strengths.now c.requires.winter_ready a.bit c.requires.bit_lt_strength_bits a.copies.now c.requires.copied_for c.requires.winter_ready.copies_long (replicate {A = ℕ} max_edges 0) c.plan_bit-figures.ensures.marks_value c.power-times.ensures c.add_kept.ensures }
+    let s = survey_with a.groups.now a.firsts.now a.seconds.now a.weights.now a.owners.now a.others.now in record { result_value = bit_price_law s c.requires.byte_groups a.strengths.now c.requires.winter_ready a.bit (c.from.ensures ∙ c.power-times.ensures) (c.cost_of.ensures ∙ bit_cost s c.requires.byte_groups a.strengths.now c.requires.winter_ready a.bit c.plan_bit-figures.ensures.result_value) refl; copies_value = copies_more s c.requires.byte_groups a.strengths.now c.requires.winter_ready a.bit c.requires.bit_lt_strength_bits a.copies.now c.requires.copied_for c.requires.winter_ready.copies_long (replicate {A = ℕ} max_edges 0) c.plan_bit-figures.ensures.marks_value c.power-times.ensures c.add_kept.ensures }

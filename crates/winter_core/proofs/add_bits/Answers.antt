@@ -1,5 +1,4 @@
 -- `add_bits` meets its contract: no copies, then those of one bit more in each turn.
-use Prim.Native.Nat.{◌-◌}
 use native.Mathlib.Omega.{arith}
 use mathlib.Core.Path.{◌≡◌, refl, ap, sym, ◌∙◌}
 use lib.ListN.{length}
@@ -39,10 +38,6 @@ overflow_add-total c =
     let price = c.add_bit-total.ensures.result_value in
     let within = c.loop-bit-test.true in
     search (rules, few, more, total, price, within)
-
-pub loop-bit-smaller : goal.loop-bit-smaller
-loop-bit-smaller c =
-    omega (arith, c.loop-bit-test.true)
 
 pub loop-bit-preserved : goal.loop-bit-preserved
 loop-bit-preserved c =

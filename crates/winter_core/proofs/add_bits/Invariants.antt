@@ -1,5 +1,5 @@
 -- `add_bits` meets its contract: no copies, then those of one bit more in each turn.
-use Prim.Native.Nat.{◌≤◌, ◌-◌}
+use Prim.Native.Nat.{◌≤◌}
 use mathlib.Core.Path.{◌≡◌}
 use Rattle.base_finite.specs.Below.{sum_below}
 use Rattle.survey_core.specs.Survey.{survey_with}
@@ -12,6 +12,3 @@ invariant-loop-bit l =
     (l.bit ≤ strength_bits)
     × ((l.total ≡ sum_below l.bit (bit_price (survey_with l.groups l.firsts l.seconds l.weights l.owners l.others) l.strengths))
     × (l.copies ≡ copies_for (survey_with l.groups l.firsts l.seconds l.weights l.owners l.others) l.strengths l.initial.copies l.bit))
-
-abbrev pub decreases-loop-bit : goal.decreases-loop-bit
-decreases-loop-bit l = strength_bits - l.bit

@@ -1,7 +1,6 @@
 -- `bit_groups` meets its contract: it stores at rising places.
-use Prim.Native.Nat.{◌≤◌, ◌-◌}
 use mathlib.Core.Path.{◌≡◌}
-use lib.ListN.{length, get_or, replicate}
+use lib.ListN.{get_or, replicate}
 use Rattle.base_limits.specs.Limits.{max_vertices}
 use Rattle.base_buffer.specs.Store.{remade}
 use Rattle.winter_core.specs.Bit.{bit_group}
@@ -9,7 +8,4 @@ use Rattle.winter_core.proofs.bit.bit_groups.Given as goal
 
 abbrev pub invariant-loop-v : goal.invariant-loop-v
 invariant-loop-v l =
-    (l.v ≤ length l.groups) × (l.room ≡ remade (λ v x. bit_group l.strengths l.bit (get_or l.groups v 0)) l.v (replicate max_vertices 0))
-
-abbrev pub decreases-loop-v : goal.decreases-loop-v
-decreases-loop-v l = length l.groups - l.v
+    l.room ≡ remade (λ v x. bit_group l.strengths l.bit (get_or l.groups v 0)) l.v (replicate max_vertices 0)

@@ -1,5 +1,5 @@
 -- `bit_pairs` meets its contract: a pair that passes is stored behind the others (`passed_more`).
-use Prim.Native.Nat.{◌≤◌, ◌-◌}
+use Prim.Native.Nat.{◌≤◌}
 use mathlib.Core.Path.{◌≡◌}
 use lib.ListN.{length}
 use Rattle.base_finite.specs.Below.{count_below}
@@ -12,6 +12,3 @@ invariant-loop-i l =
     × ((l.count ≡ count_below l.i (pair_carries l.strengths l.others l.bit))
     × ((l.carriers ≡ passed (pair_carries l.strengths l.others l.bit) l.owners l.initial.carriers l.i)
     × (l.carried ≡ passed (pair_carries l.strengths l.others l.bit) l.others l.initial.carried l.i)))
-
-abbrev pub decreases-loop-i : goal.decreases-loop-i
-decreases-loop-i l = length l.owners - l.i

@@ -1,16 +1,14 @@
--- `has_bit` meets its contract: the strength divided by the bit's power is odd, or not.
-use Rattle.winter_core.proofs.Laws.Call.{power_some, bit_set, bit_clear}
+-- `has_bit` meets its contract: whether the strength divided by the bit's power is odd.
+use Rattle.std.proofs.Common.{◌%◌, ◌/◌, ap, eqb}
+use Rattle.theory_steiner.specs.Strength.{has_bit}
+use Rattle.winter_core.proofs.Laws.Call.{power_some}
 use borrow.Author.Rules.{rules}
 use Rattle.winter_core.proofs.bit.has_bit.Goals as goal
 
-pub nonzero_div-strength : goal.nonzero_div-strength
-nonzero_div-strength c =
+pub nonzero_div-result : goal.nonzero_div-result
+nonzero_div-result c =
     let some = power_some c.args.bit c.requires in search (rules, some, c.power.ensures)
 
-pub returns-then-strength-power-eq1 : goal.returns-then-strength-power-eq1
-returns-then-strength-power-eq1 c =
-    bit_set c.args.strength c.args.bit c.power.ensures c.if-strength-power-eq1.true
-
 pub returns : goal.returns
-returns c =
-    bit_clear c.args.strength c.args.bit c.power.ensures c.if-strength-power-eq1.false
+unfolding has_bit
+returns c = ap (λ p. eqb (c.args.strength / p % 2) 1) c.power.ensures

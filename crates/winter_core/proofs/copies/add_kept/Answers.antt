@@ -1,5 +1,4 @@
 -- `add_kept` meets its contract: it stores at rising places.
-use Prim.Native.Nat.{◌-◌}
 use native.Mathlib.Omega.{arith}
 use mathlib.Core.Path.{refl, ◌∙◌}
 use Rattle.base_buffer.specs.Store.{remade}
@@ -15,15 +14,11 @@ loop-e-init c =
 pub more-requires : goal.more-requires
 more-requires c =
     let a = c.args in
-    room_ahead _ a.copies.now a.power c.requires c.loop-e-test.true c.loop-e.invariant.1 c.at8.ensures
-
-pub loop-e-smaller : goal.loop-e-smaller
-loop-e-smaller c =
-    omega (arith, c.loop-e-test.true)
+    room_ahead _ a.copies.now a.power c.requires c.loop-e-test.true c.loop-e.invariant.1 c.at.ensures
 
 pub loop-e-preserved : goal.loop-e-preserved
 loop-e-preserved c =
-    (omega (arith, c.loop-e-test.true), c.put8.ensures ∙ remade_more _ _ _ _ _ c.loop-e.invariant.1 (more_read c.args.power c.at8.ensures c.at8-in-loop-e.ensures c.more.ensures))
+    (omega (arith, c.loop-e-test.true), c.put.ensures ∙ remade_more _ _ _ _ _ c.loop-e.invariant.1 (more_read c.args.power c.at.ensures c.at-in-loop-e.ensures c.more.ensures))
 
 pub returns : goal.returns
 returns c =

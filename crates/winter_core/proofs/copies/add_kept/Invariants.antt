@@ -1,5 +1,5 @@
 -- `add_kept` meets its contract: it stores at rising places.
-use Prim.Native.Nat.{◌≤◌, ◌+◌, ◌-◌}
+use Prim.Native.Nat.{◌≤◌, ◌+◌}
 use mathlib.Core.Path.{◌≡◌}
 use lib.ListN.{get_or}
 use lib.Dec.{eqb}
@@ -10,6 +10,3 @@ use Rattle.winter_core.proofs.copies.add_kept.Given as goal
 abbrev pub invariant-loop-e : goal.invariant-loop-e
 invariant-loop-e l =
     (l.e ≤ l.m) × (l.copies ≡ remade (λ e x. x + counted (eqb (get_or l.marks e 0) 2) l.power) l.e l.initial.copies)
-
-abbrev pub decreases-loop-e : goal.decreases-loop-e
-decreases-loop-e l = l.m - l.e

@@ -1,20 +1,18 @@
--- `clear` meets its contract: it stores at rising places.
-use Prim.Native.Nat.{◌-◌}
-use native.Mathlib.Omega.{arith}
-use mathlib.Core.Path.{refl, ◌∙◌}
+-- `clear` meets its contract: the bytes of the front, or all of them, are 0.
+use Rattle.std.proofs.Common.{◌≡◌, ◌∙◌, ◌++◌, ◌∷◌, [], ℕ, zero, suc, List, length, take, drop, replicate, min, arith, refl, ap}
 use Rattle.base_buffer.specs.Store.{remade}
-use Rattle.base_buffer.proofs.Laws.Store.{remade_more, remade_end}
 use Rattle.winter_core.proofs.copies.clear.Goals as goal
 
-pub loop-e-init : goal.loop-e-init
+cleared : (m n : ℕ) (l : List ℕ) → n ≡ min m (length l) → replicate (length (take n l)) 0 ++ drop n l ≡ remade (λ e x. 0) m l
 unfolding remade
-loop-e-init c =
-    (omega arith, refl)
-
-pub loop-e-preserved : goal.loop-e-preserved
-loop-e-preserved c =
-    (omega arith, c.put8.ensures ∙ remade_more _ _ _ _ _ c.loop-e.invariant.1 refl)
+cleared zero zero l h = refl
+cleared zero (suc n) l h = absurd (omega arith)
+cleared (suc m) zero [] h = refl
+cleared (suc m) (suc n) [] h = absurd (omega arith)
+cleared (suc m) zero (x ∷ l) h = absurd (omega arith)
+cleared (suc m) (suc n) (x ∷ l) h = ap (λ t. 0 ∷ t) (cleared m n l (omega arith))
 
 pub returns : goal.returns
 returns c =
-    c.loop-e.invariant.1 ∙ remade_end _ _ _ _ (omega arith) (omega arith)
+    ap (λ t. t ++ drop c.min-n.result c.args.copies.now) (c.fill.ensures.after (λ y h. h))
+    ∙ cleared c.args.m c.min-n.result c.args.copies.now c.min-n.ensures
