@@ -8,8 +8,7 @@ use Rattle.survey_core.specs.Survey.{Survey, vertex_count}
 use Rattle.survey_components.specs.Labels.{picked_in}
 use Rattle.survey_components.specs.Forest.{forest_refusal}
 use Rattle.theory_route.specs.Route.{occurs, Route}
-use Rattle.why_core.specs.declared.route.Walked.{Walked}
-use Rattle.why_core.specs.declared.route.Walked.TheVariants.{Arrived, Lost}
+use Rattle.std.specs.Prelude.{Option, Some, None}
 
 -- How many places of a list hold 0: the vertices that are not visited yet.
 unfoldable pub unvisited : List ℕ → ℕ
@@ -38,12 +37,12 @@ pub record Explored (a b : ℕ → ℕ) (F : ℕ → Bool) (goal : ℕ) (was lef
   pub misses : get_or was goal 0 ≡ 0 → get_or left goal 0 ≡ 0
 
 -- How a walk from v ends: it arrives by a route over unvisited vertices, whose edges it has stored from place `depth` on and nothing else; or it is lost, and has stored nothing.
-pub data WalkEnds (a b : ℕ → ℕ) (F : ℕ → Bool) (v goal depth : ℕ) (was left route stored : List ℕ) : Walked → Type 0 where
+pub data WalkEnds (a b : ℕ → ℕ) (F : ℕ → Bool) (v goal depth : ℕ) (was left route stored : List ℕ) : Option ℕ → Type 0 where
   arrives : {entries : ℕ} (es vs : List ℕ) → v < length was → Route a b F v goal es vs → ((x : ℕ) → occurs vs x ≡ true → get_or was x 0 ≡ 0)
       → length es + 1 ≤ unvisited was → entries ≡ depth + length es → stored ≡ stored_at route depth es
-      → WalkEnds a b F v goal depth was left route stored (Arrived entries)
+      → WalkEnds a b F v goal depth was left route stored (Some entries)
   fails : Explored a b F goal was left → (v < length was → get_or left v 0 ≡ 0 → ⊥) → stored ≡ route
-      → WalkEnds a b F v goal depth was left route stored Lost
+      → WalkEnds a b F v goal depth was left route stored None
 
 -- The refusals of a route: those of a forest that joins the groups, then 7 for fewer entries than a route can have.
 unfoldable pub route_refusal : Survey → (kept : List ℕ) → (route_length : ℕ) → Verdict

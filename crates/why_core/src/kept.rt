@@ -3,10 +3,9 @@ ghost use Rattle.std.specs.Prelude.{◌≡◌};
 ghost use Rattle.base_limits.specs.Verdict.{answer};
 ghost use Rattle.survey_core.specs.Survey.{lent_with};
 ghost use Rattle.why_rule.specs.Answer.{why_outcome};
-ghost use Rattle.why_core.specs.Kept.{held_marks, kept_counts, KeptAnswer};
+ghost use Rattle.why_core.specs.Kept.{kept_counts, KeptAnswer};
 
 use crate::parted::{Pair, Tracks};
-use base_buffer::wide;
 use base_limits::MAX_EDGES;
 use why_rule::Why;
 
@@ -15,21 +14,11 @@ fn kept_answer(pair: Pair, entries: usize) -> Why
     ensures { why_outcome result ≡ answer (kept_counts pair entries) }
 {
     Why::Kept {
-        group: wide(pair.group),
-        smaller: wide(pair.smaller),
-        larger: wide(pair.larger),
-        entries: wide(entries),
+        group: pair.group as u64,
+        smaller: pair.smaller as u64,
+        larger: pair.larger as u64,
+        entries: entries as u64,
     }
-}
-
-// How many of m marks there is room for.
-fn held(m: usize) -> usize
-    ensures { result ≡ held_marks m }
-{
-    if MAX_EDGES < m {
-        return MAX_EDGES;
-    }
-    m
 }
 
 // The lowest pair that the tracks with a mark leave apart without this one, and the route over those with mark 2.
@@ -54,7 +43,7 @@ pub fn explain_kept(
     let kept = crate::parted::marks_but(marks, Tracks::Keeps, m, m);
     let from = pair.smaller;
     let to = pair.larger;
-    let size = held(m);
+    let size = m.min(MAX_EDGES);
     let entries = crate::route::find_route(
         lists,
         firsts,

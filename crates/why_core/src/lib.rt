@@ -15,7 +15,7 @@ ghost use Rattle.why_rule.specs.Promise.{WhyPromises};
 ghost use Rattle.why_core.specs.Asked.{Asked};
 
 use crate::kept::explain_kept;
-use base_buffer::wide;
+use base_buffer::at;
 use base_limits::{MAX_DUALS, MAX_EDGES, MAX_VERTICES, Verdict};
 use why_rule::Why;
 
@@ -78,11 +78,13 @@ fn explain(
     let rounds = grown.rounds;
     let m = firsts.len();
     let marks = plan_marks(lists, firsts, seconds, weights, &picked[0..m]);
-    match base_buffer::at8(&marks, track) {
+    match at(&marks, track) {
         0 => {
             let picks = &order[0..rounds];
             let round = crate::round::join_round(lists, firsts, seconds, weights, picks, track);
-            Why::Passed { round: wide(round) }
+            Why::Passed {
+                round: round as u64,
+            }
         }
         1 => Why::Dropped,
         2 => explain_kept(

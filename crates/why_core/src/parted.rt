@@ -11,6 +11,7 @@ ghost use Rattle.survey_components.specs.declared.Chosen.TheVariants.{Kept};
 ghost use Rattle.why_rule.specs.Reason.{place_of};
 ghost use Rattle.why_core.specs.Parted.{least_mark, marked_but, PairOf};
 
+use base_buffer::{at, put};
 use base_limits::{MAX_EDGES, Verdict};
 use survey_components::Chosen;
 
@@ -70,7 +71,7 @@ fn mark_but(marks: &[u8], set: Tracks, out: usize, e: usize) -> u8
     if e == out {
         return 0;
     }
-    if is_among(set, base_buffer::at8(marks, e)) {
+    if is_among(set, at(marks, e)) {
         return 2;
     }
     0
@@ -81,10 +82,8 @@ pub fn marks_but(marks: &[u8], set: Tracks, out: usize, m: usize) -> [u8; MAX_ED
     ensures { result ≡ remade (λ e x. counted (marked_but marks.now (least_mark set) out e) 2) m (replicate max_edges 0) }
 {
     let mut chosen = [0u8; MAX_EDGES];
-    let mut e = 0;
-    while e < m {
-        base_buffer::put8(&mut chosen, e, mark_but(marks, set, out, e));
-        e += 1;
+    for e in 0..m {
+        put(&mut chosen, e, mark_but(marks, set, out, e));
     }
     chosen
 }

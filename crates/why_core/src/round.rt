@@ -6,18 +6,16 @@ ghost use Rattle.survey_core.specs.Refusal.{survey_refusal};
 ghost use Rattle.survey_components.specs.Buffer.{ends_joined};
 ghost use Rattle.why_core.specs.Replay.{PicksFit, round_in};
 
-use base_buffer::{at32, index32};
+use base_buffer::at;
 use base_limits::{MAX_VERTICES, Verdict};
 
-// The components of the ends of pick i become one.
-fn merge_pick(firsts: &[u32], seconds: &[u32], order: &[u32], labels: &mut [u32], i: usize)
-    ensures { let pick = get_or order.now i 0 in
-        labels.new ≡ ends_joined (get_or firsts.now pick 0) (get_or seconds.now pick 0) labels.old }
+// The components of the ends of a pick become one.
+fn merge_pick(firsts: &[u32], seconds: &[u32], labels: &mut [u32], pick: usize)
+    ensures { labels.new ≡ ends_joined (get_or firsts.now pick 0) (get_or seconds.now pick 0) labels.old }
 {
-    let pick = index32(at32(order, i));
-    let first = at32(firsts, pick);
-    let second = at32(seconds, pick);
-    let z = at32(labels, index32(first));
+    let first = at(firsts, pick);
+    let second = at(seconds, pick);
+    let z = at(labels, first as usize);
     survey_components::merge(labels, first, second, z);
 }
 
@@ -25,8 +23,8 @@ fn merge_pick(firsts: &[u32], seconds: &[u32], order: &[u32], labels: &mut [u32]
 fn are_joined(firsts: &[u32], seconds: &[u32], labels: &[u32], e: usize) -> bool
     ensures { result ≡ eqb (get_or labels.now (get_or firsts.now e 0) 0) (get_or labels.now (get_or seconds.now e 0) 0) }
 {
-    let first = at32(labels, index32(at32(firsts, e)));
-    let second = at32(labels, index32(at32(seconds, e)));
+    let first = at(labels, at(firsts, e) as usize);
+    let second = at(labels, at(seconds, e) as usize);
     first == second
 }
 
@@ -40,12 +38,10 @@ fn find_round(firsts: &[u32], seconds: &[u32], order: &[u32], e: usize) -> usize
     if are_joined(firsts, seconds, &labels, e) {
         return 0;
     }
-    let mut r = 0;
-    while r < order.len() {
-        merge_pick(firsts, seconds, order, &mut labels, r);
-        r += 1;
+    for (r, pick) in order.iter().enumerate() {
+        merge_pick(firsts, seconds, &mut labels, *pick as usize);
         if are_joined(firsts, seconds, &labels, e) {
-            return r;
+            return r + 1;
         }
     }
     0

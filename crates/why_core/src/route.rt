@@ -8,28 +8,22 @@ ghost use Rattle.theory_route.specs.Route.{far_end, route_of};
 ghost use Rattle.why_core.specs.Visit.{end_in};
 ghost use Rattle.why_core.specs.Walk.{Walkable, WalkEnds, route_refusal};
 
-use base_buffer::{at32, index32};
+use base_buffer::{at, put};
 use base_limits::{MAX_VERTICES, Verdict};
-
-// A walk arrives with so many entries, or is lost.
-#[derive(Drop)]
-enum Walked {
-    Arrived { entries: usize },
-    Lost,
-}
 
 // The other end of edge e.
 fn far_end(firsts: &[u32], seconds: &[u32], e: usize, v: usize) -> usize
     ensures { result ≡ far_end (end_in firsts.now) (end_in seconds.now) e v }
 {
-    let first = index32(at32(firsts, e));
+    let first = at(firsts, e) as usize;
     if first == v {
-        return index32(at32(seconds, e));
+        return at(seconds, e) as usize;
     }
     first
 }
 
-// Walks from v towards the goal over vertices not visited yet; `depth` entries lie before it.
+// Walks from v towards the goal over vertices not visited yet; `depth` entries lie before it. It arrives with so many
+// entries, or is lost.
 fn walk(
     firsts: &[u32],
     seconds: &[u32],
@@ -39,30 +33,28 @@ fn walk(
     v: usize,
     goal: usize,
     depth: usize,
-) -> Walked
+) -> Option<usize>
     requires { Walkable firsts.now seconds.now kept.now visited.old depth }
     ensures { WalkEnds (end_in firsts.now) (end_in seconds.now) (picked_in kept.now) v goal depth
         visited.old visited.new route.old route.new result }
 {
     if !crate::visit::visit(visited, v) {
-        return Walked::Lost;
+        return None;
     }
     if v == goal {
-        return Walked::Arrived { entries: depth };
+        return Some(depth);
     }
-    let mut e = 0;
-    while e < firsts.len() {
+    for e in 0..firsts.len() {
         if crate::visit::is_at(firsts, seconds, kept, e, v) {
             let next = far_end(firsts, seconds, e, v);
             let walked = walk(firsts, seconds, kept, visited, route, next, goal, depth + 1);
-            if let Walked::Arrived { entries } = walked {
-                base_buffer::put32(route, depth, e as u32);
-                return Walked::Arrived { entries };
+            if let Some(entries) = walked {
+                put(route, depth, e as u32);
+                return Some(entries);
             }
         }
-        e += 1;
     }
-    Walked::Lost
+    None
 }
 
 // The edges of a route between two vertices by the tracks that are marked, in walking order; answers how many. None,
@@ -105,8 +97,5 @@ pub fn find_route(
         to,
         0,
     );
-    match walked {
-        Walked::Arrived { entries } => entries,
-        Walked::Lost => 0,
-    }
+    walked.unwrap_or(0)
 }

@@ -4,7 +4,7 @@ ghost use Rattle.survey_components.specs.Labels.{picked_in};
 ghost use Rattle.theory_route.specs.Route.{is_end};
 ghost use Rattle.why_core.specs.Visit.{is_unvisited, end_in};
 
-use base_buffer::{at32, index32};
+use base_buffer::{at, put};
 
 // Visits v; whether it is a vertex that was not visited yet.
 pub fn visit(visited: &mut [u8], v: usize) -> bool
@@ -14,10 +14,10 @@ pub fn visit(visited: &mut [u8], v: usize) -> bool
     if visited.len() <= v {
         return false;
     }
-    if base_buffer::at8(visited, v) != 0 {
+    if at(visited, v) != 0 {
         return false;
     }
-    base_buffer::put8(visited, v, 1);
+    put(visited, v, 1);
     true
 }
 
@@ -28,8 +28,8 @@ pub fn is_at(firsts: &[u32], seconds: &[u32], kept: &[u8], e: usize, v: usize) -
     if !survey_components::is_picked(kept, e) {
         return false;
     }
-    if index32(at32(firsts, e)) == v {
+    if at(firsts, e) as usize == v {
         return true;
     }
-    index32(at32(seconds, e)) == v
+    at(seconds, e) as usize == v
 }

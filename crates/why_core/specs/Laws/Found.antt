@@ -30,8 +30,7 @@ use Rattle.theory_route.specs.Route.{route_of}
 use Rattle.theory_route.proofs.Laws.Route.{route_is, route_none, route_here}
 use Rattle.why_core.specs.Visit.{end_in}
 use Rattle.why_core.specs.Walk.{unvisited, stored_at, Walkable, Explored, WalkEnds, arrives, fails, route_refusal}
-use Rattle.why_core.specs.declared.route.Walked.{Walked}
-use Rattle.why_core.specs.declared.route.Walked.TheVariants.{Arrived, Lost}
+use Rattle.std.specs.Prelude.{Option, Some, None, unwrap_or}
 
 -- ---- entries stored from a place on
 
@@ -153,8 +152,8 @@ module _ (s : Survey) (kept : List ℕ) (fine : forest_refusal s kept ≡ Fine) 
         }
 
     -- Arrived: what is stored is the route.
-    pub walk_arrived : {from to entries : ℕ} {left route stored : List ℕ} {r : Walked} → length s.groups - 1 ≤ length route
-        → WalkEnds (end_in s.firsts) (end_in s.seconds) (picked_in kept) from to 0 part left route stored r → r ≡ Arrived entries
+    pub walk_arrived : {from to entries : ℕ} {left route stored : List ℕ} {r : Option ℕ} → length s.groups - 1 ≤ length route
+        → WalkEnds (end_in s.firsts) (end_in s.seconds) (picked_in kept) from to 0 part left route stored r → r ≡ Some entries
         → (entries ≡ length (route_of (problem_of s) (picked_in kept) from to))
         × (stored ≡ route_of (problem_of s) (picked_in kept) from to ++ drop (length (route_of (problem_of s) (picked_in kept) from to)) route)
     unfolding problem_of vertex_count
@@ -168,8 +167,8 @@ module _ (s : Survey) (kept : List ℕ) (fine : forest_refusal s kept ≡ Fine) 
         rw is (counted, w ∙ stored_front route 0 es fits ∙ ap (λ k. es ++ drop k route) past)
 
     -- Lost: the two are not linked, or are one and the same.
-    pub walk_lost : {from to : ℕ} {left route stored : List ℕ} {r : Walked}
-        → WalkEnds (end_in s.firsts) (end_in s.seconds) (picked_in kept) from to 0 part left route stored r → r ≡ Lost
+    pub walk_lost : {from to : ℕ} {left route stored : List ℕ} {r : Option ℕ}
+        → WalkEnds (end_in s.firsts) (end_in s.seconds) (picked_in kept) from to 0 part left route stored r → r ≡ None
         → (0 ≡ length (route_of (problem_of s) (picked_in kept) from to))
         × (stored ≡ route_of (problem_of s) (picked_in kept) from to ++ drop (length (route_of (problem_of s) (picked_in kept) from to)) route)
     unfolding problem_of vertex_count
@@ -185,6 +184,14 @@ module _ (s : Survey) (kept : List ℕ) (fine : forest_refusal s kept ≡ Fine) 
             (λ b. closed_apart (problem_of s).first (problem_of s).second (picked_in kept) from to part left part_zero more (seen (subst (λ k. from < k) (sym part_long) b)))
             (λ out. outside_apart from to out apart)
             (lt_or_ge from (length s.groups)))
+
+    -- What is answered then: how many entries, and 0 for none.
+    pub walk_ended : (r : Option ℕ) {from to : ℕ} {left route stored : List ℕ} → length s.groups - 1 ≤ length route
+        → WalkEnds (end_in s.firsts) (end_in s.seconds) (picked_in kept) from to 0 part left route stored r
+        → (unwrap_or r 0 ≡ length (route_of (problem_of s) (picked_in kept) from to))
+        × (stored ≡ route_of (problem_of s) (picked_in kept) from to ++ drop (length (route_of (problem_of s) (picked_in kept) from to)) route)
+    walk_ended (Some entries) room ends = walk_arrived room ends refl
+    walk_ended None room ends = walk_lost ends refl
 
 -- ---- the refusals as the code finds them
 

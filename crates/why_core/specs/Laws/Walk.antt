@@ -16,8 +16,7 @@ use Rattle.theory_route.proofs.Laws.Route.{occurs_cases, none_occurs, end_at_law
 use Rattle.why_core.specs.Visit.{is_unvisited, end_in}
 use Rattle.why_core.specs.Laws.Visit.{free_below, free_zero, free_is}
 use Rattle.why_core.specs.Walk.{unvisited, stored_at, Walkable, Explored, WalkEnds, arrives, fails}
-use Rattle.why_core.specs.declared.route.Walked.{Walked}
-use Rattle.why_core.specs.declared.route.Walked.TheVariants.{Arrived, Lost}
+use Rattle.std.specs.Prelude.{Option, Some, None}
 
 -- ---- visiting
 
@@ -78,8 +77,8 @@ module _ {a b : ℕ → ℕ} {F : ℕ → Bool} {v goal m : ℕ} where
           (sym is ∙ misses)
 
   -- A walk by edge e is lost.
-  pub walking_lost : {was now left route stored : List ℕ} {e y depth : ℕ} {r : Walked} → Walking a b F v goal m was now e → e < m → y ≡ far_end a b e v → far_end a b e v < length now
-      → WalkEnds a b F y goal depth now left route stored r → r ≡ Lost → Walking a b F v goal m was left (e + 1) × (stored ≡ route)
+  pub walking_lost : {was now left route stored : List ℕ} {e y depth : ℕ} {r : Option ℕ} → Walking a b F v goal m was now e → e < m → y ≡ far_end a b e v → far_end a b e v < length now
+      → WalkEnds a b F y goal depth now left route stored r → r ≡ None → Walking a b F v goal m was left (e + 1) × (stored ≡ route)
   walking_lost h c far inside (arrives es vs i t u s n w) told = absurd (let z : ◌≡◌ {A = ℕ} 0 1 = cc in omega arith)
   walking_lost {was} {now} {left} {e = e} {y = y} h c far inside (fails more seen same) told = (
     record {
@@ -113,7 +112,7 @@ stored_more route i e es = refl
 module _ {a b : ℕ → ℕ} {F : ℕ → Bool} {v goal m : ℕ} {first : List ℕ} (free : is_unvisited first v ≡ true) {was : List ℕ} (entered : was ≡ set first v 1) where
   -- All edges at v have been tried.
   pub walking_end : {now route stored : List ℕ} {e depth : ℕ} → (v ≡ goal → ⊥) → ((f : ℕ) → F f ≡ true → f < m) → Walking a b F v goal m was now e → m ≤ e → stored ≡ route
-      → WalkEnds a b F v goal depth first now route stored Lost
+      → WalkEnds a b F v goal depth first now route stored None
   walking_end {now} {e = e} apart bounded g c same =
       fails
       (record {
@@ -138,8 +137,8 @@ module _ {a b : ℕ → ℕ} {F : ℕ → Bool} {v goal m : ℕ} {first : List �
       closed f x y k l unseen seen (no d) = h.explored.closed f x y k l (entered_other first v free x d ∙ unseen) seen
 
   -- A walk by edge e arrives: the edge is stored before the entries of that walk.
-  pub walking_arrives : {now left other route stored : List ℕ} {e y depth entries : ℕ} {r : Walked} → Walking a b F v goal m was now e → (F e && is_end a b e v) ≡ true → y ≡ far_end a b e v
-      → WalkEnds a b F y goal (depth + 1) now left route stored r → r ≡ Arrived entries → WalkEnds a b F v goal depth first other route (set stored depth e) (Arrived entries)
+  pub walking_arrives : {now left other route stored : List ℕ} {e y depth entries : ℕ} {r : Option ℕ} → Walking a b F v goal m was now e → (F e && is_end a b e v) ≡ true → y ≡ far_end a b e v
+      → WalkEnds a b F y goal (depth + 1) now left route stored r → r ≡ Some entries → WalkEnds a b F v goal depth first other route (set stored depth e) (Some entries)
   walking_arrives g at far (fails more seen same) told = absurd (let z : ◌≡◌ {A = ℕ} 0 1 = cc in omega arith)
   walking_arrives {now} {left} {other} {route} {stored} {e} {y} {depth} {entries} g at far (arrives {entries = n} es vs i t u s count w) told =
       arrives {entries = entries} (e ∷ es) (v ∷ vs) (free_below first v free)
@@ -167,10 +166,10 @@ module _ {a b : ℕ → ℕ} {F : ℕ → Bool} {v goal m : ℕ} {first : List �
 
 module _ {a b : ℕ → ℕ} {F : ℕ → Bool} (v : ℕ) {goal : ℕ} {first : List ℕ} (free : is_unvisited first v ≡ true) where
   -- The goal itself.
-  pub walk_here : {left route : List ℕ} {depth : ℕ} → v ≡ goal → WalkEnds a b F v goal depth first left route route (Arrived depth)
+  pub walk_here : {left route : List ℕ} {depth : ℕ} → v ≡ goal → WalkEnds a b F v goal depth first left route route (Some depth)
   unfolding stored_at
   walk_here {left} {route} {depth} same =
-      subst (λ g. WalkEnds a b F v g depth first left route route (Arrived depth)) same
+      subst (λ g. WalkEnds a b F v g depth first left route route (Some depth)) same
       (arrives [] (v ∷ []) (free_below first v free) arrived
       (λ x h. ⊎_elim (λ k. subst (λ y. get_or first y 0 ≡ 0) (sym k) (free_zero first v free)) (λ k. absurd (none_occurs x k)) (occurs_cases v x [] h))
       (let k = set_unvisited first v (free_below first v free) (free_zero first v free) in omega arith)
@@ -199,22 +198,22 @@ module _ (first : List ℕ) (v : ℕ) {r : Bool} {was : List ℕ} (r_is : r ≡ 
   visit_made h = was_is ∙ rw (is_free_law h)
 
   -- A vertex that is visited already, or none.
-  pub walk_refused : {a b : ℕ → ℕ} {F : ℕ → Bool} {goal depth : ℕ} {route : List ℕ} → r ≡ false → WalkEnds a b F v goal depth first was route route Lost
+  pub walk_refused : {a b : ℕ → ℕ} {F : ℕ → Bool} {goal depth : ℕ} {route : List ℕ} → r ≡ false → WalkEnds a b F v goal depth first was route route None
   walk_refused {a} {b} {F} {goal} {depth} {route} h =
       let taken : is_unvisited first v ≡ false = sym r_is ∙ h in
       let same : was ≡ first = was_is ∙ rw taken in
-      subst (λ l. WalkEnds a b F v goal depth first l route route Lost) (sym same)
+      subst (λ l. WalkEnds a b F v goal depth first l route route None) (sym same)
       (fails (explored_none first) (λ inside z. true_not_false (is_unvisited first v) (free_is first v inside z) taken) refl)
 
 -- The same with the buffers as the code has them.
-pub walking_stored : {a b : ℕ → ℕ} {F : ℕ → Bool} {v goal m : ℕ} {first was now left other route started stored after : List ℕ} {e x y depth entries : ℕ} {r : Walked}
+pub walking_stored : {a b : ℕ → ℕ} {F : ℕ → Bool} {v goal m : ℕ} {first was now left other route started stored after : List ℕ} {e x y depth entries : ℕ} {r : Option ℕ}
     → is_unvisited first v ≡ true → was ≡ set first v 1 → Walking a b F v goal m was now e × (route ≡ started) → (F e && is_end a b e v) ≡ true → y ≡ far_end a b e v
-    → WalkEnds a b F y goal (depth + 1) now left route stored r → r ≡ Arrived entries → after ≡ set stored depth x → x ≡ e
-    → WalkEnds a b F v goal depth first other started after (Arrived entries)
+    → WalkEnds a b F y goal (depth + 1) now left route stored r → r ≡ Some entries → after ≡ set stored depth x → x ≡ e
+    → WalkEnds a b F v goal depth first other started after (Some entries)
 walking_stored {a} {b} {F} {v} {goal} {first = first} {other = other} {route = route} {started = started} {stored = stored} {after = after} {e = e} {depth = depth} {entries = entries}
     free entered h at far ends told kept same =
-    subst (λ l. WalkEnds a b F v goal depth first other l after (Arrived entries)) h.1
-    (subst (λ l. WalkEnds a b F v goal depth first other route l (Arrived entries)) (sym (kept ∙ ap (set stored depth) same))
+    subst (λ l. WalkEnds a b F v goal depth first other l after (Some entries)) h.1
+    (subst (λ l. WalkEnds a b F v goal depth first other route l (Some entries)) (sym (kept ∙ ap (set stored depth) same))
     (walking_arrives free entered h.0 at far ends told))
 
 -- The measure falls, and the next call may be made.

@@ -1,17 +1,14 @@
--- `first_member` meets its contract: a scan of the vertices.
-use Prim.Native.Nat.{◌-◌}
-use Rattle.theory_route.proofs.Laws.First.{unmet_start, unmet_turn, unmet_found, unmet_end}
+-- `first_member` meets its contract: the first vertex that passes.
+use Rattle.std.proofs.Common.{◌≡◌, true, false, ◌∙◌, rules, tests}
+use Rattle.std.proofs.lemmas.Iterator.{first_from_Range}
+use Rattle.survey_core.specs.Lists.{lent_lists, in_list}
+use Rattle.why_core.specs.Laws.Member.{first_found}
 use Rattle.why_core.proofs.pair.first_member.Goals as goal
 
-pub loop-v-init : goal.loop-v-init
-loop-v-init c = unmet_start _ _
-
-pub returns-then-is_member : goal.returns-then-is_member
-returns-then-is_member c = unmet_found c.loop-v.invariant c.loop-v-test.true c.is_member.ensures c.if-is_member.true
-
-pub loop-v-preserved : goal.loop-v-preserved
-loop-v-preserved c = unmet_turn c.loop-v.invariant c.loop-v-test.true c.is_member.ensures c.if-is_member.false
-
--- none
 pub returns : goal.returns
-returns c = unmet_end c.loop-v.invariant c.loop-v-test.false
+returns c =
+    let args = c.args in
+    let member = in_list (lent_lists args.groups.now args.owners.now args.others.now) args.g in
+    c.unwrap_or.ensures
+    ∙ first_found _ member c.find.result
+    (first_from_Range _ _ _ _ (λ v. member v ≡ true) (λ v. member v ≡ false) c.find.ensures.ran (λ x q k. search (rules, tests)) (λ x q k. search (rules, tests)))

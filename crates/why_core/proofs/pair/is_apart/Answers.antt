@@ -10,4 +10,4 @@ returns-then-not-is_member c = rw (sym c.is_member.ensures ∙ c.if-not-is_membe
 pub returns : goal.returns
 returns c =
     let args = c.args in
-    labels_apart _ _ _ args.labels.now args.u c.is_member.ensures (ap not c.if-not-is_member.false) c.at32.ensures c.at32-2.ensures
+    labels_apart _ _ _ args.labels.now args.u c.is_member.ensures (ap not c.if-not-is_member.false) c.at.ensures c.at-2.ensures

@@ -11,4 +11,4 @@ pub returns-then-is_paired : goal.returns-then-is_paired
 returns-then-is_paired c = by_pairs _ _ _ _ _ c.if-g-eq0.false c.is_paired.ensures c.if-is_paired.true
 
 pub returns : goal.returns
-returns c = by_group _ _ _ _ _ c.if-g-eq0.false c.is_paired.ensures c.if-is_paired.false (c.index8.ensures ∙ c.at8.ensures)
+returns c = by_group _ _ _ _ _ c.if-g-eq0.false c.is_paired.ensures c.if-is_paired.false (c.from.ensures ∙ c.at.ensures)

@@ -1,27 +1,17 @@
--- `is_paired` meets its contract: a scan of the pairs.
-use Prim.Native.Nat.{◌-◌}
-use native.Mathlib.Omega.{arith}
-use mathlib.Core.Path.{refl, sym, ◌∙◌}
-use mathlib.Core.Bool.{false}
-use Rattle.base_finite.specs.Below.{any_below}
-use Rattle.base_finite.specs.Laws.Below.{any_intro}
-use Rattle.base_finite.specs.Laws.Count.{any_more, any_end}
+-- `is_paired` meets its contract: some pair passes.
+use Rattle.std.proofs.Common.{ℕ, length, refl, ◌&&◌, get_or, ◌∙◌, arith, rules, tests}
+use Rattle.std.specs.Prelude.{eqb}
+use Rattle.std.proofs.lemmas.Iterator.{YieldsList-from_range}
+use Rattle.std.proofs.lemmas.Iterator.Search.{any_from_yields_List}
 use Rattle.survey_core.specs.Lists.{is_paired}
+use Rattle.why_core.specs.Laws.Member.{any_found}
 use Rattle.why_core.proofs.pair.is_paired.Goals as goal
 
-pub loop-i-init : goal.loop-i-init
-unfolding any_below
-loop-i-init c = (omega arith, refl)
-
--- such a pair
-pub returns-then-is_pair : goal.returns-then-is_pair
-unfolding is_paired
-returns-then-is_pair c = sym (any_intro _ _ _ c.loop-i-test.true (sym c.is_pair.ensures ∙ c.if-is_pair.true))
-
-pub loop-i-preserved : goal.loop-i-preserved
-loop-i-preserved c = (omega arith, any_more _ _ c.loop-i.invariant.1 (sym c.is_pair.ensures ∙ c.if-is_pair.false))
-
--- none
 pub returns : goal.returns
 unfolding is_paired
-returns c = sym (any_end _ _ _ c.loop-i.invariant.0 c.loop-i-test.false c.loop-i.invariant.1)
+returns c =
+    let args = c.args in
+    let n = length args.owners.now in
+    let pair = λ (i : ℕ). eqb (get_or args.owners.now i 0) args.v && eqb (get_or args.others.now i 0) args.g in
+    any_from_yields_List pair _ _ c.any.result c.any.ensures.ran (YieldsList-from_range 0 n n refl (omega arith)) (λ x b q k. search (rules, tests))
+    ∙ any_found n pair

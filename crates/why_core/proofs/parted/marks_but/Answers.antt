@@ -1,6 +1,5 @@
 -- `marks_but` meets its contract: it stores at rising places.
-use Prim.Native.Nat.{ℕ, ◌-◌}
-use native.Mathlib.Omega.{arith}
+use Prim.Native.Nat.{ℕ}
 use mathlib.Core.Path.{refl, ap, sym, ◌∙◌}
 use lib.ListN.{length, replicate, length-replicate}
 use Rattle.base_limits.specs.Limits.{max_edges}
@@ -10,13 +9,13 @@ use Rattle.why_core.proofs.parted.marks_but.Goals as goal
 
 pub loop-e-init : goal.loop-e-init
 unfolding remade
-loop-e-init c = (omega arith, refl)
+loop-e-init c = refl
 
-pub slice_bounds-put8-end : goal.slice_bounds-put8-end
-slice_bounds-put8-end c = sym (ap length c.loop-e.invariant.1 ∙ length_remade _ _ (replicate max_edges 0) ∙ length-replicate {A = ℕ} max_edges 0)
+pub slice_bounds-put-end : goal.slice_bounds-put-end
+slice_bounds-put-end c = sym (ap length c.loop-e.invariant ∙ length_remade _ _ (replicate max_edges 0) ∙ length-replicate {A = ℕ} max_edges 0)
 
 pub loop-e-preserved : goal.loop-e-preserved
-loop-e-preserved c = (omega arith, c.put8.ensures ∙ remade_more _ _ _ _ _ c.loop-e.invariant.1 c.mark_but.ensures)
+loop-e-preserved c = c.put.ensures ∙ remade_more _ _ _ _ _ c.loop-e.invariant c.mark_but.ensures
 
 pub returns : goal.returns
-returns c = c.loop-e.invariant.1 ∙ remade_end _ _ _ _ (omega arith) (omega arith)
+returns c = c.loop-e.invariant ∙ remade_end _ _ _ _ c.loop-e.auto.e-end c.loop-e-test.false

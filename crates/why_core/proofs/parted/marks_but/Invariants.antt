@@ -1,5 +1,4 @@
 -- `marks_but` meets its contract: it stores at rising places.
-use Prim.Native.Nat.{◌≤◌, ◌-◌}
 use mathlib.Core.Path.{◌≡◌}
 use lib.ListN.{replicate}
 use Rattle.base_finite.specs.Below.{counted}
@@ -10,7 +9,4 @@ use Rattle.why_core.proofs.parted.marks_but.Given as goal
 
 abbrev pub invariant-loop-e : goal.invariant-loop-e
 invariant-loop-e l =
-    (l.e ≤ l.m) × (l.chosen ≡ remade (λ e x. counted (marked_but l.marks (least_mark l.set) l.out e) 2) l.e (replicate max_edges 0))
-
-abbrev pub decreases-loop-e : goal.decreases-loop-e
-decreases-loop-e l = l.m - l.e
+    l.chosen ≡ remade (λ e x. counted (marked_but l.marks (least_mark l.set) l.out e) 2) l.e (replicate max_edges 0)

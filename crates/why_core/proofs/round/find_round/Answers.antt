@@ -1,6 +1,5 @@
 -- `find_round` meets its contract: before each turn the labels are those of r picks, and none of them links the ends.
-use Prim.Native.Nat.{ℕ, ◌-◌}
-use native.Mathlib.Omega.{arith}
+use Prim.Native.Nat.{ℕ}
 use mathlib.Core.Path.{ap, sym, ◌∙◌}
 use lib.ListN.{length, replicate, length-replicate}
 use Rattle.base_finite.specs.Laws.Below.{length_tabulate}
@@ -34,6 +33,3 @@ loop-r-preserved c = replay_turn c.args.firsts.now c.args.seconds.now c.args.ord
 -- never
 pub returns : goal.returns
 returns c = replay_end c.args.firsts.now c.args.seconds.now c.args.order.now c.args.e c.requires c.loop-r.invariant c.loop-r-test.false
-
-pub loop-r-smaller : goal.loop-r-smaller
-loop-r-smaller c = omega arith

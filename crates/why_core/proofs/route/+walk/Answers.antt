@@ -34,11 +34,11 @@ walk-walked-requires t c =
     )
 
 -- there by this edge
-pub returns-in-Arrived : goal.returns-in-Arrived
-returns-in-Arrived t c =
+pub returns-in-Some : goal.returns-in-Some
+returns-in-Some t c =
     let free = is_free_law c.args.visited.now c.args.v c.visit.ensures.value c.visit.ensures.visited_value c.if-not-visit.false in
     let made = visit_made c.args.visited.now c.args.v c.visit.ensures.value c.visit.ensures.visited_value c.if-not-visit.false in
-    walking_stored free made c.loop-e.invariant (sym c.is_at.ensures ∙ c.if-is_at.true) c.far_end-next.ensures c.walk-walked.ensures c.in-Arrived.is c.put32.ensures refl
+    walking_stored free made c.loop-e.invariant (sym c.is_at.ensures ∙ c.if-is_at.true) c.far_end-next.ensures c.walk-walked.ensures c.in-Some.is c.put.ensures refl
 
 pub loop-e-preserved : goal.loop-e-preserved
 loop-e-preserved t c =

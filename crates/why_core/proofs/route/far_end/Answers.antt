@@ -6,10 +6,10 @@ use Rattle.why_core.proofs.route.far_end.Goals as goal
 
 pub returns-then-first-v : goal.returns-then-first-v
 unfolding far_end
-returns-then-first-v c = rw (eq-eqb _ _ (sym (c.index32-first.ensures ∙ c.at32.ensures) ∙ c.if-first-v.true)) (c.index32.ensures ∙ c.at32-then-first-v.ensures)
+returns-then-first-v c = rw (eq-eqb _ _ (sym c.at-first.ensures ∙ c.if-first-v.true)) c.at.ensures
 
 pub returns : goal.returns
 unfolding far_end
 returns c =
-    let first = c.index32-first.ensures ∙ c.at32.ensures in
+    let first = c.at-first.ensures in
     rw (ne_eqb _ _ (λ same. c.if-first-v.false (first ∙ same))) first

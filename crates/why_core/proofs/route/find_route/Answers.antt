@@ -4,7 +4,7 @@ use lib.ListN.{length}
 use borrow.Author.Rules.{rules}
 use Rattle.base_limits.specs.Laws.Verdict.{written_refused, written_fine}
 use Rattle.survey_core.specs.Survey.{survey_from}
-use Rattle.why_core.specs.Laws.Found.{forest_sound, walk_starts, walk_arrived, walk_lost, route_stops, route_short, route_fits}
+use Rattle.why_core.specs.Laws.Found.{forest_sound, walk_starts, walk_ended, route_stops, route_short, route_fits}
 use Rattle.why_core.proofs.route.find_route.Goals as goal
 
 -- not a forest that joins every group
@@ -29,18 +29,11 @@ slice_bounds-visited-end c = let few = (forest_sound (survey_from c.args.groups.
 pub walk-walked-requires : goal.walk-walked-requires
 walk-walked-requires c = walk_starts (survey_from c.args.groups.now c.args.firsts.now c.args.seconds.now c.args.weights.now) c.args.kept.now (sym c.forest_refusal-found.ensures ∙ c.in-Fine.is) refl
 
--- arrived
-pub returns-in-Arrived : goal.returns-in-Arrived
-returns-in-Arrived c =
+-- arrived, or lost
+pub returns : goal.returns
+returns c =
     let fine = c.in-Fine.is in
-    let fits = route_fits (survey_from c.args.groups.now c.args.firsts.now c.args.seconds.now c.args.weights.now) c.args.kept.now (length c.args.route.now) c.forest_refusal-found.ensures fine c.if-route-n.false in
-    let got = walk_arrived (survey_from c.args.groups.now c.args.firsts.now c.args.seconds.now c.args.weights.now) c.args.kept.now (sym c.forest_refusal-found.ensures ∙ fine) refl c.if-route-n.false c.walk-walked.ensures c.in-Arrived.is in
-    record { result_value = got.0 ∙ written_fine _ _ fits fine; route_value = got.1 ∙ written_fine _ _ fits fine }
-
--- lost
-pub returns-in-Lost : goal.returns-in-Lost
-returns-in-Lost c =
-    let fine = c.in-Fine.is in
-    let fits = route_fits (survey_from c.args.groups.now c.args.firsts.now c.args.seconds.now c.args.weights.now) c.args.kept.now (length c.args.route.now) c.forest_refusal-found.ensures fine c.if-route-n.false in
-    let got = walk_lost (survey_from c.args.groups.now c.args.firsts.now c.args.seconds.now c.args.weights.now) c.args.kept.now (sym c.forest_refusal-found.ensures ∙ fine) refl c.walk-walked.ensures c.in-Lost.is in
-    record { result_value = got.0 ∙ written_fine _ _ fits fine; route_value = got.1 ∙ written_fine _ _ fits fine }
+    let s = survey_from c.args.groups.now c.args.firsts.now c.args.seconds.now c.args.weights.now in
+    let fits = route_fits s c.args.kept.now (length c.args.route.now) c.forest_refusal-found.ensures fine c.if-route-n.false in
+    let got = walk_ended s c.args.kept.now (sym c.forest_refusal-found.ensures ∙ fine) refl c.walk-walked.result c.if-route-n.false c.walk-walked.ensures in
+    record { result_value = c.unwrap_or.ensures ∙ got.0 ∙ written_fine _ _ fits fine; route_value = got.1 ∙ written_fine _ _ fits fine }

@@ -11,9 +11,9 @@ pub returns-then-not-is_picked : goal.returns-then-not-is_picked
 returns-then-not-is_picked c = not_of_forest _ _ _ c.is_picked.ensures (ap not c.if-not-is_picked.true)
 
 -- at its first end
-pub returns-then-index32-v : goal.returns-then-index32-v
+pub returns-then-at-v : goal.returns-then-at-v
 unfolding is_end
-returns-then-index32-v c = rw (sym c.is_picked.ensures ∙ c.if-not-is_picked.false, eq-eqb _ _ (sym (c.index32.ensures ∙ c.at32.ensures) ∙ c.if-index32-v.true))
+returns-then-at-v c = rw (sym c.is_picked.ensures ∙ c.if-not-is_picked.false, eq-eqb _ _ (sym c.at.ensures ∙ c.if-at-v.true))
 
 -- or at its second
 pub returns : goal.returns
@@ -21,6 +21,6 @@ unfolding is_end
 returns c =
     rw (
       sym c.is_picked.ensures ∙ c.if-not-is_picked.false,
-      ne_eqb _ _ (λ same. c.if-index32-v.false (c.index32.ensures ∙ c.at32.ensures ∙ same)),
-      ← c.index32-2.ensures ∙ c.at32-2.ensures,
+      ne_eqb _ _ (λ same. c.if-at-v.false (c.at.ensures ∙ same)),
+      ← c.at-2.ensures,
     )
