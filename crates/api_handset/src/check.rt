@@ -6,7 +6,7 @@ ghost use Rattle.api_handset.specs.Slices.{lent_slices, lengths_refusal};
 ghost use Rattle.api_handset.specs.Call.{handset_check, handset_check_result};
 
 use crate::lengths::{lengths_refusal, pairs_seen};
-use crate::words::{WORD_BYTES, edge_words, pair_words};
+use crate::words::{PAIRS_SEEN, WORD_BYTES, spell};
 use base_limits::{MAX_EDGES, Verdict};
 
 // Checks a plan against a survey whose lengths are in order.
@@ -29,12 +29,13 @@ fn check_bytes(
         res.new ≡ handset_check_result b marks.now records.now res.old }
 {
     let mut first_words = [0u32; MAX_EDGES];
-    edge_words(firsts, &mut first_words);
+    spell(firsts, &mut first_words);
     let mut second_words = [0u32; MAX_EDGES];
-    edge_words(seconds, &mut second_words);
+    spell(seconds, &mut second_words);
     let mut weight_words = [0u32; MAX_EDGES];
-    edge_words(weights, &mut weight_words);
-    let owner_words = pair_words(owners);
+    spell(weights, &mut weight_words);
+    let mut owner_words = [0u32; PAIRS_SEEN];
+    spell(owners, &mut owner_words);
     let m = firsts.len() / WORD_BYTES;
     let p = pairs_seen(others.len());
     crate::result_check::check_words(

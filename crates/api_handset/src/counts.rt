@@ -22,9 +22,7 @@ pub fn write_counts(res: &mut [u8], counts: &[u64])
     if res.len() / VALUE_BYTES < counts.len() {
         return;
     }
-    let mut i = 0;
-    while i < counts.len() {
-        write_figure(res, VALUE_BYTES * i, base_buffer::at64(counts, i));
-        i += 1;
+    for (i, count) in counts.iter().enumerate() {
+        write_figure(res, VALUE_BYTES * i, *count);
     }
 }

@@ -9,10 +9,7 @@ use base_limits::{MAX_EDGES, MAX_VERTICES, Verdict};
 pub fn pairs_seen(pairs: usize) -> usize
     ensures { result ≡ pairs_seen pairs }
 {
-    if PAIRS_SEEN < pairs {
-        return PAIRS_SEEN;
-    }
-    pairs
+    PAIRS_SEEN.min(pairs)
 }
 
 // Whether a length is not a multiple of four.

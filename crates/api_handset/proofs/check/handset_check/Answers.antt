@@ -1,6 +1,5 @@
 -- `handset_check` meets its contract: refused for its lengths, or the check of the bytes.
 use mathlib.Core.Path.{sym, ◌∙◌}
-use borrow.Author.Rules.{rules}
 use Rattle.api_handset.specs.Slices.{Slices}
 use Rattle.api_handset.proofs.Laws.Call.{check_odd_code, check_odd_kept}
 use Rattle.api_handset.proofs.check.handset_check.Goals as goal

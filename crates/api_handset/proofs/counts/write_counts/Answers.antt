@@ -1,9 +1,8 @@
 -- `write_counts` meets its contract: one count after the other, where all have room.
-use Prim.Native.Nat.{◌-◌}
 use native.Mathlib.Omega.{arith}
-use lib.ListN.{length}
+use mathlib.Core.Path.{refl}
 use borrow.Author.Rules.{rules}
-use Rattle.api_handset.proofs.Laws.Words.{Writing, writing_start, writing_turn, writing_end, unwritten}
+use Rattle.api_handset.proofs.Laws.Words.{writing_start, writing_turn, writing_end, unwritten}
 use Rattle.api_handset.proofs.counts.write_counts.Goals as goal
 
 -- no room
@@ -28,7 +27,7 @@ write_figure-requires c =
 
 pub loop-i-preserved : goal.loop-i-preserved
 loop-i-preserved c =
-    writing_turn _ _ c.loop-i.invariant c.loop-i-test.true c.at64.ensures c.write_figure.ensures
+    writing_turn _ _ c.loop-i.invariant c.loop-i-test.true refl c.write_figure.ensures
 
 pub returns : goal.returns
 returns c = writing_end _ _ c.loop-i.invariant c.loop-i-test.false

@@ -1,6 +1,5 @@
 -- `write_figure` meets its contract: eight bytes of the result are lent on.
 use native.Mathlib.Omega.{arith}
-use borrow.Author.Rules.{rules}
 use Rattle.api_handset.proofs.Laws.Words.{figure_written}
 use Rattle.api_handset.proofs.counts.write_figure.Goals as goal
 

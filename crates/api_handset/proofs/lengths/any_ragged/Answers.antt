@@ -1,6 +1,5 @@
 -- `any_ragged` meets its contract: one slice after the other.
 use mathlib.Core.Path.{sym, ◌∙◌}
-use borrow.Author.Rules.{rules}
 use Rattle.api_handset.proofs.Laws.Lengths.{ragged_firsts, ragged_seconds, ragged_weights, ragged_owners}
 use Rattle.api_handset.proofs.lengths.any_ragged.Goals as goal
 

@@ -1,6 +1,5 @@
 -- `lengths_refusal` meets its contract: one test after the other.
 use mathlib.Core.Path.{sym, ◌∙◌}
-use borrow.Author.Rules.{rules}
 use Rattle.api_handset.proofs.Laws.Lengths.{size_none, size_many, found_ragged, found_uneven, found_many, found_none}
 use Rattle.api_handset.proofs.lengths.lengths_refusal.Goals as goal
 

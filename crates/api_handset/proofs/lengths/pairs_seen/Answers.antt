@@ -3,10 +3,6 @@ use native.Mathlib.Omega.{arith}
 use Rattle.api_handset.specs.Slices.{pairs_seen}
 use Rattle.api_handset.proofs.lengths.pairs_seen.Goals as goal
 
-pub returns-then-pairs-gt-PAIRS_SEEN : goal.returns-then-pairs-gt-PAIRS_SEEN
-unfolding pairs_seen
-returns-then-pairs-gt-PAIRS_SEEN c = omega arith
-
 pub returns : goal.returns
 unfolding pairs_seen
 returns c = omega arith

@@ -1,6 +1,5 @@
 -- `handset_plan` meets its contract: refused for its lengths, or the plan of the bytes.
 use mathlib.Core.Path.{sym, ◌∙◌}
-use borrow.Author.Rules.{rules}
 use Rattle.api_handset.specs.Slices.{Slices}
 use Rattle.api_handset.proofs.Laws.Call.{plan_odd_code, plan_odd_marks, plan_odd_records, plan_odd_result}
 use Rattle.api_handset.proofs.plan.handset_plan.Goals as goal

@@ -4,7 +4,6 @@ use mathlib.Core.List.{List, [], ◌∷◌}
 use lib.Seq.{length_front}
 use Prim.Native.Nat.{ℕ, ◌-◌, ◌<◌, ◌≤◌}
 use native.Mathlib.Omega.{arith}
-use borrow.Author.Rules.{rules}
 use Rattle.api_code.specs.Laws.Lending.{lent_le}
 use Rattle.api_handset.proofs.Laws.Call.{check_words_code, check_words_kept, check_words_stored}
 use Rattle.api_handset.proofs.result_check.check_words.Goals as goal

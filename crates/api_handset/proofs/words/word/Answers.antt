@@ -1,5 +1,4 @@
 -- `word` meets its contract: four bytes, from the highest down.
-use borrow.Author.Rules.{rules}
 use Rattle.api_handset.proofs.Laws.Words.{word_read}
 use Rattle.api_handset.proofs.words.word.Goals as goal
 
