@@ -59,14 +59,14 @@ fn narrow(
         → (result.least ≡ least_rest g.firsts g.seconds rests.now flags.now cap (arcs_in g))
         × Narrow g rests.now flags.now rim.new result.arcs }
 {
-    let mut least = cap;
-    let mut kept = 0;
+    let mut found = Narrowed {
+        least: cap,
+        arcs: 0,
+    };
     for j in 0..arcs {
-        let found = narrow_at(links, rests, flags, rim, j, least, kept);
-        least = found.least;
-        kept = found.arcs;
+        found = narrow_at(links, rests, flags, rim, j, found.least, found.arcs);
     }
-    Narrowed { least, arcs: kept }
+    found
 }
 
 // A rest less by d, and 0 where that is more.

@@ -67,18 +67,24 @@ fn look(
         → Turn g rests.now i v last flags.old found.old rim.old before.vertices before.arcs
         → Turn g rests.now i v 0 flags.new found.new rim.new result.vertices result.arcs }
 {
-    let mut vertices = before.vertices;
-    let mut arcs = before.arcs;
+    let mut seen = before;
     let mut x = last;
     // Stays a while: the next x is read from the arc's link, no constant step.
     while 0 < x {
         let link = at(links, (x - 1) as usize);
-        let seen = look_arc(rests, flags, found, rim, x - 1, link % 512, vertices, arcs);
-        vertices = seen.vertices;
-        arcs = seen.arcs;
+        seen = look_arc(
+            rests,
+            flags,
+            found,
+            rim,
+            x - 1,
+            link % 512,
+            seen.vertices,
+            seen.arcs,
+        );
         x = link / 512;
     }
-    Seen { vertices, arcs }
+    seen
 }
 
 // The arcs that lead to v, if they are not looked at already.
@@ -122,31 +128,22 @@ pub fn walk(
         → Turn g rests.now 0 0 0 flags.old found.old rim.old 1 0
         → CutFound g rests.now flags.new rim.new root result }
 {
-    let mut vertices = 1;
-    let mut arcs = 0;
+    let mut seen = Seen {
+        vertices: 1,
+        arcs: 0,
+    };
     let mut i = 0;
     // Stays a while: the queue grows as it is walked, so its end is no bound known at the start.
-    while i < vertices {
+    while i < seen.vertices {
         if at(flags, root) != 0 {
             return None;
         }
         let v = at(found, i) as usize;
-        let seen = look_at(
-            tops,
-            links,
-            rests,
-            flags,
-            found,
-            rim,
-            v,
-            Seen { vertices, arcs },
-        );
-        vertices = seen.vertices;
-        arcs = seen.arcs;
+        seen = look_at(tops, links, rests, flags, found, rim, v, seen);
         i += 1;
     }
     if at(flags, root) != 0 {
         return None;
     }
-    Some(arcs)
+    Some(seen.arcs)
 }

@@ -2,7 +2,6 @@
 use mathlib.Core.Path.{refl}
 use Rattle.floor_core.specs.Laws.State.{ascended_is}
 use Rattle.floor_core.specs.Laws.Done.{none_done}
-use borrow.Author.Rules.{rules}
 use Rattle.floor_core.proofs.ascent.ascend.Goals as goal
 
 pub passes-requires : goal.passes-requires

@@ -1,5 +1,4 @@
 -- `chain` meets its contract: one arc after the other.
-use native.Mathlib.Omega.{arith}
 use Rattle.floor_core.specs.Laws.Chain.{chained_none, chained_end}
 use Rattle.floor_core.proofs.chain.chain.Goals as goal
 

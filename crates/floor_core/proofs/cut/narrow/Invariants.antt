@@ -4,4 +4,4 @@ use Rattle.floor_core.specs.Laws.Rim.{Narrows}
 use Rattle.floor_core.proofs.cut.narrow.Given as goal
 
 abbrev pub invariant-loop-j : goal.invariant-loop-j
-invariant-loop-j l = (l.kept ≤ l.j) × Narrows l.links l.flags l.initial.rim l.arcs l.rests l.cap l.j l.least l.kept l.rim
+invariant-loop-j l = (l.found.arcs ≤ l.j) × Narrows l.links l.flags l.initial.rim l.arcs l.rests l.cap l.j l.found.least l.found.arcs l.rim

@@ -11,4 +11,4 @@ returns-then-at-ne0 c =
 
 pub returns : goal.returns
 returns c =
-    record { arcs_bound = omega arith; by_index = place_outside c.args.links.now c.args.flags.now c.args.rests.now c.args.rim.now _ _ _ c.at-a.ensures refl c.at.ensures refl c.at-2.ensures c.if-at-ne0.false c.put-arg-1.given.0.1 c.put.ensures c.at-3.ensures c.from.ensures (c.min.ensures ∙ lesser_min _ _) }
+    record { arcs_bound = omega arith; by_index = place_outside c.args.links.now c.args.flags.now c.args.rests.now c.args.rim.now _ _ _ c.at-a.ensures refl c.at.ensures refl c.at-2.ensures c.if-at-ne0.false c.told-rim c.put.ensures c.at-3.ensures c.from.ensures (c.min.ensures ∙ lesser_min _ _) }

@@ -1,6 +1,5 @@
 -- `raise_cut` meets its contract: a walk finds the cut, and the arcs at its rim bear it.
 use Rattle.floor_core.specs.Laws.Rim.{walk_begins, cut_inside, cut_outside}
-use borrow.Author.Rules.{rules}
 use Rattle.floor_core.proofs.cut.raise_cut.Goals as goal
 
 pub walk-requires : goal.walk-requires

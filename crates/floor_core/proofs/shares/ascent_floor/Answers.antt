@@ -2,7 +2,6 @@
 use mathlib.Core.Path.{refl}
 use Rattle.floor_core.specs.Laws.Chain.{ends_room}
 use Rattle.floor_core.specs.Laws.Shares.{shares_fit, floor_total}
-use borrow.Author.Rules.{rules}
 use Rattle.floor_core.proofs.shares.ascent_floor.Goals as goal
 
 pub chain-requires : goal.chain-requires

@@ -1,6 +1,5 @@
 -- `note_member` meets its contract: one more is stored.
-use Rattle.floor_core.specs.Laws.Shares.{noted_member, noted_fits}
-use borrow.Author.Rules.{rules}
+use Rattle.floor_core.specs.Laws.Shares.{noted_member}
 use Rattle.floor_core.proofs.shares.note_member.Goals as goal
 
 pub returns : goal.returns

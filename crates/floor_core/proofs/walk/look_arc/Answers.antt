@@ -9,7 +9,7 @@ returns-then-at-ne0 c = record { vertices_bound = (omega arith, omega arith); tu
 
 pub returns-then-at-ne0-2 : goal.returns-then-at-ne0-2
 returns-then-at-ne0-2 c =
-    record { vertices_bound = (omega arith, omega arith); turn = look_rim _ _ _ _ _ _ _ _ refl c.at.ensures c.if-at-ne0.false refl c.at-2.ensures c.put-arg-1.given.0.1 c.if-at-ne0-2.true c.put.ensures }
+    record { vertices_bound = (omega arith, omega arith); turn = look_rim _ _ _ _ _ _ _ _ refl c.at.ensures c.if-at-ne0.false refl c.at-2.ensures c.told-rim c.if-at-ne0-2.true c.put.ensures }
 
 pub returns : goal.returns
 returns c =

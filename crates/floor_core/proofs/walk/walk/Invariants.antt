@@ -5,7 +5,7 @@ use Rattle.floor_core.specs.Laws.Walk.{Walks}
 use Rattle.floor_core.proofs.walk.walk.Given as goal
 
 abbrev pub invariant-loop-i : goal.invariant-loop-i
-invariant-loop-i l = Walks l.tops l.links l.rests l.initial.flags l.initial.found l.initial.rim l.i l.flags l.found l.rim l.vertices l.arcs
+invariant-loop-i l = Walks l.tops l.links l.rests l.initial.flags l.initial.found l.initial.rim l.i l.flags l.found l.rim l.seen.vertices l.seen.arcs
 
 abbrev pub decreases-loop-i : goal.decreases-loop-i
 decreases-loop-i l = max_vertices - l.i
