@@ -17,10 +17,7 @@ pub const REMARK: [u8; REMARK_BYTES] = *b"no cheaper plan exists\n";
 fn shown(cost: u64, bound: u64) -> u64
     ensures { result ≡ shown cost bound }
 {
-    if cost <= bound / 2 {
-        return 1;
-    }
-    0
+    u64::from(cost <= bound / 2)
 }
 
 // The lines of sites, cost and bound at the cursor, and what they show.
