@@ -8,6 +8,7 @@ ghost use Rattle.theory_steiner.specs.Problem.{separates};
 ghost use Rattle.survey_core.specs.Survey.{groups_alone, problem_of};
 ghost use Rattle.check_rule.specs.Check.{dual_at};
 
+use crate::scan::lowest;
 use base_limits::{MAX_VERTICES, RECORD_BYTES, Verdict};
 
 // The sides of a cut as labels.
@@ -43,11 +44,8 @@ pub fn cuts_refusal(groups: &[u8], records: &[u8]) -> Verdict
         let cut : ℕ → ℕ → Bool = λ i. (dual_at records.now i).holds in
         result ≡ lowest_below (length records.now / record_bytes) (λ i. refuse_if (not (separates p (cut i))) 12 i) }
 {
-    for i in 0..records.len() / RECORD_BYTES {
-        let found = cut_refusal(groups, format_record::record(records, i), i);
-        let Verdict::Fine = found else {
-            return found;
-        };
-    }
-    Verdict::Fine
+    lowest(
+        records.len() / RECORD_BYTES,
+        |i| cut_refusal(groups, format_record::record(records, i), i),
+    )
 }

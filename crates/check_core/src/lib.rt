@@ -20,6 +20,7 @@ mod duals;
 mod marks;
 mod moats;
 mod rule;
+mod scan;
 mod values;
 
 pub use cost::kept_cost;

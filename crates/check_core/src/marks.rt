@@ -4,6 +4,7 @@ ghost use Rattle.base_limits.specs.Verdict.{refuse_if, lowest_below};
 ghost use Rattle.survey_core.specs.Survey.{survey_from};
 ghost use Rattle.check_rule.specs.Check.{shape_refusal};
 
+use crate::scan::lowest;
 use base_limits::{MAX_DUALS, RECORD_BYTES, Verdict};
 
 // 9: lengths that fit no plan.
@@ -48,11 +49,5 @@ fn mark_refusal(mark: u8, e: usize) -> Verdict
 pub fn marks_refusal(m: usize, marks: &[u8]) -> Verdict
     ensures { result ≡ lowest_below m (λ e. refuse_if (ltb 2 (get_or marks.now e 0)) 10 e) }
 {
-    for e in 0..m {
-        let found = mark_refusal(base_buffer::at(marks, e), e);
-        let Verdict::Fine = found else {
-            return found;
-        };
-    }
-    Verdict::Fine
+    lowest(m, |e| mark_refusal(base_buffer::at(marks, e), e))
 }

@@ -9,6 +9,7 @@ ghost use Rattle.survey_core.specs.Survey.{survey_from, lent_survey, problem_of}
 ghost use Rattle.check_rule.specs.Check.{duals_in};
 ghost use Rattle.check_core.specs.Moats.{load_between, DualsFit, few_duals_refusal};
 
+use crate::scan::lowest;
 use base_limits::{MAX_DUALS, RECORD_BYTES, Verdict};
 
 // The value of a dual with exactly one of u and v inside, else 0.
@@ -55,19 +56,15 @@ fn loads_refusal(firsts: &[u32], seconds: &[u32], weights: &[u32], records: &[u8
         let overtight : ℕ → Bool = λ e. ltb (2 * get_or weights.now e 0) (dual_load p (duals_in records.now) e) in
         result ≡ lowest_below (length firsts.now) (λ e. refuse_if (overtight e) 13 e) }
 {
-    for e in 0..firsts.len() {
-        let found = load_refusal(
+    lowest(firsts.len(), |e| {
+        load_refusal(
             records,
             base_buffer::at(firsts, e),
             base_buffer::at(seconds, e),
             base_buffer::at(weights, e),
             e,
-        );
-        let Verdict::Fine = found else {
-            return found;
-        };
-    }
-    Verdict::Fine
+        )
+    })
 }
 
 // 11, 12 and 13, of no more moats than a plan has; too many are refused by 9.

@@ -8,6 +8,7 @@ ghost use Rattle.survey_core.specs.Survey.{groups_alone};
 ghost use Rattle.check_rule.specs.Check.{dual_at, dual_refusal};
 ghost use Rattle.check_core.specs.Duals.{dual_of_record};
 
+use crate::scan::lowest;
 use base_limits::{MAX_VALUE, MEMBER_BYTES, RECORD_BYTES, Verdict};
 
 // Whether v is a member and no vertex.
@@ -63,11 +64,8 @@ pub fn values_refusal(groups: &[u8], records: &[u8]) -> Verdict
     ensures { let s = groups_alone groups.now in
         result ≡ lowest_below (length records.now / record_bytes) (λ i. dual_refusal s (dual_at records.now i) i) }
 {
-    for i in 0..records.len() / RECORD_BYTES {
-        let found = dual_refusal(groups, format_record::record(records, i), i);
-        let Verdict::Fine = found else {
-            return found;
-        };
-    }
-    Verdict::Fine
+    lowest(
+        records.len() / RECORD_BYTES,
+        |i| dual_refusal(groups, format_record::record(records, i), i),
+    )
 }

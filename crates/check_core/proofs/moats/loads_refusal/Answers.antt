@@ -1,38 +1,26 @@
 -- `loads_refusal` meets its contract: a scan of the edges for 13.
-use mathlib.Core.Path.{sym}
-use mathlib.Core.List.{[]}
-use Rattle.survey_core.specs.Survey.{survey_from}
+use Prim.Native.Nat.{ℕ, ◌*◌}
+use mathlib.Core.Path.{◌≡◌, sym}
+use borrow.Author.Rules.{rules}
+use mathlib.Core.List.{List, []}
+use lib.Dec.{ltb}
+use lib.ListN.{get_or}
+use Rattle.base_limits.specs.Verdict.{refuse_if}
+use Rattle.theory_steiner.specs.Dual.{dual_load}
+use Rattle.survey_core.specs.Survey.{survey_from, problem_of}
+use Rattle.check_rule.specs.Check.{duals_in}
+use Rattle.check_core.specs.Moats.{load_between}
+use Rattle.base_limits.specs.declared.Verdict.{Verdict}
 use Rattle.check_core.specs.Laws.Duals.{load_item}
-use Rattle.base_limits.specs.Laws.Verdict.{scan_start, scan_turn, scan_found, scan_end}
 use Rattle.check_core.proofs.moats.loads_refusal.Goals as goal
 
-pub loop-e-init : goal.loop-e-init
-loop-e-init c = scan_start _ _
+-- The test of one edge, by what its call read.
+load_at : (firsts seconds weights records : List ℕ) (e : ℕ) {found : Verdict} {first second weight : ℕ} → first ≡ get_or firsts e 0 → second ≡ get_or seconds e 0
+    → weight ≡ get_or weights e 0 → found ≡ refuse_if (ltb (2 * weight) (load_between records first second)) 13 e
+    → found ≡ refuse_if (ltb (2 * get_or weights e 0) (dual_load (problem_of (survey_from [] firsts seconds weights)) (duals_in records) e)) 13 e
+load_at firsts seconds weights records e a b w h = sym (load_item (survey_from [] firsts seconds weights) records e a b w h)
 
-pub load_refusal-found-requires : goal.load_refusal-found-requires
-load_refusal-found-requires c = c.requires
-
--- 13
-pub returns-in_default : goal.returns-in_default
-returns-in_default c =
-    let args = c.args in
-    let s = survey_from [] args.firsts.now args.seconds.now args.weights.now in
-    let is =
-    sym
-    (load_item s _ c.loop-e.e c.at.ensures c.at-in-loop-e.ensures c.at-in-loop-e-2.ensures
-    c.load_refusal-found.ensures) in
-    scan_found c.loop-e.invariant c.loop-e-test.true is c.in_default.is
-
-pub loop-e-preserved : goal.loop-e-preserved
-loop-e-preserved c =
-    let args = c.args in
-    let s = survey_from [] args.firsts.now args.seconds.now args.weights.now in
-    let is =
-    sym
-    (load_item s _ c.loop-e.e c.at.ensures c.at-in-loop-e.ensures c.at-in-loop-e-2.ensures
-    c.load_refusal-found.ensures) in
-    scan_turn c.loop-e.invariant c.loop-e-test.true is c.in-Fine.is
-
--- 13 refuses no edge
 pub returns : goal.returns
-returns c = scan_end c.loop-e.invariant c.loop-e-test.false
+returns c =
+    let args = c.args in
+    c.lowest.ensures (λ e. refuse_if (ltb (2 * get_or args.weights.now e 0) (dual_load (problem_of (survey_from [] args.firsts.now args.seconds.now args.weights.now)) (duals_in args.records.now) e)) 13 e) (λ e v b p. search (rules, load_at))
