@@ -90,7 +90,7 @@ pub fn grow_rounds(
             (n + r) as u32,
             time,
         );
-        let Winner::Edge { e, d } = found else {
+        let Some(Winner { e, d }) = found else {
             break;
         };
         note_pick(picked, order, e, r);

@@ -25,7 +25,7 @@ pub fn round(
     n: usize,
     z: u32,
     time: u64,
-) -> Winner
+) -> Option<Winner>
     ensures result_value { let t = tables_in firsts.now seconds.now weights.now labels.old loads.old flags.old in
         winner_in result ≡ (search_by t time keys.old floors.old).scanned.best }
     ensures flags_value { let t = tables_in firsts.now seconds.now weights.now labels.old loads.old flags.old in
@@ -36,8 +36,8 @@ pub fn round(
     let found = plan_search::find_winner(
         firsts, seconds, weights, labels, loads, flags, time, keys, floors,
     );
-    let Winner::Edge { e, d } = found else {
-        return Winner::Nobody;
+    let Some(Winner { e, d }) = found else {
+        return None;
     };
     plan_wake::wake_joined(
         firsts, seconds, weights, labels, loads, flags, time, n, e, keys, floors,
@@ -48,5 +48,5 @@ pub fn round(
     crate::join::join(
         values, loads, labels, flags, mates, members, count, n, first, second, z, later,
     );
-    Winner::Edge { e, d }
+    Some(Winner { e, d })
 }

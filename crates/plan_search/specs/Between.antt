@@ -1,28 +1,25 @@
 -- The ends of an edge by the tables of a round, and the delay between them (laws of `plan_rounds` say that it is the definition's).
-use Rattle.std.specs.Prelude.{ℕ, ◌+◌, ◌*◌, ◌-◌, cond, List, get_or, eqb}
+use Rattle.std.specs.Prelude.{ℕ, ◌+◌, ◌*◌, ◌-◌, cond, List, get_or, eqb, Option, Some, None}
 use Rattle.theory_steiner.specs.Growth.{ActiveEnds, none_active, one_active, both_active, Delay, never, after, delay_of, Winner, nobody, edge}
 use Rattle.plan_search.specs.Held.{settled_by}
 use Rattle.plan_search.specs.declared.delay.End.{End}
 use Rattle.plan_search.specs.declared.delay.ActiveEnds.{ActiveEnds as CodeEnds}
 use Rattle.plan_search.specs.declared.delay.ActiveEnds.TheVariants.{Neither, One, Both}
-use Rattle.plan_search.specs.declared.delay.Delay.{Delay as CodeDelay}
-use Rattle.plan_search.specs.declared.delay.Delay.TheVariants.{Never, After}
 use Rattle.plan_search.specs.declared.delay.Winner.{Winner as CodeWinner}
-use Rattle.plan_search.specs.declared.delay.Winner.TheVariants.{Nobody, Edge}
 
 -- The definition's delay, case and winner that the code's answers are.
-unfoldable pub delay_in : CodeDelay → Delay
-delay_in Never = never
-delay_in (After d) = after d
+unfoldable pub delay_in : Option ℕ → Delay
+delay_in None = never
+delay_in (Some d) = after d
 
 unfoldable pub ends_in : CodeEnds → ActiveEnds
 ends_in Neither = none_active
 ends_in One = one_active
 ends_in Both = both_active
 
-unfoldable pub winner_in : CodeWinner → Winner
-winner_in Nobody = nobody
-winner_in (Edge e d) = edge e d
+unfoldable pub winner_in : Option CodeWinner → Winner
+winner_in None = nobody
+winner_in (Some w) = edge w.e w.d
 
 -- The end of an edge at vertex v: by the component numbers, what is held for the loads, and 1 for each active component number.
 unfoldable pub vertex_end : (labels loads flags : List ℕ) → (time v : ℕ) → End

@@ -3,7 +3,7 @@ ghost use Rattle.std.specs.Prelude.{◌≡◌, eqb};
 ghost use Rattle.theory_steiner.specs.Growth.{active_ends, delay_of, better};
 ghost use Rattle.plan_search.specs.Between.{ends_in, delay_in, winner_in};
 
-use crate::delay::{ActiveEnds, Delay, Winner};
+use crate::delay::{ActiveEnds, Winner};
 
 // How many ends of an edge between two components are active.
 fn active_ends(first: u8, second: u8) -> ActiveEnds
@@ -21,34 +21,34 @@ fn active_ends(first: u8, second: u8) -> ActiveEnds
     ActiveEnds::Neither
 }
 
-// The delay by whether each end is active, and what remains.
-pub fn delay_of(first: u8, second: u8, slack: u64) -> Delay
+// The delay by whether each end is active, and what remains; none if neither is.
+pub fn delay_of(first: u8, second: u8, slack: u64) -> Option<u64>
     ensures { delay_in result ≡ delay_of (eqb first 1) (eqb second 1) slack }
 {
     let ends = active_ends(first, second);
     match ends {
-        ActiveEnds::Neither => Delay::Never,
-        ActiveEnds::One => Delay::After(slack),
-        ActiveEnds::Both => Delay::After(slack / 2),
+        ActiveEnds::Neither => None,
+        ActiveEnds::One => Some(slack),
+        ActiveEnds::Both => Some(slack / 2),
     }
 }
 
 // The earlier edge keeps its place unless the later one's delay is smaller. The answer is made anew and no copy, which
 // takes the compiler several moves through memory.
-pub fn better_of(best: Winner, e: usize, delay: Delay) -> Winner
+pub fn better_of(best: Option<Winner>, e: usize, delay: Option<u64>) -> Option<Winner>
     ensures { winner_in result ≡ better (winner_in best) e (delay_in delay) }
 {
-    let Winner::Edge { e: f, d: c } = best else {
-        let Delay::After(d) = delay else {
-            return Winner::Nobody;
+    let Some(Winner { e: f, d: c }) = best else {
+        let Some(d) = delay else {
+            return None;
         };
-        return Winner::Edge { e, d };
+        return Some(Winner { e, d });
     };
-    let Delay::After(d) = delay else {
-        return Winner::Edge { e: f, d: c };
+    let Some(d) = delay else {
+        return Some(Winner { e: f, d: c });
     };
     if d < c {
-        return Winner::Edge { e, d };
+        return Some(Winner { e, d });
     }
-    Winner::Edge { e: f, d: c }
+    Some(Winner { e: f, d: c })
 }

@@ -1,14 +1,7 @@
-// The ends of an edge, and what remains of it; types of its delay and of a winner. Definitions in specs/.
+// The ends of an edge, and what remains of it; types of its ends and of a winner. Definitions in specs/.
 ghost use Rattle.std.specs.Prelude.{◌≡◌, ◌+◌, ◌*◌, ◌-◌, eqb};
 ghost use Rattle.plan_search.specs.Held.{settled_by};
 ghost use Rattle.plan_search.specs.Between.{vertex_end};
-
-// An edge's delay, if it is a candidate.
-#[derive(Clone, Copy)]
-pub enum Delay {
-    Never,
-    After(u64),
-}
 
 // The ends of an edge between two components, by how many are active.
 #[derive(Clone, Copy)]
@@ -18,11 +11,11 @@ pub enum ActiveEnds {
     Both,
 }
 
-// The winner of a round, if there is a candidate.
+// The winner of a round: an edge, and its delay.
 #[derive(Clone, Copy)]
-pub enum Winner {
-    Nobody,
-    Edge { e: usize, d: u64 },
+pub struct Winner {
+    pub e: usize,
+    pub d: u64,
 }
 
 // One end of an edge: the number of its component, 1 if that is active, and its load.

@@ -38,7 +38,7 @@ pub const MAX_BLOCKS: usize = MAX_EDGES / BLOCK_EDGES + 1;
 // What the edges of a block leave: the best so far, and the lowest of their keys.
 #[derive(Clone, Copy)]
 struct Passed {
-    best: Winner,
+    best: Option<Winner>,
     low: u64,
 }
 
@@ -54,7 +54,7 @@ fn scan_block(
     keys: &mut [u64],
     from: usize,
     to: usize,
-    best: Winner,
+    best: Option<Winner>,
 ) -> Passed
     requires { time < time_limit }
     ensures best_value { let t = tables_in firsts.now seconds.now weights.now labels.now loads.now flags.now in
@@ -98,8 +98,8 @@ fn pass_block(
     keys: &mut [u64],
     floors: &mut [u64],
     b: usize,
-    best: Winner,
-) -> Winner
+    best: Option<Winner>,
+) -> Option<Winner>
     requires time_lt_time_limit { time < time_limit }
     requires b_in_bounds { block_edges * b ≤ length firsts.now }
     ensures result_value { let t = tables_in firsts.now seconds.now weights.now labels.now loads.now flags.now in
@@ -132,7 +132,7 @@ pub fn find_winner(
     time: u64,
     keys: &mut [u64],
     floors: &mut [u64],
-) -> Winner
+) -> Option<Winner>
     ensures result_value { let t = tables_in firsts.now seconds.now weights.now labels.now loads.now flags.now in
         let blocks = blocks_of (length firsts.now) in
         winner_in result ≡ (pass_by t (capped_time time) keys.old floors.old blocks).scanned.best }
@@ -144,7 +144,7 @@ pub fn find_winner(
         floors.new ≡ (pass_by t (capped_time time) keys.old floors.old blocks).floors }
 {
     let capped = crate::limit::capped_time(time);
-    let mut best = Winner::Nobody;
+    let mut best: Option<Winner> = None;
     let mut limit = NO_KEY;
     let blocks = firsts.len() / BLOCK_EDGES + 1;
     let mut b = next_block(floors, 0, blocks, limit);

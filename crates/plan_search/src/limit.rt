@@ -18,10 +18,10 @@ pub fn capped_time(time: u64) -> u64
 }
 
 // Twice the time of the best so far.
-pub fn limit_of(time: u64, best: Winner) -> u64
+pub fn limit_of(time: u64, best: Option<Winner>) -> u64
     ensures { result ≡ limit_of (capped_time time) (winner_in best) }
 {
-    let Winner::Edge { e: _, d } = best else {
+    let Some(Winner { e: _, d }) = best else {
         return NO_KEY;
     };
     if d < TIME_LIMIT {

@@ -7,7 +7,7 @@ ghost use Rattle.plan_search.specs.Between.{winner_in, delay_between};
 
 use crate::NO_KEY;
 use crate::better::{better_of, delay_of};
-use crate::delay::{Delay, End, Winner, edge_slack, end_at};
+use crate::delay::{End, Winner, edge_slack, end_at};
 use crate::limit::capped_time;
 use crate::rest::{alone_at, rests_between};
 use base_buffer::put;
@@ -36,19 +36,19 @@ fn note_edge(
     v: usize,
     first: End,
     second: End,
-    best: Winner,
-) -> Winner
+    best: Option<Winner>,
+) -> Option<Winner>
     requires { time < time_limit }
     ensures result_value { winner_in result ≡ better (winner_in best) e (delay_between first second weight) }
     ensures keys_value { keys.new ≡ set keys.old e (key_between time u v first second weight) }
 {
     if first.label == second.label {
         put(keys, e, NO_KEY);
-        return better_of(best, e, Delay::Never);
+        return better_of(best, e, None);
     }
     if rests_between(u, v, first, second) {
         put(keys, e, NO_KEY);
-        return better_of(best, e, Delay::Never);
+        return better_of(best, e, None);
     }
     let slack = edge_slack(weight, first.load, second.load);
     put(
@@ -70,8 +70,8 @@ pub fn look(
     time: u64,
     keys: &mut [u64],
     e: usize,
-    best: Winner,
-) -> Winner
+    best: Option<Winner>,
+) -> Option<Winner>
     ensures result_value { let t = tables_in firsts.now seconds.now weights.now labels.now loads.now flags.now in
         winner_in result ≡ better (winner_in best) e (delay_by t (capped_time time) e) }
     ensures keys_value { let t = tables_in firsts.now seconds.now weights.now labels.now loads.now flags.now in

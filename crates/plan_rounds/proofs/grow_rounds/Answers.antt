@@ -23,12 +23,12 @@ overflow_cast-n-in-loop-r c = record { fits = (merged_small c.loop-r.invariant.0
 pub note_pick-requires : goal.note_pick-requires
 note_pick-requires c =
     let inv = c.loop-r.invariant in
-    won_edge inv.0 _ inv.1 c.round-found.ensures.result_value c.round-found.ensures.flags_value c.in-Edge.is
+    won_edge inv.0 _ inv.1 c.round-found.ensures.result_value c.round-found.ensures.flags_value c.in-Some.is
 
 pub overflow_add-time : goal.overflow_add-time
 overflow_add-time c =
     let inv = c.loop-r.invariant in
-    record { fits = time_fits (round_won inv.0 _ inv.1 c.round-found.ensures.result_value c.round-found.ensures.flags_value c.in-Edge.is (c.note_pick.ensures.picked_value, c.note_pick.ensures.order_value)) }
+    record { fits = time_fits (round_won inv.0 _ inv.1 c.round-found.ensures.result_value c.round-found.ensures.flags_value c.in-Some.is (c.note_pick.ensures.picked_value, c.note_pick.ensures.order_value)) }
 
 pub loop-r-smaller : goal.loop-r-smaller
 loop-r-smaller c = omega arith
@@ -36,7 +36,7 @@ loop-r-smaller c = omega arith
 pub loop-r-preserved : goal.loop-r-preserved
 loop-r-preserved c =
     let inv = c.loop-r.invariant in
-    (round_won inv.0 _ inv.1 c.round-found.ensures.result_value c.round-found.ensures.flags_value c.in-Edge.is (c.note_pick.ensures.picked_value, c.note_pick.ensures.order_value), inv.1)
+    (round_won inv.0 _ inv.1 c.round-found.ensures.result_value c.round-found.ensures.flags_value c.in-Some.is (c.note_pick.ensures.picked_value, c.note_pick.ensures.order_value), inv.1)
 
 pub overflow_add-n-2 : goal.overflow_add-n-2
 overflow_add-n-2 c =

@@ -27,7 +27,7 @@ use Rattle.plan_search.specs.Held.{held_value, settled_by}
 use Rattle.plan_search.proofs.Laws.Held.{settled_off, held_settled}
 use Rattle.plan_search.specs.Between.{winner_in, vertex_end, slack_between, delay_between}
 use Rattle.plan_search.specs.declared.delay.Winner.{Winner}
-use Rattle.plan_search.specs.declared.delay.Winner.TheVariants.{Nobody, Edge}
+use Rattle.std.specs.Prelude.{Option, Some, None}
 use Rattle.plan_search.specs.Scan.{time_limit, idle_alone, resting, reach, key, capped_time, Scan, scan_of, Keyed, Pass, blocks_of, pass_of, Floored}
 use Rattle.plan_search.specs.Tables.{Tables, tables_from, first_by, second_by, delay_by, alone_at, rests_between, reach_between, key_between, key_by, pass_by}
 use Rattle.plan_search.proofs.Laws.Scan.{capped_is, idle_elim, scan_wins, keyed_next}
@@ -573,16 +573,16 @@ module _ {s : Survey} {r time : ℕ} {a : Arrays} (h : Represents s r time a) wh
 
   -- ---- what `grow_rounds` cites: a round has answered x and left these arrays
 
-  module _ (x : Winner) {mates members : List ℕ} {count : ℕ} (m : MatesListed s.groups mates members count)
+  module _ (x : Option Winner) {mates members : List ℕ} {count : ℕ} (m : MatesListed s.groups mates members count)
       (found : winner_in x ≡ (search_by (tables h.flags_are) time a.keys a.floors).scanned.best) {labels loads values keys floors flags : List ℕ}
       (made : round_arrays_from labels loads values keys floors flags
       ≡ round_by (tables h.flags_are) mates members count n (n + r) time a.values (search_by (tables h.flags_are) time a.keys a.floors)
       (search_by (tables h.flags_are) time a.keys a.floors).scanned.best) where
-    over : x ≡ Nobody → winner p S ≡ nobody
+    over : x ≡ None → winner p S ≡ nobody
     unfolding winner_in
     over t = sym (winner_is h.flags_are) ∙ sym found ∙ ap winner_in t
 
-    won : {e d : ℕ} → x ≡ Edge e d → winner p S ≡ edge e d
+    won : {e d : ℕ} → x ≡ Some (record { e = e; d = d }) → winner p S ≡ edge e d
     unfolding winner_in
     won t = sym (winner_is h.flags_are) ∙ sym found ∙ ap winner_in t
 
@@ -593,7 +593,7 @@ module _ {s : Survey} {r time : ℕ} {a : Arrays} (h : Represents s r time a) wh
     made_by q = made ∙ ap (round_by (tables h.flags_are) mates members count n (n + r) time a.values (search_by (tables h.flags_are) time a.keys a.floors)) (winner_is h.flags_are ∙ q)
 
     -- No winner: the arrays stay, and the keys are better.
-    pub round_over : x ≡ Nobody → (winner p S ≡ nobody) × Represents s r time (arrays_from labels loads values a.picked a.order keys floors flags)
+    pub round_over : x ≡ None → (winner p S ≡ nobody) × Represents s r time (arrays_from labels loads values a.picked a.order keys floors flags)
     unfolding round_by
     round_over t =
         let is = made_by (over t) in (
@@ -617,7 +617,7 @@ module _ {s : Survey} {r time : ℕ} {a : Arrays} (h : Represents s r time a) wh
         )
 
     -- Edge e is picked, and noted.
-    module _ {e d : ℕ} (t : x ≡ Edge e d) where
+    module _ {e d : ℕ} (t : x ≡ Some (record { e = e; d = d })) where
       pub won_edge : e < 2 ^ 32
       won_edge = let few = h.sound.edges_few in let below = winner_edge_law (won t) in omega arith
 

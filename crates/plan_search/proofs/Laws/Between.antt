@@ -1,10 +1,9 @@
 -- What the code reads, read by read, is what the definitions say.
-use Rattle.std.specs.Prelude.{ℕ, ◌≡◌, refl, Bool, List, get_or, eqb}
+use Rattle.std.specs.Prelude.{ℕ, ◌≡◌, refl, Bool, List, get_or, eqb, None}
 use Rattle.std.proofs.Common.{ap, ◌∙◌, eq-eqb, ne_eqb}
 use Rattle.std.proofs.Math.Path.{sym}
 use Rattle.theory_steiner.specs.Growth.{Delay, active_ends, delay_for, delay_of, Winner, better}
 use Rattle.plan_search.specs.declared.delay.ActiveEnds.{ActiveEnds as CodeEnds}
-use Rattle.plan_search.specs.declared.delay.Delay.TheVariants.{Never}
 use Rattle.plan_search.specs.declared.delay.End.{End}
 use Rattle.plan_search.specs.Held.{settled_by}
 use Rattle.plan_search.specs.Between.{delay_in, ends_in, vertex_end, slack_between, delay_between}
@@ -15,7 +14,7 @@ unfolding vertex_end
 end_read labels loads flags time v Label_is c_is flag_is held_is load_is = rw (load_is, held_is, flag_is, c_is, Label_is)
 
 -- What never comes is no better.
-pub better_never : (best : Winner) (e : ℕ) → better best e (delay_in Never) ≡ best
+pub better_never : (best : Winner) (e : ℕ) → better best e (delay_in None) ≡ best
 unfolding better delay_in
 better_never best e = refl
 

@@ -10,7 +10,7 @@ returns-in_default c =
 -- an edge has won
 pub returns : goal.returns
 returns c =
-    let whole = arrays_won _ _ _ _ _ _ _ _ _ _ c.find_winner-found.ensures.result_value c.find_winner-found.ensures.keys_value c.find_winner-found.ensures.floors_value c.in-Edge.is
+    let whole = arrays_won _ _ _ _ _ _ _ _ _ _ c.find_winner-found.ensures.result_value c.find_winner-found.ensures.keys_value c.find_winner-found.ensures.floors_value c.in-Some.is
     c.wake_joined.ensures
     c.at-first.ensures
     c.at-second.ensures

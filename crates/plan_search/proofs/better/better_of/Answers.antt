@@ -12,19 +12,19 @@ returns-in_default-delay c = rw (c.in_default.is, c.in_default-delay.is)
 -- the first candidate
 pub returns-in_default : goal.returns-in_default
 unfolding better delay_in winner_in
-returns-in_default c = rw (c.in_default.is, c.in-After.is)
+returns-in_default c = rw (c.in_default.is, c.in-Some-delay.is)
 
 -- no candidate
 pub returns-in_default-delay-2 : goal.returns-in_default-delay-2
 unfolding better delay_in winner_in
-returns-in_default-delay-2 c = rw (c.in-Edge.is, c.in_default-delay-2.is)
+returns-in_default-delay-2 c = rw (c.in-Some.is, c.in_default-delay-2.is)
 
 -- a smaller delay
 pub returns-then-d-c : goal.returns-then-d-c
 unfolding better delay_in winner_in
-returns-then-d-c c = rw (c.in-Edge.is, c.in-After-delay.is, lt-ltb _ _ c.if-d-c.true)
+returns-then-d-c c = rw (c.in-Some.is, c.in-Some-delay-2.is, lt-ltb _ _ c.if-d-c.true)
 
 -- no smaller delay
 pub returns : goal.returns
 unfolding better delay_in winner_in
-returns c = rw (c.in-Edge.is, c.in-After-delay.is, le-ltb _ _ c.if-d-c.false)
+returns c = rw (c.in-Some.is, c.in-Some-delay-2.is, le-ltb _ _ c.if-d-c.false)

@@ -26,9 +26,9 @@ overflow_mul-result c =
 -- the sum fits
 pub returns-then-d-lt-TIME_LIMIT : goal.returns-then-d-lt-TIME_LIMIT
 unfolding limit_of winner_in
-returns-then-d-lt-TIME_LIMIT c = rw (c.in-Edge.is, lt-ltb _ _ c.if-d-lt-TIME_LIMIT.true, c.capped_time.ensures)
+returns-then-d-lt-TIME_LIMIT c = rw (c.in-Some.is, lt-ltb _ _ c.if-d-lt-TIME_LIMIT.true, c.capped_time.ensures)
 
 -- a delay past every time
 pub returns : goal.returns
 unfolding limit_of winner_in
-returns c = rw (c.in-Edge.is, le-ltb _ _ c.if-d-lt-TIME_LIMIT.false)
+returns c = rw (c.in-Some.is, le-ltb _ _ c.if-d-lt-TIME_LIMIT.false)
