@@ -20,9 +20,5 @@ pub fn drop_all(picked: &[u8], marks: &mut [u8], m: usize)
 pub fn count_picked(picked: &[u8], m: usize) -> usize
     ensures { result ≡ count_below m (picked_in picked.now) }
 {
-    let mut count = 0;
-    for e in 0..m {
-        count += usize::from(is_picked(picked, e));
-    }
-    count
+    (0..m).filter(|e| is_picked(picked, *e)).count()
 }

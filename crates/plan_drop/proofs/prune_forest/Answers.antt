@@ -6,9 +6,6 @@ use Rattle.plan_drop.proofs.prune_forest.Goals as goal
 pub loop-base-init : goal.loop-base-init
 loop-base-init c = below_start _ _ _ _ c.drop_all.ensures
 
-pub prune_batch-requires : goal.prune_batch-requires
-prune_batch-requires c = (c.requires, c.mates-mates.ensures)
-
 pub loop-base-preserved : goal.loop-base-preserved
 loop-base-preserved c = below_more _ _ _ _ _ c.loop-base.invariant c.prune_batch.ensures
 
