@@ -5,7 +5,6 @@ ghost use Rattle.season_rule.specs.Report.{refusal_numbers};
 ghost use Rattle.api_season.specs.Bytes.{head_figures, report_bytes, figure_at, far_in, far_numbers, report_in, with_report};
 
 use api_handset::write_counts;
-use base_buffer::put64;
 use base_limits::VALUE_BYTES;
 use season_rule::{Farthest, REFUSAL_NUMBERS, Report};
 
@@ -38,10 +37,8 @@ fn refusals(bytes: &[u8]) -> [u64; REFUSAL_NUMBERS]
     ensures { result ≡ tabulate refusal_numbers (λ k. figure_at bytes.now (head_figures + k)) }
 {
     let mut refused = [0u64; REFUSAL_NUMBERS];
-    let mut k = 0;
-    while k < REFUSAL_NUMBERS {
-        put64(&mut refused, k, figure(bytes, HEAD_FIGURES + k));
-        k += 1;
+    for (k, count) in refused.iter_mut().enumerate() {
+        *count = figure(bytes, HEAD_FIGURES + k);
     }
     refused
 }

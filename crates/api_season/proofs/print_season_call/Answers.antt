@@ -1,5 +1,4 @@
 -- `print_season_call` meets its contract: what `print_report` answers where so much of the buffer is lent on.
-use borrow.Author.Rules.{rules}
 use Rattle.api_code.specs.Laws.Lending.{lent_le}
 use Rattle.api_season.specs.Laws.Call.{print_short, print_into}
 use Rattle.api_season.proofs.print_season_call.Goals as goal

@@ -1,5 +1,4 @@
 -- `season_call` meets its contract.
-use borrow.Author.Rules.{rules}
 use Rattle.api_season.specs.Laws.Call.{add_short, add_refused, add_fine}
 use Rattle.api_season.proofs.season_call.Goals as goal
 

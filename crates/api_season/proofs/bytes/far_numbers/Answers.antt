@@ -1,5 +1,4 @@
 -- `far_numbers` meets its contract.
-use borrow.Author.Rules.{rules}
 use Rattle.api_season.specs.Laws.Bytes.{numbers_none, numbers_some}
 use Rattle.api_season.proofs.bytes.far_numbers.Goals as goal
 

@@ -1,5 +1,4 @@
 -- `figure` meets its contract.
-use borrow.Author.Rules.{rules}
 use Rattle.api_season.specs.Laws.Bytes.{figure_past, figure_read}
 use Rattle.api_season.proofs.bytes.figure.Goals as goal
 

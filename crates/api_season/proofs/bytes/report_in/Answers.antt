@@ -1,5 +1,4 @@
 -- `report_in` meets its contract: number by number.
-use borrow.Author.Rules.{rules}
 use Rattle.api_season.specs.Laws.Bytes.{report_read}
 use Rattle.api_season.proofs.bytes.report_in.Goals as goal
 

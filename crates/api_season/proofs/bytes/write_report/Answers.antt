@@ -1,5 +1,5 @@
 -- `write_report` meets its contract: three runs of numbers, one behind the other.
-use mathlib.Core.Path.{◌≡◌, refl, sym}
+use mathlib.Core.Path.{◌≡◌, refl}
 use lib.ListN.{length}
 use Rattle.std.proofs.Common.{arith}
 use Rattle.season_rule.specs.Report.{refusal_numbers}
