@@ -24,7 +24,7 @@ pub record Chained (firsts seconds : List ℕ) (n : ℕ) (tops links : List ℕ)
   pub tops_are : (v : ℕ) → v < max_vertices → get_or tops v 0 ≡ last_into firsts seconds v n
   pub links_are : (a : ℕ) → a < n → get_or links a 0 ≡ link_of firsts seconds a
 
--- The cut round v, raised by as much as the arcs bear and no more than the cap, unless the root is inside, where there is none.
+-- The cut round v, raised by as much as the arcs bear and no more than the cap; None where the root is inside.
 pub record CutRaised (firsts seconds : List ℕ) (n root v cap : ℕ) (rests after : List ℕ) (raised : Option ℕ) : Type 0 where
   pub root_inside : raised ≡ None → (flagged (reaching firsts seconds rests n v) root ≡ true) × (after ≡ rests)
   pub root_outside : (by : ℕ) → raised ≡ Some by →

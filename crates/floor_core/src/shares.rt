@@ -12,12 +12,14 @@ use base_buffer::{at, put};
 use base_limits::{GROUP_NUMBERS, MAX_VERTICES};
 use floor_rule::{MAX_ARCS, MAX_COST};
 
-// The lowest member of group l.
+// The lowest member of group l, or the number of vertices where it has none.
 pub fn root_of(groups: &[u8], l: usize) -> usize
     ensures { result ≡ root_of groups.now l }
 {
-    let first = groups.iter().position(|g| *g as usize == l);
-    first.unwrap_or(groups.len())
+    groups
+        .iter()
+        .position(|g| *g as usize == l)
+        .unwrap_or(groups.len())
 }
 
 // One member more of group l.
