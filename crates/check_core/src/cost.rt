@@ -9,10 +9,12 @@ use base_limits::MAX_EDGES;
 fn kept_weight(mark: u8, weight: u32) -> u64
     ensures { result ≡ counted (eqb mark 2) weight }
 {
-    if mark == 2 {
-        return u64::from(weight);
+    match mark {
+        0 => 0,
+        1 => 0,
+        2 => u64::from(weight),
+        _ => 0,
     }
-    0
 }
 
 // What the kept edges cost.

@@ -36,13 +36,15 @@ pub fn shape_refusal(firsts: &[u32], marks: &[u8], records: &[u8]) -> Verdict
 fn mark_refusal(mark: u8, e: usize) -> Verdict
     ensures { result ≡ refuse_if (ltb 2 mark) 10 e }
 {
-    if 2 < mark {
-        return Verdict::Refused {
+    match mark {
+        0 => Verdict::Fine,
+        1 => Verdict::Fine,
+        2 => Verdict::Fine,
+        _ => Verdict::Refused {
             number: 10,
             place: e,
-        };
+        },
     }
-    Verdict::Fine
 }
 
 // The lowest edge below m with a mark above 2.

@@ -14,7 +14,7 @@ ghost use Rattle.survey_components.specs.Labels.{chosen_mark, chosen, picked_in,
 ghost use Rattle.survey_components.specs.Met.{ends_met};
 ghost use Rattle.survey_components.specs.Forest.{EndsBelow};
 
-use crate::join::join_ends;
+use crate::join::{is_kept, join_ends};
 use base_buffer::at;
 use base_limits::{MAX_VERTICES, Verdict};
 
@@ -39,7 +39,7 @@ fn is_chosen(set: Chosen, mark: u8) -> bool
 {
     match set {
         Chosen::All => true,
-        Chosen::Kept => mark == 2,
+        Chosen::Kept => is_kept(mark),
     }
 }
 
@@ -47,7 +47,12 @@ fn is_chosen(set: Chosen, mark: u8) -> bool
 pub fn is_picked(marks: &[u8], e: usize) -> bool
     ensures { result ≡ picked_in marks.now e }
 {
-    at(marks, e) != 0
+    match at(marks, e) {
+        0 => false,
+        1 => true,
+        2 => true,
+        _ => true,
+    }
 }
 
 // The ends of edge e come into one tree, if it is in the set.

@@ -8,4 +8,4 @@ returns-in-All c = rw c.in-All.is
 
 pub returns-in-Kept : goal.returns-in-Kept
 unfolding chosen_mark
-returns-in-Kept c = rw c.in-Kept.is
+returns-in-Kept c = rw c.in-Kept.is c.is_kept.ensures
