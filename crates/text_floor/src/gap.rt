@@ -15,5 +15,5 @@ pub fn gap_of(floor: u64, cost: u64) -> u64
     if floor == 0 {
         return 0;
     }
-    (TENTHS * (cost - floor) + (floor - 1)) / floor
+    (TENTHS * (cost - floor)).div_ceil(floor)
 }

@@ -7,11 +7,7 @@ pub fn to_front(bytes: &mut [u8], from: usize)
     ensures { bytes.new ≡ remade (λ i x. get_or bytes.old (from + i) 0) (length bytes.old - from) bytes.old }
 {
     let n = bytes.len();
-    if n < from {
-        return;
-    }
-    let rest = n - from;
-    for i in 0..rest {
-        bytes[i] = bytes[from + i];
+    if from <= n {
+        bytes.copy_within(from..n, 0);
     }
 }

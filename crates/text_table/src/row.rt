@@ -13,19 +13,7 @@ const NUMBER_BYTES: usize = 4;
 fn low_byte(x: u32, j: usize) -> u8
     ensures { result ≡ get_or (low_bytes number_bytes x) j 0 }
 {
-    if j < 1 {
-        return (x % 256) as u8;
-    }
-    if j < 2 {
-        return (x / 256 % 256) as u8;
-    }
-    if j < 3 {
-        return (x / 256 / 256 % 256) as u8;
-    }
-    if j < 4 {
-        return (x / 256 / 256 / 256 % 256) as u8;
-    }
-    0
+    at(&x.to_le_bytes(), j)
 }
 
 // Byte j of a track.

@@ -1,5 +1,4 @@
 -- `put_table` meets its contract: one byte more at a time, where there is room for all.
-use Prim.Native.Nat.{◌-◌}
 use mathlib.Core.Path.{refl}
 use borrow.Author.Rules.{rules}
 use Rattle.text_table.specs.Laws.TrackTable.{storing_start, table_fits, storing_more, storing_end, table_short}

@@ -1,5 +1,4 @@
 -- `put_table` meets its contract: one byte more at a time, where there is room for all.
-use Prim.Native.Nat.{◌-◌}
 use Rattle.text_table.specs.Laws.TrackTable.{StoringTable}
 use Rattle.text_table.proofs.put_table.Given as goal
 

@@ -1,7 +1,6 @@
 -- `tie_lines` meets its contract: what is left to read, to store and to count is what the whole reads, stores and counts.
 use mathlib.Core.Path.{refl}
 use native.Mathlib.Omega.{arith}
-use Prim.Native.Nat.{◌-◌}
 use mathlib.Core.Path.{ap, sym, ◌∙◌}
 use borrow.Author.Tests.{le-leb, lt-leb}
 use Rattle.format_read.specs.Step.{stopped}

@@ -1,6 +1,5 @@
 -- `tie_lines` meets its contract: what is left to read, to store and to count is what the whole reads, stores and counts.
-use Prim.Native.Nat.{◌-◌}
-use Rattle.text_merge.specs.Ties.{tie_reader, tie_turns, tie_lines}
+use Rattle.text_merge.specs.Ties.{tie_reader, tie_lines}
 use Rattle.text_merge.specs.Laws.Turn.{TiesLeft}
 use Rattle.text_merge.proofs.ties.tie_lines.Given as goal
 

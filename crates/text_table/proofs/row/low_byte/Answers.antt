@@ -1,37 +1,19 @@
--- `low_byte` meets its contract: each byte by its place.
+-- `low_byte` meets its contract: the library has the same bytes, lowest first.
 use native.Mathlib.Omega.{arith}
-use mathlib.Core.Path.{◌≡◌}
+use Rattle.std.specs.Prelude.{ℕ, ◌/◌, ◌≡◌, List, get_or}
+use Rattle.std.proofs.Common.{ap, ◌∙◌}
+use Rattle.std.specs.Int.{to_le_bytes}
+use mir.Syntax.{w32}
 use Rattle.format_record.specs.Bits.{low_bytes}
-use Rattle.text_table.specs.Laws.TrackTable.{low_at_law, low_past}
+use Rattle.text_table.specs.TrackTable.{number_bytes}
 use Rattle.text_table.proofs.row.low_byte.Goals as goal
 
-pub returns-then-j-lt1 : goal.returns-then-j-lt1
+same_bytes : (x : ℕ) → to_le_bytes w32 x ≡ low_bytes number_bytes x
 unfolding low_bytes
-returns-then-j-lt1 c =
-    let a = c.args in
-    let e : a.j ≡ 0 = omega (arith, c.if-j-lt1.true) in
-    low_at_law a.x e
-
-pub returns-then-j-lt2 : goal.returns-then-j-lt2
-unfolding low_bytes
-returns-then-j-lt2 c =
-    let a = c.args in
-    let e : a.j ≡ 1 = omega (arith, c.if-j-lt2.true, c.if-j-lt1.false) in
-    low_at_law a.x e
-
-pub returns-then-j-lt3 : goal.returns-then-j-lt3
-unfolding low_bytes
-returns-then-j-lt3 c =
-    let a = c.args in
-    let e : a.j ≡ 2 = omega (arith, c.if-j-lt3.true, c.if-j-lt2.false) in
-    low_at_law a.x e
-
-pub returns-then-j-lt4 : goal.returns-then-j-lt4
-unfolding low_bytes
-returns-then-j-lt4 c =
-    let a = c.args in
-    let e : a.j ≡ 3 = omega (arith, c.if-j-lt4.true, c.if-j-lt3.false) in
-    low_at_law a.x e
+same_bytes x =
+    let two : x / 65536 ≡ x / 256 / 256 = omega arith in
+    let three : x / 16777216 ≡ x / 256 / 256 / 256 = omega arith in
+    rw (two, three)
 
 pub returns : goal.returns
-returns c = let a = c.args in low_past a.x a.j c.if-j-lt4.false
+returns c = c.at.ensures ∙ ap (λ (l : List ℕ). get_or l c.args.j 0) (c.to_le_bytes.ensures ∙ same_bytes c.args.x)

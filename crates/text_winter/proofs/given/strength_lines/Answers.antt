@@ -1,5 +1,4 @@
 -- `strength_lines` meets its contract: what is left to read and to store is what the whole reads and stores.
-use Prim.Native.Nat.{◌-◌}
 use native.Mathlib.Omega.{arith}
 use mathlib.Core.Path.{ap, sym, ◌∙◌}
 use borrow.Author.Tests.{le-leb, lt-leb}

@@ -1,5 +1,5 @@
 -- `put_lines` meets its contract: what is written so far are the lines of the tracks below e.
-use Prim.Native.Nat.{◌≤◌, ◌-◌}
+use Prim.Native.Nat.{◌≤◌}
 use lib.ListN.{length, get_or}
 use Rattle.format_write.specs.Text.{text_below}
 use Rattle.format_write.specs.Wrote.{Wrote}
