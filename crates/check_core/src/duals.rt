@@ -4,6 +4,7 @@ ghost use Rattle.theory_steiner.specs.Dual.{total};
 ghost use Rattle.check_rule.specs.Check.{duals_in};
 ghost use Rattle.check_core.specs.Moats.{DualsFit};
 
+use crate::scan::total;
 use base_limits::RECORD_BYTES;
 
 // The sum of all values: the bound.
@@ -11,9 +12,8 @@ pub fn bound(records: &[u8]) -> u64
     requires { DualsFit records.now }
     ensures { result ≡ total (duals_in records.now) }
 {
-    let mut sum: u64 = 0;
-    for i in 0..records.len() / RECORD_BYTES {
-        sum += format_record::value(format_record::record(records, i));
-    }
-    sum
+    total(
+        records.len() / RECORD_BYTES,
+        |i| format_record::value(format_record::record(records, i)),
+    )
 }

@@ -9,7 +9,7 @@ ghost use Rattle.survey_core.specs.Survey.{survey_from, lent_survey, problem_of}
 ghost use Rattle.check_rule.specs.Check.{duals_in};
 ghost use Rattle.check_core.specs.Moats.{load_between, DualsFit, few_duals_refusal};
 
-use crate::scan::lowest;
+use crate::scan::{lowest, total};
 use base_limits::{MAX_DUALS, RECORD_BYTES, Verdict};
 
 // The value of a dual with exactly one of u and v inside, else 0.
@@ -27,11 +27,10 @@ fn load_between(records: &[u8], u: usize, v: usize) -> u64
     requires { DualsFit records.now }
     ensures { result ≡ load_between records.now u v }
 {
-    let mut sum: u64 = 0;
-    for i in 0..records.len() / RECORD_BYTES {
-        sum += crossing_value(format_record::record(records, i), u, v);
-    }
-    sum
+    total(
+        records.len() / RECORD_BYTES,
+        |i| crossing_value(format_record::record(records, i), u, v),
+    )
 }
 
 // 13: a dual load above twice the weight.

@@ -1,5 +1,7 @@
-// The lowest of places in a row that is refused.
-ghost use Rattle.std.specs.Prelude.{◌≡◌, ◌<◌, ℕ};
+// Over places in a row: the lowest that is refused, and the sum of small values, one for each moat.
+ghost use Rattle.std.specs.Prelude.{◌≡◌, ◌<◌, ◌≤◌, ℕ};
+ghost use Rattle.base_finite.specs.Below.{sum_below};
+ghost use Rattle.base_limits.specs.Limits.{max_duals, max_value};
 ghost use Rattle.base_limits.specs.Verdict.{lowest_below};
 ghost use Rattle.base_limits.specs.declared.Verdict.{Verdict};
 
@@ -18,4 +20,18 @@ pub fn lowest<F: Fn(usize) -> Verdict>(n: usize, refusal: F) -> Verdict
         };
     }
     Verdict::Fine
+}
+
+// The sum of the values at n places.
+pub fn total<F: Fn(usize) -> u64>(n: usize, value: F) -> u64
+    requires callable { F.IsAlwaysCallable value }
+    requires few { n ≤ max_duals }
+    requires small { (i x : ℕ) → i < n → F.post value i x → x ≤ max_value }
+    ensures { (f : ℕ → ℕ) → ((i x : ℕ) → i < n → F.post value i x → x ≡ f i) → result ≡ sum_below n f }
+{
+    let mut sum: u64 = 0;
+    for i in 0..n {
+        sum += value(i);
+    }
+    sum
 }

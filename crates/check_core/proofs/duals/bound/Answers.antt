@@ -1,26 +1,27 @@
--- `bound` meets its contract: while it runs, the sum is that of the records below i.
+-- `bound` meets its contract: the sum of the values of all records.
+use Prim.Native.Nat.{ℕ, ◌<◌, ◌≤◌, ◌/◌}
 use native.Mathlib.Omega.{arith}
+use borrow.Author.Rules.{rules}
 use mathlib.Core.Bool.{true}
-use mathlib.Core.Path.{refl, ap, ◌∙◌}
-use Rattle.base_finite.specs.Below.{counted, sum_below}
-use Rattle.format_record.specs.Record.{value_in}
+use mathlib.Core.Path.{◌≡◌}
+use mathlib.Core.List.{List}
+use lib.ListN.{length}
+use Rattle.base_finite.specs.Below.{counted}
+use Rattle.base_limits.specs.Limits.{record_bytes, max_value}
+use Rattle.format_record.specs.Record.{record_at, value_in}
 use Rattle.theory_steiner.specs.Dual.{total}
-use Rattle.base_finite.specs.Laws.Count.{sum_more}
-use Rattle.check_core.specs.Laws.Duals.{weigh_end, weighed_fits}
+use Rattle.check_core.specs.Moats.{DualsFit}
+use Rattle.check_core.specs.Laws.Duals.{weighed_at, weigh_end}
 use Rattle.check_core.proofs.duals.bound.Goals as goal
 
-pub loop-i-init : goal.loop-i-init
-unfolding sum_below
-loop-i-init c = (omega arith, refl)
+small_at : (records : List ℕ) (i : ℕ) {x : ℕ} → DualsFit records → i < length records / record_bytes → x ≡ value_in (record_at records i) → x ≤ max_value
+small_at records i fit b is = omega (arith, fit.small i b)
 
-pub overflow_add-sum : goal.overflow_add-sum
-unfolding counted
-overflow_add-sum c = omega (arith, weighed_fits c.args.records.now c.requires (λ S. true) c.loop-i.i (omega arith) c.loop-i.invariant.1 (c.value-sum.ensures ∙ ap value_in c.«record».ensures))
-
-pub loop-i-preserved : goal.loop-i-preserved
-unfolding counted
-loop-i-preserved c = (omega arith, sum_more _ _ c.loop-i.invariant.1 (c.value-sum.ensures ∙ ap value_in c.«record».ensures))
+pub total-requires : goal.total-requires
+total-requires c = record { callable = search rules; few = c.requires.few; small = λ i x b p. search (rules, small_at c.args.records.now i {x = x} c.requires b) }
 
 pub returns : goal.returns
-unfolding total
-returns c = weigh_end _ (λ S. true) c.loop-i.i (omega arith) (omega arith) c.loop-i.invariant.1
+unfolding total counted
+returns c =
+    weigh_end c.args.records.now (λ S. true) (length c.args.records.now / record_bytes) (omega arith) (omega arith)
+    (c.total.ensures (weighed_at c.args.records.now (λ S. true)) (λ i x b p. search rules))

@@ -1,25 +1,27 @@
--- `load_between` meets its contract: while it runs, the sum is that of the records below i.
+-- `load_between` meets its contract: the sum of the values of the records that part the two vertices.
+use Prim.Native.Nat.{ℕ, ◌<◌, ◌≤◌, ◌/◌}
 use native.Mathlib.Omega.{arith}
-use mathlib.Core.Bool.{xor}
-use mathlib.Core.Path.{refl, ap, ◌∙◌}
-use Rattle.base_finite.specs.Below.{counted, sum_below}
-use Rattle.format_record.specs.Record.{member_in, value_in}
-use Rattle.base_finite.specs.Laws.Count.{sum_more}
-use Rattle.check_core.specs.Moats.{load_between}
-use Rattle.check_core.specs.Laws.Duals.{weigh_end, weighed_fits}
+use borrow.Author.Rules.{rules}
+use mathlib.Core.Bool.{Bool, xor}
+use mathlib.Core.Path.{◌≡◌}
+use mathlib.Core.List.{List}
+use lib.ListN.{length}
+use Rattle.base_finite.specs.Below.{counted}
+use Rattle.base_finite.specs.Laws.Below.{counted_le}
+use Rattle.base_limits.specs.Limits.{record_bytes, max_value}
+use Rattle.format_record.specs.Record.{record_at, value_in}
+use Rattle.check_core.specs.Moats.{DualsFit, load_between}
+use Rattle.check_core.specs.Laws.Duals.{weighed_at, weigh_end}
 use Rattle.check_core.proofs.moats.load_between.Goals as goal
 
-pub loop-i-init : goal.loop-i-init
-unfolding sum_below
-loop-i-init c = (omega arith, refl)
+small_at : (records : List ℕ) (i : ℕ) → DualsFit records → i < length records / record_bytes → (t : Bool) {x : ℕ} → x ≡ counted t (value_in (record_at records i)) → x ≤ max_value
+small_at records i fit b t is = omega (arith, fit.small i b, counted_le t (value_in (record_at records i)))
 
-pub overflow_add-sum : goal.overflow_add-sum
-overflow_add-sum c = let args = c.args in
-    omega (arith, weighed_fits args.records.now c.requires (λ S. xor (S args.u) (S args.v)) c.loop-i.i (omega arith) c.loop-i.invariant.1 (c.crossing_value-sum.ensures ∙ ap (λ part. counted (xor (member_in part c.args.u) (member_in part c.args.v)) (value_in part)) c.«record».ensures))
-
-pub loop-i-preserved : goal.loop-i-preserved
-loop-i-preserved c = (omega arith, sum_more _ _ c.loop-i.invariant.1 (c.crossing_value-sum.ensures ∙ ap (λ part. counted (xor (member_in part c.args.u) (member_in part c.args.v)) (value_in part)) c.«record».ensures))
+pub total-requires : goal.total-requires
+total-requires c = record { callable = search rules; few = c.requires.few; small = λ i x b p. search (rules, small_at c.args.records.now i c.requires b) }
 
 pub returns : goal.returns
 unfolding load_between
-returns c = weigh_end _ _ c.loop-i.i (omega arith) (omega arith) c.loop-i.invariant.1
+returns c =
+    weigh_end c.args.records.now _ (length c.args.records.now / record_bytes) (omega arith) (omega arith)
+    (c.total.ensures (weighed_at c.args.records.now (λ S. xor (S c.args.u) (S c.args.v))) (λ i x b p. search rules))
