@@ -15,10 +15,7 @@ use base_limits::{MAX_VALUE, MEMBER_BYTES, RECORD_BYTES, Verdict};
 fn is_stray(part: &[u8], n: usize, v: usize) -> bool
     ensures { result ≡ (leb n v && member_in part.now v) }
 {
-    if v < n {
-        return false;
-    }
-    format_record::member(part, v)
+    n <= v && format_record::member(part, v)
 }
 
 // Whether some member is no vertex.
