@@ -10,17 +10,11 @@ use Rattle.plan_draw.proofs.Laws.Trace.{replayed_none, replayed_more, replayed_e
 use native.Mathlib.Omega.{arith}
 use Rattle.plan_draw.proofs.draw_trace.Goals as goal
 
-pub overflow_add-end : goal.overflow_add-end
-overflow_add-end c = omega arith
-
 pub loop-c-init : goal.loop-c-init
 loop-c-init c = (omega arith, replayed_none _ _ (length-replicate {A = ℕ} (2 * max_vertices) 0) (length-replicate {A = List ℕ} max_vertices no_member))
 
 pub slice_bounds-arise-end : goal.slice_bounds-arise-end
 slice_bounds-arise-end c = sym c.loop-c.invariant.1.sets_hold.long
-
-pub overflow_cast-c : goal.overflow_cast-c
-overflow_cast-c c = omega arith
 
 pub loop-c-preserved : goal.loop-c-preserved
 loop-c-preserved c =

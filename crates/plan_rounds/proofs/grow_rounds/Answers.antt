@@ -30,9 +30,6 @@ overflow_add-time c =
     let inv = c.loop-r.invariant in
     record { fits = time_fits (round_won inv.0 _ inv.1 c.round-found.ensures.result_value c.round-found.ensures.flags_value c.in-Some.is (c.note_pick.ensures.picked_value, c.note_pick.ensures.order_value)) }
 
-pub loop-r-smaller : goal.loop-r-smaller
-loop-r-smaller c = omega arith
-
 pub loop-r-preserved : goal.loop-r-preserved
 loop-r-preserved c =
     let inv = c.loop-r.invariant in

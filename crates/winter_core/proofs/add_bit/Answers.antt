@@ -12,10 +12,6 @@ pub plan_bit-figures-requires : goal.plan_bit-figures-requires
 plan_bit-figures-requires c =
     record { survey_sound = c.requires.winter_ready.survey; bit_lt_strength_bits = c.requires.bit_lt_strength_bits }
 
-pub power-times-requires : goal.power-times-requires
-power-times-requires c =
-    c.requires.bit_lt_strength_bits
-
 pub slice_bounds-add_kept-end : goal.slice_bounds-add_kept-end
 slice_bounds-add_kept-end c =
     let a = c.args in

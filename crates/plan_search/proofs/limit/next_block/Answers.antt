@@ -1,11 +1,8 @@
 -- `next_block` meets its contract: what is found from b on is what is found from the start.
-use mathlib.Core.Path.{◌≡◌, refl, sym, ◌∙◌}
+use mathlib.Core.Path.{◌≡◌, sym, ◌∙◌}
 use Rattle.plan_search.proofs.Laws.Loops.{next_here, next_on, next_end}
 use native.Mathlib.Omega.{arith}
 use Rattle.plan_search.proofs.limit.next_block.Goals as goal
-
-pub loop-b-init : goal.loop-b-init
-loop-b-init c = (omega arith, refl)
 
 pub returns-then-at-limit : goal.returns-then-at-limit
 returns-then-at-limit c =

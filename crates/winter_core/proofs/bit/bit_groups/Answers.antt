@@ -18,10 +18,6 @@ pub slice_bounds-put-end : goal.slice_bounds-put-end
 slice_bounds-put-end c =
     sym (ap length c.loop-v.invariant ∙ length_remade _ _ (replicate max_vertices 0) ∙ length-replicate {A = ℕ} max_vertices 0)
 
-pub bit_group-requires : goal.bit_group-requires
-bit_group-requires c =
-    c.requires
-
 pub loop-v-preserved : goal.loop-v-preserved
 loop-v-preserved c =
     let a = c.args in

@@ -22,10 +22,6 @@ loop-i-init c =
     let a = c.args in
     (omega arith, (refl, (passed_start (pair_carries a.strengths.now a.others.now a.bit) a.owners.now a.carriers.now, passed_start (pair_carries a.strengths.now a.others.now a.bit) a.others.now a.carried.now)))
 
-pub carries-keep-requires : goal.carries-keep-requires
-carries-keep-requires c =
-    c.requires.bit_lt_strength_bits
-
 pub overflow_add-count : goal.overflow_add-count
 overflow_add-count c =
     let a = c.args in

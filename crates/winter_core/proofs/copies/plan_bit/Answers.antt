@@ -11,10 +11,6 @@ use Rattle.winter_core.proofs.Laws.Call.{figures_lent, marks_lent}
 use borrow.Author.Rules.{rules}
 use Rattle.winter_core.proofs.copies.plan_bit.Goals as goal
 
-pub bit_groups-own-requires : goal.bit_groups-own-requires
-bit_groups-own-requires c =
-    c.requires.bit_lt_strength_bits
-
 pub bit_pairs-count-requires : goal.bit_pairs-count-requires
 bit_pairs-count-requires c =
     let a = c.args in
