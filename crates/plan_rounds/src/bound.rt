@@ -27,7 +27,8 @@ pub fn settle_bound(
     rounds: usize,
     time: u64,
 ) -> Grown
-    ensures rounds_value { (result.rounds ≡ rounds) × (result.bound ≡ sum_below count (λ c. slice_index values.new c) % 2 ^ 64) }
+    ensures rounds_value { (result.rounds ≡ rounds)
+        × (result.bound ≡ sum_below count (λ c. slice_index values.new c) % 2 ^ 64) }
     ensures values_value { values.new ≡ settled_values flags.now count time values.old }
 {
     crate::settle::settle_all(values, flags, count, time);

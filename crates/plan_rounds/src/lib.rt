@@ -1,6 +1,6 @@
 // Growing over arrays: rounds until no candidate is left, at most n - 1. What a round makes of any arrays is
-// specs/Round, what they represent specs/Represents, what a growth leaves specs/Grown. `grow_rounds` answers the number of
-// rounds and the sum of all moats, and leaves values, picks and their order; `grow` judges the survey first.
+// specs/Round, what they represent specs/Represents, what a growth leaves specs/Grown. `grow_rounds` answers the
+// number of rounds and the sum of all moats, and leaves values, picks and their order; `grow` judges the survey first.
 #![tactic(auto)]
 
 ghost use Rattle.std.specs.Prelude.{◌≡◌, ◌^◌, ◌<◌, length, replicate, slice_set};
@@ -39,8 +39,8 @@ fn note_pick(picked: &mut [u8; MAX_EDGES], order: &mut [u32; MAX_VERTICES], e: u
     put(order, r, e as u32);
 }
 
-// Rounds until no candidate is left, at most n - 1, of a survey that 1 to 6 do not refuse, from arrays that hold nothing
-// yet.
+// Rounds until no candidate is left, at most n - 1, of a survey that 1 to 6 do not refuse, from arrays that hold
+// nothing yet.
 pub fn grow_rounds(
     groups: &[u8],
     firsts: &[u32],
