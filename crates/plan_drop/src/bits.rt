@@ -12,7 +12,7 @@ pub fn parted(words: &[u64; MAX_VERTICES], mates: &[u32; MAX_VERTICES], n: usize
     let mut bits = 0;
     for v in 0..n {
         let mate = at(mates, v) as usize;
-        bits = bits | (at(words, v) ^ at(words, mate));
+        bits |= at(words, v) ^ at(words, mate);
     }
     bits
 }

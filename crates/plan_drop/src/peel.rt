@@ -38,7 +38,7 @@ fn turn_end(
         ends_of degrees.new others.new marks.new ≡ end_turned v w mark more before }
 {
     let i = v as usize;
-    let degree = std::num::wrapping_add_u32(at(degrees, i), more);
+    let degree = at(degrees, i).wrapping_add(more);
     let other = at(others, i) ^ w;
     let sum = at(marks, i) ^ mark;
     put(degrees, i, degree);
@@ -67,7 +67,7 @@ fn note_edge(
     if survey_components::is_picked(picked, e) {
         let a = at(firsts, e);
         let b = at(seconds, e);
-        let mark = std::num::wrapping_add_u32(i, 1);
+        let mark = i.wrapping_add(1);
         turn_end(degrees, others, marks, a, b, mark, 1);
         turn_end(degrees, others, marks, b, a, mark, 1);
         return mark;

@@ -6,6 +6,6 @@ pub returns : goal.returns
 returns c =
     let args = c.args in
     turned_by args.v args.w args.mark args.more args.degrees.now args.others.now args.marks.now
-    (rw (← c.at.ensures, ← c.wrapping_add_u32-degree.ensures.value) c.put.ensures)
+    (rw (← c.at.ensures) c.put.ensures)
     (rw (← c.at-2.ensures) c.put-2.ensures)
     (rw (← c.at-3.ensures) c.put-3.ensures)
