@@ -19,7 +19,6 @@ pub mod figures;
 mod grow;
 mod lists;
 mod marks;
-mod picks;
 mod planned;
 mod poured;
 mod prune;

@@ -4,7 +4,6 @@ ghost use Rattle.survey_core.specs.Sound.{SurveySound};
 ghost use Rattle.plan_rule.specs.Answer.{planned_outcome};
 ghost use Rattle.plan_core.specs.Grown.{GrownInto};
 
-use crate::picks::copy_picks;
 use base_limits::{MAX_DUALS, MAX_EDGES, MAX_VERTICES};
 use plan_rule::Planned;
 
@@ -35,7 +34,8 @@ pub fn grow_poured(
     );
     let rounds = grown.rounds;
     let bound = grown.bound;
-    copy_picks(&picked, marks, firsts.len());
+    let m = firsts.len().min(marks.len());
+    marks[..m].copy_from_slice(&picked[..m]);
     let duals = plan_draw::draw(
         groups.len(),
         firsts,
