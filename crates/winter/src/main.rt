@@ -3,12 +3,14 @@
 // `text_winter::winter_text`.
 #![tactic(auto)]
 
-ghost use Rattle.std.specs.Prelude.{◌≡◌, ◌*◌, OnOk, length};
+ghost use Rattle.std.specs.Prelude.{◌*◌, OnOk};
 ghost use Rattle.base_limits.specs.Limits.{survey_room};
 ghost use Rattle.text_winter.specs.Output.{winter_output};
 ghost use Rattle.program_io.specs.Prints.{PrintsWithin};
 
 use base_limits::SURVEY_ROOM;
+use format_print::Printed;
+use program_io::Answers;
 use std::io;
 use std::io::{Read, Write};
 
@@ -18,27 +20,21 @@ const INPUT_ROOM: usize = 2 * SURVEY_ROOM;
 // Bytes that hold the lines of 2,048 tracks: 15 for each, and the price.
 const LINES_ROOM: usize = 32768;
 
-fn room() -> [u8; INPUT_ROOM]
-    ensures { length result ≡ 2 * survey_room }
-{
-    [0; INPUT_ROOM]
-}
+struct Winter;
 
-fn lines_room() -> [u8; LINES_ROOM]
-    ensures { length result ≡ 32768 }
-{
-    [0; LINES_ROOM]
+impl Answers for Winter {
+    ghost output = { winter_output };
+
+    fn answer(text: &[u8], out: &mut [u8]) -> Printed {
+        text_winter::winter_text(text, out)
+    }
 }
 
 // What the program does, from its input to its output.
 fn run<R: Read, W: Write>(input: &mut R, output: &mut W) -> io::Result<()>
     ensures { OnOk result (PrintsWithin (2 * survey_room) winter_output 32768 (R.remaining input.old) (W.contents output.old) (W.contents output.new)) }
 {
-    let mut bytes = room();
-    let got = program_io::read_full(input, &mut bytes)?;
-    let mut out = lines_room();
-    let told = text_winter::winter_text(&bytes[..got], &mut out);
-    program_io::write_printed(told, &out, output)
+    program_io::answer_input::<Winter, R, W, INPUT_ROOM, LINES_ROOM>(input, output)
 }
 
 fn main(rt: HostRuntime) -> io::Result<()> {

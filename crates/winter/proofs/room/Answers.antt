@@ -1,9 +1,0 @@
--- `room`: so many zeros.
-use Rattle.std.proofs.Common.{ℕ}
-use lib.ListN.{length-replicate}
-use Rattle.std.proofs.Common.{◌*◌}
-use Rattle.base_limits.specs.Limits.{survey_room}
-use Rattle.winter.proofs.room.Goals as goal
-
-pub returns : goal.returns
-returns c = length-replicate {A = ℕ} (2 * survey_room) 0
