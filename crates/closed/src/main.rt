@@ -50,10 +50,7 @@ fn track_of<V: Env>(arguments: &V, i: usize) -> Number {
 
 // As a number of 32 bits; no track number has more.
 fn narrow(value: u64) -> u32 {
-    if value < 4294967296 {
-        return value as u32;
-    }
-    4294967295
+    value.min(4294967295) as u32
 }
 
 // Puts the tracks that the arguments say at the start and says how many they are. There are none where an argument is no
@@ -68,14 +65,12 @@ fn tracks_asked<V: Env>(arguments: &V, tracks: &mut [u32; MAX_CLOSED]) -> Option
     if MAX_CLOSED + 1 < count {
         return None;
     }
-    let mut i = 1;
-    while i < count {
+    for i in 1..count {
         let said = track_of(arguments, i);
         let Number::Value { value, next: _ } = said else {
             return None;
         };
-        base_buffer::put32(tracks, i - 1, narrow(value));
-        i += 1;
+        base_buffer::put(tracks, i - 1, narrow(value));
     }
     Some(count - 1)
 }

@@ -3,9 +3,8 @@
 // nothing else. What is done with each text is `text_season::add_text`.
 #![tactic(auto)]
 
-ghost use Rattle.std.specs.Prelude.{◌≡◌, ◌*◌, ◌≤◌, length};
+ghost use Rattle.std.specs.Prelude.{◌≡◌, ◌*◌, length};
 ghost use Rattle.base_limits.specs.Limits.{survey_room};
-ghost use Rattle.base_buffer.specs.Part.{at_most};
 
 use base_limits::{SURVEY_ROOM, Verdict};
 use season_rule::{MAX_SURVEYS, REPORT_ROOM};
@@ -22,17 +21,6 @@ fn room() -> [u8; ROOM]
     [0; ROOM]
 }
 
-// As much as is wanted, or all that there is.
-fn within(wanted: usize, room: usize) -> usize
-    ensures value { result ≡ at_most wanted room }
-    ensures upper_bound { (result ≤ wanted) × (result ≤ room) }
-{
-    if room < wanted {
-        return room;
-    }
-    wanted
-}
-
 // The bytes that are held and not used yet: from an offset on, up to another.
 #[derive(Drop)]
 struct Window {
@@ -42,13 +30,13 @@ struct Window {
 
 // Moves these bytes to the front and reads behind them.
 fn refill<R: Read>(reader: &mut R, input: &mut [u8], at: usize, held: usize) -> io::Result<Window> {
-    let from = within(at, held);
+    let from = at.min(held);
     let left = held - from;
     text_season::to_front(input, from);
     let n = input.len();
-    let kept = within(left, n);
+    let kept = left.min(n);
     let got = program_io::read_full(reader, &mut input[kept..n])?;
-    let more = within(got, n - kept);
+    let more = got.min(n - kept);
     Ok(Window {
         at: 0,
         held: kept + more,
@@ -76,10 +64,9 @@ fn collect<R: Read>(reader: &mut R, input: &mut [u8]) -> io::Result<TextAdded> {
     let mut report = season_core::empty_report();
     let mut held = program_io::read_full(reader, input)?;
     let mut at = 0;
-    let mut k = 0;
-    while k <= MAX_SURVEYS {
-        let end = within(held, input.len());
-        let start = within(at, end);
+    for _ in 0..=MAX_SURVEYS {
+        let end = held.min(input.len());
+        let start = at.min(end);
         if end <= start {
             break;
         }
@@ -89,11 +76,10 @@ fn collect<R: Read>(reader: &mut R, input: &mut [u8]) -> io::Result<TextAdded> {
             return Ok(added);
         };
         report = added.report;
-        let used = within(added.used, end - start);
+        let used = added.used.min(end - start);
         let window = advance(reader, input, start + used, end)?;
         at = window.at;
         held = window.held;
-        k += 1;
     }
     Ok(TextAdded {
         verdict: Verdict::Fine,
