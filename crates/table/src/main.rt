@@ -12,7 +12,6 @@ ghost use Rattle.text_table.specs.TrackTable.{table_room};
 
 use base_limits::{SURVEY_ROOM, Verdict, WORD_DIGITS};
 use format_print::Printed;
-use format_read::{Cursor, Number};
 use format_table::TRACK_BYTES;
 use std::io;
 use std::io::{Read, Write};
@@ -55,8 +54,7 @@ fn table_input() -> [u8; TABLE_INPUT]
 
 // Writes the first n of these bytes.
 fn write_first<W: Write>(output: &mut W, bytes: &[u8], n: usize) -> io::Result<()> {
-    let part = base_buffer::at_most(n, bytes.len());
-    output.write_all(&bytes[0..part])
+    output.write_all(&bytes[..n.min(bytes.len())])
 }
 
 // Writes a refusal's two lines to standard error.
@@ -67,20 +65,6 @@ fn write_refusal<E: Write>(errors: &mut E, number: u64, place: usize) -> io::Res
         return Ok(());
     };
     write_first(errors, &lines, n)
-}
-
-// Writes a table that was packed or unpacked, or the refusal.
-fn write_turned<W: Write, E: Write>(
-    output: &mut W,
-    errors: &mut E,
-    found: Verdict,
-    table: &[u8],
-    n: usize,
-) -> io::Result<()> {
-    match found {
-        Verdict::Fine => write_first(output, table, n),
-        Verdict::Refused { number, place } => write_refusal(errors, number, place),
-    }
 }
 
 // A survey's text in, its table out.
@@ -99,39 +83,22 @@ fn write_survey_table<R: Read, W: Write, E: Write>(
     }
 }
 
-// A table in, the packed one out.
-fn pack<R: Read, W: Write, E: Write>(
+// A table in, what a function makes of it out: the packed one, or the table of a packed one.
+fn write_turned<R: Read, W: Write, E: Write, F: FnOnce(&[u8], &mut [u8]) -> Verdict>(
     input: &mut R,
     output: &mut W,
     errors: &mut E,
-) -> io::Result<()> {
+    turn: F,
+) -> io::Result<()>
+    requires { F.IsAlwaysCallable turn }
+{
     let mut bytes = table_input();
     let got = program_io::read_full(input, &mut bytes)?;
     let mut table = table_room();
-    let found = format_table::pack_table(&bytes[..got], &mut table);
-    write_turned(output, errors, found, &table, got)
-}
-
-// A packed table in, the table out.
-fn unpack<R: Read, W: Write, E: Write>(
-    input: &mut R,
-    output: &mut W,
-    errors: &mut E,
-) -> io::Result<()> {
-    let mut bytes = table_input();
-    let got = program_io::read_full(input, &mut bytes)?;
-    let mut table = table_room();
-    let found = format_table::unpack_table(&bytes[..got], &mut table);
-    write_turned(output, errors, found, &table, got)
-}
-
-// The argument is this word.
-fn is_word(argument: &[u8], word: &[u8]) -> bool {
-    let step = format_read::fixed(argument, Cursor { at: 0 }, word);
-    let Number::Value { value: _, next: _ } = step else {
-        return false;
-    };
-    argument.len() == word.len()
+    match turn(&bytes[..got], &mut table) {
+        Verdict::Fine => write_first(output, &table, got),
+        Verdict::Refused { number, place } => write_refusal(errors, number, place),
+    }
 }
 
 // What is done with the input.
@@ -153,10 +120,10 @@ fn task_asked<V: Env>(arguments: &V) -> Option<Task> {
     }
     let mut argument = [0u8; 8];
     let got = program_io::argument(arguments, 1, &mut argument);
-    if is_word(&argument[..got], &PACK) {
+    if argument[..got] == PACK[..] {
         return Some(Task::Pack);
     }
-    if is_word(&argument[..got], &UNPACK) {
+    if argument[..got] == UNPACK[..] {
         return Some(Task::Unpack);
     }
     None
@@ -169,8 +136,18 @@ fn main(rt: HostRuntime) -> io::Result<()> {
             &mut rt.stdout(),
             &mut rt.stderr(),
         ),
-        Some(Task::Pack) => pack(&mut rt.stdin(), &mut rt.stdout(), &mut rt.stderr()),
-        Some(Task::Unpack) => unpack(&mut rt.stdin(), &mut rt.stdout(), &mut rt.stderr()),
+        Some(Task::Pack) => write_turned(
+            &mut rt.stdin(),
+            &mut rt.stdout(),
+            &mut rt.stderr(),
+            |table, out| format_table::pack_table(table, out),
+        ),
+        Some(Task::Unpack) => write_turned(
+            &mut rt.stdin(),
+            &mut rt.stdout(),
+            &mut rt.stderr(),
+            |table, out| format_table::unpack_table(table, out),
+        ),
         None => rt.stderr().write_all(&USAGE),
     }
 }
