@@ -24,8 +24,6 @@ pub fn store_row(res: &mut [u64], at: usize, row: Closed)
 {
     match row {
         Closed::Finished { cost, bound } => store_four(res, at, 0, 0, cost, bound),
-        Closed::Refused { number, place } => {
-            store_four(res, at, number, place as u64, 0, 0)
-        }
+        Closed::Refused { number, place } => { store_four(res, at, number, place as u64, 0, 0) }
     }
 }
