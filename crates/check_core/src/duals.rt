@@ -5,15 +5,11 @@ ghost use Rattle.check_rule.specs.Check.{duals_in};
 ghost use Rattle.check_core.specs.Moats.{DualsFit};
 
 use crate::scan::total;
-use base_limits::RECORD_BYTES;
 
 // The sum of all values: the bound.
 pub fn bound(records: &[u8]) -> u64
     requires { DualsFit records.now }
     ensures { result ≡ total (duals_in records.now) }
 {
-    total(
-        records.len() / RECORD_BYTES,
-        |i| format_record::value(format_record::record(records, i)),
-    )
+    total(records, |part| format_record::value(part))
 }

@@ -27,10 +27,7 @@ fn load_between(records: &[u8], u: usize, v: usize) -> u64
     requires { DualsFit records.now }
     ensures { result ≡ load_between records.now u v }
 {
-    total(
-        records.len() / RECORD_BYTES,
-        |i| crossing_value(format_record::record(records, i), u, v),
-    )
+    total(records, |part| crossing_value(part, u, v))
 }
 
 // 13: a dual load above twice the weight.
