@@ -1,7 +1,7 @@
 // Waking the edges that end at a vertex, block by block. Definitions in specs/.
 ghost use Rattle.std.specs.Prelude.{◌≡◌, ◌-◌, ◌≤◌, get_or, length, eqb};
 ghost use Rattle.base_finite.specs.Below.{counted, any_below};
-ghost use Rattle.plan_wake.specs.Wake.{ends_at, notes_from, woken_key, woken_edge, woken_on, part_end};
+ghost use Rattle.plan_wake.specs.Wake.{ends_at, notes_from, woken_key, woken_edge, woken_on};
 
 use crate::key::{ends_at, lower_floor, woken_key};
 use base_buffer::put;
@@ -89,15 +89,7 @@ fn wake_part(
     }
 }
 
-// Where the part ends that begins at `from`.
-fn part_end(from: usize, least: usize) -> usize
-    requires { from ≤ least }
-    ensures { result ≡ part_end from least }
-{
-    from + WAKE_EDGES.min(least - from)
-}
-
-// All edges that end at c.
+// All edges that end at c: part after part, each of as many edges, so that they are compared at once; then the rest.
 pub fn wake_ends(
     firsts: &[u32],
     seconds: &[u32],
@@ -112,9 +104,10 @@ pub fn wake_ends(
         let woken = woken_on (ends_at firsts.now seconds.now c) (woken_key weights.now behind) s 0 m in
         notes_from keys.new floors.new ≡ woken }
 {
-    let least = firsts.len().min(seconds.len());
-    for from in (0..least).step_by(WAKE_EDGES) {
-        let to = part_end(from, least);
+    let parts = firsts.len().min(seconds.len()) / WAKE_EDGES;
+    for part in 0..parts {
+        let from = WAKE_EDGES * part;
+        let to = from + WAKE_EDGES;
         wake_part(firsts, seconds, weights, c, behind, keys, floors, from, to);
     }
     wake_edges(
@@ -125,7 +118,7 @@ pub fn wake_ends(
         behind,
         keys,
         floors,
-        least,
+        WAKE_EDGES * parts,
         firsts.len(),
     );
 }
